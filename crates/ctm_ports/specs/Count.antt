@@ -1,0 +1,10 @@
+-- Counts of faults and of wants of memory.
+use Rattle.std.specs.Prelude.{◌≡◌, ℕ, ◌+◌, ◌-◌, ◌^◌, ◌<◌, ◌⊎◌, min}
+
+-- a count after one more, which stays at the greatest number of 64 bits
+abbrev pub raised : ℕ → ℕ
+raised count = min (count + 1) (2 ^ 64 - 1)
+
+-- a count is greater at the end of a call than at its start, or stands at its end where a count stays
+abbrev pub Rose : ℕ → ℕ → Type 0
+Rose old new = (old < new) ⊎ (new ≡ 2 ^ 64 - 1)

@@ -1,0 +1,9 @@
+pub mod Count
+pub mod Piece
+pub mod Wrote
+pub mod Calls
+pub mod MemSource
+pub mod MemSink
+pub mod SureSink
+pub mod ReadEnd
+pub mod Written

@@ -1,0 +1,39 @@
+//! Where bytes come from and where they go.
+//!
+//! A [`Source`] gives bytes piece by piece and a [`Sink`] takes them. Either may fail, and each counts
+//! its faults, so that a caller can answer for a failure only where that count rose. Sources and sinks
+//! in memory tell their bytes; the adapters over std's readers and writers, the trusted edge, tell none.
+//!
+//! - `read_up_to` reads a whole source, `write_all` writes a whole text.
+//! - `MemSource` and `MemSink` fail at the calls that they were told to; `SureSource` and `SureSink` never.
+//! - `StdSource` and `StdSink` stand over a `Read` and a `Write`.
+//! - A [`Gate`] is told of the moments of a shared run; `OpenGate` lets all of them pass.
+#![tactic(auto)]
+
+mod calls;
+mod gate;
+mod mem_sink;
+mod mem_source;
+mod reading;
+mod sink;
+mod source;
+mod std_sink;
+mod std_source;
+mod sure_sink;
+mod sure_source;
+#[cfg(test)]
+mod tests;
+mod unread;
+mod writing;
+
+pub use gate::{Gate, OpenGate};
+pub use mem_sink::MemSink;
+pub use mem_source::MemSource;
+pub use reading::{ReadEnd, read_up_to};
+pub use sink::{Sink, Wrote};
+pub use source::{Piece, Source};
+pub use std_sink::StdSink;
+pub use std_source::StdSource;
+pub use sure_sink::SureSink;
+pub use sure_source::SureSource;
+pub use writing::{Written, write_all};

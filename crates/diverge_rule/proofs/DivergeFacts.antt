@@ -1,0 +1,39 @@
+-- The rule takes as many whole parts as are allowed, and its flows keep the laws.
+use Rattle.std.proofs.Common.{◌≡◌, ℕ, ◌+◌, ◌*◌, ◌/◌, ◌≤◌, arith}
+use Rattle.std.proofs.Math.Nat.{mul-le-mul_right, div-mul-le_self}
+use Rattle.std.proofs.lemmas.Nat.{le-div}
+use Rattle.diverge_rule.specs.Allowed.{IsAllowed}
+use Rattle.diverge_rule.specs.Diverge.{whole_parts, diverge_of}
+
+pub IsAllowed-at_most : (s r1 r2 b1 b2 k : ℕ) → 1 ≤ b1 → 1 ≤ b2 → IsAllowed s r1 r2 b1 b2 k → k ≤ whole_parts s r1 r2 b1 b2
+IsAllowed-at_most s r1 r2 b1 b2 k first second allowed =
+    omega (arith, le-div k s (b1 + b2) (omega arith) allowed.sent, le-div k r1 b1 (omega arith) allowed.first, le-div k r2 b2 (omega arith) allowed.second)
+
+within : (k n d : ℕ) → k ≤ n / d → k * d ≤ n
+within k n d few = omega (arith, mul-le-mul_right d few, div-mul-le_self n d)
+
+pub whole_parts-IsAllowed : (s r1 r2 b1 b2 : ℕ) → IsAllowed s r1 r2 b1 b2 (whole_parts s r1 r2 b1 b2)
+whole_parts-IsAllowed s r1 r2 b1 b2 = record {
+  sent = within _ s (b1 + b2) (omega arith);
+  first = within _ r1 b1 (omega arith);
+  second = within _ r2 b2 (omega arith);
+}
+
+-- ---- the laws of the flows, for callers that cite the definition
+
+-- what leaves in all is what enters in all
+pub diverge_of-conserved : (s r1 r2 b1 b2 : ℕ) → (diverge_of s r1 r2 b1 b2).out ≡ (diverge_of s r1 r2 b1 b2).to1 + (diverge_of s r1 r2 b1 b2).to2
+unfolding diverge_of
+diverge_of-conserved s r1 r2 b1 b2 = omega arith
+
+pub diverge_of-sends : (s r1 r2 b1 b2 : ℕ) → (diverge_of s r1 r2 b1 b2).out ≤ s
+unfolding diverge_of
+diverge_of-sends s r1 r2 b1 b2 = (whole_parts-IsAllowed s r1 r2 b1 b2).sent
+
+pub diverge_of-first_receives : (s r1 r2 b1 b2 : ℕ) → (diverge_of s r1 r2 b1 b2).to1 ≤ r1
+unfolding diverge_of
+diverge_of-first_receives s r1 r2 b1 b2 = (whole_parts-IsAllowed s r1 r2 b1 b2).first
+
+pub diverge_of-second_receives : (s r1 r2 b1 b2 : ℕ) → (diverge_of s r1 r2 b1 b2).to2 ≤ r2
+unfolding diverge_of
+diverge_of-second_receives s r1 r2 b1 b2 = (whole_parts-IsAllowed s r1 r2 b1 b2).second

@@ -1,0 +1,5 @@
+pub mod Middle
+pub mod Pass
+pub mod Printed
+pub mod Reading
+pub mod Spelling

@@ -1,0 +1,49 @@
+ghost use Rattle.std.specs.Prelude.{◌≡◌, ◌+◌, ◌<◌, ◌≤◌, ◌↔◌, ◌-ℤ◌, pos};
+ghost use Rattle.fixed_flow.specs.Middle.{middle_of};
+ghost use Rattle.merge_rule.specs.Merge.{first_flow, second_flow, merge_of};
+ghost use Rattle.merge_rule.specs.Exchange.{exchanged_merge_of, IsUnrounded};
+
+use fixed_flow::{middle, share_floor};
+
+/// What the first and the second sender, of `s1` and `s2` parts, send into a room of `r` parts in one step.
+///
+/// `p1` and `p2` are their priorities, 1 to 1,000 each in a network; of a merge with none the rule says nothing.
+pub fn merge_flow(s1: u64, s2: u64, r: u64, p1: u32, p2: u32) -> (u64, u64)
+    requires { 1 ≤ p1 + p2 }
+    ensures first_rule { pos result.0 ≡ first_flow s1 s2 r p1 p2 }
+    ensures second_rule { pos result.1 ≡ second_flow s1 s2 r p1 p2 }
+    ensures flows { result ≡ merge_of s1 s2 r p1 p2 }
+
+    // What leaves a cell is at most its sending flow, and what enters is at most its receiving flow.
+    ensures first_sends { result.0 ≤ s1 }
+    ensures second_sends { result.1 ≤ s2 }
+    ensures receives { result.0 + result.1 ≤ r }
+
+    ensures all_go { s1 + s2 ≤ r → (result.0 ≡ s1) × (result.1 ≡ s2) }
+    ensures none_is_lost { r < s1 + s2 → result.0 + result.1 ≡ r }
+
+    // With the senders exchanged each flow differs by one part at most, which the second has from the rounding.
+    ensures exchanged_first { let other = exchanged_merge_of s1 s2 r p1 p2 in
+        (result.0 ≤ other.0) × (other.0 ≤ result.0 + 1) }
+    ensures exchanged_second { let other = exchanged_merge_of s1 s2 r p1 p2 in
+        (other.1 ≤ result.1) × (result.1 ≤ other.1 + 1) }
+    ensures exchanged_same { (result ≡ exchanged_merge_of s1 s2 r p1 p2) ↔ IsUnrounded s1 s2 r p1 p2 }
+{
+    if r as u128 >= s1 as u128 + s2 as u128 {
+        return (s1, s2);
+    }
+    let share = share_floor(r, p1 as u64, p1 as u64 + p2 as u64);
+    (
+        shared_flow(s1, s2, r, share),
+        shared_flow(s2, s1, r, r - share),
+    )
+}
+
+// What one sender sends where there is no room for all, by its share of the room.
+fn shared_flow(sent: u64, other: u64, r: u64, share: u64) -> u64
+    requires { r < sent + other }
+    ensures { pos result ≡ middle_of (pos sent) (pos r -ℤ pos other) (pos share) }
+{
+    let left_by_other = r as i128 - other as i128;
+    middle(sent as i128, left_by_other, share as i128) as u64
+}

@@ -1,0 +1,44 @@
+-- The definition of a file's network, by its header and by one record more.
+use Rattle.std.proofs.Common.{ℕ, ◌≡◌, ◌+◌, true, false, List, [], ◌∷◌, Ok, Err, ◌∙◌, refl}
+use Rattle.std.specs.Prelude.{Result}
+use Rattle.network_file.specs.Answers.{Answers}
+use Rattle.network_file.specs.Draft.{Draft, empty_draft}
+use Rattle.network_file.specs.FileRecords.{records_of}
+use Rattle.network_file.specs.Network.{Network}
+use Rattle.network_file.specs.Reading.{completed, is_header, network_of, read_file, read_records}
+use Rattle.network_file.specs.Refused.{IsRefusal, fault_at, refusal_at}
+use Rattle.network_file.specs.Taking.{take_record}
+use Rattle.network_file.specs.declared.code.Code.TheVariants.{NoHeader}
+use Rattle.network_file.specs.declared.fault.NetFault.{NetFault}
+use Rattle.network_file.specs.declared.fault.Refusal.{Refusal}
+use Rattle.network_file.specs.declared.fault.Refusal.TheVariants.{Fault, NoMemory}
+
+pub network_of-headless : (bytes : List ℕ) → records_of bytes ≡ [] → network_of bytes ≡ Err (fault_at 1 NoHeader)
+unfolding network_of read_file
+network_of-headless bytes none = rw none refl
+
+pub network_of-misheaded : (bytes : List ℕ) (header : List (List ℕ)) (rest : List (List (List ℕ))) → records_of bytes ≡ header ∷ rest
+    → is_header header ≡ false → network_of bytes ≡ Err (fault_at 1 NoHeader)
+unfolding network_of read_file
+network_of-misheaded bytes header rest all no_header = rw (all, no_header) refl
+
+pub network_of-headed : (bytes : List ℕ) (header : List (List ℕ)) (rest : List (List (List ℕ))) → records_of bytes ≡ header ∷ rest
+    → is_header header ≡ true → network_of bytes ≡ read_records 2 empty_draft rest
+unfolding network_of read_file
+network_of-headed bytes header rest all header_first = rw (all, header_first) refl
+
+pub read_records-none : (place : ℕ) (draft : Draft) → read_records place draft [] ≡ completed place draft
+unfolding read_records
+read_records-none place draft = refl
+
+pub read_records-taken : (place : ℕ) (draft more : Draft) (fields : List (List ℕ)) (rest : List (List (List ℕ))) → take_record draft fields ≡ Ok more
+    → read_records place draft (fields ∷ rest) ≡ read_records (place + 1) more rest
+unfolding read_records
+read_records-taken place draft more fields rest taken = rw taken refl
+
+-- a record that is refused is the answer, unless memory was wanted
+pub read_records-refused : (place : ℕ) (draft : Draft) (fields : List (List ℕ)) (rest : List (List (List ℕ))) (refusal : Refusal) (whole : Result Network NetFault)
+    → whole ≡ read_records place draft (fields ∷ rest) → Answers {A = Draft} (Err refusal) (take_record draft fields) → IsRefusal (refusal_at place refusal) whole
+unfolding read_records
+read_records-refused place draft fields rest (Fault code) whole same refused = same ∙ rw refused refl
+read_records-refused place draft fields rest NoMemory whole same refused = tt

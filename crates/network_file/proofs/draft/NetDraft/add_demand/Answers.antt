@@ -1,0 +1,16 @@
+use Rattle.std.proofs.Common.{rules, ◌≡◌}
+use Rattle.signal_plan.specs.Records.{DemandRecord, with_demand}
+use Rattle.network_file.proofs.SoundLemmas.{IsSound-add_demand}
+use Rattle.network_file.proofs.draft.NetDraft.add_demand.Goals as goal
+
+pub invariant_of-result : goal.invariant_of-result
+invariant_of-result c =
+    let draft = c.self.inside in
+    let demand : DemandRecord = record { cell = c.args.gate; from = c.args.from; to = c.args.to; amount = c.args.amount } in
+    let plan : c.put_demand.new.self ≡ with_demand draft.plan demand = search rules in
+    let given = rw (← c.self.view_is) at c.requires in
+    record {
+      some_steps = c.self.invariant.some_steps;
+      few_steps = c.self.invariant.few_steps;
+      sound = rw plan (IsSound-add_demand draft.cells draft.connectors draft.plan demand c.self.invariant.sound given.room given.at_gate);
+    }

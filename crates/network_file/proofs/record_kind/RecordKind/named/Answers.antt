@@ -1,0 +1,11 @@
+use Rattle.std.proofs.Common.{◌≡◌, refl, rules, arith}
+use Rattle.std.specs.Prelude.{codes}
+use Rattle.std.proofs.lemmas.Slice.Eq.{text_from_reads}
+use Rattle.network_file.specs.Taking.{record_kind_of}
+use Rattle.network_file.proofs.record_kind.RecordKind.named.Goals as goal
+
+pub returns-in-demand : goal.returns-in-demand
+unfolding record_kind_of
+returns-in-demand c =
+    let same : c.args.text.now ≡ codes "demand" = text_from_reads c.args.text.now (codes "demand") (omega arith) (search rules) in
+    rw same refl

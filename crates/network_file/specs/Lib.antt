@@ -1,0 +1,16 @@
+pub mod Answers
+pub mod CellName
+pub mod Cells
+pub mod Checks
+pub mod Draft
+pub mod FaultCode
+pub mod Fields
+pub mod FileRecords
+pub mod Joins
+pub mod Marks
+pub mod NetView
+pub mod Network
+pub mod NumbersByName
+pub mod Reading
+pub mod Refused
+pub mod Taking

@@ -1,0 +1,123 @@
+ghost use Rattle.std.specs.Prelude.{◌≡◌, ◌<◌, ◌≤◌, None, IfOk, true, false, length};
+ghost use Rattle.std.specs.List.{list_any};
+ghost use Rattle.csv.specs.Records.{fields_of};
+ghost use Rattle.network_file.specs.Answers.{Answers};
+ghost use Rattle.network_file.specs.Cells.{cell_named, is_exit_at, is_gate_at};
+ghost use Rattle.network_file.specs.Fields.{amount_within, demand_gate, downstream, field, new_name, upstream, whole_within};
+ghost use Rattle.network_file.specs.Joins.{leads_into, leads_out_of};
+
+use crate::cell_table::CellTable;
+use crate::code::Code;
+use crate::connector_table::ConnectorTable;
+use crate::fault::Refusal;
+use crate::limits::MOST_LOAD;
+use crate::name::Name;
+use csv::ByteRecord;
+use fixed_flow::{Amount, AmountFault, whole};
+use std::alloc::Global;
+
+/// The field at a place, counted from 0, or nothing where the record ends before it.
+pub(crate) fn field(row: &ByteRecord, i: usize) -> &[u8]
+    ensures { result.now ≡ field (fields_of row.now) i }
+{
+    match row.get(i) {
+        Some(text) => text,
+        None => &[],
+    }
+}
+
+/// A whole number of a range.
+#[tactic(auto, unfolding(crate::specs::Fields::whole_within))]
+pub(crate) fn whole_within(low: u32, high: u32, text: &[u8]) -> Result<u32, Code>
+    ensures value { result ≡ whole_within low high text.now }
+    ensures range { IfOk result (λ n. (low ≤ n) × (n ≤ high)) }
+{
+    match whole(text) {
+        None => Err(Code::BadNumber),
+        Some(n) if low <= n && n <= high => Ok(n),
+        Some(_) => Err(Code::OutOfRange),
+    }
+}
+
+/// An amount in parts, up to the greatest.
+#[tactic(auto, unfolding(crate::specs::Fields::amount_within))]
+pub(crate) fn amount_within(most: u64, text: &[u8]) -> Result<u64, Code>
+    requires { most ≤ MOST_LOAD }
+    ensures value { result ≡ amount_within most text.now }
+    ensures range { IfOk result (λ parts. parts ≤ most) }
+{
+    match Amount::read(text) {
+        Ok(Amount(parts)) if parts <= most => Ok(parts),
+        Ok(_) | Err(AmountFault::Range) => Err(Code::OutOfRange),
+        Err(AmountFault::Spelling) => Err(Code::BadNumber),
+    }
+}
+
+/// A name that no cell has yet.
+#[tactic(auto, unfolding(crate::specs::Fields::new_name))]
+pub(crate) fn new_name(alloc: Global, cells: &CellTable, text: &[u8]) -> Result<Name, Refusal>
+    ensures value { Answers result (new_name cells.now text.now) }
+    ensures fresh { IfOk result (λ name. cell_named cells.now name ≡ None) }
+{
+    if !Name::is_spelled(text) {
+        return Err(Refusal::Fault(Code::BadName));
+    }
+    if cells.find(text).is_some() {
+        return Err(Refusal::Fault(Code::Repeated));
+    }
+    Ok(Name::new(alloc, text)?)
+}
+
+/// The cell upstream of a new connector.
+#[tactic(auto, unfolding(crate::specs::Fields::upstream))]
+pub(crate) fn upstream(
+    cells: &CellTable,
+    connectors: &ConnectorTable,
+    text: &[u8],
+) -> Result<u32, Code>
+    ensures value { result ≡ upstream cells.now connectors.now text.now }
+    ensures there { IfOk result (λ cell. cell < length cells.now) }
+    ensures sends { IfOk result (λ cell. is_exit_at cells.now cell ≡ false) }
+    ensures free { IfOk result (λ cell. list_any (leads_out_of cell) connectors.now ≡ false) }
+{
+    match cells.find(text) {
+        None => Err(Code::Unknown),
+        Some(cell) if cells.is_exit(cell) => Err(Code::WrongKind),
+        Some(cell) if connectors.leads_out_of(cell) => Err(Code::OutTaken),
+        Some(cell) => Ok(cell),
+    }
+}
+
+/// The cell downstream of a new connector.
+#[tactic(auto, unfolding(crate::specs::Fields::downstream))]
+pub(crate) fn downstream(
+    cells: &CellTable,
+    connectors: &ConnectorTable,
+    text: &[u8],
+) -> Result<u32, Code>
+    ensures value { result ≡ downstream cells.now connectors.now text.now }
+    ensures there { IfOk result (λ cell. cell < length cells.now) }
+    ensures receives { IfOk result (λ cell. is_gate_at cells.now cell ≡ false) }
+    ensures free { IfOk result (λ cell. list_any (leads_into cell) connectors.now ≡ false) }
+{
+    match cells.find(text) {
+        None => Err(Code::Unknown),
+        Some(cell) if cells.is_gate(cell) => Err(Code::WrongKind),
+        Some(cell) if connectors.leads_into(cell) => Err(Code::InTaken),
+        Some(cell) => Ok(cell),
+    }
+}
+
+/// The gate of a demand.
+#[tactic(auto, unfolding(crate::specs::Fields::demand_gate))]
+pub(crate) fn demand_gate(cells: &CellTable, text: &[u8]) -> Result<u32, Code>
+    ensures value { result ≡ demand_gate cells.now text.now }
+    ensures there { IfOk result (λ cell. cell < length cells.now) }
+    ensures gate { IfOk result (λ cell. is_gate_at cells.now cell ≡ true) }
+{
+    match cells.find(text) {
+        None => Err(Code::Unknown),
+        Some(cell) if !cells.is_gate(cell) => Err(Code::WrongKind),
+        Some(cell) => Ok(cell),
+    }
+}

@@ -1,0 +1,36 @@
+ghost use Rattle.std.specs.Prelude.{◌≡◌, ◌∷◌, [], Some, IfOk, true, false};
+ghost use Rattle.csv.specs.Records.{fields_of};
+ghost use Rattle.network_file.specs.FileRecords.{IsReading, records_left, records_of};
+
+use csv::{ByteRecord, Reader, ReaderBuilder};
+use signal_plan::NoMemory;
+use std::alloc::Global;
+
+/// A reader of the records of a file: byte records without a header row, of any length, with `#`
+/// before a comment.
+pub(crate) fn open_records(alloc: Global, bytes: &[u8]) -> Reader<&[u8]>
+    ensures reading { IsReading (λ s. Some s.now) result }
+    ensures left { records_left (λ s. Some s.now) result ≡ records_of bytes.now }
+{
+    ReaderBuilder::new()
+        .has_headers(false)
+        .flexible(true)
+        .comment(Some(b'#'))
+        .from_reader(alloc, bytes)
+}
+
+/// Reads the next record, if there is one. A reader over bytes fails for want of memory alone.
+pub(crate) fn next_record(
+    reader: &mut Reader<&[u8]>,
+    row: &mut ByteRecord,
+) -> Result<bool, NoMemory>
+    requires { IsReading (λ s. Some s.now) reader.old }
+    ensures reading { IfOk result (λ found. found ≡ true → IsReading (λ s. Some s.now) reader.new) }
+    ensures found { IfOk result (λ found. found ≡ true → records_left (λ s. Some s.now) reader.old ≡ fields_of row.new ∷ records_left (λ s. Some s.now) reader.new) }
+    ensures end { IfOk result (λ found. found ≡ false → records_left (λ s. Some s.now) reader.old ≡ []) }
+{
+    let Ok(found) = reader.read_byte_record(row) else {
+        return Err(NoMemory);
+    };
+    Ok(found)
+}

@@ -1,0 +1,51 @@
+ghost use Rattle.std.specs.Prelude.{◌≡◌, ◌||◌, ◌==◌, ℕ, false, IfOk};
+ghost use Rattle.network_file.specs.Marks.{is_marked};
+
+use signal_plan::NoMemory;
+use std::alloc::Global;
+
+/// A set of cell numbers, as one mark for each number up to the greatest.
+#[derive(Debug, Drop)]
+pub(crate) struct Marks {
+    marks: Vec<bool>,
+}
+
+impl std::marker::Model for Marks {
+    ghost use Rattle.std.specs.Prelude.{Bool, List};
+
+    ghost Value = { List Bool };
+
+    ghost view = { λ a. a.marks.items };
+}
+
+impl Marks {
+    pub(crate) fn new(alloc: Global) -> Marks
+        ensures { (i : ℕ) → is_marked result i ≡ false }
+    {
+        Marks {
+            marks: Vec::new(alloc),
+        }
+    }
+
+    pub(crate) fn has(&self, i: u32) -> bool
+        ensures { result ≡ is_marked self.now i }
+    {
+        match self.marks.get(i as usize) {
+            Some(mark) => *mark,
+            None => false,
+        }
+    }
+
+    /// With one more number in the set.
+    pub(crate) fn with(self, i: u32) -> Result<Marks, NoMemory>
+        ensures { IfOk result (λ more. (j : ℕ) → is_marked more j ≡ ((j == i) || is_marked self j)) }
+    {
+        let Marks { mut marks } = self;
+        let at = i as usize;
+        if marks.len() <= at {
+            marks.resize(at + 1, false)?;
+        }
+        marks[at] = true;
+        Ok(Marks { marks })
+    }
+}

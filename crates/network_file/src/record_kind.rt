@@ -1,0 +1,44 @@
+ghost use Rattle.std.specs.Prelude.{◌≡◌};
+ghost use Rattle.network_file.specs.Taking.{field_count, record_kind_of};
+
+/// The kinds of record, by the first field.
+#[derive(Clone, Copy, Debug, PartialEq, Eq)]
+pub(crate) enum RecordKind {
+    Steps,
+    Road,
+    Gate,
+    Exit,
+    Link,
+    Demand,
+}
+
+impl RecordKind {
+    /// The kind that a first field names.
+    #[tactic(auto, unfolding(crate::specs::Taking::record_kind_of))]
+    pub(crate) fn named(text: &[u8]) -> Option<RecordKind>
+        ensures { result ≡ record_kind_of text.now }
+    {
+        match text {
+            b"steps" => Some(RecordKind::Steps),
+            b"road" => Some(RecordKind::Road),
+            b"gate" => Some(RecordKind::Gate),
+            b"exit" => Some(RecordKind::Exit),
+            b"link" => Some(RecordKind::Link),
+            b"demand" => Some(RecordKind::Demand),
+            _ => None,
+        }
+    }
+
+    /// How many fields such a record has, the kind among them.
+    pub(crate) fn field_count(self) -> usize
+        ensures { result ≡ field_count self }
+    {
+        match self {
+            RecordKind::Steps => 2,
+            RecordKind::Road => 7,
+            RecordKind::Gate => 4,
+            RecordKind::Exit | RecordKind::Link => 3,
+            RecordKind::Demand => 5,
+        }
+    }
+}

@@ -1,0 +1,16 @@
+//! The flow of one ordinary link in one step: what the upstream cell can send, what the downstream
+//! cell can receive, and the lesser of the two, which the link carries.
+//!
+//! All amounts are in parts, millionths of a vehicle, and every quotient is rounded down to whole
+//! parts. No call takes memory.
+#![tactic(auto)]
+
+mod link;
+mod receive;
+mod send;
+mod space;
+
+pub use link::link_flow;
+pub use receive::receiving;
+pub use send::sending;
+pub use space::{MAX_PARTS, Room};

@@ -1,0 +1,31 @@
+ghost use Rattle.std.specs.Prelude.{◌≡◌, ◌≤◌, ◌+◌};
+ghost use Rattle.ordinary_link.specs.Space.{space_flow, IsRoomFor};
+
+/// The most parts that a road may have room for: ten million vehicles.
+pub const MAX_PARTS: u64 = 10_000_000_000_000;
+
+/// The room of a road cell: it holds at most `most` parts, and the backward wave runs at `num / den`
+/// of the free speed.
+#[derive(Clone, Copy, Debug, PartialEq, Eq)]
+pub struct Room {
+    pub most: u64,
+    pub num: u32,
+    pub den: u32,
+}
+
+impl Room {
+    // A ratio of 1 needs no division, the dearest part of a step.
+    pub(crate) fn space_flow(self, n: u64) -> u64
+        requires fits { IsRoomFor n self }
+        requires amount { self.most ≤ MAX_PARTS }
+        ensures flow { result ≡ space_flow n self }
+        ensures in_room { n + result ≤ self.most }
+    {
+        let space = self.most - n;
+        if self.num == self.den {
+            space
+        } else {
+            u64::from(self.num) * space / u64::from(self.den)
+        }
+    }
+}

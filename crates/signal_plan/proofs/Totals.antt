@@ -1,0 +1,83 @@
+-- The sum over cells and steps of what the records bring is the sum over the records of what each brings.
+use Rattle.std.specs.Prelude.{if◌then◌else◌, ◌==◌, ◌&&◌, nat_le, nat_lt, sum_by, min, max, All}
+use Rattle.std.specs.List.{range_with_len}
+use Rattle.std.proofs.Common.{◌≡◌, ℕ, Bool, true, false, ◌+◌, ◌-◌, ◌*◌, ◌<◌, List, [], ◌∷◌, length, arith, ◌∙◌, ap}
+use Rattle.std.proofs.lemmas.List.Sums.{sum_by-cons}
+use Rattle.std.proofs.lemmas.List.Elements.{All-head, All-tail, All-weaker}
+use Rattle.signal_plan.specs.Records.{DemandRecord, PlanRecords}
+use Rattle.signal_plan.specs.Sound.{IsSoundDemand, IsSound}
+use Rattle.signal_plan.specs.Demand.{amount_at, demand_at}
+use Rattle.signal_plan.specs.Total.{demand_from, total_of}
+use Rattle.signal_plan.proofs.Sums.{sum_by_agree, sum_by_splits, sum_by-zero, sum_by_range_one}
+use Rattle.signal_plan.proofs.Overlap.{steps_in}
+
+abbrev pub steps_below : ℕ → List ℕ
+steps_below steps = range_with_len 0 (steps - 0)
+
+abbrev pub cells_below : ℕ → List ℕ
+cells_below cells = range_with_len 0 cells
+
+-- what one record brings to its cell in the steps below `steps`
+abbrev pub brought : ℕ → DemandRecord → ℕ
+brought steps d = d.amount * (min d.to steps - d.from)
+
+-- what one record brings to the cell in these steps, step by step
+abbrev pub brought_to : (steps : ℕ) → DemandRecord → (cell : ℕ) → ℕ
+brought_to steps d cell = sum_by (amount_at d cell) (steps_below steps)
+
+-- what the records bring to the cell in one step, in these steps, and to all cells
+abbrev pub step_sum : List DemandRecord → (cell t : ℕ) → ℕ
+step_sum ds cell t = sum_by (λ d. amount_at d cell t) ds
+
+abbrev pub cell_sum : (steps : ℕ) → List DemandRecord → (cell : ℕ) → ℕ
+cell_sum steps ds cell = sum_by (step_sum ds cell) (steps_below steps)
+
+abbrev pub total_sum : (cells steps : ℕ) → List DemandRecord → ℕ
+total_sum cells steps ds = sum_by (cell_sum steps ds) (cells_below cells)
+
+brought_to_is : (steps : ℕ) (d : DemandRecord) (own : Bool) →
+    sum_by (λ u. if own && (nat_le d.from u && nat_lt u d.to) then d.amount else 0) (steps_below steps) ≡
+    (if own then brought steps d else 0)
+brought_to_is steps d true =
+    let overlap : min d.to (0 + (steps - 0)) - max d.from 0 ≡ min d.to steps - d.from = omega arith in
+    steps_in d.from d.to d.amount 0 (steps - 0) ∙ ap (λ k. d.amount * k) overlap
+brought_to_is steps d false = sum_by-zero (λ u. 0) (steps_below steps) (λ k e below. omega arith)
+
+sum_brought_to : (cells steps : ℕ) (d : DemandRecord) → d.cell < cells →
+    sum_by (brought_to steps d) (cells_below cells) ≡ brought steps d
+sum_brought_to cells steps d has =
+    let own : ℕ → ℕ = λ c. if d.cell == c then brought steps d else 0 in
+    sum_by_agree (brought_to steps d) own (cells_below cells) (λ c. brought_to_is steps d (d.cell == c)) ∙
+    sum_by_range_one (brought steps d) d.cell 0 cells (omega arith) (omega arith)
+
+cell_sum-cons : (steps : ℕ) (d : DemandRecord) (ds : List DemandRecord) (cell : ℕ) →
+    cell_sum steps (d ∷ ds) cell ≡ brought_to steps d cell + cell_sum steps ds cell
+cell_sum-cons steps d ds cell =
+    let at_step = λ (t : ℕ). sum_by-cons (λ e. amount_at e cell t) d ds in
+    sum_by_splits (step_sum (d ∷ ds) cell) (amount_at d cell) (step_sum ds cell) (steps_below steps) at_step
+
+total_sum-nil : (cells steps : ℕ) → total_sum cells steps [] ≡ 0
+total_sum-nil cells steps =
+    let no_steps = sum_by-zero (λ t. 0) (steps_below steps) (λ k e below. omega arith) in
+    sum_by-zero (cell_sum steps []) (cells_below cells) (λ k e below. omega (arith, no_steps))
+
+-- summed over the records, where each is of one of the cells
+pub total_sum_is : (cells steps : ℕ) (ds : List DemandRecord) → All (λ d. d.cell < cells) ds →
+    total_sum cells steps ds ≡ sum_by (brought steps) ds
+total_sum_is cells steps [] has = total_sum-nil cells steps
+total_sum_is cells steps (d ∷ ds) has =
+    sum_by_splits (cell_sum steps (d ∷ ds)) (brought_to steps d) (cell_sum steps ds) (cells_below cells) (cell_sum-cons steps d ds) ∙
+    omega (
+      arith,
+      sum_brought_to cells steps d (All-head (λ e. e.cell < cells) d ds has),
+      total_sum_is cells steps ds (All-tail (λ e. e.cell < cells) d ds has),
+      sum_by-cons (brought steps) d ds,
+    )
+
+pub total_of_is : (plan : PlanRecords) (steps : ℕ) → IsSound plan →
+    total_of plan steps ≡ sum_by (brought steps) plan.demands
+unfolding total_of demand_from demand_at
+total_of_is plan steps sound =
+    let cells : ℕ = length plan.cells in
+    let has = All-weaker (IsSoundDemand cells) (λ d. d.cell < cells) (λ d fits. fits.cell) plan.demands sound.demands in
+    total_sum_is cells steps plan.demands has
