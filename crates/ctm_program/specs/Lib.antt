@@ -1,0 +1,7 @@
+pub mod Answer
+pub mod Ending
+pub mod Lines
+pub mod Refusing
+pub mod Report
+pub mod Totals
+pub mod Words

@@ -1,0 +1,46 @@
+//! `ctm run` reads a network file from standard input, takes the network through all its steps and writes
+//! its report on standard output (docs/FORMAT.md).
+//!
+//! - `top_call` has the call that the program makes, over any source and sinks; its contract is the
+//!   theorem from the bytes of the input to the bytes of the report.
+//! - `answer` finds the report or the refusal: it asks `words`, reads the input, and has `run` take the
+//!   network through its steps and `report` print what came of it, with the sums of `total`.
+//! - `status` has the exit status of each ending, `refusal` the line that goes with it.
+//! - `main` stands at the edge: the real streams, and the words of `command_line`.
+#![tactic(auto)]
+
+mod answer;
+mod command_line;
+mod refusal;
+mod report;
+mod run;
+mod status;
+#[cfg(test)]
+mod tests;
+mod top_call;
+mod total;
+mod words;
+
+use ctm_ports::{OpenGate, StdSink, StdSource};
+use refusal::Refusal;
+use std::process::ExitCode;
+use top_call::{ctm, tell};
+
+fn main(rt: HostRuntime) -> ExitCode {
+    let mut source = StdSource::new(rt.stdin());
+    let mut out = StdSink::new(rt.stdout());
+    let mut err = StdSink::new(rt.stderr());
+    let status = match command_line::words(&rt) {
+        Ok(words) => ctm(
+            &rt,
+            rt.alloc(),
+            &words,
+            &mut source,
+            &mut out,
+            &mut err,
+            &OpenGate,
+        ),
+        Err(error) => tell(&Refusal::from(error), &mut err),
+    };
+    ExitCode::from(status.number())
+}

@@ -1,0 +1,57 @@
+ghost use Rattle.std.specs.Prelude.{◌≡◌};
+ghost use Rattle.ctm_program.specs.Refusing.{line_of, status_of};
+
+use crate::status::Status;
+use signal_plan::NoMemory;
+
+/// Why there is no report, or why it wasn't written: the endings of [`Status`] but `Done`.
+#[derive(Debug, Drop)]
+pub(crate) enum Refusal {
+    Words,
+    /// With the line that tells the fault.
+    Network(Vec<u8>),
+    TooLarge,
+    ReadFault,
+    WriteFault,
+    NoMemory,
+}
+
+impl Refusal {
+    pub(crate) fn status(&self) -> Status
+        ensures { result ≡ status_of self.now }
+    {
+        match self {
+            Refusal::Words => Status::Words,
+            Refusal::Network(_) => Status::Network,
+            Refusal::TooLarge => Status::TooLarge,
+            Refusal::ReadFault => Status::ReadFault,
+            Refusal::WriteFault => Status::WriteFault,
+            Refusal::NoMemory => Status::NoMemory,
+        }
+    }
+
+    /// The line that standard error gets.
+    pub(crate) fn line(&self) -> &[u8]
+        ensures { result.now ≡ line_of self.now }
+    {
+        match self {
+            Refusal::Words => b"ctm: words refused\n",
+            Refusal::Network(line) => line,
+            Refusal::TooLarge => b"ctm: too large: input\n",
+            Refusal::ReadFault => b"ctm: read fault\n",
+            Refusal::WriteFault => b"ctm: write fault\n",
+            Refusal::NoMemory => b"ctm: no memory\n",
+        }
+    }
+}
+
+impl From<NoMemory> for Refusal {
+    ghost use Rattle.std.specs.Prelude.{◌≡◌};
+    ghost use Rattle.ctm_program.specs.declared.refusal.Refusal.TheVariants as refusal;
+
+    ghost from_gives = { λ _ r. r ≡ refusal.NoMemory };
+
+    fn from(_: NoMemory) -> Self {
+        Refusal::NoMemory
+    }
+}

@@ -1,0 +1,122 @@
+-- The rows of all cells: one for each, in bounds at each step.
+use Rattle.std.specs.Prelude.{map, slice_get}
+use Rattle.std.specs.Prelude.{Some}
+use Rattle.std.specs.Option.{option_map}
+use Rattle.std.proofs.lemmas.Option.{slice_get_within, get_or_from_slice_get, slice_get-map}
+use Rattle.std.proofs.Common.{◌≡◌, ℕ, zero, suc, add-one, zero-add, ◌+◌, ◌<◌, ◌≤◌, List, length, get_or, arith, refl, sym, ap, ◌∙◌}
+use Rattle.std.proofs.lemmas.List.{length-map}
+use Rattle.std.proofs.lemmas.List.FromFn.{length-map-range_with_len, get_or-map-range_with_len}
+use Rattle.std.proofs.lemmas.List.Sums.{get_or-le-sum_by}
+use Rattle.signal_plan.specs.Total.{demand_from}
+use Rattle.signal_plan.proofs.Laws.{demand_from-le-total_of}
+use Rattle.network_file.specs.Network.{Network, IsNetwork, IsSoundCell}
+use Rattle.network_file.specs.declared.limits.TheConstants.{MOST_LOAD}
+use Rattle.network_file.specs.declared.cell.Cell.{Cell}
+use Rattle.flow_model.specs.Flows.{inflow, outflow}
+use Rattle.flow_model.specs.Rows.{empty_row, first_row, next_row}
+use Rattle.flow_model.specs.State.{row_at, occupancy, next_rows, state_at}
+use Rattle.flow_model.specs.Bounds.{IsRowInBounds, AreInBounds, KeepsRooms}
+use Rattle.flow_model.specs.declared.row.Row.{Row}
+use Rattle.flow_model.proofs.CellKinds.{cell_at, All-at, road_at-there}
+use Rattle.flow_model.proofs.Bounds.{IsPart-all, changes, moved_row-in_bounds}
+
+-- one row for each cell
+
+pub length-next_rows : (net : Network) (t : ℕ) (rows : List Row) → length (next_rows net t rows) ≡ length net.cells
+unfolding next_rows
+length-next_rows net t rows =
+    length-map-range_with_len (λ i. next_row net t (occupancy rows) i (row_at rows i)) 0 (length net.cells)
+
+pub row_at-next_rows : (net : Network) (t i : ℕ) (rows : List Row) → i < length net.cells →
+    row_at (next_rows net t rows) i ≡ next_row net t (occupancy rows) i (row_at rows i)
+unfolding next_rows
+row_at-next_rows net t i rows has =
+    get_or-map-range_with_len (λ i. next_row net t (occupancy rows) i (row_at rows i)) 0 (length net.cells) i i empty_row has
+    (zero-add i)
+
+pub state_at-zero : (net : Network) → state_at net 0 ≡ map first_row net.cells
+unfolding state_at
+state_at-zero net = refl
+
+-- the recurrence
+pub state_at-next : (net : Network) (t : ℕ) → state_at net (t + 1) ≡ next_rows net t (state_at net t)
+unfolding state_at
+state_at-next net t = rw add-one refl
+
+pub length-state_at : (net : Network) (t : ℕ) → length (state_at net t) ≡ length net.cells
+unfolding state_at
+length-state_at net zero = length-map net.cells first_row
+length-state_at net (suc t) = length-next_rows net t (state_at net t)
+
+-- the bounds
+
+pub next_row-in_bounds : (net : Network) (t i : ℕ) (n : ℕ → ℕ) (row : Row) → IsNetwork net → t < net.steps →
+    i < length net.cells → IsRowInBounds net t i row → n i ≡ row.n → IsRowInBounds net (t + 1) i (next_row net t n i row)
+unfolding inflow outflow
+next_row-in_bounds net t i n row sound before has bounds own =
+    moved_row-in_bounds net t i row _ _ sound before has bounds
+    (rw own at (changes net.connectors net t i n sound has (IsPart-all net t n i)))
+
+pub next_rows-in_bounds : (net : Network) (t : ℕ) (rows : List Row) → IsNetwork net → t < net.steps → AreInBounds net t rows →
+    AreInBounds net (t + 1) (next_rows net t rows)
+next_rows-in_bounds net t rows sound before bounds = record {
+  one_each = length-next_rows net t rows;
+  each = λ i has. rw (row_at-next_rows net t i rows has)
+      (next_row-in_bounds net t i (occupancy rows) (row_at rows i) sound before has (bounds.each i has) refl);
+}
+
+-- what a cell holds at first, and the demand of its gate, are a part of the load
+load-at : (net : Network) (i : ℕ) (cell : Cell) → IsNetwork net → i < length net.cells → get_or net.cells i cell ≡ cell →
+    cell.first + demand_from net.plan i 0 net.steps ≤ MOST_LOAD
+load-at net i cell sound has here = omega (
+  arith,
+  sound.load,
+  rw here at (get_or-le-sum_by (λ c. c.first) net.cells i cell has),
+  demand_from-le-total_of net.plan i net.steps (omega (arith, sound.sound.planned)),
+)
+
+pub first_row-in_bounds : (net : Network) (i : ℕ) (cell : Cell) → IsNetwork net → slice_get net.cells i ≡ Some cell →
+    IsRowInBounds net 0 i (first_row cell)
+first_row-in_bounds net i cell sound found =
+    let has = slice_get_within net.cells i cell found in
+    let cell_sound = All-at IsSoundCell net.cells i cell found sound.sound.sound_cells in
+    let load = load-at net i cell sound has (get_or_from_slice_get net.cells i cell cell found) in
+    record {
+      held = record {
+        road = λ road. let is_road_here = rw found at road in rw found (cell_sound.road is_road_here);
+        gate = λ gate. load;
+        exit = λ exit. let is_exit_here = rw found at exit in omega (arith, cell_sound.exit is_exit_here);
+      };
+      road_come = λ road. omega arith;
+      gate_come = λ gate. omega (arith, load);
+      exit_come = λ exit. let is_exit_here = rw found at exit in sym (cell_sound.exit is_exit_here);
+      exit_gone = λ exit. refl;
+      exit_wait = λ exit. refl;
+      gone = omega arith;
+      wait = omega arith;
+      balance = λ no_exit. rw found refl;
+    }
+
+pub first_rows-in_bounds : (net : Network) → IsNetwork net → AreInBounds net 0 (state_at net 0)
+unfolding state_at
+first_rows-in_bounds net sound = record {
+  one_each = length-map net.cells first_row;
+  each = λ i has.
+      let here = cell_at net.cells i has in
+      let row : row_at (map first_row net.cells) i ≡ first_row here.0 =
+      get_or_from_slice_get (map first_row net.cells) i (first_row here.0) empty_row
+      (slice_get-map first_row net.cells i ∙ ap (λ o. option_map first_row o) here.1) in
+      rw row (first_row-in_bounds net i here.0 sound here.1);
+}
+
+-- the rows of each step are in bounds: a road never holds more than its room
+pub state_at-in_bounds : (net : Network) → IsNetwork net → (t : ℕ) → t ≤ net.steps → AreInBounds net t (state_at net t)
+state_at-in_bounds net sound zero within = first_rows-in_bounds net sound
+state_at-in_bounds net sound (suc t) within =
+    let next = next_rows-in_bounds net t (state_at net t) sound (omega arith) (state_at-in_bounds net sound t (omega arith)) in
+    rw (← state_at-next net t, add-one) at next
+
+pub AreInBounds-KeepsRooms : (net : Network) (t : ℕ) (rows : List Row) → AreInBounds net t rows → KeepsRooms net rows
+AreInBounds-KeepsRooms net t rows bounds = record {
+  each = λ i road. (bounds.each i (road_at-there net.cells i road)).held.road road;
+}

@@ -1,0 +1,56 @@
+-- The bounds that rows keep at each step.
+use Rattle.std.specs.Prelude.{◌≡◌, ℕ, ◌+◌, ◌*◌, ◌<◌, ◌≤◌, List, Bool, true, false, length, slice_get, slice_index}
+use Rattle.std.specs.Option.{option_map_or}
+use Rattle.signal_plan.specs.Total.{demand_from}
+use Rattle.network_file.specs.Cells.{is_road, is_exit_at, is_gate_at}
+use Rattle.network_file.specs.Network.{Network}
+use Rattle.network_file.specs.declared.cell.Cell.{Cell}
+use Rattle.network_file.specs.declared.limits.TheConstants.{MOST_FLOW, MOST_LOAD}
+use Rattle.flow_model.specs.State.{row_at, occupancy}
+use Rattle.flow_model.specs.declared.row.Row.{Row}
+
+-- whether the cell of this number is a road
+abbrev pub is_road_at : List Cell → ℕ → Bool
+is_road_at cells i = option_map_or (λ cell. is_road cell.kind) (slice_get cells i) false
+
+-- the room of the cell of this number
+abbrev pub most_at : List Cell → ℕ → ℕ
+most_at cells i = option_map_or (λ cell. cell.room) (slice_get cells i) 0
+
+-- what the cell of this number holds at step 0
+abbrev pub first_at : List Cell → ℕ → ℕ
+first_at cells i = option_map_or (λ cell. cell.first) (slice_get cells i) 0
+
+-- an occupancy of cell i that is in bounds at step t
+pub record IsHeldInBounds (net : Network) (t i n : ℕ) : Type 0 where
+  -- a road never holds more than its room
+  pub road : is_road_at net.cells i ≡ true → n ≤ most_at net.cells i
+  -- what a gate holds and its demand still to come
+  pub gate : is_gate_at net.cells i ≡ true → n + demand_from net.plan i t net.steps ≤ MOST_LOAD
+  pub exit : is_exit_at net.cells i ≡ true → n ≤ t * MOST_FLOW
+
+-- occupancies of these cells that are in bounds at step t
+pub record AreHeldInBounds (net : Network) (t : ℕ) (cells n : List ℕ) : Type 0 where
+  pub each : (j : ℕ) → j < length cells → IsHeldInBounds net t (slice_index cells j) (slice_index n j)
+
+-- a row of cell i that is in bounds at step t
+pub record IsRowInBounds (net : Network) (t i : ℕ) (row : Row) : Type 0 where
+  pub held : IsHeldInBounds net t i row.n
+  pub road_come : is_road_at net.cells i ≡ true → row.come ≤ t * MOST_FLOW
+  pub gate_come : is_gate_at net.cells i ≡ true → row.come + demand_from net.plan i t net.steps ≤ MOST_LOAD
+  pub exit_come : is_exit_at net.cells i ≡ true → row.come ≡ row.n
+  pub exit_gone : is_exit_at net.cells i ≡ true → row.gone ≡ 0
+  pub exit_wait : is_exit_at net.cells i ≡ true → row.wait ≡ 0
+  pub gone : row.gone ≤ t * MOST_FLOW
+  pub wait : row.wait ≤ t * MOST_LOAD
+  -- a road or a gate holds what it held at first and what came, less what went
+  pub balance : is_exit_at net.cells i ≡ false → row.n + row.gone ≡ first_at net.cells i + row.come
+
+-- one row for each cell, each in bounds at step t
+pub record AreInBounds (net : Network) (t : ℕ) (rows : List Row) : Type 0 where
+  pub one_each : length rows ≡ length net.cells
+  pub each : (i : ℕ) → i < length net.cells → IsRowInBounds net t i (row_at rows i)
+
+-- no road holds more than its room
+pub record KeepsRooms (net : Network) (rows : List Row) : Type 0 where
+  pub each : (i : ℕ) → is_road_at net.cells i ≡ true → occupancy rows i ≤ most_at net.cells i

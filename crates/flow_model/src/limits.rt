@@ -1,0 +1,43 @@
+ghost use Rattle.std.specs.Prelude.{◌≡◌, ◌<◌, length};
+ghost use Rattle.flow_model.specs.Limits.{room_by, sending_at, receiving_at};
+ghost use Rattle.flow_model.specs.Bounds.{IsHeldInBounds};
+
+use network_file::{Cell, Kind, Net};
+use ordinary_link::{Room, receiving, sending};
+
+/// The room of a cell. A road alone has one.
+fn room(cell: &Cell) -> Option<Room>
+    ensures { result ≡ room_by cell.now.kind cell.now }
+{
+    match cell.kind {
+        Kind::Road => Some(Room {
+            most: cell.room,
+            num: cell.num,
+            den: cell.den,
+        }),
+        Kind::Gate | Kind::Exit => None,
+    }
+}
+
+/// What a cell can send in step `t` where it holds `n` parts.
+#[tactic(auto, unfolding(crate::specs::Limits::sending_at))]
+pub(crate) fn sending_flow(net: &Net, t: u64, cell: u32, n: u64) -> u64
+    requires has_cell { cell < length net.now.cells }
+    requires in_time { t < net.now.steps }
+    ensures { result ≡ sending_at net.now t cell n }
+{
+    let _steps = net.steps;
+    sending(n, net.plan.capacity(cell, t), true)
+}
+
+/// What a cell can receive in step `t` where it holds `n` parts.
+#[tactic(auto, unfolding(crate::specs::Limits::receiving_at))]
+pub(crate) fn receiving_flow(net: &Net, t: u64, cell: u32, n: u64) -> u64
+    requires has_cell { cell < length net.now.cells }
+    requires in_time { t < net.now.steps }
+    requires held { IsHeldInBounds net.now t cell n }
+    ensures { result ≡ receiving_at net.now t cell n }
+{
+    let room = room(&net.cells[cell as usize]);
+    receiving(n, net.plan.capacity(cell, t), room)
+}
