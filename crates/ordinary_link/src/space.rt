@@ -8,8 +8,11 @@ pub const MAX_PARTS: u64 = 10_000_000_000_000;
 /// of the free speed.
 #[derive(Clone, Copy, Debug, PartialEq, Eq)]
 pub struct Room {
+    /// The most that the road holds, in parts.
     pub most: u64,
+    /// The numerator `A` of the ratio w/v.
     pub num: u32,
+    /// The denominator `B` of the ratio, at least the numerator.
     pub den: u32,
 }
 
