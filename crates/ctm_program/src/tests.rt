@@ -21,6 +21,15 @@ struct Ended {
     err: SureSink,
 }
 
+impl Ended {
+    // Whether the input was no network, for the fault of this line.
+    fn is_refused_at(&self, line: &[u8]) -> bool {
+        self.status == 3
+            && self.out.bytes().is_empty()
+            && self.err.bytes().strip_prefix(b"ctm: network: ".as_slice()) == Some(line)
+    }
+}
+
 // A call with these words, over ports that never fail.
 fn call<R: Threads + Sync>(
     rt: &R,
@@ -102,7 +111,7 @@ demand,g,0,20,2.903447\n";
 }
 
 #[test]
-fn each_fault_is_told_with_its_record_and_code(rt: HostRuntime) -> Result<(), Fail> {
+fn a_fault_of_one_record_is_told_with_its_code(rt: HostRuntime) -> Result<(), Fail> {
     for (input, line) in [
         (b"".as_slice(), b"record 1 code 1 NoHeader\n".as_slice()),
         (b"ctm,9\n", b"record 1 code 1 NoHeader\n"),
@@ -130,9 +139,19 @@ fn each_fault_is_told_with_its_record_and_code(rt: HostRuntime) -> Result<(), Fa
             b"ctm,1\ngate,g,1,0\ndemand,g,5,5,1\n",
             b"record 3 code 6 OutOfRange\n",
         ),
+    ] {
+        let ended = call(&rt, rt.alloc(), &["run"], input.to_vec(rt.alloc())?)?;
+        assert!(rt; ended.is_refused_at(line), "{ended:?}");
+    }
+    Ok(())
+}
+
+#[test]
+fn a_fault_among_records_is_told_with_its_code(rt: HostRuntime) -> Result<(), Fail> {
+    for (input, line) in [
         (
-            b"ctm,1\nexit,x,2\nexit,x,2\n",
-            b"record 3 code 7 Repeated\n",
+            b"ctm,1\nexit,x,2\nexit,x,2\n".as_slice(),
+            b"record 3 code 7 Repeated\n".as_slice(),
         ),
         (b"ctm,1\nsteps,3\nsteps,3\n", b"record 3 code 7 Repeated\n"),
         (b"ctm,1\nlink,p,q\n", b"record 2 code 8 Unknown\n"),
@@ -161,12 +180,13 @@ fn each_fault_is_told_with_its_record_and_code(rt: HostRuntime) -> Result<(), Fa
         ),
     ] {
         let ended = call(&rt, rt.alloc(), &["run"], input.to_vec(rt.alloc())?)?;
-        assert_eq!(rt; ended.status, 3);
-        assert!(rt; ended.out.bytes().is_empty());
-        let told = ended.err.bytes().strip_prefix(b"ctm: network: ".as_slice());
-        assert!(rt; told == Some(line), "{:?}", ended.err);
+        assert!(rt; ended.is_refused_at(line), "{ended:?}");
     }
-    // the greatest capacity, and demand that comes no more
+    Ok(())
+}
+
+#[test]
+fn the_greatest_capacity_and_demand_past_the_end_are_accepted(rt: HostRuntime) -> Result<(), Fail> {
     for accepted in [
         b"ctm,1\nsteps,1\nexit,x,100000\n".as_slice(),
         b"ctm,1\nsteps,2\ngate,g,1,0\ndemand,g,0,3,4000000\n",
