@@ -1,9 +1,9 @@
-use Rattle.std.specs.Prelude.{ℕ, Bool, if◌then◌else◌, ◌==◌, ◌&&◌, nat_le, nat_lt, sum_by}
-use Rattle.signal_plan.specs.Records.{DemandRecord, PlanRecords}
+use Rattle.std.specs.Prelude.{ℕ, Bool, if◌then◌else◌, ◌==◌, ◌&&◌, sum_by}
+use Rattle.signal_plan.specs.Records.{DemandRecord, PlanRecords, in_range}
 
 -- the record is of the cell, and its range contains `t`
 abbrev pub applies_at : DemandRecord → (cell t : ℕ) → Bool
-applies_at demand cell t = demand.cell == cell && (nat_le demand.from t && nat_lt t demand.to)
+applies_at demand cell t = demand.cell == cell && in_range demand.from demand.to t
 
 -- what the record alone brings to the cell at step `t`
 abbrev pub amount_at : DemandRecord → (cell t : ℕ) → ℕ

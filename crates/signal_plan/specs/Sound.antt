@@ -1,15 +1,33 @@
-use Rattle.std.specs.Prelude.{ℕ, ◌<◌, ◌≤◌, length, All}
-use Rattle.signal_plan.specs.declared.bounds.TheConstants.{MAX_CELLS, MAX_DEMANDS, MAX_AMOUNT}
-use Rattle.signal_plan.specs.Records.{DemandRecord, PlanRecords}
+use Rattle.std.specs.Prelude.{ℕ, ◌<◌, ◌≤◌, ◌==◌, eqb, length, map, All}
+use Rattle.std.specs.List.{IsDistinct}
+use Rattle.signal_plan.specs.declared.bounds.TheConstants.{MOST_CELLS, MOST_RECORDS, MOST_PARTS, MOST_STEPS}
+use Rattle.signal_plan.specs.Records.{DemandRecord, LimitRecord, PlanRecords, SignalRecord}
+
+-- the record is of one of the `cells` cells, and its offset and its green range lie in the cycle
+pub record IsSoundSignal (cells : ℕ) (signal : SignalRecord) : Type 0 where
+  pub cell : signal.cell < cells
+  pub cycle : signal.cycle ≤ MOST_STEPS
+  pub offset : signal.offset < signal.cycle
+  pub steps : signal.from < signal.to
+  pub within : signal.to ≤ signal.cycle
+
+-- the record is of one of the `cells` cells and has a step
+pub record IsSoundLimit (cells : ℕ) (limit : LimitRecord) : Type 0 where
+  pub cell : limit.cell < cells
+  pub steps : limit.from < limit.to
 
 -- the record is of one of the `cells` cells, has a step, and its amount is within bounds
 pub record IsSoundDemand (cells : ℕ) (demand : DemandRecord) : Type 0 where
   pub cell : demand.cell < cells
   pub steps : demand.from < demand.to
-  pub amount : demand.amount ≤ MAX_AMOUNT
+  pub amount : demand.amount ≤ MOST_PARTS
 
 -- what holds of the records of every plan
-pub record IsSound (plan : PlanRecords) : Type 0 where
-  pub few_cells : length plan.cells ≤ MAX_CELLS
-  pub few_demands : length plan.demands ≤ MAX_DEMANDS
+pub record IsSoundPlan (plan : PlanRecords) : Type 0 where
+  pub few_cells : length plan.cells ≤ MOST_CELLS
+  pub signals : All (IsSoundSignal (length plan.cells)) plan.signals
+  -- a cell has at most one signal
+  pub one_signal : IsDistinct eqb (map (λ signal. signal.cell) plan.signals)
+  pub limits : All (IsSoundLimit (length plan.cells)) plan.limits
+  pub few_demands : length plan.demands ≤ MOST_RECORDS
   pub demands : All (IsSoundDemand (length plan.cells)) plan.demands

@@ -8,5 +8,5 @@ unfoldable pub demand_from : PlanRecords → (cell t end : ℕ) → ℕ
 demand_from plan cell t end = sum_by (demand_at plan cell) (range_with_len t (end - t))
 
 -- what enters all cells in the steps below `steps`
-unfoldable pub total_of : PlanRecords → (steps : ℕ) → ℕ
-total_of plan steps = sum_by (λ cell. demand_from plan cell 0 steps) (range_with_len 0 (length plan.cells))
+unfoldable pub total_demand : PlanRecords → (steps : ℕ) → ℕ
+total_demand plan steps = sum_by (λ cell. demand_from plan cell 0 steps) (range_with_len 0 (length plan.cells))
