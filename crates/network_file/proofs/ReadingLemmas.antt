@@ -3,26 +3,26 @@ use Rattle.std.proofs.Common.{ℕ, ◌≡◌, ◌+◌, true, false, List, [], �
 use Rattle.std.specs.Prelude.{Result}
 use Rattle.network_file.specs.Answers.{Answers}
 use Rattle.network_file.specs.Draft.{Draft, empty_draft}
-use Rattle.network_file.specs.FileRecords.{records_of}
+use Rattle.network_file.specs.FileRecords.{file_records_of}
 use Rattle.network_file.specs.Network.{Network}
 use Rattle.network_file.specs.Reading.{completed, is_header, network_of, read_file, read_records}
 use Rattle.network_file.specs.Refused.{IsRefusal, fault_at, refusal_at}
 use Rattle.network_file.specs.Taking.{take_record}
 use Rattle.network_file.specs.declared.code.Code.TheVariants.{NoHeader}
 use Rattle.network_file.specs.declared.fault.NetFault.{NetFault}
-use Rattle.network_file.specs.declared.fault.Refusal.{Refusal}
-use Rattle.network_file.specs.declared.fault.Refusal.TheVariants.{Fault, NoMemory}
+use Rattle.network_file.specs.declared.fault.RecordRefusal.{RecordRefusal}
+use Rattle.network_file.specs.declared.fault.RecordRefusal.TheVariants.{Fault, NoMemory}
 
-pub network_of-headless : (bytes : List ℕ) → records_of bytes ≡ [] → network_of bytes ≡ Err (fault_at 1 NoHeader)
+pub network_of-headless : (bytes : List ℕ) → file_records_of bytes ≡ [] → network_of bytes ≡ Err (fault_at 1 NoHeader)
 unfolding network_of read_file
 network_of-headless bytes none = rw none refl
 
-pub network_of-misheaded : (bytes : List ℕ) (header : List (List ℕ)) (rest : List (List (List ℕ))) → records_of bytes ≡ header ∷ rest
+pub network_of-misheaded : (bytes : List ℕ) (header : List (List ℕ)) (rest : List (List (List ℕ))) → file_records_of bytes ≡ header ∷ rest
     → is_header header ≡ false → network_of bytes ≡ Err (fault_at 1 NoHeader)
 unfolding network_of read_file
 network_of-misheaded bytes header rest all no_header = rw (all, no_header) refl
 
-pub network_of-headed : (bytes : List ℕ) (header : List (List ℕ)) (rest : List (List (List ℕ))) → records_of bytes ≡ header ∷ rest
+pub network_of-headed : (bytes : List ℕ) (header : List (List ℕ)) (rest : List (List (List ℕ))) → file_records_of bytes ≡ header ∷ rest
     → is_header header ≡ true → network_of bytes ≡ read_records 2 empty_draft rest
 unfolding network_of read_file
 network_of-headed bytes header rest all header_first = rw (all, header_first) refl
@@ -37,7 +37,7 @@ unfolding read_records
 read_records-taken place draft more fields rest taken = rw taken refl
 
 -- a record that is refused is the answer, unless memory was wanted
-pub read_records-refused : (place : ℕ) (draft : Draft) (fields : List (List ℕ)) (rest : List (List (List ℕ))) (refusal : Refusal) (whole : Result Network NetFault)
+pub read_records-refused : (place : ℕ) (draft : Draft) (fields : List (List ℕ)) (rest : List (List (List ℕ))) (refusal : RecordRefusal) (whole : Result Network NetFault)
     → whole ≡ read_records place draft (fields ∷ rest) → Answers {A = Draft} (Err refusal) (take_record draft fields) → IsRefusal (refusal_at place refusal) whole
 unfolding read_records
 read_records-refused place draft fields rest (Fault code) whole same refused = same ∙ rw refused refl

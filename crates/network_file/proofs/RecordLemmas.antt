@@ -7,7 +7,7 @@ use Rattle.csv.specs.declared.reader.Reader.{Reader}
 use Rattle.csv.proofs.ReadFacts.{rows-end, rows-more}
 use Rattle.csv.specs.declared.parser.State.{State}
 use Rattle.csv.specs.declared.parser.State.TheVariants as st
-use Rattle.network_file.specs.FileRecords.{IsReading, config, records_left, records_of}
+use Rattle.network_file.specs.FileRecords.{IsReading, config, records_left, file_records_of}
 
 -- a byte that ends a record leaves no record open
 closed : (s : State) (c : ℕ) → is_end (step config s c).1 ≡ true → ends_at_end (step config s c).0 ≡ false
@@ -143,5 +143,5 @@ length-strip_bom (a ∷ b ∷ c ∷ rest) = by (is_bom a b c)
     by false = omega arith
 
 -- a file has at most one record more than bytes
-pub length-records_of : (bytes : List ℕ) → length (records_of bytes) ≤ length bytes + 1
-length-records_of bytes = omega (arith, length-records_from (length (strip_bom bytes) + 1) st.StartRecord (strip_bom bytes), length-strip_bom bytes)
+pub length-file_records_of : (bytes : List ℕ) → length (file_records_of bytes) ≤ length bytes + 1
+length-file_records_of bytes = omega (arith, length-records_from (length (strip_bom bytes) + 1) st.StartRecord (strip_bom bytes), length-strip_bom bytes)

@@ -1,11 +1,14 @@
 -- The fields of a record, and what each sort of field says.
-use Rattle.std.specs.Prelude.{ℕ, List, [], not, ◌&&◌, Result, Ok, ok_or, get_or, is_none, nat_le}
+use Rattle.std.specs.Prelude.{ℕ, List, [], not, ◌&&◌, ◌||◌, eqb, false, Option, Result, Ok, ok_or, get_or, is_none, nat_le}
 use Rattle.std.specs.List.{list_any}
+use Rattle.std.specs.Option.{option_map_or}
 use Rattle.fixed_flow.specs.Spelling.{amount_of, whole_of}
+use Rattle.signal_plan.specs.Green.{is_signalled}
+use Rattle.signal_plan.specs.Records.{PlanRecords}
 use Rattle.network_file.specs.CellName.{is_name}
 use Rattle.network_file.specs.Cells.{cell_named, is_exit_at, is_gate_at}
 use Rattle.network_file.specs.Checks.{◌>>=◌, ◌>>◌, must}
-use Rattle.network_file.specs.Joins.{leads_into, leads_out_of}
+use Rattle.network_file.specs.Connectors.{leads_into, leads_out_of}
 use Rattle.network_file.specs.declared.cell.Cell.{Cell}
 use Rattle.network_file.specs.declared.code.Code.{Code}
 use Rattle.network_file.specs.declared.code.Code.TheVariants.{BadName, BadNumber, OutOfRange, Repeated, Unknown, WrongKind, InTaken, OutTaken}
@@ -36,25 +39,37 @@ new_name cells text = do
   must (is_none (cell_named cells text)) Repeated
   Ok text
 
--- the cell upstream: no exit, and no connector leads out of it yet
-unfoldable pub upstream : List Cell → List Connector → List ℕ → Result ℕ Code
-upstream cells connectors text = do
-  cell ← ok_or (cell_named cells text) Unknown
+-- the cell of a name
+unfoldable pub known_cell : List Cell → List ℕ → Result ℕ Code
+known_cell cells text = ok_or (cell_named cells text) Unknown
+
+-- the cell upstream: no exit, and neither an earlier connector nor an earlier field of the record leads out of it
+unfoldable pub upstream : List Cell → List Connector → (earlier : Option ℕ) → List ℕ → Result ℕ Code
+upstream cells connectors earlier text = do
+  cell ← known_cell cells text
   must (not (is_exit_at cells cell)) WrongKind
-  must (not (list_any (leads_out_of cell) connectors)) OutTaken
+  must (not (list_any (leads_out_of cell) connectors || option_map_or (eqb cell) earlier false)) OutTaken
   Ok cell
 
--- the cell downstream: no gate, and no connector leads into it yet
-unfoldable pub downstream : List Cell → List Connector → List ℕ → Result ℕ Code
-downstream cells connectors text = do
-  cell ← ok_or (cell_named cells text) Unknown
+-- the cell downstream: no gate, and neither an earlier connector nor an earlier field of the record leads into it
+unfoldable pub downstream : List Cell → List Connector → (earlier : Option ℕ) → List ℕ → Result ℕ Code
+downstream cells connectors earlier text = do
+  cell ← known_cell cells text
   must (not (is_gate_at cells cell)) WrongKind
-  must (not (list_any (leads_into cell) connectors)) InTaken
+  must (not (list_any (leads_into cell) connectors || option_map_or (eqb cell) earlier false)) InTaken
+  Ok cell
+
+-- the cell of a signal: no exit, and without a signal yet
+unfoldable pub signal_cell : List Cell → PlanRecords → List ℕ → Result ℕ Code
+signal_cell cells plan text = do
+  cell ← known_cell cells text
+  must (not (is_exit_at cells cell)) WrongKind
+  must (not (is_signalled plan cell)) Repeated
   Ok cell
 
 -- the gate of a demand
 unfoldable pub demand_gate : List Cell → List ℕ → Result ℕ Code
 demand_gate cells text = do
-  cell ← ok_or (cell_named cells text) Unknown
+  cell ← known_cell cells text
   must (is_gate_at cells cell) WrongKind
   Ok cell

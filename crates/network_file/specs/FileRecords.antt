@@ -1,7 +1,7 @@
 -- The records of a file, and those that a reader of it has left.
-use Rattle.std.specs.Prelude.{◌≡◌, ℕ, ◌+◌, List, [], Option, Some, None, false, length}
+use Rattle.std.specs.Prelude.{◌≡◌, ℕ, ◌+◌, List, [], Option, Some, None, true, false, length}
 use Rattle.csv.specs.Machine.{ends_at_end}
-use Rattle.csv.specs.Reading.{Ready, default_config, reader_config, reader_state, reader_trim, records, records_from, source_of, strip_bom}
+use Rattle.csv.specs.Reading.{Ready, default_config, is_flexible, reader_config, reader_state, reader_trim, records, records_from, source_of, strip_bom}
 use Rattle.csv.specs.declared.parser.Config.{Config}
 use Rattle.csv.specs.declared.reader.Reader.{Reader}
 use Rattle.csv.specs.declared.reader.Trim.TheVariants as trim
@@ -12,8 +12,8 @@ abbrev pub config : Config
 config = record default_config { comment = Some 35 }
 
 -- the records of a file
-abbrev pub records_of : List ℕ → List (List (List ℕ))
-records_of bytes = records config (strip_bom bytes)
+abbrev pub file_records_of : List ℕ → List (List (List ℕ))
+file_records_of bytes = records config (strip_bom bytes)
 
 -- the records that are left of known bytes
 abbrev pub records_in : State → Option (List ℕ) → List (List (List ℕ))
@@ -27,6 +27,8 @@ records_left remaining reader = records_in (reader_state reader) (source_of rema
 -- the reader stands between two records of bytes that are known
 pub record IsReading {R : Type 0} (remaining : R → Option (List ℕ)) (reader : Reader R) : Type 0 where
   pub plain : reader_trim reader ≡ trim.None
+  -- records of any number of fields
+  pub flexible : is_flexible reader ≡ true
   pub ready : Ready reader
   pub format : reader_config reader ≡ config
   pub known : (bytes : List ℕ) × (source_of remaining reader ≡ Some bytes)

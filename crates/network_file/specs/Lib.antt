@@ -2,11 +2,11 @@ pub mod Answers
 pub mod CellName
 pub mod Cells
 pub mod Checks
+pub mod Connectors
 pub mod Draft
 pub mod FaultCode
 pub mod Fields
 pub mod FileRecords
-pub mod Joins
 pub mod Marks
 pub mod NetView
 pub mod Network

@@ -2,8 +2,8 @@
 use Rattle.std.specs.Prelude.{ℕ, ◌+◌, ◌==◌, ◌&&◌, List, [], ◌∷◌, Some, None, Result, Ok, Err, Bool, if◌then◌else◌, nat_le, bytes_eq, codes, length}
 use Rattle.network_file.specs.Draft.{Draft, empty_draft}
 use Rattle.network_file.specs.Fields.{field}
-use Rattle.network_file.specs.FileRecords.{records_of}
-use Rattle.network_file.specs.declared.limits.TheConstants.{MOST_LOAD}
+use Rattle.network_file.specs.FileRecords.{file_records_of}
+use Rattle.fixed_flow.specs.declared.amount.TheConstants.{MOST_PARTS}
 use Rattle.network_file.specs.Network.{Network, load_of}
 use Rattle.network_file.specs.Refused.{fault_at}
 use Rattle.network_file.specs.Taking.{take_record}
@@ -21,7 +21,7 @@ completed place draft = elim draft.steps [
   | None ↦ Err (fault_at place NoSteps)
   | Some steps ↦
       if length draft.cells == 0 then Err (fault_at place NoCells)
-      else if nat_le (load_of draft.cells draft.plan steps) MOST_LOAD then
+      else if nat_le (load_of draft.cells draft.plan steps) MOST_PARTS then
       Ok (record { steps = steps; cells = draft.cells; connectors = draft.connectors; plan = draft.plan })
       else Err (fault_at place TooMuch)
 ]
@@ -43,4 +43,4 @@ read_file (header ∷ rest) = if is_header header then read_records 2 empty_draf
 
 -- the network that a file is, or its first fault
 unfoldable pub network_of : List ℕ → Result Network NetFault
-network_of bytes = read_file (records_of bytes)
+network_of bytes = read_file (file_records_of bytes)

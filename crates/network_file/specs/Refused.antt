@@ -5,14 +5,14 @@ use Rattle.network_file.specs.declared.code.Code.{Code}
 use Rattle.network_file.specs.declared.fault.NetFault.{NetFault}
 use Rattle.network_file.specs.declared.fault.NetRefusal.{NetRefusal}
 use Rattle.network_file.specs.declared.fault.NetRefusal.TheVariants.{Fault, NoMemory}
-use Rattle.network_file.specs.declared.fault.Refusal.{Refusal}
-use Rattle.network_file.specs.declared.fault.Refusal.TheVariants as of_record
+use Rattle.network_file.specs.declared.fault.RecordRefusal.{RecordRefusal}
+use Rattle.network_file.specs.declared.fault.RecordRefusal.TheVariants as of_record
 
 abbrev pub fault_at : ℕ → Code → NetFault
 fault_at place code = record { place = place; code = code }
 
 -- the refusal of the record at a place
-abbrev pub refusal_at : ℕ → Refusal → NetRefusal
+abbrev pub refusal_at : ℕ → RecordRefusal → NetRefusal
 refusal_at place (of_record.Fault code) = Fault (fault_at place code)
 refusal_at place of_record.NoMemory = NoMemory
 

@@ -1,15 +1,19 @@
 -- What each kind of record adds to the draft, or the first fault that it has there.
-use Rattle.std.specs.Prelude.{ℕ, ◌+◌, ◌==◌, List, Option, Some, None, Result, Ok, is_none, if◌then◌else◌, nat_lt, length, bytes_eq, codes, ok_or}
+use Rattle.std.specs.Prelude.{ℕ, ◌+◌, ◌-◌, ◌==◌, List, Option, Some, None, Result, Ok, is_none, if◌then◌else◌, nat_lt, length, bytes_eq, codes, ok_or}
+use Rattle.fixed_flow.specs.declared.amount.TheConstants.{MOST_PARTS}
+use Rattle.signal_plan.specs.declared.bounds.TheConstants.{MOST_RECORDS, MOST_STEPS}
 use Rattle.network_file.specs.Checks.{◌>>=◌, ◌>>◌, must}
-use Rattle.network_file.specs.Draft.{Draft, with_steps, add_cell, add_connector, add_demand}
-use Rattle.network_file.specs.Fields.{field, whole_within, amount_within, new_name, upstream, downstream, demand_gate}
-use Rattle.network_file.specs.declared.limits.TheConstants.{MOST_RECORDS, MOST_STEPS, MOST_RATIO, MOST_FLOW, MOST_LOAD}
+use Rattle.network_file.specs.Draft.{Draft, with_steps, add_cell, add_connector, add_demand, add_limit, add_signal}
+use Rattle.network_file.specs.Fields.{field, whole_within, amount_within, new_name, known_cell, upstream, downstream, signal_cell, demand_gate}
+use Rattle.network_file.specs.declared.limits.TheConstants.{MOST_RATIO, MOST_ROOM, MOST_CAPACITY}
+use Rattle.network_file.specs.declared.cell.Cell.{Cell}
+use Rattle.network_file.specs.declared.cell.Kind.{Kind}
 use Rattle.network_file.specs.declared.cell.Kind.TheVariants as kind
 use Rattle.network_file.specs.declared.code.Code.{Code}
 use Rattle.network_file.specs.declared.code.Code.TheVariants.{BadKind, BadCount, TooMany, Repeated}
 use Rattle.network_file.specs.declared.connector.Connector.TheVariants as connector
 use Rattle.network_file.specs.declared.record_kind.RecordKind.{RecordKind}
-use Rattle.network_file.specs.declared.record_kind.RecordKind.TheVariants.{Steps, Road, Gate, Exit, Link, Demand}
+use Rattle.network_file.specs.declared.record_kind.RecordKind.TheVariants.{Steps, Road, Gate, Exit, Link, Merge, Diverge, Signal, Limit, Demand}
 
 -- the kind that a first field names
 unfoldable pub record_kind_of : List ℕ → Option RecordKind
@@ -19,6 +23,10 @@ record_kind_of text =
     else if bytes_eq text (codes "gate") then Some Gate
     else if bytes_eq text (codes "exit") then Some Exit
     else if bytes_eq text (codes "link") then Some Link
+    else if bytes_eq text (codes "merge") then Some Merge
+    else if bytes_eq text (codes "diverge") then Some Diverge
+    else if bytes_eq text (codes "signal") then Some Signal
+    else if bytes_eq text (codes "limit") then Some Limit
     else if bytes_eq text (codes "demand") then Some Demand
     else None
 
@@ -29,7 +37,24 @@ field_count Road = 7
 field_count Gate = 4
 field_count Exit = 3
 field_count Link = 3
+field_count Merge = 6
+field_count Diverge = 6
+field_count Signal = 6
+field_count Limit = 5
 field_count Demand = 5
+
+-- how many records the draft has of those that count together with this kind; `steps` and signals have no such limit
+abbrev pub taken_before : RecordKind → Draft → ℕ
+taken_before Steps draft = 0
+taken_before Road draft = length draft.cells
+taken_before Gate draft = length draft.cells
+taken_before Exit draft = length draft.cells
+taken_before Link draft = length draft.connectors
+taken_before Merge draft = length draft.connectors
+taken_before Diverge draft = length draft.connectors
+taken_before Signal draft = 0
+taken_before Limit draft = length draft.plan.limits
+taken_before Demand draft = length draft.plan.demands
 
 unfoldable pub take_steps : Draft → List (List ℕ) → Result Draft Code
 take_steps draft fields = do
@@ -39,45 +64,79 @@ take_steps draft fields = do
 
 unfoldable pub take_road : Draft → List (List ℕ) → Result Draft Code
 take_road draft fields = do
-  must (nat_lt (length draft.cells) MOST_RECORDS) TooMany
   name ← new_name draft.cells (field fields 1)
-  room ← amount_within MOST_FLOW (field fields 2)
-  capacity ← amount_within MOST_FLOW (field fields 3)
+  room ← amount_within MOST_ROOM (field fields 2)
+  capacity ← amount_within MOST_CAPACITY (field fields 3)
   num ← whole_within 1 MOST_RATIO (field fields 4)
   den ← whole_within num MOST_RATIO (field fields 5)
   first ← amount_within room (field fields 6)
   Ok (add_cell draft (record { name = name; kind = kind.Road; room = room; num = num; den = den; first = first }) capacity)
 
+-- a gate or an exit, which has no room
+abbrev pub without_room : List ℕ → Kind → (first : ℕ) → Cell
+without_room name of_kind first = record { name = name; kind = of_kind; room = 0; num = 1; den = 1; first = first }
+
 unfoldable pub take_gate : Draft → List (List ℕ) → Result Draft Code
 take_gate draft fields = do
-  must (nat_lt (length draft.cells) MOST_RECORDS) TooMany
   name ← new_name draft.cells (field fields 1)
-  capacity ← amount_within MOST_FLOW (field fields 2)
-  first ← amount_within MOST_LOAD (field fields 3)
-  Ok (add_cell draft (record { name = name; kind = kind.Gate; room = 0; num = 1; den = 1; first = first }) capacity)
+  capacity ← amount_within MOST_CAPACITY (field fields 2)
+  first ← amount_within MOST_PARTS (field fields 3)
+  Ok (add_cell draft (without_room name kind.Gate first) capacity)
 
 unfoldable pub take_exit : Draft → List (List ℕ) → Result Draft Code
 take_exit draft fields = do
-  must (nat_lt (length draft.cells) MOST_RECORDS) TooMany
   name ← new_name draft.cells (field fields 1)
-  capacity ← amount_within MOST_FLOW (field fields 2)
-  Ok (add_cell draft (record { name = name; kind = kind.Exit; room = 0; num = 1; den = 1; first = 0 }) capacity)
+  capacity ← amount_within MOST_CAPACITY (field fields 2)
+  Ok (add_cell draft (without_room name kind.Exit 0) capacity)
 
 unfoldable pub take_link : Draft → List (List ℕ) → Result Draft Code
 take_link draft fields = do
-  must (nat_lt (length draft.connectors) MOST_RECORDS) TooMany
-  up ← upstream draft.cells draft.connectors (field fields 1)
-  down ← downstream draft.cells draft.connectors (field fields 2)
+  up ← upstream draft.cells draft.connectors None (field fields 1)
+  down ← downstream draft.cells draft.connectors None (field fields 2)
   Ok (add_connector draft (connector.Link up down))
+
+unfoldable pub take_merge : Draft → List (List ℕ) → Result Draft Code
+take_merge draft fields = do
+  up1 ← upstream draft.cells draft.connectors None (field fields 1)
+  up2 ← upstream draft.cells draft.connectors (Some up1) (field fields 2)
+  down ← downstream draft.cells draft.connectors None (field fields 3)
+  p1 ← whole_within 1 MOST_RATIO (field fields 4)
+  p2 ← whole_within 1 MOST_RATIO (field fields 5)
+  Ok (add_connector draft (connector.Merge up1 up2 down p1 p2))
+
+unfoldable pub take_diverge : Draft → List (List ℕ) → Result Draft Code
+take_diverge draft fields = do
+  up ← upstream draft.cells draft.connectors None (field fields 1)
+  down1 ← downstream draft.cells draft.connectors None (field fields 2)
+  down2 ← downstream draft.cells draft.connectors (Some down1) (field fields 3)
+  b1 ← whole_within 1 MOST_RATIO (field fields 4)
+  b2 ← whole_within 1 MOST_RATIO (field fields 5)
+  Ok (add_connector draft (connector.Diverge up down1 down2 b1 b2))
+
+unfoldable pub take_signal : Draft → List (List ℕ) → Result Draft Code
+take_signal draft fields = do
+  cell ← signal_cell draft.cells draft.plan (field fields 1)
+  cycle ← whole_within 1 MOST_STEPS (field fields 2)
+  offset ← whole_within 0 (cycle - 1) (field fields 3)
+  from ← whole_within 0 (cycle - 1) (field fields 4)
+  to ← whole_within (from + 1) cycle (field fields 5)
+  Ok (add_signal draft (record { cell = cell; cycle = cycle; offset = offset; from = from; to = to }))
+
+unfoldable pub take_limit : Draft → List (List ℕ) → Result Draft Code
+take_limit draft fields = do
+  cell ← known_cell draft.cells (field fields 1)
+  from ← whole_within 0 (MOST_STEPS - 1) (field fields 2)
+  to ← whole_within (from + 1) MOST_STEPS (field fields 3)
+  capacity ← amount_within MOST_CAPACITY (field fields 4)
+  Ok (add_limit draft (record { cell = cell; from = from; to = to; capacity = capacity }))
 
 unfoldable pub take_demand : Draft → List (List ℕ) → Result Draft Code
 take_demand draft fields = do
-  must (nat_lt (length draft.plan.demands) MOST_RECORDS) TooMany
   gate ← demand_gate draft.cells (field fields 1)
-  from ← whole_within 0 99999 (field fields 2)
+  from ← whole_within 0 (MOST_STEPS - 1) (field fields 2)
   to ← whole_within (from + 1) MOST_STEPS (field fields 3)
-  amount ← amount_within MOST_LOAD (field fields 4)
-  Ok (add_demand draft gate from to amount)
+  amount ← amount_within MOST_PARTS (field fields 4)
+  Ok (add_demand draft (record { cell = gate; from = from; to = to; amount = amount }))
 
 abbrev pub take_kind : RecordKind → Draft → List (List ℕ) → Result Draft Code
 take_kind Steps = take_steps
@@ -85,6 +144,10 @@ take_kind Road = take_road
 take_kind Gate = take_gate
 take_kind Exit = take_exit
 take_kind Link = take_link
+take_kind Merge = take_merge
+take_kind Diverge = take_diverge
+take_kind Signal = take_signal
+take_kind Limit = take_limit
 take_kind Demand = take_demand
 
 -- the draft with one more record
@@ -92,4 +155,5 @@ unfoldable pub take_record : Draft → List (List ℕ) → Result Draft Code
 take_record draft fields = do
   kind ← ok_or (record_kind_of (field fields 0)) BadKind
   must (length fields == field_count kind) BadCount
+  must (nat_lt (taken_before kind draft) MOST_RECORDS) TooMany
   take_kind kind draft fields

@@ -1,3 +1,6 @@
+ghost use Rattle.std.specs.Prelude.{◌≡◌};
+ghost use Rattle.network_file.specs.Taking.{without_room};
+
 use crate::name::Name;
 
 /// What a cell is (docs/MODEL.md).
@@ -26,4 +29,20 @@ pub struct Cell {
     pub den: u32,
     /// What it holds at step 0, in parts.
     pub first: u64,
+}
+
+impl Cell {
+    /// A gate or an exit, which has no room, holding so many parts at first.
+    pub(crate) fn without_room(name: Name, kind: Kind, first: u64) -> Cell
+        ensures { result ≡ without_room name kind first }
+    {
+        Cell {
+            name,
+            kind,
+            room: 0,
+            num: 1,
+            den: 1,
+            first,
+        }
+    }
 }

@@ -1,10 +1,9 @@
 ghost use Rattle.std.specs.Prelude.{◌≡◌, ◌<◌, ◌≤◌, ◌*◌, ◌^◌, sum_by, ◌++◌, ◌∷◌, [], None, IfOk, IfSome, length};
 ghost use Rattle.network_file.specs.Cells.{cell_named, is_exit_at, is_gate_at};
-ghost use Rattle.network_file.specs.declared.limits.TheConstants.{MOST_RECORDS};
+ghost use Rattle.signal_plan.specs.declared.bounds.TheConstants.{MOST_RECORDS};
 
 use crate::cell::{Cell, Kind};
-use crate::limits::MOST_RECORDS;
-use signal_plan::NoMemory;
+use signal_plan::{MOST_RECORDS, NoMemory};
 use std::alloc::Global;
 use std::collections::BTreeMap;
 use std::marker::Model;
@@ -25,7 +24,7 @@ impl Model for CellTable {
     ghost use Rattle.std.specs.Prelude.{◌≡◌, ◌≤◌, ℕ, length};
     ghost use Rattle.network_file.specs.Cells.{cell_named};
     ghost use Rattle.network_file.specs.NumbersByName.{number_under};
-    ghost use Rattle.network_file.specs.declared.limits.TheConstants.{MOST_RECORDS};
+    ghost use Rattle.signal_plan.specs.declared.bounds.TheConstants.{MOST_RECORDS};
 
     ghost view = { λ a. a.cells.items };
 

@@ -16,7 +16,7 @@ pub enum Code {
     BadNumber,
     /// A number is spelled well and is outside its range.
     OutOfRange,
-    /// A name, or the number of steps, is given a second time.
+    /// A name, the number of steps or the signal of a cell is given a second time.
     Repeated,
     /// No earlier cell has the name.
     Unknown,
@@ -30,7 +30,7 @@ pub enum Code {
     NoSteps,
     /// The file has no cell.
     NoCells,
-    /// One cell, connector or demand more than the greatest number of them.
+    /// One cell, connector, limit or demand more than the greatest number of them.
     TooMany,
     /// First occupancies and demand together are more than 10,000,000 vehicles.
     TooMuch,

@@ -1,6 +1,6 @@
 ghost use Rattle.std.specs.Prelude.{◌≡◌, ◌<◌, ◌++◌, ◌∷◌, [], IfOk, length};
 ghost use Rattle.std.specs.List.{list_any};
-ghost use Rattle.network_file.specs.Joins.{leads_into, leads_out_of};
+ghost use Rattle.network_file.specs.Connectors.{leads_into, leads_out_of};
 
 use crate::connector::Connector;
 use crate::marks::Marks;
@@ -24,7 +24,7 @@ impl Model for ConnectorTable {
 
     ghost use Rattle.std.specs.Prelude.{◌≡◌, ℕ};
     ghost use Rattle.std.specs.List.{list_any};
-    ghost use Rattle.network_file.specs.Joins.{leads_into, leads_out_of};
+    ghost use Rattle.network_file.specs.Connectors.{leads_into, leads_out_of};
     ghost use Rattle.network_file.specs.Marks.{is_marked};
 
     ghost view = { λ a. a.connectors.items };
@@ -61,18 +61,25 @@ impl ConnectorTable {
         self.entered.has(cell)
     }
 
-    /// With one more link.
-    pub(crate) fn with_link(self, up: u32, down: u32) -> Result<ConnectorTable, NoMemory>
-        ensures { IfOk result (λ more. more ≡ self ++ Connector.Link up down ∷ []) }
+    /// With one more connector.
+    pub(crate) fn with(self, connector: Connector) -> Result<ConnectorTable, NoMemory>
+        ensures { IfOk result (λ more. more ≡ self ++ connector ∷ []) }
     {
         let ConnectorTable {
             mut connectors,
             left,
             entered,
         } = self;
-        let left = left.with(up)?;
-        let entered = entered.with(down)?;
-        connectors.push(Connector::Link { up, down })?;
+        let (left, entered) = match connector {
+            Connector::Link { up, down } => (left.with(up)?, entered.with(down)?),
+            Connector::Merge { up1, up2, down, .. } => {
+                (left.with(up1)?.with(up2)?, entered.with(down)?)
+            }
+            Connector::Diverge { up, down1, down2, .. } => {
+                (left.with(up)?, entered.with(down1)?.with(down2)?)
+            }
+        };
+        connectors.push(connector)?;
         Ok(ConnectorTable {
             connectors,
             left,

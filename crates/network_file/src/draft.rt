@@ -1,16 +1,20 @@
-ghost use Rattle.std.specs.Prelude.{◌≡◌, ◌<◌, ◌≤◌, None, true, false, IfOk, length};
+ghost use Rattle.std.specs.Prelude.{◌≡◌, ◌<◌, ◌≤◌, All, None, true, false, IfOk, length};
 ghost use Rattle.std.specs.List.{list_any};
 ghost use Rattle.network_file.specs.Cells.{cell_named, is_exit_at, is_gate_at};
-ghost use Rattle.network_file.specs.Draft.{add_cell, add_connector, add_demand, empty_draft, with_steps};
-ghost use Rattle.network_file.specs.Joins.{leads_into, leads_out_of};
-ghost use Rattle.network_file.specs.Network.{IsSoundCell};
-ghost use Rattle.network_file.specs.declared.connector.Connector.TheVariants.{Link};
+ghost use Rattle.network_file.specs.Draft.{add_cell, add_connector, add_demand, add_limit, add_signal, empty_draft, with_steps};
+ghost use Rattle.network_file.specs.Connectors.{leads_into, leads_out_of, upstream_of, downstream_of};
+ghost use Rattle.signal_plan.specs.Green.{is_signalled};
+ghost use Rattle.network_file.specs.Taking.{taken_before};
+ghost use Rattle.network_file.specs.Network.{IsSoundCell, IsSoundConnector};
 
 use crate::cell::Cell;
 use crate::cell_table::CellTable;
 use crate::connector_table::ConnectorTable;
-use crate::limits::{MOST_FLOW, MOST_LOAD, MOST_RECORDS, MOST_STEPS};
-use signal_plan::{NoMemory, Plan};
+use crate::record_kind::RecordKind;
+use crate::connector::Connector;
+use crate::limits::MOST_CAPACITY;
+use fixed_flow::MOST_PARTS;
+use signal_plan::{MOST_RECORDS, MOST_STEPS, NoMemory, Plan};
 use std::alloc::Global;
 use std::marker::Model;
 
@@ -77,7 +81,7 @@ impl NetDraft {
         requires room { length self.cells < MOST_RECORDS }
         requires fresh { cell_named self.cells cell.name ≡ None }
         requires sound { IsSoundCell cell }
-        requires capacity { capacity ≤ MOST_FLOW }
+        requires capacity { capacity ≤ MOST_CAPACITY }
         ensures { IfOk result (λ more. more ≡ add_cell self cell capacity) }
     {
         let NetDraft {
@@ -96,16 +100,13 @@ impl NetDraft {
         })
     }
 
-    /// With one more link.
-    pub(crate) fn add_link(self, up: u32, down: u32) -> Result<NetDraft, NoMemory>
+    /// With one more connector.
+    pub(crate) fn add_connector(self, connector: Connector) -> Result<NetDraft, NoMemory>
         requires room { length self.connectors < MOST_RECORDS }
-        requires up_there { up < length self.cells }
-        requires up_sends { is_exit_at self.cells up ≡ false }
-        requires up_free { list_any (leads_out_of up) self.connectors ≡ false }
-        requires down_there { down < length self.cells }
-        requires down_receives { is_gate_at self.cells down ≡ false }
-        requires down_free { list_any (leads_into down) self.connectors ≡ false }
-        ensures { IfOk result (λ more. more ≡ add_connector self (Link up down)) }
+        requires sound { IsSoundConnector self.cells connector }
+        requires up_free { All (λ up. list_any (leads_out_of up) self.connectors ≡ false) (upstream_of connector) }
+        requires down_free { All (λ down. list_any (leads_into down) self.connectors ≡ false) (downstream_of connector) }
+        ensures { IfOk result (λ more. more ≡ add_connector self connector) }
     {
         let NetDraft {
             steps,
@@ -113,7 +114,76 @@ impl NetDraft {
             connectors,
             plan,
         } = self;
-        let connectors = connectors.with_link(up, down)?;
+        let connectors = connectors.with(connector)?;
+        Ok(NetDraft {
+            steps,
+            cells,
+            connectors,
+            plan,
+        })
+    }
+
+    /// With the signal of a cell: it sends only where its place in the cycle is in `[from, to)`.
+    pub(crate) fn add_signal(
+        self,
+        cell: u32,
+        cycle: u32,
+        offset: u32,
+        from: u32,
+        to: u32,
+    ) -> Result<NetDraft, NoMemory>
+        requires there { cell < length self.cells }
+        requires sends { is_exit_at self.cells cell ≡ false }
+        requires first_signal { is_signalled self.plan cell ≡ false }
+        requires cycle { cycle ≤ MOST_STEPS }
+        requires offset { offset < cycle }
+        requires some_step { from < to }
+        requires within { to ≤ cycle }
+        ensures { IfOk result (λ more. more ≡ add_signal self (record { cell = cell; cycle = cycle; offset = offset; from = from; to = to })) }
+    {
+        let NetDraft {
+            steps,
+            cells,
+            connectors,
+            mut plan,
+        } = self;
+        plan.put_signal(
+            cell,
+            u64::from(cycle),
+            u64::from(offset),
+            u64::from(from),
+            u64::from(to),
+        )?;
+        Ok(NetDraft {
+            steps,
+            cells,
+            connectors,
+            plan,
+        })
+    }
+
+    /// With this capacity of a cell in each step of `[from, to)`.
+    pub(crate) fn add_limit(
+        self,
+        cell: u32,
+        from: u32,
+        to: u32,
+        capacity: u64,
+    ) -> Result<NetDraft, NoMemory>
+        requires room { length self.plan.limits < MOST_RECORDS }
+        requires there { cell < length self.cells }
+        requires some_step { from < to }
+        requires in_time { to ≤ MOST_STEPS }
+        requires capacity { capacity ≤ MOST_CAPACITY }
+        ensures { IfOk result (λ more. more ≡ add_limit self (record { cell = cell; from = from; to = to; capacity = capacity })) }
+    {
+        let NetDraft {
+            steps,
+            cells,
+            connectors,
+            mut plan,
+        } = self;
+        plan.put_limit(cell, u64::from(from), u64::from(to), capacity)?;
         Ok(NetDraft {
             steps,
             cells,
@@ -134,8 +204,9 @@ impl NetDraft {
         requires there { gate < length self.cells }
         requires at_gate { is_gate_at self.cells gate ≡ true }
         requires some_step { from < to }
-        requires amount { amount ≤ MOST_LOAD }
-        ensures { IfOk result (λ more. more ≡ add_demand self gate from to amount) }
+        requires in_time { to ≤ MOST_STEPS }
+        requires amount { amount ≤ MOST_PARTS }
+        ensures { IfOk result (λ more. more ≡ add_demand self (record { cell = gate; from = from; to = to; amount = amount })) }
     {
         let NetDraft {
             steps,
@@ -150,5 +221,19 @@ impl NetDraft {
             connectors,
             plan,
         })
+    }
+
+    /// How many records it has of those that count together with this kind, where the format limits their number.
+    pub(crate) fn taken_before(&self, kind: RecordKind) -> usize
+        ensures { result ≡ taken_before kind self.now }
+    {
+        let (_, limits, demands) = self.plan.counts();
+        match kind {
+            RecordKind::Steps | RecordKind::Signal => 0,
+            RecordKind::Road | RecordKind::Gate | RecordKind::Exit => self.cells.len(),
+            RecordKind::Link | RecordKind::Merge | RecordKind::Diverge => self.connectors.len(),
+            RecordKind::Limit => limits as usize,
+            RecordKind::Demand => demands as usize,
+        }
     }
 }

@@ -26,7 +26,7 @@ pub enum NetRefusal {
 
 /// Why a draft did not take a record.
 #[derive(Clone, Copy, Debug, PartialEq, Eq)]
-pub(crate) enum Refusal {
+pub(crate) enum RecordRefusal {
     Fault(Code),
     NoMemory,
 }
@@ -40,14 +40,14 @@ impl NetRefusal {
     }
 }
 
-impl Refusal {
+impl RecordRefusal {
     /// The refusal of the record at a place.
     pub(crate) fn at(self, place: u32) -> NetRefusal
         ensures { result ≡ refusal_at place self }
     {
         match self {
-            Refusal::Fault(code) => NetRefusal::at(place, code),
-            Refusal::NoMemory => NetRefusal::NoMemory,
+            RecordRefusal::Fault(code) => NetRefusal::at(place, code),
+            RecordRefusal::NoMemory => NetRefusal::NoMemory,
         }
     }
 }
@@ -62,24 +62,24 @@ impl From<NoMemory> for NetRefusal {
     }
 }
 
-impl From<Code> for Refusal {
+impl From<Code> for RecordRefusal {
     ghost use Rattle.std.specs.Prelude.{◌≡◌};
-    ghost use Rattle.network_file.specs.declared.fault.Refusal.TheVariants.{Fault};
+    ghost use Rattle.network_file.specs.declared.fault.RecordRefusal.TheVariants.{Fault};
 
     ghost from_gives = { λ code refusal. refusal ≡ Fault code };
 
-    fn from(code: Code) -> Refusal {
-        Refusal::Fault(code)
+    fn from(code: Code) -> RecordRefusal {
+        RecordRefusal::Fault(code)
     }
 }
 
-impl From<NoMemory> for Refusal {
+impl From<NoMemory> for RecordRefusal {
     ghost use Rattle.std.specs.Prelude.{◌≡◌};
-    ghost use Rattle.network_file.specs.declared.fault.Refusal.TheVariants as refusal;
+    ghost use Rattle.network_file.specs.declared.fault.RecordRefusal.TheVariants as refusal;
 
     ghost from_gives = { λ _ refused. refused ≡ refusal.NoMemory };
 
-    fn from(_: NoMemory) -> Refusal {
-        Refusal::NoMemory
+    fn from(_: NoMemory) -> RecordRefusal {
+        RecordRefusal::NoMemory
     }
 }

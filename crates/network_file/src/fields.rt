@@ -1,19 +1,21 @@
-ghost use Rattle.std.specs.Prelude.{◌≡◌, ◌<◌, ◌≤◌, None, IfOk, true, false, length};
+ghost use Rattle.std.specs.Prelude.{◌≡◌, ◌<◌, ◌≤◌, ◌≢◌, None, IfOk, true, false, length};
+ghost use Rattle.std.specs.Option.{ForSome};
 ghost use Rattle.std.specs.List.{list_any};
 ghost use Rattle.csv.specs.Records.{fields_of};
+ghost use Rattle.signal_plan.specs.Green.{is_signalled};
 ghost use Rattle.network_file.specs.Answers.{Answers};
 ghost use Rattle.network_file.specs.Cells.{cell_named, is_exit_at, is_gate_at};
-ghost use Rattle.network_file.specs.Fields.{amount_within, demand_gate, downstream, field, new_name, upstream, whole_within};
-ghost use Rattle.network_file.specs.Joins.{leads_into, leads_out_of};
+ghost use Rattle.network_file.specs.Fields.{amount_within, demand_gate, downstream, field, known_cell, new_name, signal_cell, upstream, whole_within};
+ghost use Rattle.network_file.specs.Connectors.{leads_into, leads_out_of};
 
 use crate::cell_table::CellTable;
 use crate::code::Code;
 use crate::connector_table::ConnectorTable;
-use crate::fault::Refusal;
-use crate::limits::MOST_LOAD;
+use crate::fault::RecordRefusal;
 use crate::name::Name;
 use csv::ByteRecord;
-use fixed_flow::{Amount, AmountFault, whole};
+use fixed_flow::{Amount, AmountFault, MOST_PARTS, whole};
+use signal_plan::Plan;
 use std::alloc::Global;
 
 /// The field at a place, counted from 0, or nothing where the record ends before it.
@@ -42,7 +44,7 @@ pub(crate) fn whole_within(low: u32, high: u32, text: &[u8]) -> Result<u32, Code
 /// An amount in parts, up to the greatest.
 #[tactic(auto, unfolding(crate::specs::Fields::amount_within))]
 pub(crate) fn amount_within(most: u64, text: &[u8]) -> Result<u64, Code>
-    requires { most ≤ MOST_LOAD }
+    requires { most ≤ MOST_PARTS }
     ensures value { result ≡ amount_within most text.now }
     ensures range { IfOk result (λ parts. parts ≤ most) }
 {
@@ -55,56 +57,95 @@ pub(crate) fn amount_within(most: u64, text: &[u8]) -> Result<u64, Code>
 
 /// A name that no cell has yet.
 #[tactic(auto, unfolding(crate::specs::Fields::new_name))]
-pub(crate) fn new_name(alloc: Global, cells: &CellTable, text: &[u8]) -> Result<Name, Refusal>
+pub(crate) fn new_name(alloc: Global, cells: &CellTable, text: &[u8]) -> Result<Name, RecordRefusal>
     ensures value { Answers result (new_name cells.now text.now) }
     ensures fresh { IfOk result (λ name. cell_named cells.now name ≡ None) }
 {
     if !Name::is_spelled(text) {
-        return Err(Refusal::Fault(Code::BadName));
+        return Err(RecordRefusal::Fault(Code::BadName));
     }
     if cells.find(text).is_some() {
-        return Err(Refusal::Fault(Code::Repeated));
+        return Err(RecordRefusal::Fault(Code::Repeated));
     }
     Ok(Name::new(alloc, text)?)
 }
 
-/// The cell upstream of a new connector.
-#[tactic(auto, unfolding(crate::specs::Fields::upstream))]
-pub(crate) fn upstream(
-    cells: &CellTable,
-    connectors: &ConnectorTable,
-    text: &[u8],
-) -> Result<u32, Code>
-    ensures value { result ≡ upstream cells.now connectors.now text.now }
+/// The cell of a name.
+#[tactic(auto, unfolding(crate::specs::Fields::known_cell))]
+pub(crate) fn known_cell(cells: &CellTable, text: &[u8]) -> Result<u32, Code>
+    ensures value { result ≡ known_cell cells.now text.now }
     ensures there { IfOk result (λ cell. cell < length cells.now) }
-    ensures sends { IfOk result (λ cell. is_exit_at cells.now cell ≡ false) }
-    ensures free { IfOk result (λ cell. list_any (leads_out_of cell) connectors.now ≡ false) }
 {
     match cells.find(text) {
         None => Err(Code::Unknown),
-        Some(cell) if cells.is_exit(cell) => Err(Code::WrongKind),
-        Some(cell) if connectors.leads_out_of(cell) => Err(Code::OutTaken),
         Some(cell) => Ok(cell),
     }
 }
 
-/// The cell downstream of a new connector.
+/// The cell upstream of a new connector, whose record names `earlier` upstream before it.
+#[tactic(auto, unfolding(crate::specs::Fields::upstream))]
+pub(crate) fn upstream(
+    cells: &CellTable,
+    connectors: &ConnectorTable,
+    earlier: Option<u32>,
+    text: &[u8],
+) -> Result<u32, Code>
+    ensures value { result ≡ upstream cells.now connectors.now earlier text.now }
+    ensures there { IfOk result (λ cell. cell < length cells.now) }
+    ensures sends { IfOk result (λ cell. is_exit_at cells.now cell ≡ false) }
+    ensures free { IfOk result (λ cell. list_any (leads_out_of cell) connectors.now ≡ false) }
+    ensures apart { IfOk result (λ cell. ForSome earlier (λ other. cell ≢ other)) }
+{
+    let cell = known_cell(cells, text)?;
+    if cells.is_exit(cell) {
+        Err(Code::WrongKind)
+    } else if connectors.leads_out_of(cell) || earlier == Some(cell) {
+        Err(Code::OutTaken)
+    } else {
+        Ok(cell)
+    }
+}
+
+/// The cell downstream of a new connector, whose record names `earlier` downstream before it.
 #[tactic(auto, unfolding(crate::specs::Fields::downstream))]
 pub(crate) fn downstream(
     cells: &CellTable,
     connectors: &ConnectorTable,
+    earlier: Option<u32>,
     text: &[u8],
 ) -> Result<u32, Code>
-    ensures value { result ≡ downstream cells.now connectors.now text.now }
+    ensures value { result ≡ downstream cells.now connectors.now earlier text.now }
     ensures there { IfOk result (λ cell. cell < length cells.now) }
     ensures receives { IfOk result (λ cell. is_gate_at cells.now cell ≡ false) }
     ensures free { IfOk result (λ cell. list_any (leads_into cell) connectors.now ≡ false) }
+    ensures apart { IfOk result (λ cell. ForSome earlier (λ other. cell ≢ other)) }
 {
-    match cells.find(text) {
-        None => Err(Code::Unknown),
-        Some(cell) if cells.is_gate(cell) => Err(Code::WrongKind),
-        Some(cell) if connectors.leads_into(cell) => Err(Code::InTaken),
-        Some(cell) => Ok(cell),
+    let cell = known_cell(cells, text)?;
+    if cells.is_gate(cell) {
+        Err(Code::WrongKind)
+    } else if connectors.leads_into(cell) || earlier == Some(cell) {
+        Err(Code::InTaken)
+    } else {
+        Ok(cell)
+    }
+}
+
+/// The cell of a signal.
+#[tactic(auto, unfolding(crate::specs::Fields::signal_cell))]
+pub(crate) fn signal_cell(cells: &CellTable, plan: &Plan, text: &[u8]) -> Result<u32, Code>
+    requires { length plan.now.cells ≡ length cells.now }
+    ensures value { result ≡ signal_cell cells.now plan.now text.now }
+    ensures there { IfOk result (λ cell. cell < length cells.now) }
+    ensures sends { IfOk result (λ cell. is_exit_at cells.now cell ≡ false) }
+    ensures first_signal { IfOk result (λ cell. is_signalled plan.now cell ≡ false) }
+{
+    let cell = known_cell(cells, text)?;
+    if cells.is_exit(cell) {
+        Err(Code::WrongKind)
+    } else if plan.has_signal(cell) {
+        Err(Code::Repeated)
+    } else {
+        Ok(cell)
     }
 }
 
@@ -115,9 +156,10 @@ pub(crate) fn demand_gate(cells: &CellTable, text: &[u8]) -> Result<u32, Code>
     ensures there { IfOk result (λ cell. cell < length cells.now) }
     ensures gate { IfOk result (λ cell. is_gate_at cells.now cell ≡ true) }
 {
-    match cells.find(text) {
-        None => Err(Code::Unknown),
-        Some(cell) if !cells.is_gate(cell) => Err(Code::WrongKind),
-        Some(cell) => Ok(cell),
+    let cell = known_cell(cells, text)?;
+    if cells.is_gate(cell) {
+        Ok(cell)
+    } else {
+        Err(Code::WrongKind)
     }
 }

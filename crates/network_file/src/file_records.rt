@@ -1,6 +1,6 @@
 ghost use Rattle.std.specs.Prelude.{◌≡◌, ◌∷◌, [], Some, IfOk, true, false};
 ghost use Rattle.csv.specs.Records.{fields_of};
-ghost use Rattle.network_file.specs.FileRecords.{IsReading, records_left, records_of};
+ghost use Rattle.network_file.specs.FileRecords.{IsReading, records_left, file_records_of};
 
 use csv::{ByteRecord, Reader, ReaderBuilder};
 use signal_plan::NoMemory;
@@ -10,7 +10,7 @@ use std::alloc::Global;
 /// before a comment.
 pub(crate) fn open_records(alloc: Global, bytes: &[u8]) -> Reader<&[u8]>
     ensures reading { IsReading (λ s. Some s.now) result }
-    ensures left { records_left (λ s. Some s.now) result ≡ records_of bytes.now }
+    ensures left { records_left (λ s. Some s.now) result ≡ file_records_of bytes.now }
 {
     ReaderBuilder::new()
         .has_headers(false)

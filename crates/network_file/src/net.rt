@@ -21,7 +21,7 @@ pub struct Net {
     pub cells: Vec<Cell>,
     /// Its connectors, in the order of their records.
     pub connectors: Vec<Connector>,
-    /// The capacity of each cell, and the demand of each gate.
+    /// The capacity of each cell, its limits and its signal, and the demand of each gate.
     pub plan: Plan,
 }
 

@@ -8,10 +8,11 @@ use crate::draft::NetDraft;
 use crate::fault::NetRefusal;
 use crate::fields::field;
 use crate::file_records::{next_record, open_records};
-use crate::limits::{MOST_BYTES, MOST_LOAD};
+use crate::limits::MOST_BYTES;
 use crate::net::Net;
 use crate::records::take_record;
 use csv::ByteRecord;
+use fixed_flow::MOST_PARTS;
 use std::alloc::Global;
 
 /// Reads a file: its header, and then one record after the other into a draft.
@@ -63,7 +64,7 @@ fn complete(draft: NetDraft, place: u32) -> Result<Net, NetRefusal>
     if cells.len() == 0 {
         return Err(NetRefusal::at(place, Code::NoCells));
     }
-    if cells.first_total() + plan.total(steps) > u128::from(MOST_LOAD) {
+    if cells.first_total() + plan.total(steps) > u128::from(MOST_PARTS) {
         return Err(NetRefusal::at(place, Code::TooMuch));
     }
     Ok(Net {

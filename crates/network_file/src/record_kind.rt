@@ -9,6 +9,10 @@ pub(crate) enum RecordKind {
     Gate,
     Exit,
     Link,
+    Merge,
+    Diverge,
+    Signal,
+    Limit,
     Demand,
 }
 
@@ -24,6 +28,10 @@ impl RecordKind {
             b"gate" => Some(RecordKind::Gate),
             b"exit" => Some(RecordKind::Exit),
             b"link" => Some(RecordKind::Link),
+            b"merge" => Some(RecordKind::Merge),
+            b"diverge" => Some(RecordKind::Diverge),
+            b"signal" => Some(RecordKind::Signal),
+            b"limit" => Some(RecordKind::Limit),
             b"demand" => Some(RecordKind::Demand),
             _ => None,
         }
@@ -38,7 +46,8 @@ impl RecordKind {
             RecordKind::Road => 7,
             RecordKind::Gate => 4,
             RecordKind::Exit | RecordKind::Link => 3,
-            RecordKind::Demand => 5,
+            RecordKind::Merge | RecordKind::Diverge | RecordKind::Signal => 6,
+            RecordKind::Limit | RecordKind::Demand => 5,
         }
     }
 }

@@ -1,18 +1,22 @@
-ghost use Rattle.std.specs.Prelude.{◌≡◌};
+ghost use Rattle.std.specs.Prelude.{◌≡◌, ◌<◌, length};
 ghost use Rattle.csv.specs.Records.{fields_of};
 ghost use Rattle.network_file.specs.Answers.{Answers};
-ghost use Rattle.network_file.specs.Taking.{take_demand, take_exit, take_gate, take_link, take_record, take_road, take_steps};
+ghost use Rattle.network_file.specs.Taking.{take_demand, take_diverge, take_exit, take_gate, take_limit, take_link, take_merge, take_record, take_road, take_signal, take_steps};
 
 use crate::cell::{Cell, Kind};
 use crate::code::Code;
+use crate::connector::Connector;
 use crate::draft::NetDraft;
-use crate::fault::Refusal;
+use crate::fault::RecordRefusal;
 use crate::fields::{
-    amount_within, demand_gate, downstream, field, new_name, upstream, whole_within,
+    amount_within, demand_gate, downstream, field, known_cell, new_name, signal_cell, upstream,
+    whole_within,
 };
-use crate::limits::{MOST_FLOW, MOST_LOAD, MOST_RATIO, MOST_RECORDS, MOST_STEPS};
+use crate::limits::{MOST_CAPACITY, MOST_RATIO, MOST_ROOM};
 use crate::record_kind::RecordKind;
 use csv::ByteRecord;
+use fixed_flow::MOST_PARTS;
+use signal_plan::{MOST_RECORDS, MOST_STEPS};
 use std::alloc::Global;
 
 /// The draft with one more record.
@@ -21,14 +25,17 @@ pub(crate) fn take_record(
     alloc: Global,
     draft: NetDraft,
     row: &ByteRecord,
-) -> Result<NetDraft, Refusal>
+) -> Result<NetDraft, RecordRefusal>
     ensures { Answers result (take_record draft (fields_of row.now)) }
 {
     let Some(kind) = RecordKind::named(field(row, 0)) else {
-        return Err(Refusal::Fault(Code::BadKind));
+        return Err(RecordRefusal::Fault(Code::BadKind));
     };
     if row.len() != kind.field_count() {
-        return Err(Refusal::Fault(Code::BadCount));
+        return Err(RecordRefusal::Fault(Code::BadCount));
+    }
+    if draft.taken_before(kind) >= MOST_RECORDS {
+        return Err(RecordRefusal::Fault(Code::TooMany));
     }
     match kind {
         RecordKind::Steps => take_steps(draft, row),
@@ -36,31 +43,33 @@ pub(crate) fn take_record(
         RecordKind::Gate => take_gate(alloc, draft, row),
         RecordKind::Exit => take_exit(alloc, draft, row),
         RecordKind::Link => take_link(draft, row),
+        RecordKind::Merge => take_merge(draft, row),
+        RecordKind::Diverge => take_diverge(draft, row),
+        RecordKind::Signal => take_signal(draft, row),
+        RecordKind::Limit => take_limit(draft, row),
         RecordKind::Demand => take_demand(draft, row),
     }
 }
 
 #[tactic(auto, unfolding(crate::specs::Taking::take_steps))]
-fn take_steps(draft: NetDraft, row: &ByteRecord) -> Result<NetDraft, Refusal>
+fn take_steps(draft: NetDraft, row: &ByteRecord) -> Result<NetDraft, RecordRefusal>
     ensures { Answers result (take_steps draft (fields_of row.now)) }
 {
     if draft.steps.is_some() {
-        return Err(Refusal::Fault(Code::Repeated));
+        return Err(RecordRefusal::Fault(Code::Repeated));
     }
     let steps = whole_within(1, MOST_STEPS, field(row, 1))?;
     Ok(draft.with_steps(steps))
 }
 
 #[tactic(auto, unfolding(crate::specs::Taking::take_road))]
-fn take_road(alloc: Global, draft: NetDraft, row: &ByteRecord) -> Result<NetDraft, Refusal>
+fn take_road(alloc: Global, draft: NetDraft, row: &ByteRecord) -> Result<NetDraft, RecordRefusal>
+    requires { length draft.cells < MOST_RECORDS }
     ensures { Answers result (take_road draft (fields_of row.now)) }
 {
-    if draft.cells.len() >= MOST_RECORDS {
-        return Err(Refusal::Fault(Code::TooMany));
-    }
     let name = new_name(alloc, &draft.cells, field(row, 1))?;
-    let room = amount_within(MOST_FLOW, field(row, 2))?;
-    let capacity = amount_within(MOST_FLOW, field(row, 3))?;
+    let room = amount_within(MOST_ROOM, field(row, 2))?;
+    let capacity = amount_within(MOST_CAPACITY, field(row, 3))?;
     let num = whole_within(1, MOST_RATIO, field(row, 4))?;
     let den = whole_within(num, MOST_RATIO, field(row, 5))?;
     let first = amount_within(room, field(row, 6))?;
@@ -76,69 +85,108 @@ fn take_road(alloc: Global, draft: NetDraft, row: &ByteRecord) -> Result<NetDraf
 }
 
 #[tactic(auto, unfolding(crate::specs::Taking::take_gate))]
-fn take_gate(alloc: Global, draft: NetDraft, row: &ByteRecord) -> Result<NetDraft, Refusal>
+fn take_gate(alloc: Global, draft: NetDraft, row: &ByteRecord) -> Result<NetDraft, RecordRefusal>
+    requires { length draft.cells < MOST_RECORDS }
     ensures { Answers result (take_gate draft (fields_of row.now)) }
 {
-    if draft.cells.len() >= MOST_RECORDS {
-        return Err(Refusal::Fault(Code::TooMany));
-    }
     let name = new_name(alloc, &draft.cells, field(row, 1))?;
-    let capacity = amount_within(MOST_FLOW, field(row, 2))?;
-    let first = amount_within(MOST_LOAD, field(row, 3))?;
-    let cell = Cell {
-        name,
-        kind: Kind::Gate,
-        room: 0,
-        num: 1,
-        den: 1,
-        first,
-    };
+    let capacity = amount_within(MOST_CAPACITY, field(row, 2))?;
+    let first = amount_within(MOST_PARTS, field(row, 3))?;
+    let cell = Cell::without_room(name, Kind::Gate, first);
     Ok(draft.add_cell(alloc, cell, capacity)?)
 }
 
 #[tactic(auto, unfolding(crate::specs::Taking::take_exit))]
-fn take_exit(alloc: Global, draft: NetDraft, row: &ByteRecord) -> Result<NetDraft, Refusal>
+fn take_exit(alloc: Global, draft: NetDraft, row: &ByteRecord) -> Result<NetDraft, RecordRefusal>
+    requires { length draft.cells < MOST_RECORDS }
     ensures { Answers result (take_exit draft (fields_of row.now)) }
 {
-    if draft.cells.len() >= MOST_RECORDS {
-        return Err(Refusal::Fault(Code::TooMany));
-    }
     let name = new_name(alloc, &draft.cells, field(row, 1))?;
-    let capacity = amount_within(MOST_FLOW, field(row, 2))?;
-    let cell = Cell {
-        name,
-        kind: Kind::Exit,
-        room: 0,
-        num: 1,
-        den: 1,
-        first: 0,
-    };
+    let capacity = amount_within(MOST_CAPACITY, field(row, 2))?;
+    let cell = Cell::without_room(name, Kind::Exit, 0);
     Ok(draft.add_cell(alloc, cell, capacity)?)
 }
 
 #[tactic(auto, unfolding(crate::specs::Taking::take_link))]
-fn take_link(draft: NetDraft, row: &ByteRecord) -> Result<NetDraft, Refusal>
+fn take_link(draft: NetDraft, row: &ByteRecord) -> Result<NetDraft, RecordRefusal>
+    requires { length draft.connectors < MOST_RECORDS }
     ensures { Answers result (take_link draft (fields_of row.now)) }
 {
-    if draft.connectors.len() >= MOST_RECORDS {
-        return Err(Refusal::Fault(Code::TooMany));
-    }
-    let up = upstream(&draft.cells, &draft.connectors, field(row, 1))?;
-    let down = downstream(&draft.cells, &draft.connectors, field(row, 2))?;
-    Ok(draft.add_link(up, down)?)
+    let up = upstream(&draft.cells, &draft.connectors, None, field(row, 1))?;
+    let down = downstream(&draft.cells, &draft.connectors, None, field(row, 2))?;
+    Ok(draft.add_connector(Connector::Link { up, down })?)
+}
+
+#[tactic(auto, unfolding(crate::specs::Taking::take_merge))]
+fn take_merge(draft: NetDraft, row: &ByteRecord) -> Result<NetDraft, RecordRefusal>
+    requires { length draft.connectors < MOST_RECORDS }
+    ensures { Answers result (take_merge draft (fields_of row.now)) }
+{
+    let up1 = upstream(&draft.cells, &draft.connectors, None, field(row, 1))?;
+    let up2 = upstream(&draft.cells, &draft.connectors, Some(up1), field(row, 2))?;
+    let down = downstream(&draft.cells, &draft.connectors, None, field(row, 3))?;
+    let p1 = whole_within(1, MOST_RATIO, field(row, 4))?;
+    let p2 = whole_within(1, MOST_RATIO, field(row, 5))?;
+    Ok(draft.add_connector(Connector::Merge {
+        up1,
+        up2,
+        down,
+        p1,
+        p2,
+    })?)
+}
+
+#[tactic(auto, unfolding(crate::specs::Taking::take_diverge))]
+fn take_diverge(draft: NetDraft, row: &ByteRecord) -> Result<NetDraft, RecordRefusal>
+    requires { length draft.connectors < MOST_RECORDS }
+    ensures { Answers result (take_diverge draft (fields_of row.now)) }
+{
+    let up = upstream(&draft.cells, &draft.connectors, None, field(row, 1))?;
+    let down1 = downstream(&draft.cells, &draft.connectors, None, field(row, 2))?;
+    let down2 = downstream(&draft.cells, &draft.connectors, Some(down1), field(row, 3))?;
+    let b1 = whole_within(1, MOST_RATIO, field(row, 4))?;
+    let b2 = whole_within(1, MOST_RATIO, field(row, 5))?;
+    Ok(draft.add_connector(Connector::Diverge {
+        up,
+        down1,
+        down2,
+        b1,
+        b2,
+    })?)
+}
+
+#[tactic(auto, unfolding(crate::specs::Taking::take_signal))]
+fn take_signal(draft: NetDraft, row: &ByteRecord) -> Result<NetDraft, RecordRefusal>
+    ensures { Answers result (take_signal draft (fields_of row.now)) }
+{
+    let cell = signal_cell(&draft.cells, &draft.plan, field(row, 1))?;
+    let cycle = whole_within(1, MOST_STEPS, field(row, 2))?;
+    let offset = whole_within(0, cycle - 1, field(row, 3))?;
+    let from = whole_within(0, cycle - 1, field(row, 4))?;
+    let to = whole_within(from + 1, cycle, field(row, 5))?;
+    Ok(draft.add_signal(cell, cycle, offset, from, to)?)
+}
+
+#[tactic(auto, unfolding(crate::specs::Taking::take_limit))]
+fn take_limit(draft: NetDraft, row: &ByteRecord) -> Result<NetDraft, RecordRefusal>
+    requires { length draft.plan.limits < MOST_RECORDS }
+    ensures { Answers result (take_limit draft (fields_of row.now)) }
+{
+    let cell = known_cell(&draft.cells, field(row, 1))?;
+    let from = whole_within(0, MOST_STEPS - 1, field(row, 2))?;
+    let to = whole_within(from + 1, MOST_STEPS, field(row, 3))?;
+    let capacity = amount_within(MOST_CAPACITY, field(row, 4))?;
+    Ok(draft.add_limit(cell, from, to, capacity)?)
 }
 
 #[tactic(auto, unfolding(crate::specs::Taking::take_demand))]
-fn take_demand(draft: NetDraft, row: &ByteRecord) -> Result<NetDraft, Refusal>
+fn take_demand(draft: NetDraft, row: &ByteRecord) -> Result<NetDraft, RecordRefusal>
+    requires { length draft.plan.demands < MOST_RECORDS }
     ensures { Answers result (take_demand draft (fields_of row.now)) }
 {
-    let (_, _, demands) = draft.plan.counts();
-    if demands as usize >= MOST_RECORDS {
-        return Err(Refusal::Fault(Code::TooMany));
-    }
     let gate = demand_gate(&draft.cells, field(row, 1))?;
     let from = whole_within(0, MOST_STEPS - 1, field(row, 2))?;
     let to = whole_within(from + 1, MOST_STEPS, field(row, 3))?;
-    let amount = amount_within(MOST_LOAD, field(row, 4))?;
+    let amount = amount_within(MOST_PARTS, field(row, 4))?;
     Ok(draft.add_demand(gate, from, to, amount)?)
 }

@@ -2,7 +2,7 @@ ghost use Rattle.std.specs.Prelude.{◌≡◌, ◌≤◌, ◌+◌};
 ghost use Rattle.ordinary_link.specs.Space.{space_flow, IsRoomFor};
 
 /// The most parts that a road may have room for: ten million vehicles.
-pub const MAX_PARTS: u64 = 10_000_000_000_000;
+pub const MOST_PARTS: u64 = 10_000_000_000_000;
 
 /// The room of a road cell: it holds at most `most` parts, and the backward wave runs at `num / den`
 /// of the free speed.
@@ -20,7 +20,7 @@ impl Room {
     // A ratio of 1 needs no division, the dearest part of a step.
     pub(crate) fn space_flow(self, n: u64) -> u64
         requires fits { IsRoomFor n self }
-        requires amount { self.most ≤ MAX_PARTS }
+        requires amount { self.most ≤ MOST_PARTS }
         ensures flow { result ≡ space_flow n self }
         ensures in_room { n + result ≤ self.most }
     {

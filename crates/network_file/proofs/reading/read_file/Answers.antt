@@ -1,11 +1,11 @@
 use Rattle.std.proofs.Common.{◌≡◌, ◌∙◌, ◌∷◌, [], Bor, List, ℕ, Some, arith, length, sym, ap}
 use Rattle.std.specs.Prelude.{Result}
 use Rattle.csv.specs.Records.{fields_of}
-use Rattle.network_file.specs.FileRecords.{records_left, records_of}
+use Rattle.network_file.specs.FileRecords.{records_left, file_records_of}
 use Rattle.network_file.specs.Network.{Network}
 use Rattle.network_file.specs.Reading.{completed, network_of, read_records}
 use Rattle.network_file.specs.declared.fault.NetFault.{NetFault}
-use Rattle.network_file.proofs.RecordLemmas.{length-records_of}
+use Rattle.network_file.proofs.RecordLemmas.{length-file_records_of}
 use Rattle.network_file.proofs.ReadingLemmas.{network_of-headless, network_of-misheaded, network_of-headed, read_records-none, read_records-taken, read_records-refused}
 use Rattle.network_file.proofs.reading.read_file.Goals.{then-not-branch-via-then-not-branch, then-not-branch-via-else-not-branch+then-not-is_header}
 use Rattle.network_file.proofs.reading.read_file.Goals as goal
@@ -24,12 +24,12 @@ returns-then-not-branch-clause-refusal c =
 pub loop-draft-init : goal.loop-draft-init
 loop-draft-init c =
     let rest = records_left (λ (s : Bor (List ℕ)). Some s.now) c.next_record.new.reader in
-    let all : records_of c.args.bytes.now ≡ fields_of c.next_record.new.row ∷ rest =
+    let all : file_records_of c.args.bytes.now ≡ fields_of c.next_record.new.row ∷ rest =
     sym c.open_records-reader.ensures.left ∙ c.in_ok-next_record.ensures.found c.if-not-branch.false in
     record {
       reading = c.in_ok-next_record.ensures.reading c.if-not-branch.false;
       same = rw c.new-draft.ensures (network_of-headed c.args.bytes.now (fields_of c.next_record.new.row) rest all (sym c.is_header.ensures ∙ c.if-not-is_header.false));
-      few = omega (arith, length-records_of c.args.bytes.now, ap length all);
+      few = omega (arith, length-file_records_of c.args.bytes.now, ap length all);
     }
 
 pub returns-in-Err-clause-refusal : goal.returns-in-Err-clause-refusal

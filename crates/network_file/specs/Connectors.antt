@@ -1,0 +1,37 @@
+-- The cells of a connector, told here for every kind of it.
+use Rattle.std.specs.Prelude.{ℕ, Bool, eqb, List, [], ◌∷◌, ◌++◌, slice_index_or}
+use Rattle.std.specs.List.{list_any}
+use Rattle.network_file.specs.declared.connector.Connector.{Connector}
+use Rattle.network_file.specs.declared.connector.Connector.TheVariants.{Link, Merge, Diverge}
+
+-- the cells upstream of a connector, in the order of its fields
+abbrev pub upstream_of : Connector → List ℕ
+upstream_of (Link up down) = up ∷ []
+upstream_of (Merge up1 up2 down p1 p2) = up1 ∷ up2 ∷ []
+upstream_of (Diverge up down1 down2 b1 b2) = up ∷ []
+
+-- the cells downstream of it
+abbrev pub downstream_of : Connector → List ℕ
+downstream_of (Link up down) = down ∷ []
+downstream_of (Merge up1 up2 down p1 p2) = down ∷ []
+downstream_of (Diverge up down1 down2 b1 b2) = down1 ∷ down2 ∷ []
+
+-- the priorities of a merge, the turning shares of a diverge
+abbrev pub weights_of : Connector → List ℕ
+weights_of (Link up down) = []
+weights_of (Merge up1 up2 down p1 p2) = p1 ∷ p2 ∷ []
+weights_of (Diverge up down1 down2 b1 b2) = b1 ∷ b2 ∷ []
+
+-- all its cells, in the order of its fields
+abbrev pub cells_of : Connector → List ℕ
+cells_of connector = upstream_of connector ++ downstream_of connector
+
+abbrev pub leads_out_of : (cell : ℕ) → Connector → Bool
+leads_out_of cell connector = list_any (eqb cell) (upstream_of connector)
+
+abbrev pub leads_into : (cell : ℕ) → Connector → Bool
+leads_into cell connector = list_any (eqb cell) (downstream_of connector)
+
+-- the connector of this number
+abbrev pub connector_at : List Connector → (k : ℕ) → Connector
+connector_at connectors k = slice_index_or connectors k (Link 0 0)
