@@ -21,18 +21,18 @@ fn room(cell: &Cell) -> Option<Room>
 
 /// What a cell can send in step `t` where it holds `n` parts.
 #[tactic(auto, unfolding(crate::specs::Limits::sending_at))]
-pub(crate) fn sending_flow(net: &Net, t: u64, cell: u32, n: u64) -> u64
+pub(crate) fn sending_at(net: &Net, t: u64, cell: u32, n: u64) -> u64
     requires has_cell { cell < length net.now.cells }
     requires in_time { t < net.now.steps }
     ensures { result ≡ sending_at net.now t cell n }
 {
     let _steps = net.steps;
-    sending(n, net.plan.capacity(cell, t), true)
+    sending(n, net.plan.capacity(cell, t), net.plan.green(cell, t))
 }
 
 /// What a cell can receive in step `t` where it holds `n` parts.
 #[tactic(auto, unfolding(crate::specs::Limits::receiving_at))]
-pub(crate) fn receiving_flow(net: &Net, t: u64, cell: u32, n: u64) -> u64
+pub(crate) fn receiving_at(net: &Net, t: u64, cell: u32, n: u64) -> u64
     requires has_cell { cell < length net.now.cells }
     requires in_time { t < net.now.steps }
     requires held { IsHeldInBounds net.now t cell n }

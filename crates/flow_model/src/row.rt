@@ -1,5 +1,8 @@
-ghost use Rattle.std.specs.Prelude.{◌≡◌, ◌+◌, ◌<◌, ◌≤◌, ◌^◌};
-ghost use Rattle.flow_model.specs.Moves.{row_less, row_more};
+ghost use Rattle.std.specs.Prelude.{◌≡◌, ◌+◌, ◌<◌, ◌≤◌, ◌^◌, length};
+ghost use Rattle.flow_model.specs.Bounds.{IsRowInBounds};
+ghost use Rattle.flow_model.specs.Rows.{begun_row, row_less, row_more};
+
+use network_file::{Kind, Net};
 
 /// What is known of a cell at a step, in parts (docs/MODEL.md).
 #[derive(Clone, Copy, Debug, PartialEq, Eq)]
@@ -15,8 +18,35 @@ pub struct Row {
 }
 
 impl Row {
+    /// The row of a cell as step `t` begins, before any connector carries its flow: the demand of a gate is in, and
+    /// all that the cell holds is counted as waiting.
+    pub fn begun(self, net: &Net, t: u64, cell: u32) -> Row
+        requires has_cell { cell < length net.now.cells }
+        requires in_time { t < net.now.steps }
+        requires in_bounds { IsRowInBounds net.now t cell self }
+        ensures { result ≡ begun_row net.now t cell self }
+    {
+        let kind = net.cells[cell as usize].kind;
+        let waiting = Row {
+            wait: self.wait + self.n,
+            ..self
+        };
+        match kind {
+            Kind::Road => waiting,
+            Kind::Gate => {
+                let demand = net.plan.demand(cell, t);
+                Row {
+                    n: self.n + demand,
+                    come: self.come + demand,
+                    ..waiting
+                }
+            }
+            Kind::Exit => self,
+        }
+    }
+
     /// So many parts leave in this step. They were counted as waiting, and don't wait.
-    pub(crate) fn leave(&mut self, parts: u64)
+    pub fn leave(&mut self, parts: u64)
         requires held { parts ≤ self.old.n }
         requires waiting { parts ≤ self.old.wait }
         requires fits { self.old.gone + parts < 2 ^ 64 }
@@ -28,7 +58,7 @@ impl Row {
     }
 
     /// So many parts enter in this step.
-    pub(crate) fn enter(&mut self, parts: u64)
+    pub fn enter(&mut self, parts: u64)
         requires fits { self.old.n + parts < 2 ^ 64 }
         requires all_fit { self.old.come + parts < 2 ^ 64 }
         ensures { self.new ≡ row_more self.old parts }

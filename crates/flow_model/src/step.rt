@@ -1,13 +1,12 @@
 ghost use Rattle.std.specs.Prelude.{◌≡◌, ℕ, ◌+◌, ◌<◌, ◌≤◌, [], length, take};
 ghost use Rattle.network_file.specs.Network.{IsNetwork};
-ghost use Rattle.flow_model.specs.Bounds.{AreInBounds, IsRowInBounds, KeepsRooms};
-ghost use Rattle.flow_model.specs.Flows.{connector_at};
-ghost use Rattle.flow_model.specs.Moves.{row_by, rows_by};
-ghost use Rattle.flow_model.specs.State.{next_rows, state_at};
+ghost use Rattle.network_file.specs.Connectors.{connector_at};
+ghost use Rattle.flow_model.specs.Bounds.{AreInBounds, KeepsRooms};
+ghost use Rattle.flow_model.specs.State.{next_rows, rows_by, state_at};
 
 use crate::connector_flow::flow;
 use crate::row::Row;
-use network_file::{Connector, Kind, Net};
+use network_file::{Connector, Net};
 
 /// Writes the rows at step 0, in parts: each cell holds what it holds at first, and nothing is counted yet.
 pub fn first_rows(net: &Net, rows: &mut [Row])
@@ -38,47 +37,21 @@ pub fn plain_step(net: &Net, t: u64, old: &[Row], new: &mut [Row])
     ensures bounds { AreInBounds net.now (t + 1) new.new }
     ensures state { old.now ≡ state_at net.now t → new.new ≡ state_at net.now (t + 1) }
 {
-    start(net, t, old, new);
+    begin(net, t, old, new);
     for k in 0..net.connectors.len() as u32 {
         carry(net, t, k, old, new);
     }
 }
 
-// The rows before any connector carried its flow: the demand is in, and all that a cell holds waits.
-fn start(net: &Net, t: u64, old: &[Row], new: &mut [Row])
+// The rows before any connector carried its flow.
+fn begin(net: &Net, t: u64, old: &[Row], new: &mut [Row])
     requires one_each { length new.old ≡ length net.now.cells }
     requires in_time { t < net.now.steps }
     requires in_bounds { AreInBounds net.now t old.now }
     ensures { new.new ≡ rows_by [] net.now t old.now }
 {
     for i in 0..net.cells.len() {
-        new[i] = started(net, t, i as u32, old[i]);
-    }
-}
-
-// A cell's row before any connector carried its flow.
-fn started(net: &Net, t: u64, cell: u32, row: Row) -> Row
-    requires has_cell { cell < length net.now.cells }
-    requires in_time { t < net.now.steps }
-    requires in_bounds { IsRowInBounds net.now t cell row }
-    ensures { (n : ℕ → ℕ) → result ≡ row_by [] net.now t n cell row }
-{
-    let kind = net.cells[cell as usize].kind;
-    let waiting = Row {
-        wait: row.wait + row.n,
-        ..row
-    };
-    match kind {
-        Kind::Road => waiting,
-        Kind::Gate => {
-            let demand = net.plan.demand(cell, t);
-            Row {
-                n: row.n + demand,
-                come: row.come + demand,
-                ..waiting
-            }
-        }
-        Kind::Exit => row,
+        new[i] = old[i].begun(net, t, i as u32);
     }
 }
 
@@ -91,12 +64,25 @@ fn carry(net: &Net, t: u64, k: u32, old: &[Row], new: &mut [Row])
     ensures { new.new ≡ rows_by (take (k + 1) net.now.connectors) net.now t old.now }
 {
     match net.connectors[k as usize] {
-        Connector::Link { up, down } => carry_link(net, t, k, up, down, old, new),
+        Connector::Link { up, down } => carry_link(net, t, k, (up, down), old, new),
+        Connector::Merge { up1, up2, down, .. } => {
+            carry_merge(net, t, k, (up1, up2, down), old, new);
+        }
+        Connector::Diverge { up, down1, down2, .. } => {
+            carry_diverge(net, t, k, (up, down1, down2), old, new);
+        }
     }
 }
 
 // Connector `k`, a link, carries its flow.
-fn carry_link(net: &Net, t: u64, k: u32, up: u32, down: u32, old: &[Row], new: &mut [Row])
+fn carry_link(
+    net: &Net,
+    t: u64,
+    k: u32,
+    (up, down): (u32, u32),
+    old: &[Row],
+    new: &mut [Row],
+)
     requires sound { IsNetwork net.now }
     requires has_connector { k < length net.now.connectors }
     requires link { connector_at net.now.connectors k ≡ Connector.Link up down }
@@ -106,8 +92,6 @@ fn carry_link(net: &Net, t: u64, k: u32, up: u32, down: u32, old: &[Row], new: &
     ensures { new.new ≡ rows_by (take (k + 1) net.now.connectors) net.now t old.now }
 {
     let carried = flow(net, t, k, [old[up as usize].n, old[down as usize].n, 0]);
-    let from = &mut new[up as usize];
-    from.leave(carried.out1);
-    let into = &mut new[down as usize];
-    into.enter(carried.in1);
+    leave(new, up, carried.out1);
+    enter(new, down, carried.in1);
 }

@@ -13,4 +13,4 @@ mod space;
 pub use link::link_flow;
 pub use receive::receiving;
 pub use send::sending;
-pub use space::{MOST_PARTS, Room};
+pub use space::{MOST_PARTS, MOST_RATIO, Room};
