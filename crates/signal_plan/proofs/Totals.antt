@@ -5,9 +5,9 @@ use Rattle.std.proofs.Common.{◌≡◌, ℕ, Bool, true, false, ◌+◌, ◌-�
 use Rattle.std.proofs.lemmas.List.Sums.{sum_by-cons}
 use Rattle.std.proofs.lemmas.List.Elements.{All-head, All-tail, All-weaker}
 use Rattle.signal_plan.specs.Records.{DemandRecord, PlanRecords}
-use Rattle.signal_plan.specs.Sound.{IsSoundDemand, IsSound}
+use Rattle.signal_plan.specs.Sound.{IsSoundDemand, IsSoundPlan}
 use Rattle.signal_plan.specs.Demand.{amount_at, demand_at}
-use Rattle.signal_plan.specs.Total.{demand_from, total_of}
+use Rattle.signal_plan.specs.Total.{demand_from, total_demand}
 use Rattle.signal_plan.proofs.Sums.{sum_by_agree, sum_by_splits, sum_by-zero, sum_by_range_one}
 use Rattle.signal_plan.proofs.Overlap.{steps_in}
 
@@ -74,10 +74,10 @@ total_sum_is cells steps (d ∷ ds) has =
       sum_by-cons (brought steps) d ds,
     )
 
-pub total_of_is : (plan : PlanRecords) (steps : ℕ) → IsSound plan →
-    total_of plan steps ≡ sum_by (brought steps) plan.demands
-unfolding total_of demand_from demand_at
-total_of_is plan steps sound =
+pub total_demand_is : (plan : PlanRecords) (steps : ℕ) → IsSoundPlan plan →
+    total_demand plan steps ≡ sum_by (brought steps) plan.demands
+unfolding total_demand demand_from demand_at
+total_demand_is plan steps sound =
     let cells : ℕ = length plan.cells in
     let has = All-weaker (IsSoundDemand cells) (λ d. d.cell < cells) (λ d fits. fits.cell) plan.demands sound.demands in
     total_sum_is cells steps plan.demands has

@@ -1,21 +1,18 @@
-use Rattle.std.specs.Prelude.{ℕ, ◌<◌, List, length, map, take, slice_index_or}
-use Rattle.signal_plan.specs.declared.step_plan.CellPlan.{CellPlan}
-use Rattle.signal_plan.specs.declared.demand.ChainedDemand.{ChainedDemand}
-use Rattle.signal_plan.specs.Records.{PlanRecords}
-use Rattle.signal_plan.specs.Sound.{IsSound}
-use Rattle.signal_plan.specs.Chain.{record_of, IsNewest}
+use Rattle.std.specs.Prelude.{ℕ, ◌≡◌, ◌<◌, List, length, map, slice_index_or}
+use Rattle.signal_plan.specs.Records.{DemandRecord, LimitRecord, PlanRecords, SignalRecord}
+use Rattle.signal_plan.specs.Sound.{IsSoundPlan}
+use Rattle.signal_plan.specs.CellRecords.{CellRecords, records_at}
 
--- what the stored cells and demand records say
-abbrev pub records_of : List CellPlan → List ChainedDemand → PlanRecords
-records_of cells demands = record {
+-- what the stored cells and records say
+abbrev pub records_of : List CellRecords → List SignalRecord → List LimitRecord → List DemandRecord → PlanRecords
+records_of cells signals limits demands = record {
   cells = map (λ cell. cell.capacity) cells;
-  demands = map record_of demands;
+  signals = signals;
+  limits = limits;
+  demands = demands;
 }
 
--- the records are sound, and those of each cell are chained from the newest to the oldest
-pub record IsLaidOut (cells : List CellPlan) (demands : List ChainedDemand) : Type 0 where
-  pub sound : IsSound (records_of cells demands)
-  pub heads : (cell : ℕ) (c : CellPlan) → cell < length cells →
-      IsNewest demands cell (slice_index_or cells cell c).newest
-  pub links : (k : ℕ) (d : ChainedDemand) → k < length demands →
-      IsNewest (take k demands) (slice_index_or demands k d).cell (slice_index_or demands k d).older
+-- the plan is sound, and each cell stores what the plan says of it
+pub record IsLaidOut (cells : List CellRecords) (plan : PlanRecords) : Type 0 where
+  pub sound : IsSoundPlan plan
+  pub own : (cell : ℕ) (c : CellRecords) → cell < length cells → slice_index_or cells cell c ≡ records_at plan cell

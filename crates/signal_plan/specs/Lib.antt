@@ -4,5 +4,5 @@ pub mod Capacity
 pub mod Green
 pub mod Demand
 pub mod Total
-pub mod Chain
+pub mod CellRecords
 pub mod Layout

@@ -1,26 +1,35 @@
-ghost use Rattle.std.specs.Prelude.{◌≡◌, ◌≤◌, ◌-◌, ◌*◌, min, if◌then◌else◌, nat_le, nat_lt, ◌&&◌};
+ghost use Rattle.std.specs.Prelude.{◌≡◌, ◌≤◌, ◌-◌, ◌*◌, min, if◌then◌else◌};
+ghost use Rattle.signal_plan.specs.Records.{in_range};
 
-use crate::bounds::{MAX_AMOUNT, MAX_STEPS};
+use crate::bounds::{MOST_PARTS, MOST_STEPS};
+use crate::range::is_in_range;
+use std::marker::Model;
 
-/// A demand record, chained to the older ones of its cell.
+/// A demand record: what enters its cell in each step of `[from, to)`, in parts.
 #[derive(Clone, Copy, Debug)]
-pub(crate) struct ChainedDemand {
+pub(crate) struct Demand {
     pub(crate) cell: u32,
     pub(crate) from: u64,
     pub(crate) to: u64,
     pub(crate) amount: u64,
-
-    /// The number, counted from 1, of the next older record of the cell, or 0 where there is none.
-    pub(crate) older: u32,
 }
 
-impl ChainedDemand {
+impl Model for Demand {
+    ghost use Rattle.signal_plan.specs.Records.{DemandRecord};
+
+    ghost Value = { DemandRecord };
+
+    ghost view = { λ d. record { cell = d.cell; from = d.from; to = d.to; amount = d.amount } };
+
+    ghost inverse = { λ d. record { cell = d.cell; from = d.from; to = d.to; amount = d.amount } };
+}
+
+impl Demand {
     /// What the record brings in step `t`.
     pub(crate) fn at(&self, t: u64) -> u64
-        ensures { result ≡
-            if nat_le self.now.from t && nat_lt t self.now.to then self.now.amount else 0 }
+        ensures { result ≡ if in_range self.now.from self.now.to t then self.now.amount else 0 }
     {
-        if self.from <= t && t < self.to {
+        if is_in_range(self.from, self.to, t) {
             self.amount
         } else {
             0
@@ -29,8 +38,8 @@ impl ChainedDemand {
 
     /// What the record brings in all steps below `steps`.
     pub(crate) fn below(&self, steps: u64) -> u64
-        requires amount { self.now.amount ≤ MAX_AMOUNT }
-        requires few_steps { steps ≤ MAX_STEPS }
+        requires amount { self.now.amount ≤ MOST_PARTS }
+        requires few_steps { steps ≤ MOST_STEPS }
         ensures { result ≡ self.now.amount * (min self.now.to steps - self.now.from) }
     {
         self.amount * self.to.min(steps).saturating_sub(self.from)

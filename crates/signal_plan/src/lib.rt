@@ -1,15 +1,22 @@
 //! The plan of a network: what the network file says of single steps.
 //!
-//! A plan has a list of cells, each with its capacity, and the demand records of the gates. It is
-//! asked for the capacity of a cell and the demand of a gate at a step. Amounts are in parts,
-//! millionths of a vehicle; cells are numbered from 0 in the order in which they were put.
+//! A plan has a list of cells, each with its capacity, and the signals, limits and demand records of
+//! these cells. It is asked for the capacity, the light and the demand of a cell at a step. Amounts
+//! are in parts, millionths of a vehicle; cells are numbered from 0 in the order in which they were
+//! put.
 #![tactic(auto)]
 
 mod bounds;
+mod cell_plan;
 mod demand;
+mod limit;
 mod memory;
+mod range;
+mod signal;
 mod step_plan;
+#[cfg(test)]
+mod tests;
 
-pub use bounds::{MAX_AMOUNT, MAX_CELLS, MAX_DEMANDS, MAX_STEPS};
+pub use bounds::{MOST_CELLS, MOST_PARTS, MOST_RECORDS, MOST_STEPS};
 pub use memory::NoMemory;
 pub use step_plan::Plan;

@@ -1,30 +1,31 @@
-ghost use Rattle.std.specs.Prelude.{◌≡◌, ◌+◌, ◌*◌, ◌<◌, ◌≤◌, length, OnOk, OnErr};
-ghost use Rattle.signal_plan.specs.Records.{no_records, with_cell, with_demand};
-ghost use Rattle.signal_plan.specs.Sound.{IsSound};
+ghost use Rattle.std.specs.Prelude.{◌≡◌, ◌*◌, ◌^◌, ◌<◌, ◌≤◌, false, length, OnOk, OnErr};
+ghost use Rattle.signal_plan.specs.Records.{no_records, with_cell, with_demand, with_limit, with_signal};
+ghost use Rattle.signal_plan.specs.Sound.{IsSoundPlan};
 ghost use Rattle.signal_plan.specs.Capacity.{capacity_at};
+ghost use Rattle.signal_plan.specs.Green.{green_at, is_signalled};
 ghost use Rattle.signal_plan.specs.Demand.{demand_at};
-ghost use Rattle.signal_plan.specs.Total.{total_of};
+ghost use Rattle.signal_plan.specs.Total.{total_demand};
 
-use crate::bounds::{MAX_AMOUNT, MAX_CELLS, MAX_DEMANDS, MAX_STEPS};
-use crate::demand::ChainedDemand;
+use crate::bounds::{MOST_CELLS, MOST_PARTS, MOST_RECORDS, MOST_STEPS};
+use crate::cell_plan::CellPlan;
+use crate::demand::Demand;
+use crate::limit::Limit;
 use crate::memory::NoMemory;
+use crate::signal::Signal;
 use std::alloc::Global;
 use std::marker::Model;
 
-// A cell's own part of the plan.
-#[derive(Clone, Copy, Debug)]
-struct CellPlan {
-    capacity: u64,
-
-    // The number, counted from 1, of the cell's newest demand record, or 0 where it has none.
-    newest: u32,
-}
-
-/// What varies from step to step: each cell's capacity and each gate's demand.
+/// What varies from step to step: the capacity of each cell, the light of each signal and the demand
+/// of each gate.
+///
+/// Each record stands twice: in the list of its kind, and with its cell, which is asked for it.
 #[derive(Debug, Drop)]
 pub struct Plan {
+    alloc: Global,
     cells: Vec<CellPlan>,
-    demands: Vec<ChainedDemand>,
+    signals: Vec<Signal>,
+    limits: Vec<Limit>,
+    demands: Vec<Demand>,
 }
 
 impl Model for Plan {
@@ -33,9 +34,10 @@ impl Model for Plan {
 
     ghost Value = { PlanRecords };
 
-    ghost view = { λ plan. records_of plan.cells.items plan.demands.items };
+    ghost view = { λ plan. records_of plan.cells.items plan.signals.items plan.limits.items plan.demands.items };
 
-    ghost invariant = { λ plan. IsLaidOut plan.cells.items plan.demands.items };
+    ghost invariant = { λ plan. IsLaidOut plan.cells.items
+        (records_of plan.cells.items plan.signals.items plan.limits.items plan.demands.items) };
 }
 
 impl Plan {
@@ -44,21 +46,68 @@ impl Plan {
         ensures { result ≡ no_records }
     {
         Plan {
+            alloc,
             cells: Vec::new(alloc),
+            signals: Vec::new(alloc),
+            limits: Vec::new(alloc),
             demands: Vec::new(alloc),
         }
     }
 
     /// Adds a cell whose capacity is this many parts a step.
     pub fn put_cell(&mut self, capacity: u64) -> Result<(), NoMemory>
-        requires few_cells { length self.old.cells < MAX_CELLS }
+        requires few_cells { length self.old.cells < MOST_CELLS }
         ensures added { OnOk result (self.new ≡ with_cell self.old capacity) }
         ensures unchanged { OnErr result (self.new ≡ self.old) }
     {
-        self.cells.push(CellPlan {
+        self.cells.push(CellPlan::new(self.alloc, capacity))?;
+        Ok(())
+    }
+
+    /// Adds the limit record by which the cell has this capacity, in parts, in each step of
+    /// `[from, to)`. Of the limits that speak of a step the last one holds.
+    pub fn put_limit(&mut self, cell: u32, from: u64, to: u64, capacity: u64) -> Result<(), NoMemory>
+        requires has_cell { cell < length self.old.cells }
+        requires some_step { from < to }
+        ensures added { OnOk result (self.new ≡ with_limit self.old
+            (record { cell = cell; from = from; to = to; capacity = capacity })) }
+        ensures unchanged { OnErr result (self.new ≡ self.old) }
+    {
+        let limit = Limit {
+            cell,
+            from,
+            to,
             capacity,
-            newest: 0,
-        })?;
+        };
+        self.limits.reserve(1)?;
+        let own = &mut self.cells[cell as usize];
+        own.put_limit(limit)?;
+        self.limits.push(limit)?;
+        Ok(())
+    }
+
+    /// Adds the signal of the cell: green in step `t` where `(t + offset) mod cycle` is in `[from, to)`.
+    pub fn put_signal(&mut self, cell: u32, cycle: u64, offset: u64, from: u64, to: u64) -> Result<(), NoMemory>
+        requires has_cell { cell < length self.old.cells }
+        requires no_signal { is_signalled self.old cell ≡ false }
+        requires offset { offset < cycle }
+        requires cycle { cycle ≤ MOST_STEPS }
+        requires some_green { from < to }
+        requires within { to ≤ cycle }
+        ensures added { OnOk result (self.new ≡ with_signal self.old
+            (record { cell = cell; cycle = cycle; offset = offset; from = from; to = to })) }
+        ensures unchanged { OnErr result (self.new ≡ self.old) }
+    {
+        let signal = Signal {
+            cell,
+            cycle: cycle as u32,
+            offset: offset as u32,
+            from: from as u32,
+            to: to as u32,
+        };
+        self.signals.push(signal)?;
+        let own = &mut self.cells[cell as usize];
+        own.set_signal(signal);
         Ok(())
     }
 
@@ -66,100 +115,86 @@ impl Plan {
     pub fn put_demand(&mut self, cell: u32, from: u64, to: u64, amount: u64) -> Result<(), NoMemory>
         requires has_cell { cell < length self.old.cells }
         requires some_step { from < to }
-        requires amount { amount ≤ MAX_AMOUNT }
-        requires few_demands { length self.old.demands < MAX_DEMANDS }
+        requires amount { amount ≤ MOST_PARTS }
+        requires few_demands { length self.old.demands < MOST_RECORDS }
         ensures added { OnOk result (self.new ≡ with_demand self.old
             (record { cell = cell; from = from; to = to; amount = amount })) }
         ensures unchanged { OnErr result (self.new ≡ self.old) }
     {
-        let older = self.cells[cell as usize].newest;
-        self.demands.push(ChainedDemand {
+        let demand = Demand {
             cell,
             from,
             to,
             amount,
-            older,
-        })?;
-        self.cells[cell as usize].newest = self.demands.len() as u32;
+        };
+        self.demands.reserve(1)?;
+        let own = &mut self.cells[cell as usize];
+        own.put_demand(demand)?;
+        self.demands.push(demand)?;
         Ok(())
     }
 
-    /// The capacity of a cell at a step, in parts: `Q` of Daganzo (1994).
+    /// The capacity of a cell at a step, in parts: `Q` of Daganzo (1994). The time it takes grows with
+    /// the limits of this cell alone.
     pub fn capacity(&self, cell: u32, t: u64) -> u64
         requires has_cell { cell < length self.now.cells }
-        requires in_time { t < MAX_STEPS }
+        requires in_time { t < MOST_STEPS }
         ensures { result ≡ capacity_at self.now cell t }
     {
-        self.cells[cell as usize].capacity
+        self.cells[cell as usize].capacity_at(t)
+    }
+
+    /// Whether a cell may send in a step: it has no signal, or its signal shows green.
+    pub fn green(&self, cell: u32, t: u64) -> bool
+        requires has_cell { cell < length self.now.cells }
+        requires in_time { t < MOST_STEPS }
+        ensures { result ≡ green_at self.now cell t }
+    {
+        self.cells[cell as usize].is_green_at(t)
     }
 
     /// What enters a gate in a step, in parts. The time it takes grows with the records of this cell
     /// alone.
     pub fn demand(&self, cell: u32, t: u64) -> u64
         requires has_cell { cell < length self.now.cells }
-        requires in_time { t < MAX_STEPS }
+        requires in_time { t < MOST_STEPS }
         ensures demand { result ≡ demand_at self.now cell t }
-        ensures bound { result ≤ MAX_DEMANDS * MAX_AMOUNT }
+        ensures bound { result ≤ MOST_RECORDS * MOST_PARTS }
     {
-        let mut amount = 0;
-        let mut number = self.cells[cell as usize].newest;
-        while number > 0 {
-            let record = &self.demands[number as usize - 1];
-            amount += record.at(t);
-            number = record.older;
-        }
-        amount
+        self.cells[cell as usize].demand_at(t)
     }
 
-    /// The numbers of signals, limits and demand records, of which the plan has demands alone so far.
-    pub fn counts(&self) -> (u32, u32, u32)
-        ensures { result ≡ (0, 0, length self.now.demands) }
+    /// Whether a cell has a signal.
+    pub fn has_signal(&self, cell: u32) -> bool
+        requires has_cell { cell < length self.now.cells }
+        ensures { result ≡ is_signalled self.now cell }
     {
-        (0, 0, self.demands.len() as u32)
+        self.cells[cell as usize].has_signal()
+    }
+
+    /// The numbers of signals, limits and demand records.
+    pub fn counts(&self) -> (u32, u32, u32)
+        requires few_limits { length self.now.limits < 2 ^ 32 }
+        ensures { result ≡ (length self.now.signals, length self.now.limits, length self.now.demands) }
+    {
+        (
+            self.signals.len() as u32,
+            self.limits.len() as u32,
+            self.demands.len() as u32,
+        )
     }
 
     /// The sum of all demand of the steps below `steps`, in parts.
     pub fn total(&self, steps: u64) -> u128
-        requires few_steps { steps ≤ MAX_STEPS }
-        ensures total { result ≡ total_of self.now steps }
-        ensures bound { result ≤ MAX_DEMANDS * (MAX_AMOUNT * steps) }
-        ensures sound { IsSound self.now }
+        requires few_steps { steps ≤ MOST_STEPS }
+        ensures total { result ≡ total_demand self.now steps }
+        ensures bound { result ≤ MOST_RECORDS * (MOST_PARTS * steps) }
+        ensures sound { IsSoundPlan self.now }
     {
         let mut total = 0;
         for demand in &self.demands {
             total += u128::from(demand.below(steps));
         }
         total
-    }
-}
-
-#[cfg(test)]
-mod tests {
-    use super::*;
-    use std::test::Fail;
-
-    #[test]
-    fn records_of_a_gate_add_up(rt: HostRuntime) -> Result<(), Fail> {
-        let mut plan = Plan::open(rt.alloc());
-        plan.put_cell(2_000_000)?;
-        plan.put_cell(500_000)?;
-        plan.put_demand(0, 0, 3, 400_000)?;
-        plan.put_demand(1, 1, 2, 70_000)?;
-        plan.put_demand(0, 2, 100, 1_000)?;
-        assert_eq!(rt; plan.capacity(0, 7), 2_000_000);
-        assert_eq!(rt; plan.capacity(1, 0), 500_000);
-        for (t, first, second) in [
-            (0, 400_000, 0),
-            (1, 400_000, 70_000),
-            (2, 401_000, 0),
-            (3, 1_000, 0),
-        ] {
-            assert_eq!(rt; plan.demand(0, t), first, "at {t}");
-            assert_eq!(rt; plan.demand(1, t), second, "at {t}");
-        }
-        assert_eq!(rt; plan.total(0), 0);
-        assert_eq!(rt; plan.total(2), 870_000);
-        assert_eq!(rt; plan.total(4), 1_272_000);
-        Ok(())
     }
 }

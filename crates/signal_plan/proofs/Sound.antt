@@ -1,0 +1,93 @@
+-- A plan stays sound with one more cell or record.
+use Rattle.std.specs.Prelude.{map, is_some, ◌==◌, eqb}
+use Rattle.std.specs.List.{IsDistinct, find, list_any}
+use Rattle.std.proofs.Common.{◌≡◌, ℕ, true, false, ◌+◌, ◌<◌, ◌≤◌, List, [], ◌∷◌, ◌++◌, length, arith, refl, sym, ◌∙◌, ap}
+use Rattle.std.proofs.lemmas.List.{length_push, map_push, length-map}
+use Rattle.std.proofs.lemmas.List.Elements.{All-push, All-weaker, All-nil}
+use Rattle.std.proofs.lemmas.Map.Keys.{IsDistinct-push, IsDistinct-nil}
+use Rattle.std.proofs.lemmas.Map.Steps.{length-le_from_distinct_below}
+use Rattle.signal_plan.specs.declared.bounds.TheConstants.{MOST_CELLS, MOST_RECORDS}
+use Rattle.signal_plan.specs.Records.{DemandRecord, LimitRecord, PlanRecords, SignalRecord, no_records, with_cell, with_demand, with_limit, with_signal}
+use Rattle.signal_plan.specs.Sound.{IsSoundDemand, IsSoundLimit, IsSoundPlan, IsSoundSignal}
+use Rattle.signal_plan.specs.Green.{is_signalled, signal_of}
+
+pub IsSoundPlan-no_records : IsSoundPlan no_records
+unfolding IsDistinct
+IsSoundPlan-no_records = record {
+  few_cells = omega arith;
+  signals = All-nil (IsSoundSignal 0);
+  one_signal = tt;
+  limits = All-nil (IsSoundLimit 0);
+  few_demands = omega arith;
+  demands = All-nil (IsSoundDemand 0);
+}
+
+pub IsSoundPlan-with_cell : (plan : PlanRecords) (capacity : ℕ) → length plan.cells < MOST_CELLS → IsSoundPlan plan →
+    IsSoundPlan (with_cell plan capacity)
+IsSoundPlan-with_cell plan capacity few sound =
+    let old : ℕ = length plan.cells in
+    let new : ℕ = length (plan.cells ++ capacity ∷ []) in
+    let more : new ≡ old + 1 = length_push plan.cells capacity in
+    record {
+      few_cells = omega arith;
+      signals = All-weaker (IsSoundSignal old) (IsSoundSignal new)
+          (λ s fits. record {
+            cell = omega (arith, fits.cell);
+            cycle = fits.cycle;
+            offset = fits.offset;
+            steps = fits.steps;
+            within = fits.within;
+          })
+          plan.signals sound.signals;
+      one_signal = sound.one_signal;
+      limits = All-weaker (IsSoundLimit old) (IsSoundLimit new)
+          (λ l fits. record { cell = omega (arith, fits.cell); steps = fits.steps }) plan.limits sound.limits;
+      few_demands = sound.few_demands;
+      demands = All-weaker (IsSoundDemand old) (IsSoundDemand new)
+          (λ d fits. record { cell = omega (arith, fits.cell); steps = fits.steps; amount = fits.amount })
+          plan.demands sound.demands;
+    }
+
+pub IsSoundPlan-with_limit : (plan : PlanRecords) (limit : LimitRecord) →
+    IsSoundLimit (length plan.cells) limit → IsSoundPlan plan → IsSoundPlan (with_limit plan limit)
+IsSoundPlan-with_limit plan limit fits sound = record {
+  few_cells = sound.few_cells;
+  signals = sound.signals;
+  one_signal = sound.one_signal;
+  limits = All-push (IsSoundLimit (length plan.cells)) plan.limits limit sound.limits fits;
+  few_demands = sound.few_demands;
+  demands = sound.demands;
+}
+
+pub IsSoundPlan-with_demand : (plan : PlanRecords) (demand : DemandRecord) → length plan.demands < MOST_RECORDS →
+    IsSoundDemand (length plan.cells) demand → IsSoundPlan plan → IsSoundPlan (with_demand plan demand)
+IsSoundPlan-with_demand plan demand few fits sound = record {
+  few_cells = sound.few_cells;
+  signals = sound.signals;
+  one_signal = sound.one_signal;
+  limits = sound.limits;
+  few_demands = omega (arith, length_push plan.demands demand);
+  demands = All-push (IsSoundDemand (length plan.cells)) plan.demands demand sound.demands fits;
+}
+
+-- the cell stands among the cells of the signals exactly where it has a signal
+list_any_is_some : (cell : ℕ) (signals : List SignalRecord) →
+    list_any (eqb cell) (map (λ s. s.cell) signals) ≡ is_some (find (λ s. s.cell == cell) signals)
+list_any_is_some cell [] = refl
+list_any_is_some cell (s ∷ signals) = ?
+
+pub IsSoundPlan-with_signal : (plan : PlanRecords) (signal : SignalRecord) → is_signalled plan signal.cell ≡ false →
+    IsSoundSignal (length plan.cells) signal → IsSoundPlan plan → IsSoundPlan (with_signal plan signal)
+unfolding signal_of
+IsSoundPlan-with_signal plan signal none fits sound = record {
+  few_cells = sound.few_cells;
+  signals = All-push (IsSoundSignal (length plan.cells)) plan.signals signal sound.signals fits;
+  one_signal = ?;
+  limits = sound.limits;
+  few_demands = sound.few_demands;
+  demands = sound.demands;
+}
+
+-- a cell has at most one signal
+pub signals-le-cells : (plan : PlanRecords) → IsSoundPlan plan → length plan.signals ≤ length plan.cells
+signals-le-cells plan sound = ?

@@ -1,0 +1,39 @@
+-- What a plan says of one cell.
+use Rattle.std.specs.Prelude.{ℕ, Bool, true, if◌then◌else◌, ◌==◌, List, Option, reverse, slice_index, sum_by}
+use Rattle.std.specs.List.{filter, find}
+use Rattle.std.specs.Option.{option_map_or}
+use Rattle.signal_plan.specs.Records.{DemandRecord, LimitRecord, PlanRecords, SignalRecord, in_range}
+use Rattle.signal_plan.specs.Green.{shows_green, signal_of}
+
+-- the capacity Q of a cell, its signal, and its limit and demand records in the order that they were put
+pub record CellRecords : Type 0 where
+  pub capacity : ℕ
+  pub signal : Option SignalRecord
+  pub limits : List LimitRecord
+  pub demands : List DemandRecord
+
+-- what the plan says of the cell
+abbrev pub records_at : PlanRecords → (cell : ℕ) → CellRecords
+records_at plan cell = record {
+  capacity = slice_index plan.cells cell;
+  signal = signal_of plan cell;
+  limits = filter (λ limit. limit.cell == cell) plan.limits;
+  demands = filter (λ demand. demand.cell == cell) plan.demands;
+}
+
+-- the capacity by the last limit record whose range contains `t`, and else Q
+abbrev pub own_capacity : CellRecords → (t : ℕ) → ℕ
+own_capacity own t =
+    option_map_or (λ limit. limit.capacity) (find (λ limit. in_range limit.from limit.to t) (reverse own.limits)) own.capacity
+
+-- the signal shows green; without one it is always green
+abbrev pub own_green : CellRecords → (t : ℕ) → Bool
+own_green own t = option_map_or (shows_green t) own.signal true
+
+-- what the record brings to its cell at step `t`
+abbrev pub brings : DemandRecord → (t : ℕ) → ℕ
+brings demand t = if in_range demand.from demand.to t then demand.amount else 0
+
+-- what all demand records bring
+abbrev pub own_demand : CellRecords → (t : ℕ) → ℕ
+own_demand own t = sum_by (λ demand. brings demand t) own.demands

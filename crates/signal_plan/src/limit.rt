@@ -1,0 +1,33 @@
+ghost use Rattle.std.specs.Prelude.{◌≡◌};
+ghost use Rattle.signal_plan.specs.Records.{in_range};
+
+use crate::range::is_in_range;
+use std::marker::Model;
+
+/// A limit record: the capacity of its cell in each step of `[from, to)`.
+#[derive(Clone, Copy, Debug)]
+pub(crate) struct Limit {
+    pub(crate) cell: u32,
+    pub(crate) from: u64,
+    pub(crate) to: u64,
+    pub(crate) capacity: u64,
+}
+
+impl Model for Limit {
+    ghost use Rattle.signal_plan.specs.Records.{LimitRecord};
+
+    ghost Value = { LimitRecord };
+
+    ghost view = { λ l. record { cell = l.cell; from = l.from; to = l.to; capacity = l.capacity } };
+
+    ghost inverse = { λ l. record { cell = l.cell; from = l.from; to = l.to; capacity = l.capacity } };
+}
+
+impl Limit {
+    /// Whether the record speaks of step `t`.
+    pub(crate) fn holds_at(&self, t: u64) -> bool
+        ensures { result ≡ in_range self.now.from self.now.to t }
+    {
+        is_in_range(self.from, self.to, t)
+    }
+}

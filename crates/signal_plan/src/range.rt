@@ -1,0 +1,9 @@
+ghost use Rattle.std.specs.Prelude.{◌≡◌};
+ghost use Rattle.signal_plan.specs.Records.{in_range};
+
+/// Whether `t` is in `[from, to)`.
+pub(crate) fn is_in_range(from: u64, to: u64, t: u64) -> bool
+    ensures { result ≡ in_range from to t }
+{
+    from <= t && t < to
+}

@@ -1,0 +1,40 @@
+ghost use Rattle.std.specs.Prelude.{◌≡◌, ◌<◌};
+ghost use Rattle.signal_plan.specs.Green.{shows_green};
+
+use crate::bounds::MOST_STEPS;
+use crate::range::is_in_range;
+use std::marker::Model;
+
+/// A signal: its cell sends only where `(t + offset) mod cycle` is in `[from, to)`.
+#[derive(Clone, Copy, Debug)]
+pub(crate) struct Signal {
+    pub(crate) cell: u32,
+    pub(crate) cycle: u32,
+    pub(crate) offset: u32,
+    pub(crate) from: u32,
+    pub(crate) to: u32,
+}
+
+impl Model for Signal {
+    ghost use Rattle.std.specs.Prelude.{◌<◌};
+    ghost use Rattle.signal_plan.specs.Records.{SignalRecord};
+
+    ghost Value = { SignalRecord };
+
+    ghost view = { λ s. record { cell = s.cell; cycle = s.cycle; offset = s.offset; from = s.from; to = s.to } };
+
+    ghost invariant = { λ s. s.offset < s.cycle };
+
+    ghost inverse = { λ s. record { cell = s.cell; cycle = s.cycle; offset = s.offset; from = s.from; to = s.to } };
+}
+
+impl Signal {
+    /// Whether the signal shows green at step `t`.
+    pub(crate) fn is_green_at(&self, t: u64) -> bool
+        requires in_time { t < MOST_STEPS }
+        ensures { result ≡ shows_green t self.now }
+    {
+        let place = (t + u64::from(self.offset)) % u64::from(self.cycle);
+        is_in_range(self.from.into(), self.to.into(), place)
+    }
+}
