@@ -1,4 +1,5 @@
 pub mod Sums
+pub mod Filters
 pub mod Overlap
 pub mod Sound
 pub mod Totals
