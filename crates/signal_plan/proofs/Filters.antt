@@ -52,7 +52,7 @@ find-none p (x ∷ xs) none =
 
 -- one more element at the end
 pub filter_push_yes : {X : Type 0} (p : X → Bool) (xs : List X) (x : X) → p x ≡ true → filter p (xs ++ x ∷ []) ≡ filter p xs ++ x ∷ []
-filter_push_yes p xs x yes = rw (filter-append p xs (x ∷ []), yes) refl
+filter_push_yes p xs x passes = rw (filter-append p xs (x ∷ []), passes) refl
 
 pub filter_push_no : {X : Type 0} (p : X → Bool) (xs : List X) (x : X) → p x ≡ false → filter p (xs ++ x ∷ []) ≡ filter p xs
-filter_push_no p xs x no = rw (filter-append p xs (x ∷ []), no) (append-nil (filter p xs))
+filter_push_no p xs x fails = rw (filter-append p xs (x ∷ []), fails) (append-nil (filter p xs))

@@ -8,7 +8,7 @@ use Rattle.std.proofs.lemmas.Map.Keys.{IsDistinct-push}
 use Rattle.std.proofs.lemmas.Map.Steps.{length-le_from_distinct_below}
 use Rattle.std.proofs.lemmas.Map.Views.{Contains-from_any}
 use Rattle.std.proofs.lemmas.Bool.{eqb-true}
-use Rattle.std.proofs.lemmas.Map.{nat_eq_equiv}
+use Rattle.std.specs.Cmp.{nat_eq_equiv}
 use Rattle.signal_plan.specs.declared.bounds.TheConstants.{MOST_CELLS, MOST_RECORDS}
 use Rattle.signal_plan.specs.Records.{DemandRecord, LimitRecord, PlanRecords, SignalRecord, no_records, with_cell, with_demand, with_limit, with_signal}
 use Rattle.signal_plan.specs.Sound.{IsSoundDemand, IsSoundLimit, IsSoundPlan, IsSoundSignal}
@@ -79,7 +79,7 @@ list_any_is_some : (cell : ℕ) (signals : List SignalRecord) →
 list_any_is_some cell [] = refl
 list_any_is_some cell (s ∷ signals) =
     let rest = list_any_is_some cell signals in
-    rw nat_eq_equiv.symm cell s.cell (
+    rw (nat_eq_equiv.symm cell s.cell) (
     elim (s.cell == cell) as (λ b. (b || list_any (eqb cell) (map (λ s. s.cell) signals)) ≡
         is_some (if b then Some s else find (λ s. s.cell == cell) signals)) [ true ↦ refl | false ↦ rest ]
     )
