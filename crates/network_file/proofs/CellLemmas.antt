@@ -1,5 +1,5 @@
 -- Where names stand in a list of cells that grows.
-use Rattle.std.proofs.Common.{ℕ, ◌≡◌, ◌<◌, ◌≤◌, ◌+◌, Bool, true, false, List, [], ◌∷◌, ◌++◌, Option, Some, None, cond, sym, ◌∙◌, refl, subst, length, arith, length-append, eqb, map}
+use Rattle.std.proofs.Common.{ℕ, suc, ◌≡◌, ◌<◌, ◌≤◌, ◌+◌, Bool, true, false, List, [], ◌∷◌, ◌++◌, Option, Some, None, cond, sym, ◌∙◌, refl, subst, length, arith, length-append, eqb, map}
 use Rattle.std.specs.Prelude.{IfSome, bytes_eq, position, nat_lt, not}
 use borrow.Author.Tests.{ltb-true}
 use Rattle.std.specs.Cmp.Lexicographic.{bytes_decides, nat_list_eq_equiv}
@@ -56,15 +56,18 @@ pub cell_named-there : (cells : List Cell) (name : List ℕ) → IfSome (cell_na
 unfolding cell_named
 cell_named-there cells name = place-there (position_or_len (λ c. bytes_eq c.name name) cells) (length cells)
 
-place-before : (q n : ℕ) → place (1 + q) (1 + n) ≡ None → place q n ≡ None
+place-before : (q n : ℕ) → place (1 + q) (suc n) ≡ None → place q n ≡ None
 place-before q n none = grind (arith, nat_tests)
+
+place-first : (n : ℕ) → place 0 (suc n) ≡ Some 0
+place-first n = grind (arith, nat_tests)
 
 -- where no element is found the first one isn't it, and none of the others is found
 position-none : {X : Type 0} (p : X → Bool) (x : X) (xs : List X) → position p (x ∷ xs) ≡ None → (p x ≡ false) × (position p xs ≡ None)
 position-none p x xs none = by (p x) refl
   where
     by : (b : Bool) → p x ≡ b → (p x ≡ false) × (position p xs ≡ None)
-    by true e = cc (rw e at none)
+    by true e = cc (place-first (length xs), rw e at none)
     by false e = (e, place-before (position_or_len p xs) (length xs) (rw e at none))
 
 -- a name that no cell has is none of their names

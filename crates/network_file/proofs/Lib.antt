@@ -1,4 +1,5 @@
 pub mod CellLemmas
+pub mod ConnectorLemmas
 pub mod NumberLemmas
 pub mod RecordLemmas
 pub mod SoundLemmas
