@@ -66,7 +66,13 @@ impl Plan {
 
     /// Adds the limit record by which the cell has this capacity, in parts, in each step of
     /// `[from, to)`. Of the limits that speak of a step the last one holds.
-    pub fn put_limit(&mut self, cell: u32, from: u64, to: u64, capacity: u64) -> Result<(), NoMemory>
+    pub fn put_limit(
+        &mut self,
+        cell: u32,
+        from: u64,
+        to: u64,
+        capacity: u64,
+    ) -> Result<(), NoMemory>
         requires has_cell { cell < length self.old.cells }
         requires some_step { from < to }
         ensures added { OnOk result (self.new ≡ with_limit self.old
@@ -87,7 +93,14 @@ impl Plan {
     }
 
     /// Adds the signal of the cell: green in step `t` where `(t + offset) mod cycle` is in `[from, to)`.
-    pub fn put_signal(&mut self, cell: u32, cycle: u64, offset: u64, from: u64, to: u64) -> Result<(), NoMemory>
+    pub fn put_signal(
+        &mut self,
+        cell: u32,
+        cycle: u64,
+        offset: u64,
+        from: u64,
+        to: u64,
+    ) -> Result<(), NoMemory>
         requires has_cell { cell < length self.old.cells }
         requires no_signal { is_signalled self.old cell ≡ false }
         requires offset { offset < cycle }
