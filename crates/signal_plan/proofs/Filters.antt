@@ -1,7 +1,7 @@
 -- A filter of a reversed or grown list, and the sum over what a filter leaves.
-use Rattle.std.specs.Prelude.{Bool, ◌&&◌, if◌then◌else◌, Option, None, Some, reverse, sum_by, All}
-use Rattle.std.specs.List.{filter, find}
-use Rattle.std.proofs.Common.{◌≡◌, ℕ, true, false, ◌+◌, zero-add, List, [], ◌∷◌, ◌++◌, append-nil, arith, refl, sym, ◌∙◌, ap}
+use Rattle.std.specs.Prelude.{Bool, if◌then◌else◌, reverse, sum_by, All}
+use Rattle.std.specs.List.{filter}
+use Rattle.std.proofs.Common.{◌≡◌, ℕ, true, false, ◌+◌, zero-add, List, [], ◌∷◌, ◌++◌, append-nil, refl, sym, ◌∙◌, ap}
 use Rattle.std.proofs.lemmas.List.{reverse-append}
 use Rattle.std.proofs.lemmas.List.Elements.{All-head, All-tail, filter-append}
 use Rattle.std.proofs.lemmas.List.Sums.{sum_by-cons}

@@ -1,14 +1,13 @@
 -- What callers may know of a plan's capacities, demands and totals.
-use Rattle.std.specs.Prelude.{All, min, reverse, if◌then◌else◌}
+use Rattle.std.specs.Prelude.{All, reverse, if◌then◌else◌}
 use Rattle.std.specs.List.{range_with_len}
-use Rattle.std.proofs.Common.{◌≡◌, ℕ, suc, true, false, zero-add, ◌+◌, ◌-◌, ◌*◌, ◌<◌, ◌≤◌, [], ◌∷◌, ◌++◌, length, get_or, arith, refl, sym, ◌∙◌, ap}
+use Rattle.std.proofs.Common.{◌≡◌, ℕ, suc, true, false, zero-add, ◌+◌, ◌-◌, ◌*◌, ◌<◌, ◌≤◌, length, get_or, arith, refl, ◌∙◌}
 use Rattle.std.proofs.Math.Nat.{mul-le-mul, mul-le-mul_right}
-use Rattle.std.proofs.lemmas.List.{get_or_append_left, get_or_push, length_push}
-use Rattle.std.proofs.lemmas.List.Elements.{All-push, All-weaker, All-nil}
+use Rattle.std.proofs.lemmas.List.Elements.{All-weaker}
 use Rattle.std.proofs.lemmas.List.FromFn.{length-range_with_len, get_or-range_with_len}
-use Rattle.std.proofs.lemmas.List.Sums.{sum_by-cons, sum_by_push, sum_by-le, get_or-le-sum_by}
-use Rattle.signal_plan.specs.declared.bounds.TheConstants.{MOST_CELLS, MOST_RECORDS, MOST_PARTS}
-use Rattle.signal_plan.specs.Records.{DemandRecord, PlanRecords, no_records, with_cell, with_demand}
+use Rattle.std.proofs.lemmas.List.Sums.{sum_by-cons, sum_by-le, get_or-le-sum_by}
+use Rattle.signal_plan.specs.declared.bounds.TheConstants.{MOST_RECORDS, MOST_PARTS}
+use Rattle.signal_plan.specs.Records.{DemandRecord, PlanRecords}
 use Rattle.signal_plan.specs.Sound.{IsSoundDemand, IsSoundPlan}
 use Rattle.signal_plan.specs.Capacity.{capacity_at, limits_at}
 use Rattle.signal_plan.specs.Demand.{applies_at, amount_at, demand_at}

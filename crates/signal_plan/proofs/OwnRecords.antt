@@ -1,6 +1,6 @@
 -- What a plan says of one cell, as its records grow, and as they answer.
-use Rattle.std.specs.Prelude.{◌&&◌, ◌==◌, if◌then◌else◌, Option, None, Some, is_some, reverse, sum_by, All}
-use Rattle.std.specs.List.{filter, find}
+use Rattle.std.specs.Prelude.{◌&&◌, ◌==◌, if◌then◌else◌, Option, None, Some, is_some, reverse}
+use Rattle.std.specs.List.{find}
 use Rattle.std.specs.Option.{option_map_or, option_or}
 use Rattle.std.proofs.Common.{◌≡◌, ◌≢◌, ℕ, true, false, ◌<◌, List, [], ◌∷◌, ◌++◌, length, get_or, arith, refl, sym, ◌∙◌, ap}
 use Rattle.std.proofs.lemmas.Bool.{eq-eqb, ne_eqb}
@@ -10,7 +10,7 @@ use Rattle.std.proofs.lemmas.List.Folds.{find-append}
 use Rattle.signal_plan.specs.Records.{DemandRecord, LimitRecord, PlanRecords, SignalRecord, in_range, with_cell, with_demand, with_limit, with_signal}
 use Rattle.signal_plan.specs.Sound.{IsSoundDemand, IsSoundLimit, IsSoundPlan, IsSoundSignal}
 use Rattle.signal_plan.specs.Capacity.{capacity_at}
-use Rattle.signal_plan.specs.Green.{green_at, is_signalled, shows_green, signal_of}
+use Rattle.signal_plan.specs.Green.{green_at, is_signalled, signal_of}
 use Rattle.signal_plan.specs.Demand.{amount_at, demand_at}
 use Rattle.signal_plan.specs.CellRecords.{CellRecords, brings, own_capacity, own_demand, own_green, records_at}
 use Rattle.signal_plan.specs.Layout.{IsLaidOut}

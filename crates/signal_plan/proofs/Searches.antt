@@ -1,5 +1,5 @@
 -- Which element of a list a search finds.
-use Rattle.std.specs.Prelude.{Bool, ◌&&◌, if◌then◌else◌, Option, None, Some, reverse, All}
+use Rattle.std.specs.Prelude.{Bool, ◌&&◌, if◌then◌else◌, None, Some, reverse, All}
 use Rattle.std.specs.List.{filter, find}
 use Rattle.std.specs.Option.{option_map_or}
 use Rattle.std.proofs.Common.{◌≡◌, ℕ, true, false, ◌<◌, ◌-◌, List, [], ◌∷◌, length, arith, refl, ap}

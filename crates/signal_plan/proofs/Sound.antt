@@ -1,7 +1,7 @@
 -- A plan stays sound with one more cell or record.
 use Rattle.std.specs.Prelude.{map, is_some, if◌then◌else◌, ◌||◌, ◌==◌, eqb, Some}
 use Rattle.std.specs.List.{IsDistinct, find, list_any}
-use Rattle.std.proofs.Common.{◌≡◌, ℕ, true, false, ◌+◌, ◌<◌, ◌≤◌, List, [], ◌∷◌, ◌++◌, length, arith, refl, sym, ◌∙◌, ap}
+use Rattle.std.proofs.Common.{◌≡◌, ℕ, true, false, ◌+◌, ◌<◌, ◌≤◌, List, [], ◌∷◌, ◌++◌, length, arith, refl, ◌∙◌}
 use Rattle.std.proofs.lemmas.List.{length_push, map_push, length-map}
 use Rattle.std.proofs.lemmas.List.Elements.{All-contains, All-map, All-nil, All-push, All-weaker}
 use Rattle.std.proofs.lemmas.Map.Keys.{IsDistinct-push}

@@ -21,6 +21,7 @@ fn signal_shows_red_and_green(rt: HostRuntime) -> Result<(), Fail> {
     let mut plan = Plan::open(rt.alloc());
     plan.put_cell(1)?;
     plan.put_cell(1)?;
+    assert!(rt; !plan.has_signal(0));
     plan.put_signal(0, 4, 3, 0, 2)?;
     assert!(rt; plan.has_signal(0));
     assert!(rt; !plan.has_signal(1));
