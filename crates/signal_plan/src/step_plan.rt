@@ -85,6 +85,7 @@ impl Plan {
             to,
             capacity,
         };
+        // Room first: after it the last push cannot fail.
         self.limits.reserve(1)?;
         let own = &mut self.cells[cell as usize];
         own.put_limit(limit)?;
@@ -140,6 +141,7 @@ impl Plan {
             to,
             amount,
         };
+        // Room first: after it the last push cannot fail.
         self.demands.reserve(1)?;
         let own = &mut self.cells[cell as usize];
         own.put_demand(demand)?;
