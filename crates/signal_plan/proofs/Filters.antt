@@ -1,7 +1,7 @@
--- What a filter of a list leaves of a search and of a sum.
-use Rattle.std.specs.Prelude.{Bool, ◌&&◌, if◌then◌else◌, Option, None, Some, reverse, sum_by, All}
-use Rattle.std.specs.List.{filter, find}
-use Rattle.std.proofs.Common.{◌≡◌, ℕ, true, false, ◌+◌, zero-add, List, [], ◌∷◌, ◌++◌, append-nil, arith, refl, sym, ◌∙◌, ap}
+-- A filter of a reversed or grown list, and the sum over what a filter leaves.
+use Rattle.std.specs.Prelude.{Bool, if◌then◌else◌, reverse, sum_by, All}
+use Rattle.std.specs.List.{filter}
+use Rattle.std.proofs.Common.{◌≡◌, ℕ, true, false, ◌+◌, zero-add, List, [], ◌∷◌, ◌++◌, append-nil, refl, sym, ◌∙◌, ap}
 use Rattle.std.proofs.lemmas.List.{reverse-append}
 use Rattle.std.proofs.lemmas.List.Elements.{All-head, All-tail, filter-append}
 use Rattle.std.proofs.lemmas.List.Sums.{sum_by-cons}
@@ -18,14 +18,6 @@ filter-reverse p (x ∷ xs) =
     ap (λ last. reverse (filter p xs) ++ last) (sym (filter_one p x)) ∙
     sym (reverse-append (filter p (x ∷ [])) (filter p xs)) ∙
     ap reverse (sym (filter-append p (x ∷ []) xs))
-
-pub find-filter : {X : Type 0} (p q : X → Bool) (xs : List X) → find p (filter q xs) ≡ find (λ x. q x && p x) xs
-find-filter p q [] = refl
-find-filter p q (x ∷ xs) =
-    elim (q x) as (λ b. find p (if b then x ∷ filter q xs else filter q xs) ≡ (if b && p x then Some x else find (λ x. q x && p x) xs)) [
-      | true ↦ ap (λ rest. if p x then Some x else rest) (find-filter p q xs)
-      | false ↦ find-filter p q xs
-    ]
 
 pub sum_by-filter : {X : Type 0} (f : X → ℕ) (p : X → Bool) (xs : List X) →
     sum_by f (filter p xs) ≡ sum_by (λ x. if p x then f x else 0) xs
@@ -44,11 +36,6 @@ pub filter-none : {X : Type 0} (p : X → Bool) (xs : List X) → All (λ x. p x
 filter-none p [] none = refl
 filter-none p (x ∷ xs) none =
     rw (All-head (λ y. p y ≡ false) x xs none) (filter-none p xs (All-tail (λ y. p y ≡ false) x xs none))
-
-pub find-none : {X : Type 0} (p : X → Bool) (xs : List X) → All (λ x. p x ≡ false) xs → find p xs ≡ None
-find-none p [] none = refl
-find-none p (x ∷ xs) none =
-    rw (All-head (λ y. p y ≡ false) x xs none) (find-none p xs (All-tail (λ y. p y ≡ false) x xs none))
 
 -- one more element at the end
 pub filter_push_yes : {X : Type 0} (p : X → Bool) (xs : List X) (x : X) → p x ≡ true → filter p (xs ++ x ∷ []) ≡ filter p xs ++ x ∷ []

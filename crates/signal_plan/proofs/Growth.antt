@@ -1,15 +1,15 @@
 -- A plan stays laid out with one more cell or record.
 use Rattle.std.specs.Prelude.{map, slice_set, None, Some}
-use Rattle.std.proofs.Common.{◌≡◌, ◌≢◌, ℕ, false, ◌+◌, ◌<◌, List, [], ◌∷◌, ◌++◌, length, get_or, inl, inr, arith, refl, sym, ◌∙◌, ap}
+use Rattle.std.proofs.Common.{◌≡◌, ◌≢◌, ℕ, false, ◌<◌, List, [], ◌∷◌, ◌++◌, length, get_or, inl, inr, arith, sym, ◌∙◌, ap}
 use Rattle.std.proofs.lemmas.Bool.{cases_eq, cases_lt}
-use Rattle.std.proofs.lemmas.List.{get_or_append_left, get_or_push, get_or-set_same, get_or-set_other, length-map, length-set, length_push, map_push}
+use Rattle.std.proofs.lemmas.List.{get_or_append_left, get_or_push, get_or-set_same, get_or-set_other, length-set, length_push}
 use Rattle.std.proofs.Math.Seq.{map-set_same}
 use Rattle.signal_plan.specs.declared.bounds.TheConstants.{MOST_CELLS, MOST_RECORDS}
 use Rattle.signal_plan.specs.Records.{DemandRecord, LimitRecord, PlanRecords, SignalRecord, with_cell, with_demand, with_limit, with_signal}
 use Rattle.signal_plan.specs.Sound.{IsSoundDemand, IsSoundLimit, IsSoundPlan, IsSoundSignal}
 use Rattle.signal_plan.specs.Green.{is_signalled}
 use Rattle.signal_plan.specs.CellRecords.{CellRecords, records_at}
-use Rattle.signal_plan.specs.Layout.{records_of, IsLaidOut}
+use Rattle.signal_plan.specs.Layout.{IsLaidOut}
 use Rattle.signal_plan.proofs.OwnRecords.{records_at-with_cell_new, records_at-with_cell_old, records_at-with_demand_other, records_at-with_demand_own, records_at-with_limit_other, records_at-with_limit_own, records_at-with_signal_other, records_at-with_signal_own}
 use Rattle.signal_plan.proofs.Sound.{IsSoundPlan-with_cell, IsSoundPlan-with_demand, IsSoundPlan-with_limit, IsSoundPlan-with_signal}
 

@@ -1,5 +1,6 @@
 pub mod Sums
 pub mod Filters
+pub mod Searches
 pub mod Overlap
 pub mod Sound
 pub mod OwnRecords

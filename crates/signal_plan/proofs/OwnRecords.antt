@@ -1,6 +1,6 @@
 -- What a plan says of one cell, as its records grow, and as they answer.
-use Rattle.std.specs.Prelude.{◌&&◌, ◌==◌, if◌then◌else◌, Option, None, Some, is_some, reverse, sum_by, All}
-use Rattle.std.specs.List.{filter, find}
+use Rattle.std.specs.Prelude.{◌&&◌, ◌==◌, if◌then◌else◌, Option, None, Some, is_some, reverse}
+use Rattle.std.specs.List.{find}
 use Rattle.std.specs.Option.{option_map_or, option_or}
 use Rattle.std.proofs.Common.{◌≡◌, ◌≢◌, ℕ, true, false, ◌<◌, List, [], ◌∷◌, ◌++◌, length, get_or, arith, refl, sym, ◌∙◌, ap}
 use Rattle.std.proofs.lemmas.Bool.{eq-eqb, ne_eqb}
@@ -10,12 +10,13 @@ use Rattle.std.proofs.lemmas.List.Folds.{find-append}
 use Rattle.signal_plan.specs.Records.{DemandRecord, LimitRecord, PlanRecords, SignalRecord, in_range, with_cell, with_demand, with_limit, with_signal}
 use Rattle.signal_plan.specs.Sound.{IsSoundDemand, IsSoundLimit, IsSoundPlan, IsSoundSignal}
 use Rattle.signal_plan.specs.Capacity.{capacity_at}
-use Rattle.signal_plan.specs.Green.{green_at, is_signalled, shows_green, signal_of}
+use Rattle.signal_plan.specs.Green.{green_at, is_signalled, signal_of}
 use Rattle.signal_plan.specs.Demand.{amount_at, demand_at}
 use Rattle.signal_plan.specs.CellRecords.{CellRecords, brings, own_capacity, own_demand, own_green, records_at}
 use Rattle.signal_plan.specs.Layout.{IsLaidOut}
 use Rattle.signal_plan.proofs.Sums.{sum_by_agree}
-use Rattle.signal_plan.proofs.Filters.{filter-none, filter-reverse, filter_push_no, filter_push_yes, find-filter, find-none, sum_by-filter}
+use Rattle.signal_plan.proofs.Filters.{filter-none, filter-reverse, filter_push_no, filter_push_yes, sum_by-filter}
+use Rattle.signal_plan.proofs.Searches.{find-filter, find-none}
 
 -- the answers of a cell's own records are the plan's
 pub own_capacity_is : (plan : PlanRecords) (cell t : ℕ) → own_capacity (records_at plan cell) t ≡ capacity_at plan cell t
@@ -23,9 +24,9 @@ unfolding capacity_at
 own_capacity_is plan cell t =
     let q : ℕ = get_or plan.cells cell 0 in
     ap (λ limits. option_map_or (λ limit. limit.capacity) (find (λ limit. in_range limit.from limit.to t) limits) q)
-        (sym (filter-reverse (λ limit. limit.cell == cell) plan.limits)) ∙
+    (sym (filter-reverse (λ limit. limit.cell == cell) plan.limits)) ∙
     ap (λ found. option_map_or (λ limit. limit.capacity) found q)
-        (find-filter (λ limit. in_range limit.from limit.to t) (λ limit. limit.cell == cell) (reverse plan.limits))
+    (find-filter (λ limit. in_range limit.from limit.to t) (λ limit. limit.cell == cell) (reverse plan.limits))
 
 pub own_green_is : (plan : PlanRecords) (cell t : ℕ) → own_green (records_at plan cell) t ≡ green_at plan cell t
 unfolding green_at
@@ -36,7 +37,7 @@ unfolding demand_at
 own_demand_is plan cell t =
     sum_by-filter (λ demand. brings demand t) (λ demand. demand.cell == cell) plan.demands ∙
     sum_by_agree (λ demand. if demand.cell == cell then brings demand t else 0) (λ demand. amount_at demand cell t) plan.demands
-        (λ d. elim (d.cell == cell) as (λ b. (if b then brings d t else 0) ≡ (if b && in_range d.from d.to t then d.amount else 0)) [ true ↦ refl | false ↦ refl ])
+    (λ d. elim (d.cell == cell) as (λ b. (if b then brings d t else 0) ≡ (if b && in_range d.from d.to t then d.amount else 0)) [ true ↦ refl | false ↦ refl ])
 
 -- what is read of a cell that is stored
 pub own_capacity_read : (cells : List CellRecords) (plan : PlanRecords) (cell t : ℕ) (c : CellRecords) → IsLaidOut cells plan →
@@ -69,14 +70,14 @@ unfolding signal_of
 records_at-with_cell_new plan capacity sound =
     let cells : ℕ = length plan.cells in
     let no_signal = find-none (λ s. s.cell == cells) plan.signals (
-        All-weaker (IsSoundSignal cells) (λ s. (s.cell == cells) ≡ false)
-        (λ s fits. ne_eqb s.cell cells (λ same. let below = fits.cell in absurd (omega arith))) plan.signals sound.signals) in
+    All-weaker (IsSoundSignal cells) (λ s. (s.cell == cells) ≡ false)
+    (λ s fits. ne_eqb s.cell cells (λ same. let below = fits.cell in absurd (omega arith))) plan.signals sound.signals) in
     let no_limit = filter-none (λ l. l.cell == cells) plan.limits (
-        All-weaker (IsSoundLimit cells) (λ l. (l.cell == cells) ≡ false)
-        (λ l fits. ne_eqb l.cell cells (λ same. let below = fits.cell in absurd (omega arith))) plan.limits sound.limits) in
+    All-weaker (IsSoundLimit cells) (λ l. (l.cell == cells) ≡ false)
+    (λ l fits. ne_eqb l.cell cells (λ same. let below = fits.cell in absurd (omega arith))) plan.limits sound.limits) in
     let no_demand = filter-none (λ d. d.cell == cells) plan.demands (
-        All-weaker (IsSoundDemand cells) (λ d. (d.cell == cells) ≡ false)
-        (λ d fits. ne_eqb d.cell cells (λ same. let below = fits.cell in absurd (omega arith))) plan.demands sound.demands) in
+    All-weaker (IsSoundDemand cells) (λ d. (d.cell == cells) ≡ false)
+    (λ d fits. ne_eqb d.cell cells (λ same. let below = fits.cell in absurd (omega arith))) plan.demands sound.demands) in
     rw (no_signal, no_limit, no_demand, get_or_push plan.cells capacity 0 (length plan.cells) refl) refl
 
 -- a record changes what the plan says of its own cell alone
@@ -125,9 +126,9 @@ records_at-with_signal_own plan signal none =
     let found : find (λ s. s.cell == signal.cell) (signal ∷ []) ≡ Some signal =
     ap (λ own. if own then Some signal else None) (eq-eqb signal.cell signal.cell refl) in
     ap (λ o. record (records_at plan signal.cell) { signal = o }) (
-        find-append (λ s. s.cell == signal.cell) plan.signals (signal ∷ []) ∙
-        none_before (signal_of plan signal.cell) _ none ∙
-        found)
+    find-append (λ s. s.cell == signal.cell) plan.signals (signal ∷ []) ∙
+    none_before (signal_of plan signal.cell) _ none ∙
+    found)
 
 pub records_at-with_signal_other : (plan : PlanRecords) (signal : SignalRecord) (cell : ℕ) → signal.cell ≢ cell →
     records_at (with_signal plan signal) cell ≡ records_at plan cell
@@ -136,6 +137,6 @@ records_at-with_signal_other plan signal cell other =
     let found : find (λ s. s.cell == cell) (signal ∷ []) ≡ None =
     ap (λ own. if own then Some signal else None) (ne_eqb signal.cell cell other) in
     ap (λ o. record (records_at plan cell) { signal = o }) (
-        find-append (λ s. s.cell == cell) plan.signals (signal ∷ []) ∙
-        ap (λ last. option_or (signal_of plan cell) last) found ∙
-        none_after (signal_of plan cell))
+    find-append (λ s. s.cell == cell) plan.signals (signal ∷ []) ∙
+    ap (λ last. option_or (signal_of plan cell) last) found ∙
+    none_after (signal_of plan cell))

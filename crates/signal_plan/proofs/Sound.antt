@@ -1,7 +1,7 @@
 -- A plan stays sound with one more cell or record.
 use Rattle.std.specs.Prelude.{map, is_some, if◌then◌else◌, ◌||◌, ◌==◌, eqb, Some}
 use Rattle.std.specs.List.{IsDistinct, find, list_any}
-use Rattle.std.proofs.Common.{◌≡◌, ℕ, true, false, ◌+◌, ◌<◌, ◌≤◌, List, [], ◌∷◌, ◌++◌, length, arith, refl, sym, ◌∙◌, ap}
+use Rattle.std.proofs.Common.{◌≡◌, ℕ, true, false, ◌+◌, ◌<◌, ◌≤◌, List, [], ◌∷◌, ◌++◌, length, arith, refl, ◌∙◌}
 use Rattle.std.proofs.lemmas.List.{length_push, map_push, length-map}
 use Rattle.std.proofs.lemmas.List.Elements.{All-contains, All-map, All-nil, All-push, All-weaker}
 use Rattle.std.proofs.lemmas.Map.Keys.{IsDistinct-push}
@@ -81,7 +81,7 @@ list_any_is_some cell (s ∷ signals) =
     let rest = list_any_is_some cell signals in
     rw (nat_eq_equiv.symm cell s.cell) (
     elim (s.cell == cell) as (λ b. (b || list_any (eqb cell) (map (λ s. s.cell) signals)) ≡
-        is_some (if b then Some s else find (λ s. s.cell == cell) signals)) [ true ↦ refl | false ↦ rest ]
+    is_some (if b then Some s else find (λ s. s.cell == cell) signals)) [ true ↦ refl | false ↦ rest ]
     )
 
 pub IsSoundPlan-with_signal : (plan : PlanRecords) (signal : SignalRecord) → is_signalled plan signal.cell ≡ false →
@@ -103,7 +103,7 @@ IsSoundPlan-with_signal plan signal none fits sound =
 pub signals-le-cells : (plan : PlanRecords) → IsSoundPlan plan → length plan.signals ≤ length plan.cells
 signals-le-cells plan sound =
     let below = All-map (λ cell. cell < length plan.cells) (λ (s : SignalRecord). s.cell) plan.signals (
-        All-weaker (IsSoundSignal (length plan.cells)) (λ s. s.cell < length plan.cells) (λ s fits. fits.cell) plan.signals sound.signals) in
+    All-weaker (IsSoundSignal (length plan.cells)) (λ s. s.cell < length plan.cells) (λ s fits. fits.cell) plan.signals sound.signals) in
     let each : (q : ℕ) → list_any (eqb q) (map (λ s. s.cell) plan.signals) ≡ true → q < length plan.cells =
     λ q any. All-contains (λ cell. cell < length plan.cells) (map (λ s. s.cell) plan.signals) q below (Contains-from_any eqb-true q (map (λ s. s.cell) plan.signals) any) in
     omega (arith, length-le_from_distinct_below (map (λ s. s.cell) plan.signals) (length plan.cells) sound.one_signal each, length-map plan.signals (λ s. s.cell))

@@ -23,7 +23,11 @@ impl Model for CellPlan {
     ghost Value = { CellRecords };
 
     ghost view = { λ c. record {
-        capacity = c.capacity; signal = c.signal; limits = c.limits.items; demands = c.demands.items } };
+      capacity = c.capacity;
+      signal = c.signal;
+      limits = c.limits.items;
+      demands = c.demands.items;
+    } };
 }
 
 impl CellPlan {
@@ -77,7 +81,11 @@ impl CellPlan {
     fn limit_at(&self, t: u64) -> Option<Limit>
         ensures { result ≡ own_limit self.now t }
     {
-        self.limits.iter().rev().find(|limit| limit.holds_at(t)).copied()
+        self.limits
+            .iter()
+            .rev()
+            .find(|limit| limit.holds_at(t))
+            .copied()
     }
 
     /// The capacity at step `t`, by the newest limit that speaks of it.

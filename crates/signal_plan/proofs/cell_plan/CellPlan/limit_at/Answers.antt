@@ -1,4 +1,4 @@
-use Rattle.std.proofs.Common.{rules, tests, reverse, sym, ◌∙◌, ap}
+use Rattle.std.proofs.Common.{rules, tests, ◌∙◌}
 use Rattle.std.proofs.lemmas.Iterator.Adapters.{YieldsList-from_rev_slice}
 use Rattle.std.proofs.lemmas.Iterator.Search.{find_from_yields_List}
 use Rattle.signal_plan.specs.Records.{in_range}

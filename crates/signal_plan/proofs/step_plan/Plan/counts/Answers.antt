@@ -1,5 +1,4 @@
 use Rattle.std.proofs.Common.{arith}
-use Rattle.std.proofs.lemmas.List.{length-map}
 use Rattle.signal_plan.proofs.Sound.{signals-le-cells}
 use Rattle.signal_plan.proofs.step_plan.Plan.counts.Goals as goal
 
