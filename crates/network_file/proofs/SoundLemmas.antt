@@ -1,10 +1,9 @@
 -- What every network keeps is kept by one more cell, connector or record of the plan.
-use Rattle.std.proofs.Common.{ℕ, zero, suc, ◌≡◌, ◌≢◌, ◌<◌, ◌≤◌, ◌+◌, Bool, true, false, List, [], ◌∷◌, ◌++◌, Option, Some, None, cond, ◌∙◌, refl, length, arith, length-append, eqb, map}
+use Rattle.std.proofs.Common.{ℕ, zero, suc, ◌≡◌, ◌<◌, ◌≤◌, ◌+◌, Bool, true, false, List, [], ◌∷◌, ◌++◌, Option, Some, None, cond, ◌∙◌, refl, length, arith, length-append, eqb, map}
 use Rattle.std.specs.Prelude.{All, count_by, slice_get, ◌||◌}
 use Rattle.std.specs.List.{list_any}
 use Rattle.std.specs.Cmp.Lexicographic.{nat_list_eq_equiv}
 use Rattle.std.proofs.lemmas.Bool.{eqb-true}
-use Rattle.std.proofs.lemmas.Bool.Decides.{nat_tests}
 use Rattle.std.proofs.lemmas.List.{map-append}
 use Rattle.std.proofs.lemmas.List.Elements.{All-head, All-push, All-tail}
 use Rattle.std.proofs.lemmas.List.Sums.{sum_by_push, sum_by-cons}
@@ -61,7 +60,7 @@ count_by-push p xs x few first = rw (sum_by_push (λ y. cond (p y) 1 0) xs x) (b
     by false e = omega (arith, few)
 
 -- what holds of each number of a list holds of one that is found in it
-All-found : (P : ℕ → Type 0) (i : ℕ) (xs : List ℕ) → All P xs → list_any (eqb i) xs ≡ true → P i
+pub All-found : (P : ℕ → Type 0) (i : ℕ) (xs : List ℕ) → All P xs → list_any (eqb i) xs ≡ true → P i
 All-found P i [] all found = cc found
 All-found P i (x ∷ xs) all found = by (eqb i x) refl (All-found P i xs (All-tail P x xs all))
   where
