@@ -1,9 +1,9 @@
 -- Where names stand in a list of cells that grows.
-use Rattle.std.proofs.Common.{ℕ, ◌≡◌, ◌<◌, ◌≤◌, ◌+◌, Bool, true, false, List, [], ◌∷◌, ◌++◌, Option, Some, None, cond, sym, ◌∙◌, refl, subst, length, arith, length-append, eqb}
+use Rattle.std.proofs.Common.{ℕ, suc, ◌≡◌, ◌<◌, ◌≤◌, ◌+◌, Bool, true, false, List, [], ◌∷◌, ◌++◌, Option, Some, None, cond, sym, ◌∙◌, refl, subst, length, arith, length-append, eqb, map}
 use Rattle.std.specs.Prelude.{IfSome, bytes_eq, position, nat_lt, not}
 use borrow.Author.Tests.{ltb-true}
-use Rattle.std.specs.Cmp.Lexicographic.{bytes_decides}
-use Rattle.std.specs.List.{position_or_len}
+use Rattle.std.specs.Cmp.Lexicographic.{bytes_decides, nat_list_eq_equiv}
+use Rattle.std.specs.List.{list_any, position_or_len}
 use Rattle.std.proofs.lemmas.List.Folds.{position_or_len_push}
 use Rattle.std.proofs.lemmas.List.Sums.{prefix_len-le-length}
 use Rattle.std.proofs.lemmas.Bool.Decides.{nat_tests}
@@ -55,3 +55,25 @@ place-there q n = by (nat_lt q n) refl
 pub cell_named-there : (cells : List Cell) (name : List ℕ) → IfSome (cell_named cells name) (λ i. i < length cells)
 unfolding cell_named
 cell_named-there cells name = place-there (position_or_len (λ c. bytes_eq c.name name) cells) (length cells)
+
+place-before : (q n : ℕ) → place (1 + q) (suc n) ≡ None → place q n ≡ None
+place-before q n none = grind (arith, nat_tests)
+
+place-first : (n : ℕ) → place 0 (suc n) ≡ Some 0
+place-first n = grind (arith, nat_tests)
+
+-- where no element is found the first one isn't it, and none of the others is found
+position-none : {X : Type 0} (p : X → Bool) (x : X) (xs : List X) → position p (x ∷ xs) ≡ None → (p x ≡ false) × (position p xs ≡ None)
+position-none p x xs none = by (p x) refl
+  where
+    by : (b : Bool) → p x ≡ b → (p x ≡ false) × (position p xs ≡ None)
+    by true e = cc (place-first (length xs), rw e at none)
+    by false e = (e, place-before (position_or_len p xs) (length xs) (rw e at none))
+
+-- a name that no cell has is none of their names
+pub no_name : (cells : List Cell) (name : List ℕ) → cell_named cells name ≡ None → list_any (bytes_eq name) (map (λ c. c.name) cells) ≡ false
+unfolding cell_named
+no_name [] name none = refl
+no_name (cell ∷ cells) name none =
+    let (other, more) = position-none (λ c. bytes_eq c.name name) cell cells none in
+    rw (nat_list_eq_equiv.symm name cell.name ∙ other) (no_name cells name more)

@@ -2,7 +2,9 @@
 use Rattle.std.proofs.Common.{ℕ, zero, suc, ◌≡◌, ◌<◌, ◌≤◌, ◌+◌, Bool, true, false, List, [], ◌∷◌, ◌++◌, Option, Some, None, ◌∙◌, ap, refl, length, arith, add-one, inl, cond}
 use Rattle.std.proofs.lemmas.Bool.Decides.{nat_tests}
 use Rattle.csv.specs.Machine.{Read, ends_at_end, is_end, next_record, step, fields_after, field_after}
-use Rattle.csv.specs.Reading.{is_bom, strip_bom, Reached, ReadRecord, records_from, records_next, took_first}
+use Rattle.csv.specs.Reading.{is_bom, strip_bom, stops_reader, ExplainsRead, Reached, ReadRecord, is_flexible, records_from, records_next, took_first}
+use Rattle.csv.specs.declared.error.ErrorKind.{ErrorKind}
+use Rattle.csv.specs.declared.error.ErrorKind.TheVariants as kind
 use Rattle.csv.specs.declared.reader.Reader.{Reader}
 use Rattle.csv.proofs.ReadFacts.{rows-end, rows-more}
 use Rattle.csv.specs.declared.parser.State.{State}
@@ -96,10 +98,10 @@ read-is p r s ys a b c = rw (a, ← b, ← c) refl
 
 -- a read that found a record, by the records that are left
 pub records_left-next : {R : Type 0} (rem : R → Option (List ℕ)) (a b : Reader R) (r : List (List ℕ))
-    → IsReading rem a → ReadRecord rem a b true r → took_first b ≡ true
+    → IsReading rem a → ReadRecord rem a b true r → took_first b ≡ true → is_flexible b ≡ is_flexible a
     → (records_left rem a ≡ r ∷ records_left rem b) × IsReading rem b
 unfolding Reached records_left
-records_left-next rem a b r reading read first =
+records_left-next rem a b r reading read first kept =
     let (y, known) = reading.known in
     let (z, after, (p, is, row, (state, rest))) = rows-more rem a b r config a.state y y [] reading.format known (refl, refl) read in
     let found : next_record config a.state [] [] y ≡ Some (r, b.state, z) = is ∙ read-is p r b.state z row state rest in
@@ -107,6 +109,7 @@ records_left-next rem a b r reading read first =
       rw (known, after) left,
       record {
         plain = read.3 ∙ reading.plain;
+        flexible = kept ∙ reading.flexible;
         ready = inl first;
         format = read.2 ∙ reading.format;
         known = (z, after);
@@ -121,6 +124,16 @@ unfolding records_left
 records_left-end rem a b r reading read =
     let (y, known) = reading.known in
     rw known (records_from-end a.state y (rows-end rem a b r config y reading.format known read))
+
+-- a reader of records of any length fails for the reader underneath or for want of memory
+pub stops_reader-flexible : {R : Type 0} (rem : R → Option (List ℕ)) (a b : Reader R) (k : ErrorKind) → is_flexible a ≡ true → ExplainsRead rem a b false k
+    → stops_reader k ≡ true
+stops_reader-flexible rem a b (kind.Io e) flexible why = refl
+stops_reader-flexible rem a b kind.OutOfMemory flexible why = refl
+stops_reader-flexible rem a b (kind.UnequalLengths pos expected len) flexible why = cc (why.0, flexible)
+stops_reader-flexible rem a b (kind.Utf8 pos err) flexible why = cc why.0
+stops_reader-flexible rem a b (kind.Serialize text) flexible why = absurd why
+stops_reader-flexible rem a b (kind.Deserialize pos err) flexible why = absurd why
 
 length-records_from : (n : ℕ) (s : State) (xs : List ℕ) → length (records_from config n s xs) ≤ n
 unfolding records_from

@@ -1,19 +1,23 @@
--- What every network keeps is kept by one more cell, connector or demand.
-use Rattle.std.proofs.Common.{ℕ, zero, suc, ◌≡◌, ◌<◌, ◌≤◌, ◌+◌, Bool, true, false, List, [], ◌∷◌, ◌++◌, Option, Some, None, cond, ◌∙◌, refl, length, arith, length-append}
-use Rattle.std.specs.Prelude.{count_by, slice_get, ◌||◌}
+-- What every network keeps is kept by one more cell, connector or record of the plan.
+use Rattle.std.proofs.Common.{ℕ, zero, suc, ◌≡◌, ◌<◌, ◌≤◌, ◌+◌, Bool, true, false, List, [], ◌∷◌, ◌++◌, Option, Some, None, cond, ◌∙◌, refl, length, arith, length-append, eqb, map}
+use Rattle.std.specs.Prelude.{All, count_by, slice_get, ◌||◌}
 use Rattle.std.specs.List.{list_any}
-use Rattle.std.proofs.lemmas.List.Elements.{All-push}
+use Rattle.std.specs.Cmp.Lexicographic.{nat_list_eq_equiv}
+use Rattle.std.proofs.lemmas.Bool.{eqb-true}
+use Rattle.std.proofs.lemmas.List.{map-append}
+use Rattle.std.proofs.lemmas.List.Elements.{All-head, All-push, All-tail}
 use Rattle.std.proofs.lemmas.List.Sums.{sum_by_push, sum_by-cons}
+use Rattle.std.proofs.lemmas.Map.Keys.{IsDistinct-push}
 use Rattle.std.proofs.lemmas.Option.{slice_get_within}
-use Rattle.std.proofs.lemmas.Bool.Decides.{nat_tests}
-use Rattle.signal_plan.specs.Records.{PlanRecords, DemandRecord, with_cell, with_demand}
-use Rattle.network_file.specs.Cells.{is_exit_at, is_gate_at}
-use Rattle.network_file.specs.Joins.{leads_into, leads_out_of}
-use Rattle.network_file.specs.Network.{IsSound, IsSoundCell, IsSoundConnector}
+use Rattle.signal_plan.specs.Records.{DemandRecord, LimitRecord, PlanRecords, SignalRecord, with_cell, with_demand, with_limit, with_signal}
+use Rattle.signal_plan.specs.declared.bounds.TheConstants.{MOST_RECORDS, MOST_STEPS}
+use Rattle.network_file.proofs.CellLemmas.{no_name}
+use Rattle.network_file.specs.Cells.{cell_named, is_exit_at, is_gate_at}
+use Rattle.network_file.specs.Connectors.{downstream_of, leads_into, leads_out_of, upstream_of}
+use Rattle.network_file.specs.Network.{HasSoundParts, IsPlanOf, IsSoundCell, IsSoundConnector}
 use Rattle.network_file.specs.declared.cell.Cell.{Cell}
 use Rattle.network_file.specs.declared.connector.Connector.{Connector}
-use Rattle.network_file.specs.declared.connector.Connector.TheVariants.{Link}
-use Rattle.network_file.specs.declared.limits.TheConstants.{MOST_RECORDS, MOST_FLOW}
+use Rattle.network_file.specs.declared.limits.TheConstants.{MOST_CAPACITY}
 
 -- an earlier element stays where it was
 slice_get-push : {X : Type 0} (xs : List X) (x : X) (i : ℕ) → i < length xs → slice_get (xs ++ x ∷ []) i ≡ slice_get xs i
@@ -55,70 +59,133 @@ count_by-push p xs x few first = rw (sum_by_push (λ y. cond (p y) 1 0) xs x) (b
     by true e = rw (count_by-none p xs (first e)) (omega arith)
     by false e = omega (arith, few)
 
+-- what holds of each number of a list holds of one that is found in it
+pub All-found : (P : ℕ → Type 0) (i : ℕ) (xs : List ℕ) → All P xs → list_any (eqb i) xs ≡ true → P i
+All-found P i [] all found = cc found
+All-found P i (x ∷ xs) all found = by (eqb i x) refl (All-found P i xs (All-tail P x xs all))
+  where
+    by : (b : Bool) → eqb i x ≡ b → (list_any (eqb i) xs ≡ true → P i) → P i
+    by true e more = rw (eqb-true i x e) (All-head P x xs all)
+    by false e more = more (rw e at found)
+
 -- a connector of a draft is one of the draft with one more cell
 still_sound : (cells : List Cell) (cell : Cell) (connector : Connector) → IsSoundConnector cells connector → IsSoundConnector (cells ++ cell ∷ []) connector
 still_sound cells cell connector sound = record {
-  up = λ i leads.
-      let (there, sends) = sound.up i leads in
-      (simp length-append (omega (arith, there)), rw (same_exit cells cell i there) sends);
-  down = λ i leads.
-      let (there, receives) = sound.down i leads in
-      (simp length-append (omega (arith, there)), rw (same_gate cells cell i there) receives);
+  up = λ k d h.
+      let (there, sends) = sound.up k d h in
+      (simp length-append (omega (arith, there)), rw (same_exit cells cell _ there) sends);
+  down = λ k d h.
+      let (there, receives) = sound.down k d h in
+      (simp length-append (omega (arith, there)), rw (same_gate cells cell _ there) receives);
+  up_apart = sound.up_apart;
+  down_apart = sound.down_apart;
+  weights = sound.weights;
 }
 
-pub IsSound-add_cell : (cells : List Cell) (connectors : List Connector) (plan : PlanRecords) (cell : Cell) (capacity : ℕ)
-    → IsSound cells connectors plan → length cells < MOST_RECORDS → IsSoundCell cell → capacity ≤ MOST_FLOW
-    → IsSound (cells ++ cell ∷ []) connectors (with_cell plan capacity)
-IsSound-add_cell cells connectors plan cell capacity sound room fits low = record {
+-- a plan of the cells is one of one cell more
+plan-add_cell : (cells : List Cell) (plan : PlanRecords) (cell : Cell) (capacity : ℕ) → IsPlanOf cells plan → capacity ≤ MOST_CAPACITY
+    → IsPlanOf (cells ++ cell ∷ []) (with_cell plan capacity)
+plan-add_cell cells plan cell capacity planned low = record {
+  one_each = simp length-append (omega (arith, planned.one_each));
+  capacities = All-push (λ q. q ≤ MOST_CAPACITY) plan.cells capacity planned.capacities low;
+  signals = λ k d h.
+      let (there, sends) = planned.signals k d h in
+      (simp length-append (omega (arith, there)), rw (same_exit cells cell _ there) sends);
+  few_limits = planned.few_limits;
+  limits = planned.limits;
+  few_demands = planned.few_demands;
+  demands = λ k d h.
+      let (gate, in_time) = planned.demands k d h in
+      (rw (same_gate cells cell _ (gate-within cells _ gate)) gate, in_time);
+}
+
+pub HasSoundParts-add_cell : (cells : List Cell) (connectors : List Connector) (plan : PlanRecords) (cell : Cell) (capacity : ℕ)
+    → HasSoundParts cells connectors plan → length cells < MOST_RECORDS → cell_named cells cell.name ≡ None → IsSoundCell cell → capacity ≤ MOST_CAPACITY
+    → HasSoundParts (cells ++ cell ∷ []) connectors (with_cell plan capacity)
+HasSoundParts-add_cell cells connectors plan cell capacity sound room fresh fits low = record {
   few_cells = simp length-append (omega (arith, room));
   few_connectors = sound.few_connectors;
   sound_cells = All-push IsSoundCell cells cell sound.sound_cells fits;
+  names = simp map-append (IsDistinct-push nat_list_eq_equiv (map (λ c. c.name) cells) cell.name sound.names (no_name cells cell.name fresh));
   sound_connectors = λ k d h. still_sound cells cell _ (sound.sound_connectors k d h);
   one_out = sound.one_out;
   one_in = sound.one_in;
-  planned = simp length-append (omega (arith, sound.planned));
-  capacities = All-push (λ q. q ≤ MOST_FLOW) plan.cells capacity sound.capacities low;
-  few_demands = sound.few_demands;
-  at_gates = λ k d h.
-      let gate = sound.at_gates k d h in
-      rw (same_gate cells cell _ (gate-within cells _ gate)) gate;
+  planned = plan-add_cell cells plan cell capacity sound.planned low;
 }
 
-pub IsSound-add_link : (cells : List Cell) (connectors : List Connector) (plan : PlanRecords) (up down : ℕ)
-    → IsSound cells connectors plan → length connectors < MOST_RECORDS
-    → up < length cells → is_exit_at cells up ≡ false → list_any (leads_out_of up) connectors ≡ false
-    → down < length cells → is_gate_at cells down ≡ false → list_any (leads_into down) connectors ≡ false
-    → IsSound cells (connectors ++ Link up down ∷ []) plan
-IsSound-add_link cells connectors plan up down sound room up_there sends up_free down_there receives down_free = record {
+pub HasSoundParts-add_connector : (cells : List Cell) (connectors : List Connector) (plan : PlanRecords) (connector : Connector)
+    → HasSoundParts cells connectors plan → length connectors < MOST_RECORDS → IsSoundConnector cells connector
+    → All (λ up. list_any (leads_out_of up) connectors ≡ false) (upstream_of connector)
+    → All (λ down. list_any (leads_into down) connectors ≡ false) (downstream_of connector)
+    → HasSoundParts cells (connectors ++ connector ∷ []) plan
+HasSoundParts-add_connector cells connectors plan connector sound room fits up_free down_free = record {
   few_cells = sound.few_cells;
   few_connectors = simp length-append (omega (arith, room));
   sound_cells = sound.sound_cells;
-  sound_connectors = All-push (IsSoundConnector cells) connectors (Link up down) sound.sound_connectors (record {
-    up = λ i leads. let same : i ≡ up = grind (arith, nat_tests) in rw same (up_there, sends);
-    down = λ i leads. let same : i ≡ down = grind (arith, nat_tests) in rw same (down_there, receives);
-  });
-  one_out = λ i. count_by-push (leads_out_of i) connectors (Link up down) (sound.one_out i)
-      (λ leads. let same : i ≡ up = grind (arith, nat_tests) in rw same up_free);
-  one_in = λ i. count_by-push (leads_into i) connectors (Link up down) (sound.one_in i)
-      (λ leads. let same : i ≡ down = grind (arith, nat_tests) in rw same down_free);
+  names = sound.names;
+  sound_connectors = All-push (IsSoundConnector cells) connectors connector sound.sound_connectors fits;
+  one_out = λ i. count_by-push (leads_out_of i) connectors connector (sound.one_out i)
+      (All-found (λ up. list_any (leads_out_of up) connectors ≡ false) i (upstream_of connector) up_free);
+  one_in = λ i. count_by-push (leads_into i) connectors connector (sound.one_in i)
+      (All-found (λ down. list_any (leads_into down) connectors ≡ false) i (downstream_of connector) down_free);
   planned = sound.planned;
-  capacities = sound.capacities;
-  few_demands = sound.few_demands;
-  at_gates = sound.at_gates;
 }
 
-pub IsSound-add_demand : (cells : List Cell) (connectors : List Connector) (plan : PlanRecords) (demand : DemandRecord)
-    → IsSound cells connectors plan → length plan.demands < MOST_RECORDS → is_gate_at cells demand.cell ≡ true
-    → IsSound cells connectors (with_demand plan demand)
-IsSound-add_demand cells connectors plan demand sound room gate = record {
+-- what every network keeps, with other records of the plan
+with_plan : (cells : List Cell) (connectors : List Connector) (old new : PlanRecords) → HasSoundParts cells connectors old → IsPlanOf cells new
+    → HasSoundParts cells connectors new
+with_plan cells connectors old new sound planned = record {
   few_cells = sound.few_cells;
   few_connectors = sound.few_connectors;
   sound_cells = sound.sound_cells;
+  names = sound.names;
   sound_connectors = sound.sound_connectors;
   one_out = sound.one_out;
   one_in = sound.one_in;
-  planned = sound.planned;
-  capacities = sound.capacities;
-  few_demands = simp length-append (omega (arith, room));
-  at_gates = All-push (λ d. is_gate_at cells d.cell ≡ true) plan.demands demand sound.at_gates gate;
+  planned = planned;
 }
+
+pub HasSoundParts-add_signal : (cells : List Cell) (connectors : List Connector) (plan : PlanRecords) (signal : SignalRecord)
+    → HasSoundParts cells connectors plan → signal.cell < length cells → is_exit_at cells signal.cell ≡ false
+    → HasSoundParts cells connectors (with_signal plan signal)
+HasSoundParts-add_signal cells connectors plan signal sound there sends =
+    let planned = sound.planned in
+    with_plan cells connectors plan (with_signal plan signal) sound (record {
+      one_each = planned.one_each;
+      capacities = planned.capacities;
+      signals = All-push (λ s. (s.cell < length cells) × (is_exit_at cells s.cell ≡ false)) plan.signals signal planned.signals (there, sends);
+      few_limits = planned.few_limits;
+      limits = planned.limits;
+      few_demands = planned.few_demands;
+      demands = planned.demands;
+    })
+
+pub HasSoundParts-add_limit : (cells : List Cell) (connectors : List Connector) (plan : PlanRecords) (limit : LimitRecord)
+    → HasSoundParts cells connectors plan → length plan.limits < MOST_RECORDS → limit.to ≤ MOST_STEPS → limit.capacity ≤ MOST_CAPACITY
+    → HasSoundParts cells connectors (with_limit plan limit)
+HasSoundParts-add_limit cells connectors plan limit sound room in_time low =
+    let planned = sound.planned in
+    with_plan cells connectors plan (with_limit plan limit) sound (record {
+      one_each = planned.one_each;
+      capacities = planned.capacities;
+      signals = planned.signals;
+      few_limits = simp length-append (omega (arith, room));
+      limits = All-push (λ l. (l.to ≤ MOST_STEPS) × (l.capacity ≤ MOST_CAPACITY)) plan.limits limit planned.limits (in_time, low);
+      few_demands = planned.few_demands;
+      demands = planned.demands;
+    })
+
+pub HasSoundParts-add_demand : (cells : List Cell) (connectors : List Connector) (plan : PlanRecords) (demand : DemandRecord)
+    → HasSoundParts cells connectors plan → length plan.demands < MOST_RECORDS → is_gate_at cells demand.cell ≡ true → demand.to ≤ MOST_STEPS
+    → HasSoundParts cells connectors (with_demand plan demand)
+HasSoundParts-add_demand cells connectors plan demand sound room gate in_time =
+    let planned = sound.planned in
+    with_plan cells connectors plan (with_demand plan demand) sound (record {
+      one_each = planned.one_each;
+      capacities = planned.capacities;
+      signals = planned.signals;
+      few_limits = planned.few_limits;
+      limits = planned.limits;
+      few_demands = simp length-append (omega (arith, room));
+      demands = All-push (λ d. (is_gate_at cells d.cell ≡ true) × (d.to ≤ MOST_STEPS)) plan.demands demand planned.demands (gate, in_time);
+    })

@@ -47,7 +47,7 @@ pub record IsPlanOf (cells : List Cell) (plan : PlanRecords) : Type 0 where
   -- a capacity for each cell
   pub one_each : length plan.cells ≡ length cells
   pub capacities : All (λ capacity. capacity ≤ MOST_CAPACITY) plan.cells
-  pub signals : All (λ signal. is_exit_at cells signal.cell ≡ false) plan.signals
+  pub signals : All (λ signal. (signal.cell < length cells) × (is_exit_at cells signal.cell ≡ false)) plan.signals
   pub few_limits : length plan.limits ≤ MOST_RECORDS
   pub limits : All (λ limit. (limit.to ≤ MOST_STEPS) × (limit.capacity ≤ MOST_CAPACITY)) plan.limits
   pub few_demands : length plan.demands ≤ MOST_RECORDS

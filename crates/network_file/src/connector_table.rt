@@ -1,6 +1,7 @@
-ghost use Rattle.std.specs.Prelude.{◌≡◌, ◌<◌, ◌++◌, ◌∷◌, [], IfOk, length};
+ghost use Rattle.std.specs.Prelude.{◌≡◌, ◌||◌, ℕ, ◌++◌, ◌∷◌, [], IfOk, length};
 ghost use Rattle.std.specs.List.{list_any};
 ghost use Rattle.network_file.specs.Connectors.{leads_into, leads_out_of};
+ghost use Rattle.network_file.specs.Marks.{is_marked};
 
 use crate::connector::Connector;
 use crate::marks::Marks;
@@ -70,15 +71,8 @@ impl ConnectorTable {
             left,
             entered,
         } = self;
-        let (left, entered) = match connector {
-            Connector::Link { up, down } => (left.with(up)?, entered.with(down)?),
-            Connector::Merge { up1, up2, down, .. } => {
-                (left.with(up1)?.with(up2)?, entered.with(down)?)
-            }
-            Connector::Diverge { up, down1, down2, .. } => {
-                (left.with(up)?, entered.with(down1)?.with(down2)?)
-            }
-        };
+        let left = with_upstream(left, connector)?;
+        let entered = with_downstream(entered, connector)?;
         connectors.push(connector)?;
         Ok(ConnectorTable {
             connectors,
@@ -92,5 +86,25 @@ impl ConnectorTable {
     {
         let ConnectorTable { connectors, .. } = self;
         connectors
+    }
+}
+
+/// The marks with each cell upstream of a connector.
+fn with_upstream(marks: Marks, connector: Connector) -> Result<Marks, NoMemory>
+    ensures { IfOk result (λ more. (i : ℕ) → is_marked more i ≡ (leads_out_of i connector || is_marked marks i)) }
+{
+    match connector {
+        Connector::Link { up, .. } | Connector::Diverge { up, .. } => marks.with(up),
+        Connector::Merge { up1, up2, .. } => marks.with(up1)?.with(up2),
+    }
+}
+
+/// The marks with each cell downstream of a connector.
+fn with_downstream(marks: Marks, connector: Connector) -> Result<Marks, NoMemory>
+    ensures { IfOk result (λ more. (i : ℕ) → is_marked more i ≡ (leads_into i connector || is_marked marks i)) }
+{
+    match connector {
+        Connector::Link { down, .. } | Connector::Merge { down, .. } => marks.with(down),
+        Connector::Diverge { down1, down2, .. } => marks.with(down1)?.with(down2),
     }
 }

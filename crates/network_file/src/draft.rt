@@ -9,10 +9,10 @@ ghost use Rattle.network_file.specs.Network.{IsSoundCell, IsSoundConnector};
 
 use crate::cell::Cell;
 use crate::cell_table::CellTable;
-use crate::connector_table::ConnectorTable;
-use crate::record_kind::RecordKind;
 use crate::connector::Connector;
+use crate::connector_table::ConnectorTable;
 use crate::limits::MOST_CAPACITY;
+use crate::record_kind::RecordKind;
 use fixed_flow::MOST_PARTS;
 use signal_plan::{MOST_RECORDS, MOST_STEPS, NoMemory, Plan};
 use std::alloc::Global;

@@ -1,8 +1,9 @@
 ghost use Rattle.std.specs.Prelude.{◌≡◌, ◌∷◌, [], Some, IfOk, true, false};
 ghost use Rattle.csv.specs.Records.{fields_of};
+ghost use Rattle.csv.specs.Reading.{error_kind, stops_reader};
 ghost use Rattle.network_file.specs.FileRecords.{IsReading, records_left, file_records_of};
 
-use csv::{ByteRecord, Reader, ReaderBuilder};
+use csv::{ByteRecord, Error, ErrorKind, Reader, ReaderBuilder};
 use signal_plan::NoMemory;
 use std::alloc::Global;
 
@@ -19,7 +20,7 @@ pub(crate) fn open_records(alloc: Global, bytes: &[u8]) -> Reader<&[u8]>
         .from_reader(alloc, bytes)
 }
 
-/// Reads the next record, if there is one. A reader over bytes fails for want of memory alone.
+/// Reads the next record, if there is one.
 pub(crate) fn next_record(
     reader: &mut Reader<&[u8]>,
     row: &mut ByteRecord,
@@ -29,8 +30,18 @@ pub(crate) fn next_record(
     ensures found { IfOk result (λ found. found ≡ true → records_left (λ s. Some s.now) reader.old ≡ fields_of row.new ∷ records_left (λ s. Some s.now) reader.new) }
     ensures end { IfOk result (λ found. found ≡ false → records_left (λ s. Some s.now) reader.old ≡ []) }
 {
-    let Ok(found) = reader.read_byte_record(row) else {
-        return Err(NoMemory);
-    };
-    Ok(found)
+    match reader.read_byte_record(row) {
+        Ok(found) => Ok(found),
+        Err(error) => Err(want_of_memory(error)),
+    }
+}
+
+/// What a reader over bytes fails of: want of memory, for the bytes themselves are always read.
+fn want_of_memory(error: Error) -> NoMemory
+    requires { stops_reader (error_kind error) ≡ true }
+{
+    match error.into_kind() {
+        ErrorKind::Io(_) | ErrorKind::OutOfMemory => NoMemory,
+        _ => unreachable!(),
+    }
 }

@@ -1,20 +1,29 @@
 -- What callers may know of a plan's capacities, demands and totals.
-use Rattle.std.specs.Prelude.{min, if◌then◌else◌}
+use Rattle.std.specs.Prelude.{All, reverse, if◌then◌else◌}
 use Rattle.std.specs.List.{range_with_len}
-use Rattle.std.proofs.Common.{◌≡◌, ℕ, suc, true, false, zero-add, ◌+◌, ◌-◌, ◌*◌, ◌<◌, ◌≤◌, [], ◌∷◌, ◌++◌, length, get_or, arith, refl, sym, ◌∙◌, ap}
+use Rattle.std.proofs.Common.{◌≡◌, ℕ, suc, true, false, zero-add, ◌+◌, ◌-◌, ◌*◌, ◌<◌, ◌≤◌, length, get_or, arith, refl, ◌∙◌}
 use Rattle.std.proofs.Math.Nat.{mul-le-mul, mul-le-mul_right}
-use Rattle.std.proofs.lemmas.List.{get_or_append_left, get_or_push, length_push}
-use Rattle.std.proofs.lemmas.List.Elements.{All-push, All-weaker, All-nil}
+use Rattle.std.proofs.lemmas.List.Elements.{All-weaker}
 use Rattle.std.proofs.lemmas.List.FromFn.{length-range_with_len, get_or-range_with_len}
-use Rattle.std.proofs.lemmas.List.Sums.{sum_by-cons, sum_by_push, sum_by-le, get_or-le-sum_by}
-use Rattle.signal_plan.specs.declared.bounds.TheConstants.{MOST_CELLS, MOST_RECORDS, MOST_PARTS}
-use Rattle.signal_plan.specs.Records.{DemandRecord, PlanRecords, no_records, with_cell, with_demand}
+use Rattle.std.proofs.lemmas.List.Sums.{sum_by-cons, sum_by-le, get_or-le-sum_by}
+use Rattle.signal_plan.specs.declared.bounds.TheConstants.{MOST_RECORDS, MOST_PARTS}
+use Rattle.signal_plan.specs.Records.{DemandRecord, PlanRecords}
 use Rattle.signal_plan.specs.Sound.{IsSoundDemand, IsSoundPlan}
-use Rattle.signal_plan.specs.Capacity.{capacity_at}
+use Rattle.signal_plan.specs.Capacity.{capacity_at, limits_at}
 use Rattle.signal_plan.specs.Demand.{applies_at, amount_at, demand_at}
 use Rattle.signal_plan.specs.Total.{demand_from, total_demand}
 use Rattle.signal_plan.proofs.Sums.{sum_by_range_split}
+use Rattle.signal_plan.proofs.Searches.{All-reverse, find-has}
 use Rattle.signal_plan.proofs.Totals.{brought, total_demand_is}
+
+pub capacity_at-le : (plan : PlanRecords) (cell t most : ℕ) → cell < length plan.cells →
+    All (λ capacity. capacity ≤ most) plan.cells → All (λ limit. limit.capacity ≤ most) plan.limits →
+    capacity_at plan cell t ≤ most
+unfolding capacity_at
+capacity_at-le plan cell t most has cells limits =
+    let small : ℕ → Type 0 = λ capacity. capacity ≤ most in
+    find-has small (λ l. l.capacity) (limits_at cell t) (reverse plan.limits) (get_or plan.cells cell 0)
+    (All-reverse (λ l. small l.capacity) plan.limits limits) (cells cell 0 has)
 
 amount_at-le : (d : DemandRecord) (cell t : ℕ) → amount_at d cell t ≤ d.amount
 amount_at-le d cell t =

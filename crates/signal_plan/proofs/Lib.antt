@@ -1,5 +1,9 @@
 pub mod Sums
+pub mod Filters
+pub mod Searches
 pub mod Overlap
 pub mod Sound
+pub mod OwnRecords
+pub mod Growth
 pub mod Totals
 pub mod Laws

@@ -1,11 +1,14 @@
 -- A plan stays sound with one more cell or record.
-use Rattle.std.specs.Prelude.{map, is_some, ◌==◌, eqb}
+use Rattle.std.specs.Prelude.{map, is_some, if◌then◌else◌, ◌||◌, ◌==◌, eqb, Some}
 use Rattle.std.specs.List.{IsDistinct, find, list_any}
-use Rattle.std.proofs.Common.{◌≡◌, ℕ, true, false, ◌+◌, ◌<◌, ◌≤◌, List, [], ◌∷◌, ◌++◌, length, arith, refl, sym, ◌∙◌, ap}
+use Rattle.std.proofs.Common.{◌≡◌, ℕ, true, false, ◌+◌, ◌<◌, ◌≤◌, List, [], ◌∷◌, ◌++◌, length, arith, refl, ◌∙◌}
 use Rattle.std.proofs.lemmas.List.{length_push, map_push, length-map}
-use Rattle.std.proofs.lemmas.List.Elements.{All-push, All-weaker, All-nil}
-use Rattle.std.proofs.lemmas.Map.Keys.{IsDistinct-push, IsDistinct-nil}
+use Rattle.std.proofs.lemmas.List.Elements.{All-contains, All-map, All-nil, All-push, All-weaker}
+use Rattle.std.proofs.lemmas.Map.Keys.{IsDistinct-push}
 use Rattle.std.proofs.lemmas.Map.Steps.{length-le_from_distinct_below}
+use Rattle.std.proofs.lemmas.Map.Views.{Contains-from_any}
+use Rattle.std.proofs.lemmas.Bool.{eqb-true}
+use Rattle.std.specs.Cmp.{nat_eq_equiv}
 use Rattle.signal_plan.specs.declared.bounds.TheConstants.{MOST_CELLS, MOST_RECORDS}
 use Rattle.signal_plan.specs.Records.{DemandRecord, LimitRecord, PlanRecords, SignalRecord, no_records, with_cell, with_demand, with_limit, with_signal}
 use Rattle.signal_plan.specs.Sound.{IsSoundDemand, IsSoundLimit, IsSoundPlan, IsSoundSignal}
@@ -74,20 +77,33 @@ IsSoundPlan-with_demand plan demand few fits sound = record {
 list_any_is_some : (cell : ℕ) (signals : List SignalRecord) →
     list_any (eqb cell) (map (λ s. s.cell) signals) ≡ is_some (find (λ s. s.cell == cell) signals)
 list_any_is_some cell [] = refl
-list_any_is_some cell (s ∷ signals) = ?
+list_any_is_some cell (s ∷ signals) =
+    let rest = list_any_is_some cell signals in
+    rw (nat_eq_equiv.symm cell s.cell) (
+    elim (s.cell == cell) as (λ b. (b || list_any (eqb cell) (map (λ s. s.cell) signals)) ≡
+    is_some (if b then Some s else find (λ s. s.cell == cell) signals)) [ true ↦ refl | false ↦ rest ]
+    )
 
 pub IsSoundPlan-with_signal : (plan : PlanRecords) (signal : SignalRecord) → is_signalled plan signal.cell ≡ false →
     IsSoundSignal (length plan.cells) signal → IsSoundPlan plan → IsSoundPlan (with_signal plan signal)
 unfolding signal_of
-IsSoundPlan-with_signal plan signal none fits sound = record {
-  few_cells = sound.few_cells;
-  signals = All-push (IsSoundSignal (length plan.cells)) plan.signals signal sound.signals fits;
-  one_signal = ?;
-  limits = sound.limits;
-  few_demands = sound.few_demands;
-  demands = sound.demands;
-}
+IsSoundPlan-with_signal plan signal none fits sound =
+    let new : list_any (eqb signal.cell) (map (λ s. s.cell) plan.signals) ≡ false =
+    list_any_is_some signal.cell plan.signals ∙ none in
+    record {
+      few_cells = sound.few_cells;
+      signals = All-push (IsSoundSignal (length plan.cells)) plan.signals signal sound.signals fits;
+      one_signal = rw map_push (IsDistinct-push nat_eq_equiv _ signal.cell sound.one_signal new);
+      limits = sound.limits;
+      few_demands = sound.few_demands;
+      demands = sound.demands;
+    }
 
 -- a cell has at most one signal
 pub signals-le-cells : (plan : PlanRecords) → IsSoundPlan plan → length plan.signals ≤ length plan.cells
-signals-le-cells plan sound = ?
+signals-le-cells plan sound =
+    let below = All-map (λ cell. cell < length plan.cells) (λ (s : SignalRecord). s.cell) plan.signals (
+    All-weaker (IsSoundSignal (length plan.cells)) (λ s. s.cell < length plan.cells) (λ s fits. fits.cell) plan.signals sound.signals) in
+    let each : (q : ℕ) → list_any (eqb q) (map (λ s. s.cell) plan.signals) ≡ true → q < length plan.cells =
+    λ q any. All-contains (λ cell. cell < length plan.cells) (map (λ s. s.cell) plan.signals) q below (Contains-from_any eqb-true q (map (λ s. s.cell) plan.signals) any) in
+    omega (arith, length-le_from_distinct_below (map (λ s. s.cell) plan.signals) (length plan.cells) sound.one_signal each, length-map plan.signals (λ s. s.cell))

@@ -21,10 +21,13 @@ records_at plan cell = record {
   demands = filter (λ demand. demand.cell == cell) plan.demands;
 }
 
--- the capacity by the last limit record whose range contains `t`, and else Q
+-- the last limit record whose range contains `t`
+abbrev pub own_limit : CellRecords → (t : ℕ) → Option LimitRecord
+own_limit own t = find (λ limit. in_range limit.from limit.to t) (reverse own.limits)
+
+-- the capacity by that record, and else Q
 abbrev pub own_capacity : CellRecords → (t : ℕ) → ℕ
-own_capacity own t =
-    option_map_or (λ limit. limit.capacity) (find (λ limit. in_range limit.from limit.to t) (reverse own.limits)) own.capacity
+own_capacity own t = option_map_or (λ limit. limit.capacity) (own_limit own t) own.capacity
 
 -- the signal shows green; without one it is always green
 abbrev pub own_green : CellRecords → (t : ℕ) → Bool

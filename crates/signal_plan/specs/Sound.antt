@@ -1,4 +1,4 @@
-use Rattle.std.specs.Prelude.{ℕ, ◌<◌, ◌≤◌, ◌==◌, eqb, length, map, All}
+use Rattle.std.specs.Prelude.{ℕ, ◌<◌, ◌≤◌, eqb, length, map, All}
 use Rattle.std.specs.List.{IsDistinct}
 use Rattle.signal_plan.specs.declared.bounds.TheConstants.{MOST_CELLS, MOST_RECORDS, MOST_PARTS, MOST_STEPS}
 use Rattle.signal_plan.specs.Records.{DemandRecord, LimitRecord, PlanRecords, SignalRecord}

@@ -23,11 +23,15 @@ impl Model for CellPlan {
     ghost Value = { CellRecords };
 
     ghost view = { λ c. record {
-        capacity = c.capacity; signal = c.signal; limits = c.limits.items; demands = c.demands.items } };
+      capacity = c.capacity;
+      signal = c.signal;
+      limits = c.limits.items;
+      demands = c.demands.items;
+    } };
 }
 
 impl CellPlan {
-    ghost use Rattle.signal_plan.specs.CellRecords.{own_capacity, own_green, own_demand};
+    ghost use Rattle.signal_plan.specs.CellRecords.{own_capacity, own_green, own_demand, own_limit};
 
     /// A cell of this capacity, without records. It takes no memory.
     pub(crate) fn new(alloc: Global, capacity: u64) -> Self
@@ -73,16 +77,25 @@ impl CellPlan {
         self.signal.is_some()
     }
 
+    /// The newest limit that speaks of step `t`.
+    fn limit_at(&self, t: u64) -> Option<Limit>
+        ensures { result ≡ own_limit self.now t }
+    {
+        self.limits
+            .iter()
+            .rev()
+            .find(|limit| limit.holds_at(t))
+            .copied()
+    }
+
     /// The capacity at step `t`, by the newest limit that speaks of it.
     pub(crate) fn capacity_at(&self, t: u64) -> u64
         ensures { result ≡ own_capacity self.now t }
     {
-        for limit in self.limits.iter().rev() {
-            if limit.holds_at(t) {
-                return limit.capacity;
-            }
+        match self.limit_at(t) {
+            Some(limit) => limit.capacity,
+            None => self.capacity,
         }
-        self.capacity
     }
 
     /// Whether the cell may send in step `t`: it has no signal, or a green one.

@@ -66,7 +66,13 @@ impl Plan {
 
     /// Adds the limit record by which the cell has this capacity, in parts, in each step of
     /// `[from, to)`. Of the limits that speak of a step the last one holds.
-    pub fn put_limit(&mut self, cell: u32, from: u64, to: u64, capacity: u64) -> Result<(), NoMemory>
+    pub fn put_limit(
+        &mut self,
+        cell: u32,
+        from: u64,
+        to: u64,
+        capacity: u64,
+    ) -> Result<(), NoMemory>
         requires has_cell { cell < length self.old.cells }
         requires some_step { from < to }
         ensures added { OnOk result (self.new ≡ with_limit self.old
@@ -79,6 +85,7 @@ impl Plan {
             to,
             capacity,
         };
+        // Room first: after it the last push cannot fail.
         self.limits.reserve(1)?;
         let own = &mut self.cells[cell as usize];
         own.put_limit(limit)?;
@@ -87,7 +94,14 @@ impl Plan {
     }
 
     /// Adds the signal of the cell: green in step `t` where `(t + offset) mod cycle` is in `[from, to)`.
-    pub fn put_signal(&mut self, cell: u32, cycle: u64, offset: u64, from: u64, to: u64) -> Result<(), NoMemory>
+    pub fn put_signal(
+        &mut self,
+        cell: u32,
+        cycle: u64,
+        offset: u64,
+        from: u64,
+        to: u64,
+    ) -> Result<(), NoMemory>
         requires has_cell { cell < length self.old.cells }
         requires no_signal { is_signalled self.old cell ≡ false }
         requires offset { offset < cycle }
@@ -127,6 +141,7 @@ impl Plan {
             to,
             amount,
         };
+        // Room first: after it the last push cannot fail.
         self.demands.reserve(1)?;
         let own = &mut self.cells[cell as usize];
         own.put_demand(demand)?;

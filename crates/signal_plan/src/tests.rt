@@ -2,6 +2,38 @@ use crate::Plan;
 use std::test::Fail;
 
 #[test]
+fn last_limit_in_range_holds(rt: HostRuntime) -> Result<(), Fail> {
+    let mut plan = Plan::open(rt.alloc());
+    plan.put_cell(10)?;
+    plan.put_cell(5)?;
+    plan.put_limit(0, 0, 2, 1)?;
+    plan.put_limit(0, 1, 3, 3)?;
+    for (t, capacity) in [(0, 1), (1, 3), (2, 3), (3, 10)] {
+        assert_eq!(rt; plan.capacity(0, t), capacity, "at {t}");
+        assert_eq!(rt; plan.capacity(1, t), 5, "at {t}");
+    }
+    assert_eq!(rt; plan.counts(), (0, 2, 0));
+    Ok(())
+}
+
+#[test]
+fn signal_shows_red_and_green(rt: HostRuntime) -> Result<(), Fail> {
+    let mut plan = Plan::open(rt.alloc());
+    plan.put_cell(1)?;
+    plan.put_cell(1)?;
+    assert!(rt; !plan.has_signal(0));
+    plan.put_signal(0, 4, 3, 0, 2)?;
+    assert!(rt; plan.has_signal(0));
+    assert!(rt; !plan.has_signal(1));
+    for (t, green) in [(0, false), (1, true), (2, true), (3, false), (4, false)] {
+        assert_eq!(rt; plan.green(0, t), green, "at {t}");
+        assert!(rt; plan.green(1, t), "at {t}");
+    }
+    assert_eq!(rt; plan.counts(), (1, 0, 0));
+    Ok(())
+}
+
+#[test]
 fn records_of_a_gate_add_up(rt: HostRuntime) -> Result<(), Fail> {
     let mut plan = Plan::open(rt.alloc());
     plan.put_cell(2_000_000)?;
@@ -21,5 +53,6 @@ fn records_of_a_gate_add_up(rt: HostRuntime) -> Result<(), Fail> {
     assert_eq!(rt; plan.total(0), 0);
     assert_eq!(rt; plan.total(2), 870_000);
     assert_eq!(rt; plan.total(4), 1_272_000);
+    assert_eq!(rt; plan.counts(), (0, 0, 3));
     Ok(())
 }

@@ -1,6 +1,6 @@
 use Rattle.std.proofs.Common.{rules, ◌≡◌, ◌++◌, ◌∷◌, []}
 use Rattle.signal_plan.specs.Records.{with_cell}
-use Rattle.network_file.proofs.SoundLemmas.{IsSound-add_cell}
+use Rattle.network_file.proofs.SoundLemmas.{HasSoundParts-add_cell}
 use Rattle.network_file.proofs.draft.NetDraft.add_cell.Goals as goal
 
 pub invariant_of-result : goal.invariant_of-result
@@ -8,9 +8,10 @@ invariant_of-result c =
     let draft = c.self.inside in
     let cells : c.in_ok-cells.cells ≡ draft.cells ++ c.args.cell ∷ [] = search rules in
     let plan : c.put_cell.new.self ≡ with_cell draft.plan c.args.capacity = search rules in
-    let room = rw (← c.self.view_is) at c.requires.room in
+    let given = rw (← c.self.view_is) at c.requires in
     record {
       some_steps = c.self.invariant.some_steps;
       few_steps = c.self.invariant.few_steps;
-      sound = rw (cells, plan) (IsSound-add_cell draft.cells draft.connectors draft.plan c.args.cell c.args.capacity c.self.invariant.sound room c.requires.sound c.requires.capacity);
+      sound = rw (cells, plan) (HasSoundParts-add_cell draft.cells draft.connectors draft.plan c.args.cell c.args.capacity c.self.invariant.sound given.room
+          given.fresh given.sound given.capacity);
     }

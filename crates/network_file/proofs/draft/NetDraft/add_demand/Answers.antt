@@ -1,6 +1,6 @@
 use Rattle.std.proofs.Common.{rules, ◌≡◌}
 use Rattle.signal_plan.specs.Records.{DemandRecord, with_demand}
-use Rattle.network_file.proofs.SoundLemmas.{IsSound-add_demand}
+use Rattle.network_file.proofs.SoundLemmas.{HasSoundParts-add_demand}
 use Rattle.network_file.proofs.draft.NetDraft.add_demand.Goals as goal
 
 pub invariant_of-result : goal.invariant_of-result
@@ -12,5 +12,5 @@ invariant_of-result c =
     record {
       some_steps = c.self.invariant.some_steps;
       few_steps = c.self.invariant.few_steps;
-      sound = rw plan (IsSound-add_demand draft.cells draft.connectors draft.plan demand c.self.invariant.sound given.room given.at_gate);
+      sound = rw plan (HasSoundParts-add_demand draft.cells draft.connectors draft.plan demand c.self.invariant.sound given.room given.at_gate given.in_time);
     }

@@ -9,3 +9,15 @@ unfolding record_kind_of
 returns-in-demand c =
     let same : c.args.text.now ≡ codes "demand" = text_from_reads c.args.text.now (codes "demand") (omega arith) (search rules) in
     rw same refl
+
+pub returns-in-signal : goal.returns-in-signal
+unfolding record_kind_of
+returns-in-signal c =
+    let same : c.args.text.now ≡ codes "signal" = text_from_reads c.args.text.now (codes "signal") (omega arith) (search rules) in
+    rw same refl
+
+pub returns-in-diverge : goal.returns-in-diverge
+unfolding record_kind_of
+returns-in-diverge c =
+    let same : c.args.text.now ≡ codes "diverge" = text_from_reads c.args.text.now (codes "diverge") (omega arith) (search rules) in
+    rw same refl

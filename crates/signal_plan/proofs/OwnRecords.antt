@@ -1,0 +1,142 @@
+-- What a plan says of one cell, as its records grow, and as they answer.
+use Rattle.std.specs.Prelude.{◌&&◌, ◌==◌, if◌then◌else◌, Option, None, Some, is_some, reverse}
+use Rattle.std.specs.List.{find}
+use Rattle.std.specs.Option.{option_map_or, option_or}
+use Rattle.std.proofs.Common.{◌≡◌, ◌≢◌, ℕ, true, false, ◌<◌, List, [], ◌∷◌, ◌++◌, length, get_or, arith, refl, sym, ◌∙◌, ap}
+use Rattle.std.proofs.lemmas.Bool.{eq-eqb, ne_eqb}
+use Rattle.std.proofs.lemmas.List.{get_or_append_left, get_or_push}
+use Rattle.std.proofs.lemmas.List.Elements.{All-weaker}
+use Rattle.std.proofs.lemmas.List.Folds.{find-append}
+use Rattle.signal_plan.specs.Records.{DemandRecord, LimitRecord, PlanRecords, SignalRecord, in_range, with_cell, with_demand, with_limit, with_signal}
+use Rattle.signal_plan.specs.Sound.{IsSoundDemand, IsSoundLimit, IsSoundPlan, IsSoundSignal}
+use Rattle.signal_plan.specs.Capacity.{capacity_at}
+use Rattle.signal_plan.specs.Green.{green_at, is_signalled, signal_of}
+use Rattle.signal_plan.specs.Demand.{amount_at, demand_at}
+use Rattle.signal_plan.specs.CellRecords.{CellRecords, brings, own_capacity, own_demand, own_green, records_at}
+use Rattle.signal_plan.specs.Layout.{IsLaidOut}
+use Rattle.signal_plan.proofs.Sums.{sum_by_agree}
+use Rattle.signal_plan.proofs.Filters.{filter-none, filter-reverse, filter_push_no, filter_push_yes, sum_by-filter}
+use Rattle.signal_plan.proofs.Searches.{find-filter, find-none}
+
+-- the answers of a cell's own records are the plan's
+pub own_capacity_is : (plan : PlanRecords) (cell t : ℕ) → own_capacity (records_at plan cell) t ≡ capacity_at plan cell t
+unfolding capacity_at
+own_capacity_is plan cell t =
+    let q : ℕ = get_or plan.cells cell 0 in
+    ap (λ limits. option_map_or (λ limit. limit.capacity) (find (λ limit. in_range limit.from limit.to t) limits) q)
+    (sym (filter-reverse (λ limit. limit.cell == cell) plan.limits)) ∙
+    ap (λ found. option_map_or (λ limit. limit.capacity) found q)
+    (find-filter (λ limit. in_range limit.from limit.to t) (λ limit. limit.cell == cell) (reverse plan.limits))
+
+pub own_green_is : (plan : PlanRecords) (cell t : ℕ) → own_green (records_at plan cell) t ≡ green_at plan cell t
+unfolding green_at
+own_green_is plan cell t = refl
+
+pub own_demand_is : (plan : PlanRecords) (cell t : ℕ) → own_demand (records_at plan cell) t ≡ demand_at plan cell t
+unfolding demand_at
+own_demand_is plan cell t =
+    sum_by-filter (λ demand. brings demand t) (λ demand. demand.cell == cell) plan.demands ∙
+    sum_by_agree (λ demand. if demand.cell == cell then brings demand t else 0) (λ demand. amount_at demand cell t) plan.demands
+    (λ d. elim (d.cell == cell) as (λ b. (if b then brings d t else 0) ≡ (if b && in_range d.from d.to t then d.amount else 0)) [ true ↦ refl | false ↦ refl ])
+
+-- what is read of a cell that is stored
+pub own_capacity_read : (cells : List CellRecords) (plan : PlanRecords) (cell t : ℕ) (c : CellRecords) → IsLaidOut cells plan →
+    cell < length cells → c ≡ get_or cells cell c → own_capacity c t ≡ capacity_at plan cell t
+own_capacity_read cells plan cell t c laid has read =
+    ap (λ own. own_capacity own t) (read ∙ laid.own cell c has) ∙ own_capacity_is plan cell t
+
+pub own_green_read : (cells : List CellRecords) (plan : PlanRecords) (cell t : ℕ) (c : CellRecords) → IsLaidOut cells plan →
+    cell < length cells → c ≡ get_or cells cell c → own_green c t ≡ green_at plan cell t
+own_green_read cells plan cell t c laid has read =
+    ap (λ own. own_green own t) (read ∙ laid.own cell c has) ∙ own_green_is plan cell t
+
+pub own_demand_read : (cells : List CellRecords) (plan : PlanRecords) (cell t : ℕ) (c : CellRecords) → IsLaidOut cells plan →
+    cell < length cells → c ≡ get_or cells cell c → own_demand c t ≡ demand_at plan cell t
+own_demand_read cells plan cell t c laid has read =
+    ap (λ own. own_demand own t) (read ∙ laid.own cell c has) ∙ own_demand_is plan cell t
+
+-- the records of the older cells stay as they are where a cell comes
+pub records_at-with_cell_old : (plan : PlanRecords) (capacity cell : ℕ) → cell < length plan.cells →
+    records_at (with_cell plan capacity) cell ≡ records_at plan cell
+unfolding signal_of
+records_at-with_cell_old plan capacity cell has =
+    ap (λ q. record (records_at plan cell) { capacity = q }) (get_or_append_left plan.cells (capacity ∷ []) 0 cell has)
+
+-- a cell that comes has no records yet
+pub records_at-with_cell_new : (plan : PlanRecords) (capacity : ℕ) → IsSoundPlan plan →
+    records_at (with_cell plan capacity) (length plan.cells) ≡
+    record { capacity = capacity; signal = None; limits = []; demands = [] }
+unfolding signal_of
+records_at-with_cell_new plan capacity sound =
+    let cells : ℕ = length plan.cells in
+    let no_signal = find-none (λ s. s.cell == cells) plan.signals (
+    All-weaker (IsSoundSignal cells) (λ s. (s.cell == cells) ≡ false)
+    (λ s fits. ne_eqb s.cell cells (λ same. let below = fits.cell in absurd (omega arith))) plan.signals sound.signals) in
+    let no_limit = filter-none (λ l. l.cell == cells) plan.limits (
+    All-weaker (IsSoundLimit cells) (λ l. (l.cell == cells) ≡ false)
+    (λ l fits. ne_eqb l.cell cells (λ same. let below = fits.cell in absurd (omega arith))) plan.limits sound.limits) in
+    let no_demand = filter-none (λ d. d.cell == cells) plan.demands (
+    All-weaker (IsSoundDemand cells) (λ d. (d.cell == cells) ≡ false)
+    (λ d fits. ne_eqb d.cell cells (λ same. let below = fits.cell in absurd (omega arith))) plan.demands sound.demands) in
+    rw (no_signal, no_limit, no_demand, get_or_push plan.cells capacity 0 (length plan.cells) refl) refl
+
+-- a record changes what the plan says of its own cell alone
+pub records_at-with_limit_own : (plan : PlanRecords) (limit : LimitRecord) →
+    records_at (with_limit plan limit) limit.cell ≡
+    record (records_at plan limit.cell) { limits = (records_at plan limit.cell).limits ++ limit ∷ [] }
+unfolding signal_of
+records_at-with_limit_own plan limit =
+    ap (λ limits. record (records_at plan limit.cell) { limits = limits })
+    (filter_push_yes (λ l. l.cell == limit.cell) plan.limits limit (eq-eqb limit.cell limit.cell refl))
+
+pub records_at-with_limit_other : (plan : PlanRecords) (limit : LimitRecord) (cell : ℕ) → limit.cell ≢ cell →
+    records_at (with_limit plan limit) cell ≡ records_at plan cell
+unfolding signal_of
+records_at-with_limit_other plan limit cell other =
+    ap (λ limits. record (records_at plan cell) { limits = limits })
+    (filter_push_no (λ l. l.cell == cell) plan.limits limit (ne_eqb limit.cell cell other))
+
+pub records_at-with_demand_own : (plan : PlanRecords) (demand : DemandRecord) →
+    records_at (with_demand plan demand) demand.cell ≡
+    record (records_at plan demand.cell) { demands = (records_at plan demand.cell).demands ++ demand ∷ [] }
+unfolding signal_of
+records_at-with_demand_own plan demand =
+    ap (λ demands. record (records_at plan demand.cell) { demands = demands })
+    (filter_push_yes (λ d. d.cell == demand.cell) plan.demands demand (eq-eqb demand.cell demand.cell refl))
+
+pub records_at-with_demand_other : (plan : PlanRecords) (demand : DemandRecord) (cell : ℕ) → demand.cell ≢ cell →
+    records_at (with_demand plan demand) cell ≡ records_at plan cell
+unfolding signal_of
+records_at-with_demand_other plan demand cell other =
+    ap (λ demands. record (records_at plan cell) { demands = demands })
+    (filter_push_no (λ d. d.cell == cell) plan.demands demand (ne_eqb demand.cell cell other))
+
+none_before : (o : Option SignalRecord) (last : Option SignalRecord) → is_some o ≡ false → option_or o last ≡ last
+none_before None last none = refl
+none_before (Some s) last none = absurd (cc)
+
+none_after : (o : Option SignalRecord) → option_or o None ≡ o
+none_after None = refl
+none_after (Some s) = refl
+
+pub records_at-with_signal_own : (plan : PlanRecords) (signal : SignalRecord) → is_signalled plan signal.cell ≡ false →
+    records_at (with_signal plan signal) signal.cell ≡ record (records_at plan signal.cell) { signal = Some signal }
+unfolding signal_of
+records_at-with_signal_own plan signal none =
+    let found : find (λ s. s.cell == signal.cell) (signal ∷ []) ≡ Some signal =
+    ap (λ own. if own then Some signal else None) (eq-eqb signal.cell signal.cell refl) in
+    ap (λ o. record (records_at plan signal.cell) { signal = o }) (
+    find-append (λ s. s.cell == signal.cell) plan.signals (signal ∷ []) ∙
+    none_before (signal_of plan signal.cell) _ none ∙
+    found)
+
+pub records_at-with_signal_other : (plan : PlanRecords) (signal : SignalRecord) (cell : ℕ) → signal.cell ≢ cell →
+    records_at (with_signal plan signal) cell ≡ records_at plan cell
+unfolding signal_of
+records_at-with_signal_other plan signal cell other =
+    let found : find (λ s. s.cell == cell) (signal ∷ []) ≡ None =
+    ap (λ own. if own then Some signal else None) (ne_eqb signal.cell cell other) in
+    ap (λ o. record (records_at plan cell) { signal = o }) (
+    find-append (λ s. s.cell == cell) plan.signals (signal ∷ []) ∙
+    ap (λ last. option_or (signal_of plan cell) last) found ∙
+    none_after (signal_of plan cell))
