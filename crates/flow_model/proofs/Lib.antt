@@ -1,7 +1,11 @@
 pub mod Sums
 pub mod CellKinds
+pub mod CellLimits
+pub mod Connectors
 pub mod Flows
 pub mod Bounds
 pub mod Moves
+pub mod Carrying
 pub mod States
-pub mod Links
+pub mod Locality
+pub mod CellFlows

@@ -1,183 +1,161 @@
--- The rows while a step is under way, one connector after another.
-use Rattle.std.specs.Prelude.{Some, slice_get, take, if◌then◌else◌, ◌==◌}
-use Rattle.std.proofs.Common.{◌≡◌, inl, inr, ℕ, add-zero, zero-add, ◌+◌, ◌-◌, ◌*◌, ◌<◌, ◌≤◌, true, false, List, [], ◌∷◌, ◌++◌, length, arith, refl, sym, ap, subst, ◌∙◌}
-use Rattle.std.proofs.lemmas.Bool.{cases_Bool, ne_eqb}
-use Rattle.std.proofs.lemmas.List.{take_all}
-use Rattle.std.proofs.lemmas.List.FromFn.{length-map-range_with_len, get_or-map-range_with_len, fill_by_all}
-use Rattle.std.proofs.lemmas.List.Sums.{sum_by_push}
-use Rattle.signal_plan.specs.Demand.{demand_at}
-use Rattle.network_file.specs.Cells.{is_gate, is_exit, is_gate_at, is_exit_at}
-use Rattle.network_file.specs.declared.cell.Cell.{Cell}
+-- One move of a step: so much leaves a row, or so much enters it.
+use Rattle.std.specs.Prelude.{if◌then◌else◌, ◌==◌}
+use Rattle.std.specs.List.{range_with_len}
+use Rattle.std.proofs.Common.{◌≡◌, inl, inr, ℕ, add-zero, zero-add, ◌+◌, ◌-◌, ◌<◌, ◌≤◌, ◌^◌, true, false, List, length, map, set, arith, refl, sym, ap, ◌∙◌}
+use Rattle.std.proofs.lemmas.Bool.{cases_Bool, cases_eq, eq-eqb, ne_eqb}
+use Rattle.std.proofs.lemmas.List.{length-set, get_or-set_same, get_or-set_other, ext_get_or}
+use Rattle.std.proofs.lemmas.List.FromFn.{length-map-range_with_len, get_or-map-range_with_len}
+use Rattle.network_file.specs.Cells.{is_exit_at}
 use Rattle.network_file.specs.Network.{Network, IsNetwork}
-use Rattle.network_file.specs.declared.limits.TheConstants.{MOST_FLOW, MOST_LOAD}
-use Rattle.network_file.specs.declared.connector.Connector.{Connector}
-use Rattle.network_file.specs.declared.connector.Connector.TheVariants.{Link}
-use Rattle.flow_model.specs.Flows.{flow_of, leaving, entering, outflow_by, inflow_by, outflow, inflow}
-use Rattle.flow_model.specs.Rows.{empty_row, moved_row}
-use Rattle.flow_model.specs.State.{row_at, occupancy, next_rows}
-use Rattle.flow_model.specs.Moves.{row_less, row_more, entered_by, row_by, rows_by}
-use Rattle.flow_model.specs.Bounds.{IsRowInBounds}
+use Rattle.flow_model.specs.Bounds.{IsRowInBounds, AreInBounds}
+use Rattle.flow_model.specs.Rows.{empty_row, moved_row, row_less, row_more}
+use Rattle.flow_model.specs.State.{row_at, occupancy, rows_moved}
+use Rattle.flow_model.specs.Moves.{CanLeave, CanEnter}
 use Rattle.flow_model.specs.declared.row.Row.{Row}
-use Rattle.flow_model.proofs.CellKinds.{kinds_at}
-use Rattle.flow_model.proofs.Bounds.{IsPart, changes, most_at-le, moved_row-in_bounds}
+use Rattle.flow_model.proofs.Bounds.{IsChange, moved_row-in_bounds, IsSmall, small}
 
-pub length-rows_by : (connectors : List Connector) (net : Network) (t : ℕ) (rows : List Row) →
-    length (rows_by connectors net t rows) ≡ length net.cells
-unfolding rows_by
-length-rows_by connectors net t rows =
-    length-map-range_with_len (λ i. row_by connectors net t (occupancy rows) i (row_at rows i)) 0 (length net.cells)
+-- a move out of a row under way, where with it no more has left the cell than may
+pub record IsMoveOut (net : Network) (i : ℕ) (row : Row) (enters leaves parts : ℕ) : Type 0 where
+  pub held : parts ≤ (moved_row net i row enters leaves).n
+  pub waiting : parts ≤ (moved_row net i row enters leaves).wait
+  pub fits : (moved_row net i row enters leaves).gone + parts < 2 ^ 64
+  pub done : row_less (moved_row net i row enters leaves) parts ≡ moved_row net i row enters (leaves + parts)
 
-pub row_at-rows_by : (connectors : List Connector) (net : Network) (t i : ℕ) (rows : List Row) → i < length net.cells →
-    row_at (rows_by connectors net t rows) i ≡ row_by connectors net t (occupancy rows) i (row_at rows i)
-unfolding rows_by
-row_at-rows_by connectors net t i rows has =
-    get_or-map-range_with_len (λ i. row_by connectors net t (occupancy rows) i (row_at rows i)) 0 (length net.cells) i i
-    empty_row has (zero-add i)
-
--- after all connectors the step is done
-pub rows_by-all : (net : Network) (t : ℕ) (rows : List Row) → rows_by net.connectors net t rows ≡ next_rows net t rows
-unfolding rows_by row_by next_rows inflow outflow
-rows_by-all net t rows = refl
-
-pub rows_by-done : (net : Network) (t k : ℕ) (rows new : List Row) → length net.connectors ≤ k →
-    new ≡ rows_by (take k net.connectors) net t rows → new ≡ next_rows net t rows
-rows_by-done net t k rows new past new_is =
-    new_is ∙ ap (λ connectors. rows_by connectors net t rows) (take_all k net.connectors past) ∙ rows_by-all net t rows
-
--- the rows before all connectors
-pub rows_by-none : (net : Network) (t : ℕ) (rows new : List Row) → length new ≡ length net.cells →
-    ((i : ℕ) → i < length net.cells → row_at new i ≡ row_by [] net t (occupancy rows) i (row_at rows i)) → new ≡ rows_by [] net t rows
-unfolding rows_by
-rows_by-none net t rows new long each =
-    fill_by_all (λ i. row_by [] net t (occupancy rows) i (row_at rows i)) new (length net.cells) empty_row long each
-
-pub row_by-none : (net : Network) (t i : ℕ) (n : ℕ → ℕ) (row : Row) (cell : Cell) → slice_get net.cells i ≡ Some cell →
-    row_by [] net t n i row ≡ record {
-      n = row.n + (if is_gate cell.kind then demand_at net.plan i t else 0);
-      come = row.come + (if is_gate cell.kind then demand_at net.plan i t else 0);
-      gone = row.gone;
-      wait = if is_exit cell.kind then row.wait else row.wait + row.n;
-    }
-unfolding row_by
-row_by-none net t i n row cell found =
-    let held : row.n - 0 ≡ row.n = omega arith in
-    let demand : ℕ = if is_gate cell.kind then demand_at net.plan i t else 0 in
-    let kept : row.n + demand - 0 ≡ row.n + demand = omega arith in
-    rw (found, held, kept, add-zero row.gone) refl
-
--- a row that is in bounds after the step under way fits the machine's numbers
-pub record IsSmall (row : Row) : Type 0 where
-  pub n : row.n ≤ 100000 * MOST_FLOW
-  pub come : row.come ≤ 100000 * MOST_FLOW
-  pub gone : row.gone ≤ 100000 * MOST_FLOW
-  pub wait : row.wait ≤ 100000 * MOST_LOAD
-
-pub small : (net : Network) (t i : ℕ) (row : Row) → IsNetwork net → t ≤ net.steps → i < length net.cells →
-    IsRowInBounds net t i row → IsSmall row
-small net t i row sound within has bounds = elim (kinds_at net.cells i has) [
-  | inl road ↦ record {
-    n = omega (arith, bounds.held.road road, most_at-le net i sound has, sound.few_steps);
-    come = omega (arith, bounds.road_come road, sound.few_steps);
-    gone = omega (arith, bounds.gone, sound.few_steps);
-    wait = omega (arith, bounds.wait, sound.few_steps);
-  }
-  | inr other ↦ elim other [
-    | inl gate ↦ record {
-      n = omega (arith, bounds.held.gate gate);
-      come = omega (arith, bounds.gate_come gate);
-      gone = omega (arith, bounds.gone, sound.few_steps);
-      wait = omega (arith, bounds.wait, sound.few_steps);
-    }
-    | inr exit ↦ record {
-      n = omega (arith, bounds.held.exit exit, sound.few_steps);
-      come = omega (arith, bounds.held.exit exit, bounds.exit_come exit, sound.few_steps);
-      gone = omega (arith, bounds.gone, sound.few_steps);
-      wait = omega (arith, bounds.wait, sound.few_steps);
-    }
-  ]
-]
-
--- a row after more entered and left it
-moved_row-more : (net : Network) (i : ℕ) (row : Row) (enters leaves enters' leaves' : ℕ) →
-    leaves + leaves' ≤ row.n → (is_exit_at net.cells i ≡ true → leaves + leaves' ≡ 0) →
-    moved_row net i row (enters + enters') (leaves + leaves') ≡ row_more (row_less (moved_row net i row enters leaves) leaves') enters'
-moved_row-more net i row enters leaves enters' leaves' held exit =
-    let n : row.n + (enters + enters') - (leaves + leaves') ≡ row.n + enters - leaves - leaves' + enters' = omega arith in
-    let come : row.come + (enters + enters') ≡ row.come + enters + enters' = omega arith in
-    let gone : row.gone + (leaves + leaves') ≡ row.gone + leaves + leaves' = omega arith in
+pub moves_out : (net : Network) (t i : ℕ) (row : Row) (enters leaves parts : ℕ) → IsNetwork net → t < net.steps →
+    i < length net.cells → IsRowInBounds net t i row → IsChange net t i row.n enters (leaves + parts) →
+    IsMoveOut net i row enters leaves parts
+moves_out net t i row enters leaves parts sound before has bounds change =
+    let small_row = small net t i row sound (omega arith) has bounds in
     elim (cases_Bool (is_exit_at net.cells i)) [
-      | inl is_exit ↦
-          let wait : row.wait ≡ row.wait - leaves' = omega (arith, exit is_exit) in
-          rw is_exit cc
+      | inl exit ↦
+          let none : leaves + parts ≡ 0 = change.exit exit in
+          let n : row.n + enters - leaves - parts ≡ row.n + enters - (leaves + parts) = omega arith in
+          let gone : row.gone + leaves + parts ≡ row.gone + (leaves + parts) = omega arith in
+          let wait : row.wait - parts ≡ row.wait = omega arith in
+          record {
+            held = omega (arith, change.held);
+            waiting = rw exit (omega arith);
+            fits = omega (arith, small_row.gone, change.sent);
+            done = rw exit cc;
+          }
       | inr no_exit ↦
-          let wait : row.wait + (row.n - (leaves + leaves')) ≡ row.wait + (row.n - leaves) - leaves' = omega arith in
-          rw no_exit cc
+          let n : row.n + enters - leaves - parts ≡ row.n + enters - (leaves + parts) = omega arith in
+          let gone : row.gone + leaves + parts ≡ row.gone + (leaves + parts) = omega arith in
+          let wait : row.wait + (row.n - leaves) - parts ≡ row.wait + (row.n - (leaves + parts)) = omega (arith, change.held) in
+          record {
+            held = omega (arith, change.held);
+            waiting = rw no_exit (omega (arith, change.held));
+            fits = omega (arith, small_row.gone, change.sent);
+            done = rw no_exit cc;
+          }
     ]
 
-pub row_less-zero : (row : Row) → row_less row 0 ≡ row
-row_less-zero row =
-    let n : row.n - 0 ≡ row.n = omega arith in
-    let wait : row.wait - 0 ≡ row.wait = omega arith in
-    rw (n, wait, add-zero row.gone) refl
+-- a move into it, where with it no more has entered the cell than may
+pub record IsMoveIn (net : Network) (i : ℕ) (row : Row) (enters leaves parts : ℕ) : Type 0 where
+  pub fits : (moved_row net i row enters leaves).n + parts < 2 ^ 64
+  pub all_fit : (moved_row net i row enters leaves).come + parts < 2 ^ 64
+  pub done : row_more (moved_row net i row enters leaves) parts ≡ moved_row net i row (enters + parts) leaves
 
-pub row_more-zero : (row : Row) → row_more row 0 ≡ row
-row_more-zero row = simp add-zero
+pub moves_in : (net : Network) (t i : ℕ) (row : Row) (enters leaves parts : ℕ) → IsNetwork net → t < net.steps →
+    i < length net.cells → IsRowInBounds net t i row → IsChange net t i row.n (enters + parts) leaves →
+    IsMoveIn net i row enters leaves parts
+moves_in net t i row enters leaves parts sound before has bounds change =
+    let after = small net (t + 1) i (moved_row net i row (enters + parts) leaves) sound (omega arith) has
+    (moved_row-in_bounds net t i row (enters + parts) leaves sound before has bounds change) in
+    let n : row.n + enters - leaves + parts ≡ row.n + (enters + parts) - leaves = omega (arith, change.held) in
+    let come : row.come + enters + parts ≡ row.come + (enters + parts) = omega arith in
+    record {
+      fits = omega (arith, after.n);
+      all_fit = omega (arith, after.come);
+      done = cc;
+    }
 
--- the row after some connectors is in bounds already
-pub row_by-in_bounds : (connectors : List Connector) (net : Network) (t i : ℕ) (n : ℕ → ℕ) (row : Row) → IsNetwork net → t < net.steps →
-    i < length net.cells → IsPart connectors net t n i → IsRowInBounds net t i row → n i ≡ row.n →
-    IsRowInBounds net (t + 1) i (row_by connectors net t n i row)
-unfolding row_by
-row_by-in_bounds connectors net t i n row sound before has part bounds own =
-    moved_row-in_bounds net t i row _ _ sound before has bounds (rw own at (changes connectors net t i n sound has part))
+-- all rows
 
--- one connector more
+pub length-rows_moved : (net : Network) (rows : List Row) (enters leaves : ℕ → ℕ) → length (rows_moved net rows enters leaves) ≡ length net.cells
+unfolding rows_moved
+length-rows_moved net rows enters leaves =
+    length-map-range_with_len (λ i. moved_row net i (row_at rows i) (enters i) (leaves i)) 0 (length net.cells)
 
-pub outflow_by-push : (connectors : List Connector) (connector : Connector) (net : Network) (t i : ℕ) (n : ℕ → ℕ) →
-    outflow_by (connectors ++ connector ∷ []) net t n i ≡
-    outflow_by connectors net t n i + leaving i connector (flow_of net t n connector)
-outflow_by-push connectors connector net t i n = sum_by_push (λ c. leaving i c (flow_of net t n c)) connectors connector
+pub row_at-rows_moved : (net : Network) (rows : List Row) (enters leaves : ℕ → ℕ) (i : ℕ) → i < length net.cells →
+    row_at (rows_moved net rows enters leaves) i ≡ moved_row net i (row_at rows i) (enters i) (leaves i)
+unfolding rows_moved
+row_at-rows_moved net rows enters leaves i has =
+    get_or-map-range_with_len (λ i. moved_row net i (row_at rows i) (enters i) (leaves i)) 0 (length net.cells) i i empty_row has
+    (zero-add i)
 
-pub inflow_by-push : (connectors : List Connector) (connector : Connector) (net : Network) (t i : ℕ) (n : ℕ → ℕ) →
-    inflow_by (connectors ++ connector ∷ []) net t n i ≡
-    inflow_by connectors net t n i + entering i connector (flow_of net t n connector)
-inflow_by-push connectors connector net t i n = sum_by_push (λ c. entering i c (flow_of net t n c)) connectors connector
+-- rows are those after these moves where each of them is
+pub rows_moved-from_each : (net : Network) (rows now : List Row) (enters leaves : ℕ → ℕ) → length now ≡ length net.cells →
+    ((i : ℕ) → i < length net.cells → row_at now i ≡ moved_row net i (row_at rows i) (enters i) (leaves i)) →
+    now ≡ rows_moved net rows enters leaves
+rows_moved-from_each net rows now enters leaves long each =
+    let moved : List Row = rows_moved net rows enters leaves in
+    ext_get_or empty_row now moved (omega (arith, length-rows_moved net rows enters leaves)) (λ i within.
+    let has : i < length net.cells = omega arith in
+    each i has ∙ sym (row_at-rows_moved net rows enters leaves i has))
 
--- what has left cell i after a link that carries this much
-pub outflow_by-link : (connectors : List Connector) (net : Network) (t i up down : ℕ) (n : ℕ → ℕ) (carried : ℕ) →
-    flow_of net t n (Link up down) ≡ record { out1 = carried; out2 = 0; in1 = carried; in2 = 0 } →
-    outflow_by (connectors ++ Link up down ∷ []) net t n i ≡
-    outflow_by connectors net t n i + (if i == up then carried else 0)
-outflow_by-link connectors net t i up down n carried flow = rw flow at (outflow_by-push connectors (Link up down) net t i n)
+-- the same moves make the same rows
+pub rows_moved-same : (net : Network) (rows : List Row) (enters leaves enters' leaves' : ℕ → ℕ) →
+    ((i : ℕ) → enters i ≡ enters' i) → ((i : ℕ) → leaves i ≡ leaves' i) →
+    rows_moved net rows enters leaves ≡ rows_moved net rows enters' leaves'
+rows_moved-same net rows enters leaves enters' leaves' same_enters same_leaves =
+    rows_moved-from_each net rows (rows_moved net rows enters leaves) enters' leaves' (length-rows_moved net rows enters leaves) (λ i has.
+    row_at-rows_moved net rows enters leaves i has ∙
+    ap (λ parts. moved_row net i (row_at rows i) parts (leaves i)) (same_enters i) ∙
+    ap (λ parts. moved_row net i (row_at rows i) (enters' i) parts) (same_leaves i))
 
--- what has entered it
-entered_by-link : (connectors : List Connector) (net : Network) (t i up down : ℕ) (n : ℕ → ℕ) (carried : ℕ) →
-    is_gate_at net.cells down ≡ false →
-    flow_of net t n (Link up down) ≡ record { out1 = carried; out2 = 0; in1 = carried; in2 = 0 } →
-    entered_by (connectors ++ Link up down ∷ []) net t n i ≡
-    entered_by connectors net t n i + (if i == down then carried else 0)
-entered_by-link connectors net t i up down n carried no_gate flow = elim (cases_Bool (is_gate_at net.cells i)) [
-  | inl gate ↦
-      let apart : (i == down) ≡ false = ne_eqb i down (λ same.
-      let gate_down = subst (λ j. is_gate_at net.cells j ≡ true) same gate in cc) in
-      rw (gate, apart) (sym (add-zero (demand_at net.plan i t)))
-  | inr other ↦ rw other (rw flow at (inflow_by-push connectors (Link up down) net t i n))
-]
+-- so much leaves the cell
+pub rows_moved-less : (net : Network) (t : ℕ) (rows : List Row) (enters leaves : ℕ → ℕ) (cell parts : ℕ) → IsNetwork net →
+    t < net.steps → cell < length net.cells → AreInBounds net t rows →
+    IsChange net t cell (occupancy rows cell) (enters cell) (leaves cell + parts) →
+    let now = rows_moved net rows enters leaves in
+    CanLeave now cell parts ×
+    (set now cell (row_less (row_at now cell) parts) ≡ rows_moved net rows enters (λ i. leaves i + (if i == cell then parts else 0)))
+rows_moved-less net t rows enters leaves cell parts sound before has bounds change =
+    let now : List Row = rows_moved net rows enters leaves in
+    let here = row_at-rows_moved net rows enters leaves cell has in
+    let out = moves_out net t cell (row_at rows cell) (enters cell) (leaves cell) parts sound before has (bounds.each cell has) change in
+    let long = length-rows_moved net rows enters leaves in
+    let there : cell < length now = omega arith in
+    (
+      record { there = there; held = rw here out.held; waiting = rw here out.waiting; fits = rw here out.fits },
+      rows_moved-from_each net rows (set now cell (row_less (row_at now cell) parts)) enters _ (omega (arith, length-set now cell (row_less (row_at now cell) parts)))
+      (λ i has_i. elim (cases_eq i cell) [
+        | inl same ↦
+            let own : (i == cell) ≡ true = eq-eqb i cell same in
+            rw (own, same) (get_or-set_same now cell (row_less (row_at now cell) parts) empty_row there ∙ ap (λ row. row_less row parts) here ∙ out.done)
+        | inr other ↦
+            let apart : (i == cell) ≡ false = ne_eqb i cell other in
+            rw (apart, add-zero (leaves i)) (
+            get_or-set_other now cell i (row_less (row_at now cell) parts) empty_row other ∙ row_at-rows_moved net rows enters leaves i has_i
+            )
+      ]),
+    )
 
--- its row
-pub row_by-link : (connectors : List Connector) (net : Network) (t i up down : ℕ) (n : ℕ → ℕ) (row : Row) (carried : ℕ) →
-    IsNetwork net → i < length net.cells → IsPart (connectors ++ Link up down ∷ []) net t n i →
-    is_gate_at net.cells down ≡ false → n i ≡ row.n →
-    flow_of net t n (Link up down) ≡ record { out1 = carried; out2 = 0; in1 = carried; in2 = 0 } →
-    row_by (connectors ++ Link up down ∷ []) net t n i row ≡
-    row_more (row_less (row_by connectors net t n i row) (if i == up then carried else 0)) (if i == down then carried else 0)
-unfolding row_by
-row_by-link connectors net t i up down n row carried sound has part no_gate own flow =
-    let change = changes (connectors ++ Link up down ∷ []) net t i n sound has part in
-    let out = outflow_by-link connectors net t i up down n carried flow in
-    let entered = entered_by-link connectors net t i up down n carried no_gate flow in
-    rw (entered, out) (
-    moved_row-more net i row _ _ _ _
-    (omega (arith, out, own, change.held))
-    (λ exit. omega (arith, out, change.exit exit))
+-- so much enters it
+pub rows_moved-more : (net : Network) (t : ℕ) (rows : List Row) (enters leaves : ℕ → ℕ) (cell parts : ℕ) → IsNetwork net →
+    t < net.steps → cell < length net.cells → AreInBounds net t rows →
+    IsChange net t cell (occupancy rows cell) (enters cell + parts) (leaves cell) →
+    let now = rows_moved net rows enters leaves in
+    CanEnter now cell parts ×
+    (set now cell (row_more (row_at now cell) parts) ≡ rows_moved net rows (λ i. enters i + (if i == cell then parts else 0)) leaves)
+rows_moved-more net t rows enters leaves cell parts sound before has bounds change =
+    let now : List Row = rows_moved net rows enters leaves in
+    let here = row_at-rows_moved net rows enters leaves cell has in
+    let into = moves_in net t cell (row_at rows cell) (enters cell) (leaves cell) parts sound before has (bounds.each cell has) change in
+    let long = length-rows_moved net rows enters leaves in
+    let there : cell < length now = omega arith in
+    (
+      record { there = there; fits = rw here into.fits; all_fit = rw here into.all_fit },
+      rows_moved-from_each net rows (set now cell (row_more (row_at now cell) parts)) _ leaves (omega (arith, length-set now cell (row_more (row_at now cell) parts)))
+      (λ i has_i. elim (cases_eq i cell) [
+        | inl same ↦
+            let own : (i == cell) ≡ true = eq-eqb i cell same in
+            rw (own, same) (get_or-set_same now cell (row_more (row_at now cell) parts) empty_row there ∙ ap (λ row. row_more row parts) here ∙ into.done)
+        | inr other ↦
+            let apart : (i == cell) ≡ false = ne_eqb i cell other in
+            rw (apart, add-zero (enters i)) (
+            get_or-set_other now cell i (row_more (row_at now cell) parts) empty_row other ∙ row_at-rows_moved net rows enters leaves i has_i
+            )
+      ]),
     )

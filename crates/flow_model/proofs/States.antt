@@ -3,36 +3,45 @@ use Rattle.std.specs.Prelude.{map, slice_get}
 use Rattle.std.specs.Prelude.{Some}
 use Rattle.std.specs.Option.{option_map}
 use Rattle.std.proofs.lemmas.Option.{slice_get_within, get_or_from_slice_get, slice_get-map}
-use Rattle.std.proofs.Common.{◌≡◌, ℕ, zero, suc, add-one, zero-add, ◌+◌, ◌<◌, ◌≤◌, List, length, get_or, arith, refl, sym, ap, ◌∙◌}
-use Rattle.std.proofs.lemmas.List.{length-map}
-use Rattle.std.proofs.lemmas.List.FromFn.{length-map-range_with_len, get_or-map-range_with_len}
+use Rattle.std.proofs.Common.{◌≡◌, ℕ, zero, suc, add-one, zero-add, ◌+◌, [], take, ◌<◌, ◌≤◌, List, length, get_or, arith, refl, sym, ap, ◌∙◌}
+use Rattle.std.proofs.lemmas.List.{length-map, take_all}
 use Rattle.std.proofs.lemmas.List.Sums.{get_or-le-sum_by}
 use Rattle.signal_plan.specs.Total.{demand_from}
-use Rattle.signal_plan.proofs.Laws.{demand_from-le-total_of}
+use Rattle.signal_plan.proofs.Laws.{demand_from-le-total_demand}
 use Rattle.network_file.specs.Network.{Network, IsNetwork, IsSoundCell}
-use Rattle.network_file.specs.declared.limits.TheConstants.{MOST_LOAD}
+use Rattle.fixed_flow.specs.declared.amount.TheConstants.{MOST_PARTS}
 use Rattle.network_file.specs.declared.cell.Cell.{Cell}
-use Rattle.flow_model.specs.Flows.{inflow, outflow}
-use Rattle.flow_model.specs.Rows.{empty_row, first_row, next_row}
-use Rattle.flow_model.specs.State.{row_at, occupancy, next_rows, state_at}
+use Rattle.flow_model.specs.Flows.{inflow, outflow, entered_by, left_by}
+use Rattle.flow_model.specs.Rows.{empty_row, first_row, next_row, row_by, begun_row}
+use Rattle.flow_model.specs.State.{row_at, occupancy, rows_by, next_rows, state_at}
 use Rattle.flow_model.specs.Bounds.{IsRowInBounds, AreInBounds, KeepsRooms}
 use Rattle.flow_model.specs.declared.row.Row.{Row}
 use Rattle.flow_model.proofs.CellKinds.{cell_at, All-at, road_at-there}
-use Rattle.flow_model.proofs.Bounds.{IsPart-all, changes, moved_row-in_bounds}
+use Rattle.flow_model.proofs.Flows.{entered_by-gate}
+use Rattle.flow_model.proofs.Bounds.{changes, moved_row-in_bounds}
+use Rattle.flow_model.proofs.Moves.{length-rows_moved, row_at-rows_moved, rows_moved-from_each}
 
 -- one row for each cell
 
 pub length-next_rows : (net : Network) (t : ℕ) (rows : List Row) → length (next_rows net t rows) ≡ length net.cells
-unfolding next_rows
-length-next_rows net t rows =
-    length-map-range_with_len (λ i. next_row net t (occupancy rows) i (row_at rows i)) 0 (length net.cells)
+length-next_rows net t rows = length-rows_moved net rows (inflow net t (occupancy rows)) (outflow net t (occupancy rows))
 
 pub row_at-next_rows : (net : Network) (t i : ℕ) (rows : List Row) → i < length net.cells →
     row_at (next_rows net t rows) i ≡ next_row net t (occupancy rows) i (row_at rows i)
-unfolding next_rows
-row_at-next_rows net t i rows has =
-    get_or-map-range_with_len (λ i. next_row net t (occupancy rows) i (row_at rows i)) 0 (length net.cells) i i empty_row has
-    (zero-add i)
+unfolding row_by
+row_at-next_rows net t i rows has = row_at-rows_moved net rows (inflow net t (occupancy rows)) (outflow net t (occupancy rows)) i has
+
+-- the rows before all connectors
+pub rows_by-none : (net : Network) (t : ℕ) (rows now : List Row) → length now ≡ length net.cells →
+    ((i : ℕ) → i < length net.cells → row_at now i ≡ begun_row net t i (row_at rows i)) → now ≡ rows_by [] net t rows
+unfolding entered_by left_by
+rows_by-none net t rows now long each = rows_moved-from_each net rows now (entered_by [] net t (occupancy rows)) (left_by [] net t (occupancy rows)) long each
+
+-- after all connectors the step is done
+pub rows_by-done : (net : Network) (t k : ℕ) (rows now : List Row) → length net.connectors ≤ k →
+    now ≡ rows_by (take k net.connectors) net t rows → now ≡ next_rows net t rows
+rows_by-done net t k rows now past is =
+    is ∙ ap (λ connectors. rows_by connectors net t rows) (take_all k net.connectors past)
 
 pub state_at-zero : (net : Network) → state_at net 0 ≡ map first_row net.cells
 unfolding state_at
@@ -48,14 +57,28 @@ unfolding state_at
 length-state_at net zero = length-map net.cells first_row
 length-state_at net (suc t) = length-next_rows net t (state_at net t)
 
+-- the row of a cell, at step 0 and after each step
+pub row_at-state_at-zero : (net : Network) (i : ℕ) (cell : Cell) → slice_get net.cells i ≡ Some cell →
+    row_at (state_at net 0) i ≡ first_row cell
+unfolding state_at
+row_at-state_at-zero net i cell found =
+    get_or_from_slice_get (map first_row net.cells) i (first_row cell) empty_row
+    (slice_get-map first_row net.cells i ∙ ap (λ o. option_map first_row o) found)
+
+pub row_at-state_at-next : (net : Network) (t i : ℕ) → i < length net.cells →
+    row_at (state_at net (t + 1)) i ≡ next_row net t (occupancy (state_at net t)) i (row_at (state_at net t) i)
+row_at-state_at-next net t i has =
+    ap (λ rows. row_at rows i) (state_at-next net t) ∙ row_at-next_rows net t i (state_at net t) has
+
 -- the bounds
 
 pub next_row-in_bounds : (net : Network) (t i : ℕ) (n : ℕ → ℕ) (row : Row) → IsNetwork net → t < net.steps →
     i < length net.cells → IsRowInBounds net t i row → n i ≡ row.n → IsRowInBounds net (t + 1) i (next_row net t n i row)
-unfolding inflow outflow
+unfolding row_by
 next_row-in_bounds net t i n row sound before has bounds own =
     moved_row-in_bounds net t i row _ _ sound before has bounds
-    (rw own at (changes net.connectors net t i n sound has (IsPart-all net t n i)))
+    (rw own at (changes net t i n (inflow net t n i) (outflow net t n i) sound has
+    (λ gate. entered_by-gate net.connectors net t i n gate) (omega arith) (omega arith)))
 
 pub next_rows-in_bounds : (net : Network) (t : ℕ) (rows : List Row) → IsNetwork net → t < net.steps → AreInBounds net t rows →
     AreInBounds net (t + 1) (next_rows net t rows)
@@ -67,12 +90,12 @@ next_rows-in_bounds net t rows sound before bounds = record {
 
 -- what a cell holds at first, and the demand of its gate, are a part of the load
 load-at : (net : Network) (i : ℕ) (cell : Cell) → IsNetwork net → i < length net.cells → get_or net.cells i cell ≡ cell →
-    cell.first + demand_from net.plan i 0 net.steps ≤ MOST_LOAD
+    cell.first + demand_from net.plan i 0 net.steps ≤ MOST_PARTS
 load-at net i cell sound has here = omega (
   arith,
   sound.load,
   rw here at (get_or-le-sum_by (λ c. c.first) net.cells i cell has),
-  demand_from-le-total_of net.plan i net.steps (omega (arith, sound.sound.planned)),
+  demand_from-le-total_demand net.plan i net.steps (omega (arith, sound.sound.planned.one_each)),
 )
 
 pub first_row-in_bounds : (net : Network) (i : ℕ) (cell : Cell) → IsNetwork net → slice_get net.cells i ≡ Some cell →
@@ -103,10 +126,7 @@ first_rows-in_bounds net sound = record {
   one_each = length-map net.cells first_row;
   each = λ i has.
       let here = cell_at net.cells i has in
-      let row : row_at (map first_row net.cells) i ≡ first_row here.0 =
-      get_or_from_slice_get (map first_row net.cells) i (first_row here.0) empty_row
-      (slice_get-map first_row net.cells i ∙ ap (λ o. option_map first_row o) here.1) in
-      rw row (first_row-in_bounds net i here.0 sound here.1);
+      rw (row_at-state_at-zero net i here.0 here.1) (first_row-in_bounds net i here.0 sound here.1);
 }
 
 -- the rows of each step are in bounds: a road never holds more than its room

@@ -12,17 +12,30 @@ use Rattle.network_file.specs.declared.connector.Connector.TheVariants.{Link, Me
 use Rattle.flow_model.specs.Limits.{sending_at, receiving_at}
 use Rattle.flow_model.specs.declared.carried.Flow.{Flow}
 
+-- what a link carries from a cell that can send s to one that can receive r
+abbrev pub link_carries : (s r : ℕ) → Flow
+link_carries s r = let carried = link_flow_of s r in record { out1 = carried; out2 = 0; in1 = carried; in2 = 0 }
+
+-- what a merge carries
+abbrev pub merge_carries : (s1 s2 r p1 p2 : ℕ) → Flow
+merge_carries s1 s2 r p1 p2 =
+    let sent = merge_of s1 s2 r p1 p2 in record { out1 = sent.0; out2 = sent.1; in1 = sent.0 + sent.1; in2 = 0 }
+
+-- what a diverge carries
+abbrev pub diverge_carries : (s r1 r2 b1 b2 : ℕ) → Flow
+diverge_carries s r1 r2 b1 b2 =
+    let split = diverge_of s r1 r2 b1 b2 in record { out1 = split.out; out2 = 0; in1 = split.to1; in2 = split.to2 }
+
 -- what a connector carries in step t where its cells, in the order of its fields, hold n
 unfoldable pub flow_between : Network → (t : ℕ) → Connector → (n : List ℕ) → Flow
 flow_between net t (Link up down) n =
-    let carried = link_flow_of (sending_at net t up (slice_index n 0)) (receiving_at net t down (slice_index n 1)) in
-    record { out1 = carried; out2 = 0; in1 = carried; in2 = 0 }
+    link_carries (sending_at net t up (slice_index n 0)) (receiving_at net t down (slice_index n 1))
 flow_between net t (Merge up1 up2 down p1 p2) n =
-    let sent = merge_of (sending_at net t up1 (slice_index n 0)) (sending_at net t up2 (slice_index n 1)) (receiving_at net t down (slice_index n 2)) p1 p2 in
-    record { out1 = sent.0; out2 = sent.1; in1 = sent.0 + sent.1; in2 = 0 }
+    merge_carries (sending_at net t up1 (slice_index n 0)) (sending_at net t up2 (slice_index n 1))
+    (receiving_at net t down (slice_index n 2)) p1 p2
 flow_between net t (Diverge up down1 down2 b1 b2) n =
-    let split = diverge_of (sending_at net t up (slice_index n 0)) (receiving_at net t down1 (slice_index n 1)) (receiving_at net t down2 (slice_index n 2)) b1 b2 in
-    record { out1 = split.out; out2 = 0; in1 = split.to1; in2 = split.to2 }
+    diverge_carries (sending_at net t up (slice_index n 0)) (receiving_at net t down1 (slice_index n 1))
+    (receiving_at net t down2 (slice_index n 2)) b1 b2
 
 -- what a connector carries in step t
 abbrev pub flow_of : Network → (t : ℕ) → (ℕ → ℕ) → Connector → Flow

@@ -2,5 +2,6 @@ pub mod Bounds
 pub mod FlowLaw
 pub mod Flows
 pub mod Limits
+pub mod Moves
 pub mod Rows
 pub mod State

@@ -1,16 +1,13 @@
 ghost use Rattle.std.specs.Prelude.{◌≡◌, ◌+◌, ◌<◌, length};
 ghost use Rattle.network_file.specs.Connectors.{cells_of, connector_at};
-ghost use Rattle.network_file.specs.Network.{IsNetwork, IsSoundConnector};
+ghost use Rattle.network_file.specs.Network.{IsSoundConnector};
 ghost use Rattle.flow_model.specs.Flows.{flow_between};
 ghost use Rattle.flow_model.specs.FlowLaw.{SendsAtMost, ReceivesAtMost};
 ghost use Rattle.flow_model.specs.Bounds.{AreHeldInBounds};
 
 use crate::carried::Flow;
 use crate::limits::{receiving_at, sending_at};
-use diverge_rule::diverge_flow;
-use merge_rule::merge_flow;
 use network_file::{Connector, Net};
-use ordinary_link::link_flow;
 
 /// What connector `k` carries in step `t`, where its cells hold `n` parts, in the order of the connector's
 /// fields (Daganzo 1995; docs/MODEL.md). The places of `n` past its cells are not read.
@@ -25,11 +22,11 @@ pub fn flow(net: &Net, t: u64, k: u32, n: [u64; 3]) -> Flow
     ensures sent { SendsAtMost net.now t (connector_at net.now.connectors k) n result }
     ensures received { ReceivesAtMost net.now t (connector_at net.now.connectors k) n result }
 {
-    let connector = net.connectors[k as usize];
-    carried_by(net, t, connector, n)
+    carried_by(net, t, net.connectors[k as usize], n)
 }
 
 // What a connector of the network carries.
+#[tactic(auto, unfolding(crate::specs::Flows::flow_between))]
 fn carried_by(net: &Net, t: u64, connector: Connector, n: [u64; 3]) -> Flow
     requires sound { IsSoundConnector net.now.cells connector }
     requires in_time { t < net.now.steps }
@@ -37,95 +34,35 @@ fn carried_by(net: &Net, t: u64, connector: Connector, n: [u64; 3]) -> Flow
     ensures { result ≡ flow_between net.now t connector n }
 {
     match connector {
-        Connector::Link { up, down } => carried_by_link(net, t, up, down, n),
+        Connector::Link { up, down } => Flow::of_link(
+            sending_at(net, t, up, n[0]),
+            receiving_at(net, t, down, n[1]),
+        ),
         Connector::Merge {
             up1,
             up2,
             down,
             p1,
             p2,
-        } => carried_by_merge(net, t, (up1, up2, down), (p1, p2), n),
+        } => Flow::of_merge(
+            sending_at(net, t, up1, n[0]),
+            sending_at(net, t, up2, n[1]),
+            receiving_at(net, t, down, n[2]),
+            p1,
+            p2,
+        ),
         Connector::Diverge {
             up,
             down1,
             down2,
             b1,
             b2,
-        } => carried_by_diverge(net, t, (up, down1, down2), (b1, b2), n),
-    }
-}
-
-#[tactic(auto, unfolding(crate::specs::Flows::flow_between))]
-fn carried_by_link(net: &Net, t: u64, up: u32, down: u32, n: [u64; 3]) -> Flow
-    requires sound { IsSoundConnector net.now.cells (Connector.Link up down) }
-    requires in_time { t < net.now.steps }
-    requires held { AreHeldInBounds net.now t (cells_of (Connector.Link up down)) n }
-    ensures { result ≡ flow_between net.now t (Connector.Link up down) n }
-{
-    let carried = link_flow(
-        sending_at(net, t, up, n[0]),
-        receiving_at(net, t, down, n[1]),
-    );
-    Flow {
-        out1: carried,
-        out2: 0,
-        in1: carried,
-        in2: 0,
-    }
-}
-
-#[tactic(auto, unfolding(crate::specs::Flows::flow_between))]
-fn carried_by_merge(
-    net: &Net,
-    t: u64,
-    (up1, up2, down): (u32, u32, u32),
-    (p1, p2): (u32, u32),
-    n: [u64; 3],
-) -> Flow
-    requires sound { IsSoundConnector net.now.cells (Connector.Merge up1 up2 down p1 p2) }
-    requires in_time { t < net.now.steps }
-    requires held { AreHeldInBounds net.now t (cells_of (Connector.Merge up1 up2 down p1 p2)) n }
-    ensures { result ≡ flow_between net.now t (Connector.Merge up1 up2 down p1 p2) n }
-{
-    let (out1, out2) = merge_flow(
-        sending_at(net, t, up1, n[0]),
-        sending_at(net, t, up2, n[1]),
-        receiving_at(net, t, down, n[2]),
-        p1,
-        p2,
-    );
-    Flow {
-        out1,
-        out2,
-        in1: out1 + out2,
-        in2: 0,
-    }
-}
-
-#[tactic(auto, unfolding(crate::specs::Flows::flow_between))]
-fn carried_by_diverge(
-    net: &Net,
-    t: u64,
-    (up, down1, down2): (u32, u32, u32),
-    (b1, b2): (u32, u32),
-    n: [u64; 3],
-) -> Flow
-    requires sound { IsSoundConnector net.now.cells (Connector.Diverge up down1 down2 b1 b2) }
-    requires in_time { t < net.now.steps }
-    requires held { AreHeldInBounds net.now t (cells_of (Connector.Diverge up down1 down2 b1 b2)) n }
-    ensures { result ≡ flow_between net.now t (Connector.Diverge up down1 down2 b1 b2) n }
-{
-    let split = diverge_flow(
-        sending_at(net, t, up, n[0]),
-        receiving_at(net, t, down1, n[1]),
-        receiving_at(net, t, down2, n[2]),
-        b1,
-        b2,
-    );
-    Flow {
-        out1: split.out,
-        out2: 0,
-        in1: split.to1,
-        in2: split.to2,
+        } => Flow::of_diverge(
+            sending_at(net, t, up, n[0]),
+            receiving_at(net, t, down1, n[1]),
+            receiving_at(net, t, down2, n[2]),
+            b1,
+            b2,
+        ),
     }
 }

@@ -1,8 +1,10 @@
-ghost use Rattle.std.specs.Prelude.{◌≡◌, ℕ, ◌+◌, ◌<◌, ◌≤◌, [], length, take};
+ghost use Rattle.std.specs.Prelude.{◌≡◌, ℕ, ◌+◌, ◌<◌, ◌≤◌, [], length, slice_set, take};
 ghost use Rattle.network_file.specs.Network.{IsNetwork};
-ghost use Rattle.network_file.specs.Connectors.{connector_at};
+ghost use Rattle.network_file.specs.Connectors.{cells_of, connector_at, downstream_of, upstream_of};
 ghost use Rattle.flow_model.specs.Bounds.{AreInBounds, KeepsRooms};
-ghost use Rattle.flow_model.specs.State.{next_rows, rows_by, state_at};
+ghost use Rattle.flow_model.specs.Moves.{CanEnter, CanLeave};
+ghost use Rattle.flow_model.specs.Rows.{row_less, row_more};
+ghost use Rattle.flow_model.specs.State.{next_rows, row_at, rows_by, state_at};
 
 use crate::connector_flow::flow;
 use crate::row::Row;
@@ -64,34 +66,102 @@ fn carry(net: &Net, t: u64, k: u32, old: &[Row], new: &mut [Row])
     ensures { new.new ≡ rows_by (take (k + 1) net.now.connectors) net.now t old.now }
 {
     match net.connectors[k as usize] {
-        Connector::Link { up, down } => carry_link(net, t, k, (up, down), old, new),
+        Connector::Link { up, down } => carry_link(net, t, k, [up, down], old, new),
         Connector::Merge { up1, up2, down, .. } => {
-            carry_merge(net, t, k, (up1, up2, down), old, new);
+            carry_merge(net, t, k, [up1, up2, down], old, new);
         }
         Connector::Diverge { up, down1, down2, .. } => {
-            carry_diverge(net, t, k, (up, down1, down2), old, new);
+            carry_diverge(net, t, k, [up, down1, down2], old, new);
         }
     }
 }
 
 // Connector `k`, a link, carries its flow.
-fn carry_link(
-    net: &Net,
-    t: u64,
-    k: u32,
-    (up, down): (u32, u32),
-    old: &[Row],
-    new: &mut [Row],
-)
+fn carry_link(net: &Net, t: u64, k: u32, cells: [u32; 2], old: &[Row], new: &mut [Row])
     requires sound { IsNetwork net.now }
     requires has_connector { k < length net.now.connectors }
-    requires link { connector_at net.now.connectors k ≡ Connector.Link up down }
+    requires cells { cells_of (connector_at net.now.connectors k) ≡ cells }
+    requires upstream { length (upstream_of (connector_at net.now.connectors k)) ≡ 1 }
+    requires downstream { length (downstream_of (connector_at net.now.connectors k)) ≡ 1 }
     requires in_time { t < net.now.steps }
     requires in_bounds { AreInBounds net.now t old.now }
     requires before { new.old ≡ rows_by (take k net.now.connectors) net.now t old.now }
     ensures { new.new ≡ rows_by (take (k + 1) net.now.connectors) net.now t old.now }
 {
+    let [up, down] = cells;
     let carried = flow(net, t, k, [old[up as usize].n, old[down as usize].n, 0]);
     leave(new, up, carried.out1);
     enter(new, down, carried.in1);
+}
+
+// Connector `k`, a merge, carries its flow.
+fn carry_merge(
+    net: &Net,
+    t: u64,
+    k: u32,
+    cells: [u32; 3],
+    old: &[Row],
+    new: &mut [Row],
+)
+    requires sound { IsNetwork net.now }
+    requires has_connector { k < length net.now.connectors }
+    requires cells { cells_of (connector_at net.now.connectors k) ≡ cells }
+    requires upstream { length (upstream_of (connector_at net.now.connectors k)) ≡ 2 }
+    requires downstream { length (downstream_of (connector_at net.now.connectors k)) ≡ 1 }
+    requires in_time { t < net.now.steps }
+    requires in_bounds { AreInBounds net.now t old.now }
+    requires before { new.old ≡ rows_by (take k net.now.connectors) net.now t old.now }
+    ensures { new.new ≡ rows_by (take (k + 1) net.now.connectors) net.now t old.now }
+{
+    let [up1, up2, down] = cells;
+    let n = [old[up1 as usize].n, old[up2 as usize].n, old[down as usize].n];
+    let carried = flow(net, t, k, n);
+    leave(new, up1, carried.out1);
+    leave(new, up2, carried.out2);
+    enter(new, down, carried.in1);
+}
+
+// Connector `k`, a diverge, carries its flow.
+fn carry_diverge(
+    net: &Net,
+    t: u64,
+    k: u32,
+    cells: [u32; 3],
+    old: &[Row],
+    new: &mut [Row],
+)
+    requires sound { IsNetwork net.now }
+    requires has_connector { k < length net.now.connectors }
+    requires cells { cells_of (connector_at net.now.connectors k) ≡ cells }
+    requires upstream { length (upstream_of (connector_at net.now.connectors k)) ≡ 1 }
+    requires downstream { length (downstream_of (connector_at net.now.connectors k)) ≡ 2 }
+    requires in_time { t < net.now.steps }
+    requires in_bounds { AreInBounds net.now t old.now }
+    requires before { new.old ≡ rows_by (take k net.now.connectors) net.now t old.now }
+    ensures { new.new ≡ rows_by (take (k + 1) net.now.connectors) net.now t old.now }
+{
+    let [up, down1, down2] = cells;
+    let n = [old[up as usize].n, old[down1 as usize].n, old[down2 as usize].n];
+    let carried = flow(net, t, k, n);
+    leave(new, up, carried.out1);
+    enter(new, down1, carried.in1);
+    enter(new, down2, carried.in2);
+}
+
+// So many parts leave a cell.
+fn leave(rows: &mut [Row], cell: u32, parts: u64)
+    requires { CanLeave rows.old cell parts }
+    ensures { rows.new ≡ slice_set rows.old cell (row_less (row_at rows.old cell) parts) }
+{
+    let row = &mut rows[cell as usize];
+    row.leave(parts);
+}
+
+// So many parts enter a cell.
+fn enter(rows: &mut [Row], cell: u32, parts: u64)
+    requires { CanEnter rows.old cell parts }
+    ensures { rows.new ≡ slice_set rows.old cell (row_more (row_at rows.old cell) parts) }
+{
+    let row = &mut rows[cell as usize];
+    row.enter(parts);
 }

@@ -1,5 +1,5 @@
 -- The cells of a connector, told here for every kind of it.
-use Rattle.std.specs.Prelude.{ℕ, Bool, eqb, List, [], ◌∷◌, ◌++◌, slice_index_or}
+use Rattle.std.specs.Prelude.{ℕ, Bool, eqb, ◌&&◌, List, [], ◌∷◌, ◌++◌, slice_index_or}
 use Rattle.std.specs.List.{list_any}
 use Rattle.network_file.specs.declared.connector.Connector.{Connector}
 use Rattle.network_file.specs.declared.connector.Connector.TheVariants.{Link, Merge, Diverge}
@@ -35,3 +35,11 @@ leads_into cell connector = list_any (eqb cell) (downstream_of connector)
 -- the connector of this number
 abbrev pub connector_at : List Connector → (k : ℕ) → Connector
 connector_at connectors k = slice_index_or connectors k (Link 0 0)
+
+-- whether the cell is one of the connector's
+abbrev pub touches : (cell : ℕ) → Connector → Bool
+touches cell connector = list_any (eqb cell) (cells_of connector)
+
+-- whether one connector touches both cells
+abbrev pub are_joined : List Connector → (i j : ℕ) → Bool
+are_joined connectors i j = list_any (λ connector. touches i connector && touches j connector) connectors

@@ -1,8 +1,7 @@
 use Rattle.std.proofs.Common.{◌≡◌, length, arith, subst, sym, ap, ◌∙◌}
 use Rattle.network_file.specs.Network.{IsNetwork}
 use Rattle.flow_model.specs.State.{next_rows}
-use Rattle.flow_model.proofs.Moves.{rows_by-done}
-use Rattle.flow_model.proofs.States.{next_rows-in_bounds, state_at-next}
+use Rattle.flow_model.proofs.States.{rows_by-done, next_rows-in_bounds, state_at-next}
 use Rattle.flow_model.proofs.step.plain_step.Goals as goal
 
 pub returns-clause-rows : goal.returns-clause-rows

@@ -1,5 +1,5 @@
 use Rattle.std.proofs.Common.{◌≡◌, take}
-use Rattle.flow_model.specs.Moves.{rows_by}
+use Rattle.flow_model.specs.State.{rows_by}
 use Rattle.flow_model.proofs.step.plain_step.Given as goal
 
 abbrev pub invariant-loop-k : goal.invariant-loop-k

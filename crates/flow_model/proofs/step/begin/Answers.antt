@@ -1,6 +1,6 @@
 use Rattle.std.proofs.Common.{◌≡◌, length, arith, sym, ap}
-use Rattle.flow_model.proofs.Moves.{rows_by-none}
-use Rattle.flow_model.proofs.step.start.Goals as goal
+use Rattle.flow_model.proofs.States.{rows_by-none}
+use Rattle.flow_model.proofs.step.begin.Goals as goal
 
 pub returns : goal.returns
 returns c =

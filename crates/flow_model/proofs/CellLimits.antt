@@ -1,0 +1,67 @@
+-- What a cell can send and receive is within what it holds, its capacity and its room.
+use Rattle.std.specs.Prelude.{All}
+use Rattle.std.proofs.Common.{◌≡◌, ℕ, ◌+◌, ◌<◌, ◌≤◌, true, length, arith}
+use Rattle.std.proofs.lemmas.List.Elements.{All-weaker}
+use Rattle.ordinary_link.specs.Receiving.{receiving_flow}
+use Rattle.ordinary_link.specs.Space.{IsRoomFor}
+use Rattle.ordinary_link.proofs.Bounds.{sending_flow-le-held, sending_flow-le-capacity, receiving_flow-le-capacity, add-receiving_flow-le-most}
+use Rattle.signal_plan.specs.Capacity.{capacity_at}
+use Rattle.signal_plan.specs.Green.{green_at}
+use Rattle.signal_plan.specs.Records.{LimitRecord}
+use Rattle.signal_plan.specs.declared.bounds.TheConstants.{MOST_STEPS}
+use Rattle.signal_plan.proofs.Laws as plan
+use Rattle.network_file.specs.Cells.{is_road}
+use Rattle.network_file.specs.Network.{Network, IsNetwork, IsSoundCell}
+use Rattle.network_file.specs.declared.limits.TheConstants.{MOST_CAPACITY}
+use Rattle.network_file.specs.declared.cell.Cell.{Cell}
+use Rattle.network_file.specs.declared.cell.Kind.{Kind}
+use Rattle.network_file.specs.declared.cell.Kind.TheVariants.{Road, Gate, Exit}
+use Rattle.flow_model.specs.Limits.{room_by, room_at, sending_at, receiving_at}
+use Rattle.flow_model.specs.Bounds.{is_road_at, most_at}
+use Rattle.flow_model.proofs.CellKinds.{cell_at, All-at}
+
+pub sending_at-le-held : (net : Network) (t i n : ℕ) → sending_at net t i n ≤ n
+unfolding sending_at
+sending_at-le-held net t i n = sending_flow-le-held n (capacity_at net.plan i t) (green_at net.plan i t)
+
+pub sending_at-le-capacity : (net : Network) (t i n : ℕ) → sending_at net t i n ≤ capacity_at net.plan i t
+unfolding sending_at
+sending_at-le-capacity net t i n = sending_flow-le-capacity n (capacity_at net.plan i t) (green_at net.plan i t)
+
+pub receiving_at-le-capacity : (net : Network) (t i n : ℕ) → receiving_at net t i n ≤ capacity_at net.plan i t
+unfolding receiving_at
+receiving_at-le-capacity net t i n = receiving_flow-le-capacity n (capacity_at net.plan i t) (room_at net.cells i)
+
+pub capacity_at-le : (net : Network) (t i : ℕ) → IsNetwork net → i < length net.cells → capacity_at net.plan i t ≤ MOST_CAPACITY
+capacity_at-le net t i sound has =
+    let planned = sound.sound.planned in
+    plan.capacity_at-le net.plan i t MOST_CAPACITY (omega (arith, planned.one_each)) planned.capacities
+    (All-weaker (λ (l : LimitRecord). (l.to ≤ MOST_STEPS) × (l.capacity ≤ MOST_CAPACITY)) (λ l. l.capacity ≤ MOST_CAPACITY) (λ l both. both.1)
+    net.plan.limits planned.limits)
+
+-- a road's room is one that the flow rules can take
+pub road_room : (cell : Cell) (n : ℕ) → IsSoundCell cell → n ≤ cell.room →
+    IsRoomFor n (record { most = cell.room; num = cell.num; den = cell.den })
+road_room cell n sound within =
+    record { within = within; positive = sound.positive; ratio = sound.ratio; small = sound.small }
+
+road_receives : (cell : Cell) (n q : ℕ) → IsSoundCell cell → is_road cell.kind ≡ true → n ≤ cell.room →
+    n + receiving_flow n q (room_by cell.kind cell) ≤ cell.room
+road_receives cell n q sound road within = of_kind cell.kind road
+  where
+    of_kind : (k : Kind) → is_road k ≡ true →
+        n + receiving_flow n q (room_by k cell) ≤ cell.room
+    of_kind Road road = add-receiving_flow-le-most n q _ (road_room cell n sound within)
+    of_kind Gate road = cc
+    of_kind Exit road = cc
+
+-- a road keeps within its room, whatever it receives
+pub add-receiving_at-le-most : (net : Network) (t i n : ℕ) → IsNetwork net → i < length net.cells →
+    is_road_at net.cells i ≡ true → n ≤ most_at net.cells i → n + receiving_at net t i n ≤ most_at net.cells i
+unfolding receiving_at
+add-receiving_at-le-most net t i n sound has road within =
+    let here = cell_at net.cells i has in
+    let cell_sound = All-at IsSoundCell net.cells i here.0 here.1 sound.sound.sound_cells in
+    let is_road_here = rw here.1 at road in
+    let within_here = rw here.1 at within in
+    rw here.1 (road_receives here.0 n (capacity_at net.plan i t) cell_sound is_road_here within_here)
