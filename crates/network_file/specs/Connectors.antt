@@ -1,5 +1,5 @@
 -- The cells of a connector, told here for every kind of it.
-use Rattle.std.specs.Prelude.{ℕ, Bool, eqb, ◌&&◌, List, [], ◌∷◌, ◌++◌, slice_index_or}
+use Rattle.std.specs.Prelude.{ℕ, Bool, false, ◌==◌, eqb, ◌&&◌, List, [], ◌∷◌, ◌++◌, slice_index_or}
 use Rattle.std.specs.List.{list_any}
 use Rattle.network_file.specs.declared.connector.Connector.{Connector}
 use Rattle.network_file.specs.declared.connector.Connector.TheVariants.{Link, Merge, Diverge}
@@ -31,6 +31,12 @@ leads_out_of cell connector = list_any (eqb cell) (upstream_of connector)
 
 abbrev pub leads_into : (cell : ℕ) → Connector → Bool
 leads_into cell connector = list_any (eqb cell) (downstream_of connector)
+
+-- whether it is a diverge out of the cell
+abbrev pub diverges_from : (cell : ℕ) → Connector → Bool
+diverges_from cell (Link up down) = false
+diverges_from cell (Merge up1 up2 down p1 p2) = false
+diverges_from cell (Diverge up down1 down2 b1 b2) = cell == up
 
 -- the connector of this number
 abbrev pub connector_at : List Connector → (k : ℕ) → Connector

@@ -1,20 +1,25 @@
 -- The network as far as its records have been read, and each step that takes one more record.
-use Rattle.std.specs.Prelude.{◌≡◌, ℕ, ◌≤◌, List, [], ◌∷◌, ◌++◌, Option, Some, None}
-use Rattle.signal_plan.specs.Records.{DemandRecord, LimitRecord, PlanRecords, SignalRecord, no_records, with_cell, with_demand, with_limit, with_signal}
+use Rattle.std.specs.Prelude.{◌≡◌, ℕ, ◌<◌, ◌≤◌, ◌⊎◌, length, All, List, [], ◌∷◌, ◌++◌, Option, Some, None}
+use Rattle.signal_plan.specs.Records.{DemandRecord, LimitRecord, PlanRecords, SignalRecord, TurnRecord, no_records, with_cell, with_demand, with_limit, with_signal, with_turn}
 use Rattle.signal_plan.specs.declared.bounds.TheConstants.{MOST_STEPS}
 use Rattle.network_file.specs.Network.{HasSoundParts}
+use Rattle.network_file.specs.Regions.{RegionRecord}
 use Rattle.network_file.specs.declared.cell.Cell.{Cell}
 use Rattle.network_file.specs.declared.connector.Connector.{Connector}
+use Rattle.network_file.specs.declared.limits.TheConstants.{MOST_REGIONS}
 
 pub record Draft : Type 0 where
+  -- 1 or 2
+  pub format : ℕ
   -- the number of steps, where a record said it
   pub steps : Option ℕ
   pub cells : List Cell
   pub connectors : List Connector
   pub plan : PlanRecords
+  pub regions : List RegionRecord
 
-abbrev pub empty_draft : Draft
-empty_draft = record { steps = None; cells = []; connectors = []; plan = no_records }
+abbrev pub empty_draft : (format : ℕ) → Draft
+empty_draft format = record { format = format; steps = None; cells = []; connectors = []; plan = no_records; regions = [] }
 
 abbrev pub with_steps : Draft → ℕ → Draft
 with_steps draft steps = record draft { steps = Some steps }
@@ -36,8 +41,16 @@ add_limit draft limit = record draft { plan = with_limit draft.plan limit }
 abbrev pub add_demand : Draft → DemandRecord → Draft
 add_demand draft demand = record draft { plan = with_demand draft.plan demand }
 
+abbrev pub add_turn : Draft → TurnRecord → Draft
+add_turn draft turn = record draft { plan = with_turn draft.plan turn }
+
+abbrev pub add_region : Draft → RegionRecord → Draft
+add_region draft region = record draft { regions = draft.regions ++ region ∷ [] }
+
 -- what holds of a draft at each record
 pub record IsSoundDraft (draft : Draft) : Type 0 where
+  pub format : (draft.format ≡ 1) ⊎ (draft.format ≡ 2)
   pub some_steps : (steps : ℕ) → draft.steps ≡ Some steps → 1 ≤ steps
   pub few_steps : (steps : ℕ) → draft.steps ≡ Some steps → steps ≤ MOST_STEPS
-  pub sound : HasSoundParts draft.cells draft.connectors draft.plan
+  pub sound : HasSoundParts draft.format draft.cells draft.connectors draft.plan
+  pub regions : All (λ region. (region.cell < length draft.cells) × (region.number < MOST_REGIONS)) draft.regions

@@ -1,7 +1,7 @@
 -- The number and the name of each fault, as they are printed.
 use Rattle.std.specs.Prelude.{ℕ, List, codes}
 use Rattle.network_file.specs.declared.code.Code.{Code}
-use Rattle.network_file.specs.declared.code.Code.TheVariants.{NoHeader, BadKind, BadCount, BadName, BadNumber, OutOfRange, Repeated, Unknown, WrongKind, InTaken, OutTaken, NoSteps, NoCells, TooMany, TooMuch}
+use Rattle.network_file.specs.declared.code.Code.TheVariants.{NoHeader, BadKind, BadCount, BadName, BadNumber, OutOfRange, Repeated, Unknown, WrongKind, InTaken, OutTaken, NoSteps, NoCells, TooMany, TooMuch, NoRegion, RegionGap}
 
 abbrev pub code_number : Code → ℕ
 code_number NoHeader = 1
@@ -19,6 +19,8 @@ code_number NoSteps = 12
 code_number NoCells = 13
 code_number TooMany = 14
 code_number TooMuch = 15
+code_number NoRegion = 16
+code_number RegionGap = 17
 
 abbrev pub code_name : Code → List ℕ
 code_name NoHeader = codes "NoHeader"
@@ -36,3 +38,5 @@ code_name NoSteps = codes "NoSteps"
 code_name NoCells = codes "NoCells"
 code_name TooMany = codes "TooMany"
 code_name TooMuch = codes "TooMuch"
+code_name NoRegion = codes "NoRegion"
+code_name RegionGap = codes "RegionGap"

@@ -8,7 +8,8 @@ use Rattle.signal_plan.specs.Records.{PlanRecords}
 use Rattle.network_file.specs.CellName.{is_name}
 use Rattle.network_file.specs.Cells.{cell_named, is_exit_at, is_gate_at}
 use Rattle.network_file.specs.Checks.{◌>>=◌, ◌>>◌, must}
-use Rattle.network_file.specs.Connectors.{leads_into, leads_out_of}
+use Rattle.network_file.specs.Connectors.{diverges_from, leads_into, leads_out_of}
+use Rattle.network_file.specs.Regions.{RegionRecord, region_in}
 use Rattle.network_file.specs.declared.cell.Cell.{Cell}
 use Rattle.network_file.specs.declared.code.Code.{Code}
 use Rattle.network_file.specs.declared.code.Code.TheVariants.{BadName, BadNumber, OutOfRange, Repeated, Unknown, WrongKind, InTaken, OutTaken}
@@ -72,4 +73,18 @@ unfoldable pub demand_gate : List Cell → List ℕ → Result ℕ Code
 demand_gate cells text = do
   cell ← known_cell cells text
   must (is_gate_at cells cell) WrongKind
+  Ok cell
+
+-- the cell of turning shares: an earlier diverge leads out of it
+unfoldable pub turn_cell : List Cell → List Connector → List ℕ → Result ℕ Code
+turn_cell cells connectors text = do
+  cell ← known_cell cells text
+  must (list_any (diverges_from cell) connectors) WrongKind
+  Ok cell
+
+-- the cell of a region: without a region yet
+unfoldable pub region_cell : List Cell → List RegionRecord → List ℕ → Result ℕ Code
+region_cell cells regions text = do
+  cell ← known_cell cells text
+  must (is_none (region_in regions cell)) Repeated
   Ok cell

@@ -1,23 +1,29 @@
 -- A network as contracts see it, and what holds of every network.
-use Rattle.std.specs.Prelude.{◌≡◌, ℕ, ◌+◌, ◌<◌, ◌≤◌, List, length, map, eqb, bytes_eq, All, count_by, sum_by, true, false}
+use Rattle.std.specs.Prelude.{◌≡◌, ℕ, ◌+◌, ◌<◌, ◌≤◌, ◌⊎◌, List, [], length, map, eqb, bytes_eq, All, count_by, sum_by, true, false}
 use Rattle.std.specs.List.{IsDistinct}
 use Rattle.fixed_flow.specs.declared.amount.TheConstants.{MOST_PARTS}
-use Rattle.signal_plan.specs.Records.{PlanRecords}
+use Rattle.signal_plan.specs.Records.{PlanRecords, TurnRecord}
 use Rattle.signal_plan.specs.Total.{total_demand}
-use Rattle.signal_plan.specs.declared.bounds.TheConstants.{MOST_RECORDS, MOST_STEPS}
+use Rattle.signal_plan.specs.declared.bounds.TheConstants.{MOST_RATIO, MOST_STEPS}
 use Rattle.network_file.specs.Cells.{is_road, is_exit, is_exit_at, is_gate_at}
 use Rattle.network_file.specs.Connectors.{upstream_of, downstream_of, weights_of, leads_into, leads_out_of}
-use Rattle.network_file.specs.declared.limits.TheConstants.{MOST_RATIO, MOST_ROOM, MOST_CAPACITY}
+use Rattle.network_file.specs.Cutting.{IsCutting}
+use Rattle.network_file.specs.Formats.{most_records}
+use Rattle.network_file.specs.declared.limits.TheConstants.{MOST_ROOM, MOST_CAPACITY}
 use Rattle.network_file.specs.declared.cell.Cell.{Cell}
 use Rattle.network_file.specs.declared.connector.Connector.{Connector}
 
 pub record Network : Type 0 where
+  -- 1 or 2
+  pub format : ℕ
   -- T, the number of steps
   pub steps : ℕ
   pub cells : List Cell
   pub connectors : List Connector
-  -- each cell's capacity, and the records of signals, limits and demands
+  -- each cell's capacity, and the records of signals, limits, demands and turns
   pub plan : PlanRecords
+  -- the number of each cell's region, where the file gives them, and else nothing
+  pub regions : List ℕ
 
 -- a cell within the ranges of the format
 pub record IsSoundCell (cell : Cell) : Type 0 where
@@ -42,28 +48,37 @@ pub record IsSoundConnector (cells : List Cell) (connector : Connector) : Type 0
   pub down_apart : IsDistinct eqb (downstream_of connector)
   pub weights : All (λ weight. (1 ≤ weight) × (weight ≤ MOST_RATIO)) (weights_of connector)
 
+-- turning shares within the range of the format
+pub record IsTurnWithin (turn : TurnRecord) : Type 0 where
+  pub some_first : 1 ≤ turn.b1
+  pub first : turn.b1 ≤ MOST_RATIO
+  pub some_second : 1 ≤ turn.b2
+  pub second : turn.b2 ≤ MOST_RATIO
+
 -- the records of a plan are those of these cells, within the ranges of the format
-pub record IsPlanOf (cells : List Cell) (plan : PlanRecords) : Type 0 where
+pub record IsPlanOf (format : ℕ) (cells : List Cell) (plan : PlanRecords) : Type 0 where
   -- a capacity for each cell
   pub one_each : length plan.cells ≡ length cells
   pub capacities : All (λ capacity. capacity ≤ MOST_CAPACITY) plan.cells
   pub signals : All (λ signal. (signal.cell < length cells) × (is_exit_at cells signal.cell ≡ false)) plan.signals
-  pub few_limits : length plan.limits ≤ MOST_RECORDS
+  pub few_limits : length plan.limits ≤ most_records format
   pub limits : All (λ limit. (limit.to ≤ MOST_STEPS) × (limit.capacity ≤ MOST_CAPACITY)) plan.limits
-  pub few_demands : length plan.demands ≤ MOST_RECORDS
+  pub few_demands : length plan.demands ≤ most_records format
   pub demands : All (λ demand. (is_gate_at cells demand.cell ≡ true) × (demand.to ≤ MOST_STEPS)) plan.demands
+  pub few_turns : length plan.turns ≤ most_records format
+  pub turns : All (λ turn. (turn.to ≤ MOST_STEPS) × IsTurnWithin turn) plan.turns
 
 -- what holds of the parts of a network, and of a draft of one at each record
-pub record HasSoundParts (cells : List Cell) (connectors : List Connector) (plan : PlanRecords) : Type 0 where
-  pub few_cells : length cells ≤ MOST_RECORDS
-  pub few_connectors : length connectors ≤ MOST_RECORDS
+pub record HasSoundParts (format : ℕ) (cells : List Cell) (connectors : List Connector) (plan : PlanRecords) : Type 0 where
+  pub few_cells : length cells ≤ most_records format
+  pub few_connectors : length connectors ≤ most_records format
   pub sound_cells : All IsSoundCell cells
   pub names : IsDistinct bytes_eq (map (λ cell. cell.name) cells)
   pub sound_connectors : All (IsSoundConnector cells) connectors
   -- each cell has at most one connector that leads out of it, and at most one that leads into it
   pub one_out : (i : ℕ) → count_by (leads_out_of i) connectors ≤ 1
   pub one_in : (i : ℕ) → count_by (leads_into i) connectors ≤ 1
-  pub planned : IsPlanOf cells plan
+  pub planned : IsPlanOf format cells plan
 
 -- all that ever enters: first occupancies, and the demand of the steps below T
 abbrev pub load_of : List Cell → PlanRecords → (steps : ℕ) → ℕ
@@ -71,8 +86,10 @@ load_of cells plan steps = sum_by (λ cell. cell.first) cells + total_demand pla
 
 -- what holds of every network
 pub record IsNetwork (net : Network) : Type 0 where
+  pub format : (net.format ≡ 1) ⊎ (net.format ≡ 2)
   pub some_steps : 1 ≤ net.steps
   pub few_steps : net.steps ≤ MOST_STEPS
   pub some_cells : 1 ≤ length net.cells
-  pub sound : HasSoundParts net.cells net.connectors net.plan
+  pub sound : HasSoundParts net.format net.cells net.connectors net.plan
+  pub regions : (net.regions ≡ []) ⊎ IsCutting (length net.cells) net.regions
   pub load : load_of net.cells net.plan net.steps ≤ MOST_PARTS

@@ -11,20 +11,28 @@ use Rattle.network_file.specs.declared.code.Code.{Code}
 use Rattle.network_file.specs.declared.code.Code.TheVariants.{NoHeader, NoSteps, NoCells, TooMuch}
 use Rattle.network_file.specs.declared.fault.NetFault.{NetFault}
 
--- the one header: the two fields `ctm` and `1`
-unfoldable pub is_header : List (List ℕ) → Bool
-is_header fields = (length fields == 2) && bytes_eq (field fields 0) (codes "ctm") && bytes_eq (field fields 1) (codes "1")
+-- the cutting that the region records of a draft make, or the fault that they have as a whole; without any there is none
+unfoldable pub regions_of : Draft → Result (List ℕ) Code
+regions_of draft =
+    let cells = length draft.cells in
+    let numbers = region_numbers cells draft.regions in
+    if length draft.regions == 0 then Ok []
+    else if not (all_have_regions cells draft.regions) then Err NoRegion
+    else if not (has_no_gap numbers) then Err RegionGap
+    else Ok numbers
 
--- the network of a draft with all records taken, where it has steps and cells and is not too much
-unfoldable pub completed : (place : ℕ) → Draft → Result Network NetFault
-completed place draft = elim draft.steps [
-  | None ↦ Err (fault_at place NoSteps)
-  | Some steps ↦
-      if length draft.cells == 0 then Err (fault_at place NoCells)
-      else if nat_le (load_of draft.cells draft.plan steps) MOST_PARTS then
-      Ok (record { steps = steps; cells = draft.cells; connectors = draft.connectors; plan = draft.plan })
-      else Err (fault_at place TooMuch)
-]
+-- the network of a draft with all records taken, or the fault that they have as a whole
+unfoldable pub network_in_all : Draft → Result Network Code
+network_in_all draft = do
+  steps ← ok_or draft.steps NoSteps
+  must (nat_lt 0 (length draft.cells)) NoCells
+  must (nat_le (load_of draft.cells draft.plan steps) MOST_PARTS) TooMuch
+  regions ← regions_of draft
+  Ok (record { format = draft.format; steps = steps; cells = draft.cells; connectors = draft.connectors; plan = draft.plan; regions = regions })
+
+-- that network, or its fault at a place
+abbrev pub completed : (place : ℕ) → Draft → Result Network NetFault
+completed place draft = map_err (fault_at place) (network_in_all draft)
 
 -- what follows the record at a place, if it has no fault
 abbrev pub on_taken : (place : ℕ) → Result Draft Code → (Draft → Result Network NetFault) → Result Network NetFault
@@ -39,7 +47,10 @@ read_records place draft (fields ∷ rest) = on_taken place (take_record draft f
 -- the network of a list of records, of which the first is the header
 unfoldable pub read_file : List (List (List ℕ)) → Result Network NetFault
 read_file [] = Err (fault_at 1 NoHeader)
-read_file (header ∷ rest) = if is_header header then read_records 2 empty_draft rest else Err (fault_at 1 NoHeader)
+read_file (header ∷ rest) = elim (format_of header) [
+  | None ↦ Err (fault_at 1 NoHeader)
+  | Some format ↦ read_records 2 (empty_draft format) rest
+]
 
 -- the network that a file is, or its first fault
 unfoldable pub network_of : List ℕ → Result Network NetFault

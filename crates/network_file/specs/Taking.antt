@@ -1,11 +1,12 @@
 -- What each kind of record adds to the draft, or the first fault that it has there.
-use Rattle.std.specs.Prelude.{ℕ, ◌+◌, ◌-◌, ◌==◌, List, Option, Some, None, Result, Ok, is_none, if◌then◌else◌, nat_lt, length, bytes_eq, codes, ok_or}
+use Rattle.std.specs.Prelude.{ℕ, ◌+◌, ◌-◌, ◌==◌, ◌&&◌, List, Option, Some, None, Result, Ok, is_none, if◌then◌else◌, nat_lt, length, bytes_eq, codes, ok_or}
 use Rattle.fixed_flow.specs.declared.amount.TheConstants.{MOST_PARTS}
-use Rattle.signal_plan.specs.declared.bounds.TheConstants.{MOST_RECORDS, MOST_STEPS}
+use Rattle.signal_plan.specs.declared.bounds.TheConstants.{MOST_RATIO, MOST_STEPS}
 use Rattle.network_file.specs.Checks.{◌>>=◌, ◌>>◌, must}
-use Rattle.network_file.specs.Draft.{Draft, with_steps, add_cell, add_connector, add_demand, add_limit, add_signal}
-use Rattle.network_file.specs.Fields.{field, whole_within, amount_within, new_name, known_cell, upstream, downstream, signal_cell, demand_gate}
-use Rattle.network_file.specs.declared.limits.TheConstants.{MOST_RATIO, MOST_ROOM, MOST_CAPACITY}
+use Rattle.network_file.specs.Draft.{Draft, with_steps, add_cell, add_connector, add_demand, add_limit, add_region, add_signal, add_turn}
+use Rattle.network_file.specs.Fields.{field, whole_within, amount_within, new_name, known_cell, upstream, downstream, signal_cell, demand_gate, turn_cell, region_cell}
+use Rattle.network_file.specs.Formats.{most_records}
+use Rattle.network_file.specs.declared.limits.TheConstants.{MOST_ROOM, MOST_CAPACITY, MOST_REGIONS}
 use Rattle.network_file.specs.declared.cell.Cell.{Cell}
 use Rattle.network_file.specs.declared.cell.Kind.{Kind}
 use Rattle.network_file.specs.declared.cell.Kind.TheVariants as kind
@@ -13,11 +14,11 @@ use Rattle.network_file.specs.declared.code.Code.{Code}
 use Rattle.network_file.specs.declared.code.Code.TheVariants.{BadKind, BadCount, TooMany, Repeated}
 use Rattle.network_file.specs.declared.connector.Connector.TheVariants as connector
 use Rattle.network_file.specs.declared.record_kind.RecordKind.{RecordKind}
-use Rattle.network_file.specs.declared.record_kind.RecordKind.TheVariants.{Steps, Road, Gate, Exit, Link, Merge, Diverge, Signal, Limit, Demand}
+use Rattle.network_file.specs.declared.record_kind.RecordKind.TheVariants.{Steps, Road, Gate, Exit, Link, Merge, Diverge, Signal, Limit, Demand, Turn, Region}
 
--- the kind that a first field names
-unfoldable pub record_kind_of : List ℕ → Option RecordKind
-record_kind_of text =
+-- the kind that a first field names; turns and regions are kinds of format 2 alone
+unfoldable pub record_kind_of : (format : ℕ) → List ℕ → Option RecordKind
+record_kind_of format text =
     if bytes_eq text (codes "steps") then Some Steps
     else if bytes_eq text (codes "road") then Some Road
     else if bytes_eq text (codes "gate") then Some Gate
@@ -28,6 +29,8 @@ record_kind_of text =
     else if bytes_eq text (codes "signal") then Some Signal
     else if bytes_eq text (codes "limit") then Some Limit
     else if bytes_eq text (codes "demand") then Some Demand
+    else if (format == 2) && bytes_eq text (codes "turn") then Some Turn
+    else if (format == 2) && bytes_eq text (codes "region") then Some Region
     else None
 
 -- how many fields a record has, the kind among them
@@ -42,8 +45,10 @@ field_count Diverge = 6
 field_count Signal = 6
 field_count Limit = 5
 field_count Demand = 5
+field_count Turn = 6
+field_count Region = 3
 
--- how many records the draft has of those that count together with this kind; `steps` and signals have no such limit
+-- how many records the draft has of those that count together with this kind; `steps`, signals and regions have no such limit
 abbrev pub taken_before : RecordKind → Draft → ℕ
 taken_before Steps draft = 0
 taken_before Road draft = length draft.cells
@@ -55,6 +60,8 @@ taken_before Diverge draft = length draft.connectors
 taken_before Signal draft = 0
 taken_before Limit draft = length draft.plan.limits
 taken_before Demand draft = length draft.plan.demands
+taken_before Turn draft = length draft.plan.turns
+taken_before Region draft = 0
 
 unfoldable pub take_steps : Draft → List (List ℕ) → Result Draft Code
 take_steps draft fields = do
@@ -138,6 +145,21 @@ take_demand draft fields = do
   amount ← amount_within MOST_PARTS (field fields 4)
   Ok (add_demand draft (record { cell = gate; from = from; to = to; amount = amount }))
 
+unfoldable pub take_turn : Draft → List (List ℕ) → Result Draft Code
+take_turn draft fields = do
+  cell ← turn_cell draft.cells draft.connectors (field fields 1)
+  from ← whole_within 0 (MOST_STEPS - 1) (field fields 2)
+  to ← whole_within (from + 1) MOST_STEPS (field fields 3)
+  b1 ← whole_within 1 MOST_RATIO (field fields 4)
+  b2 ← whole_within 1 MOST_RATIO (field fields 5)
+  Ok (add_turn draft (record { cell = cell; from = from; to = to; b1 = b1; b2 = b2 }))
+
+unfoldable pub take_region : Draft → List (List ℕ) → Result Draft Code
+take_region draft fields = do
+  cell ← region_cell draft.cells draft.regions (field fields 1)
+  number ← whole_within 0 (MOST_REGIONS - 1) (field fields 2)
+  Ok (add_region draft (record { cell = cell; number = number }))
+
 abbrev pub take_kind : RecordKind → Draft → List (List ℕ) → Result Draft Code
 take_kind Steps = take_steps
 take_kind Road = take_road
@@ -149,11 +171,13 @@ take_kind Diverge = take_diverge
 take_kind Signal = take_signal
 take_kind Limit = take_limit
 take_kind Demand = take_demand
+take_kind Turn = take_turn
+take_kind Region = take_region
 
 -- the draft with one more record
 unfoldable pub take_record : Draft → List (List ℕ) → Result Draft Code
 take_record draft fields = do
-  kind ← ok_or (record_kind_of (field fields 0)) BadKind
+  kind ← ok_or (record_kind_of draft.format (field fields 0)) BadKind
   must (length fields == field_count kind) BadCount
-  must (nat_lt (taken_before kind draft) MOST_RECORDS) TooMany
+  must (nat_lt (taken_before kind draft) (most_records draft.format)) TooMany
   take_kind kind draft fields

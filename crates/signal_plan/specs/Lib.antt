@@ -6,3 +6,5 @@ pub mod Demand
 pub mod Total
 pub mod CellRecords
 pub mod Layout
+pub mod Turning
+pub mod Changes

@@ -27,16 +27,25 @@ pub record DemandRecord : Type 0 where
   pub to : ℕ
   pub amount : ℕ
 
+-- in each step of `[from, to)` the diverge out of the cell has these turning shares
+pub record TurnRecord : Type 0 where
+  pub cell : ℕ
+  pub from : ℕ
+  pub to : ℕ
+  pub b1 : ℕ
+  pub b2 : ℕ
+
 -- what a plan says: the capacity Q of each cell, and the records of each kind in the order that they were put
 pub record PlanRecords : Type 0 where
   pub cells : List ℕ
   pub signals : List SignalRecord
   pub limits : List LimitRecord
   pub demands : List DemandRecord
+  pub turns : List TurnRecord
 
 -- the plan without cells
 abbrev pub no_records : PlanRecords
-no_records = record { cells = []; signals = []; limits = []; demands = [] }
+no_records = record { cells = []; signals = []; limits = []; demands = []; turns = [] }
 
 -- one more cell, of this capacity
 abbrev pub with_cell : PlanRecords → ℕ → PlanRecords
@@ -53,3 +62,7 @@ with_limit plan limit = record plan { limits = plan.limits ++ limit ∷ [] }
 -- one more demand record
 abbrev pub with_demand : PlanRecords → DemandRecord → PlanRecords
 with_demand plan demand = record plan { demands = plan.demands ++ demand ∷ [] }
+
+-- one more turn record
+abbrev pub with_turn : PlanRecords → TurnRecord → PlanRecords
+with_turn plan turn = record plan { turns = plan.turns ++ turn ∷ [] }

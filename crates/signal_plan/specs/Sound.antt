@@ -1,7 +1,7 @@
 use Rattle.std.specs.Prelude.{ℕ, ◌<◌, ◌≤◌, eqb, length, map, All}
 use Rattle.std.specs.List.{IsDistinct}
-use Rattle.signal_plan.specs.declared.bounds.TheConstants.{MOST_CELLS, MOST_RECORDS, MOST_PARTS, MOST_STEPS}
-use Rattle.signal_plan.specs.Records.{DemandRecord, LimitRecord, PlanRecords, SignalRecord}
+use Rattle.signal_plan.specs.declared.bounds.TheConstants.{MOST_CELLS, MOST_RECORDS, MOST_PARTS, MOST_RATIO, MOST_STEPS}
+use Rattle.signal_plan.specs.Records.{DemandRecord, LimitRecord, PlanRecords, SignalRecord, TurnRecord}
 
 -- the record is of one of the `cells` cells, and its offset and its green range lie in the cycle
 pub record IsSoundSignal (cells : ℕ) (signal : SignalRecord) : Type 0 where
@@ -22,6 +22,15 @@ pub record IsSoundDemand (cells : ℕ) (demand : DemandRecord) : Type 0 where
   pub steps : demand.from < demand.to
   pub amount : demand.amount ≤ MOST_PARTS
 
+-- the record is of one of the `cells` cells, has a step, and its shares are within bounds
+pub record IsSoundTurn (cells : ℕ) (turn : TurnRecord) : Type 0 where
+  pub cell : turn.cell < cells
+  pub steps : turn.from < turn.to
+  pub some_first : 1 ≤ turn.b1
+  pub some_second : 1 ≤ turn.b2
+  pub first : turn.b1 ≤ MOST_RATIO
+  pub second : turn.b2 ≤ MOST_RATIO
+
 -- what holds of the records of every plan
 pub record IsSoundPlan (plan : PlanRecords) : Type 0 where
   pub few_cells : length plan.cells ≤ MOST_CELLS
@@ -31,3 +40,4 @@ pub record IsSoundPlan (plan : PlanRecords) : Type 0 where
   pub limits : All (IsSoundLimit (length plan.cells)) plan.limits
   pub few_demands : length plan.demands ≤ MOST_RECORDS
   pub demands : All (IsSoundDemand (length plan.cells)) plan.demands
+  pub turns : All (IsSoundTurn (length plan.cells)) plan.turns
