@@ -8,6 +8,7 @@ use Rattle.std.proofs.lemmas.List.{get_or-map, get_or_append_left, get_or-append
 use Rattle.ordinary_link.proofs.Bounds.{link_flow_of-le-sent, link_flow_of-le-received}
 use Rattle.merge_rule.proofs.MergeFacts.{merge_of-first_sends, merge_of-second_sends, merge_of-receives}
 use Rattle.diverge_rule.proofs.DivergeFacts.{diverge_of-conserved, diverge_of-sends, diverge_of-first_receives, diverge_of-second_receives}
+use Rattle.signal_plan.specs.Turning.{shares_at}
 use Rattle.network_file.specs.Connectors.{upstream_of, downstream_of, cells_of, leads_out_of, leads_into}
 use Rattle.network_file.specs.Network.{Network, IsSoundConnector}
 use Rattle.network_file.specs.declared.cell.Cell.{Cell}
@@ -32,7 +33,7 @@ flow_between-conserved net t (Diverge up down1 down2 b1 b2) n =
     omega (
       arith,
       diverge_of-conserved (sending_at net t up (slice_index n 0)) (receiving_at net t down1 (slice_index n 1))
-          (receiving_at net t down2 (slice_index n 2)) b1 b2,
+          (receiving_at net t down2 (slice_index n 2)) (shares_at net.plan up t (b1, b2)).0 (shares_at net.plan up t (b1, b2)).1,
     )
 
 pub flow_between-sends : (net : Network) (t : ℕ) (connector : Connector) (n : List ℕ) → IsSoundConnector net.cells connector →
@@ -50,7 +51,7 @@ flow_between-sends net t (Merge up1 up2 down p1 p2) n sound (suc zero) within =
 flow_between-sends net t (Merge up1 up2 down p1 p2) n sound (suc (suc j)) within = absurd (omega arith)
 flow_between-sends net t (Diverge up down1 down2 b1 b2) n sound zero within =
     diverge_of-sends (sending_at net t up (slice_index n 0)) (receiving_at net t down1 (slice_index n 1))
-    (receiving_at net t down2 (slice_index n 2)) b1 b2
+    (receiving_at net t down2 (slice_index n 2)) (shares_at net.plan up t (b1, b2)).0 (shares_at net.plan up t (b1, b2)).1
 flow_between-sends net t (Diverge up down1 down2 b1 b2) n sound (suc j) within = absurd (omega arith)
 
 pub flow_between-receives : (net : Network) (t : ℕ) (connector : Connector) (n : List ℕ) → IsSoundConnector net.cells connector →
@@ -65,10 +66,10 @@ flow_between-receives net t (Merge up1 up2 down p1 p2) n sound zero within =
 flow_between-receives net t (Merge up1 up2 down p1 p2) n sound (suc j) within = absurd (omega arith)
 flow_between-receives net t (Diverge up down1 down2 b1 b2) n sound zero within =
     diverge_of-first_receives (sending_at net t up (slice_index n 0)) (receiving_at net t down1 (slice_index n 1))
-    (receiving_at net t down2 (slice_index n 2)) b1 b2
+    (receiving_at net t down2 (slice_index n 2)) (shares_at net.plan up t (b1, b2)).0 (shares_at net.plan up t (b1, b2)).1
 flow_between-receives net t (Diverge up down1 down2 b1 b2) n sound (suc zero) within =
     diverge_of-second_receives (sending_at net t up (slice_index n 0)) (receiving_at net t down1 (slice_index n 1))
-    (receiving_at net t down2 (slice_index n 2)) b1 b2
+    (receiving_at net t down2 (slice_index n 2)) (shares_at net.plan up t (b1, b2)).0 (shares_at net.plan up t (b1, b2)).1
 flow_between-receives net t (Diverge up down1 down2 b1 b2) n sound (suc (suc j)) within = absurd (omega arith)
 
 -- the part of a cell

@@ -4,6 +4,7 @@ use Rattle.ordinary_link.specs.LinkFlow.{link_flow_of}
 use Rattle.merge_rule.specs.Merge.{merge_of}
 use Rattle.diverge_rule.specs.Diverge.{diverge_of}
 use Rattle.signal_plan.specs.Demand.{demand_at}
+use Rattle.signal_plan.specs.Turning.{shares_at}
 use Rattle.network_file.specs.Cells.{is_gate_at}
 use Rattle.network_file.specs.Connectors.{upstream_of, downstream_of, cells_of}
 use Rattle.network_file.specs.Network.{Network}
@@ -26,7 +27,7 @@ abbrev pub diverge_carries : (s r1 r2 b1 b2 : ℕ) → Flow
 diverge_carries s r1 r2 b1 b2 =
     let split = diverge_of s r1 r2 b1 b2 in record { out1 = split.out; out2 = 0; in1 = split.to1; in2 = split.to2 }
 
--- what a connector carries in step t where its cells, in the order of its fields, hold n
+-- what a connector carries in step t where its cells, in the order of its fields, hold n; a diverge by its shares of that step
 unfoldable pub flow_between : Network → (t : ℕ) → Connector → (n : List ℕ) → Flow
 flow_between net t (Link up down) n =
     link_carries (sending_at net t up (slice_index n 0)) (receiving_at net t down (slice_index n 1))
@@ -34,8 +35,9 @@ flow_between net t (Merge up1 up2 down p1 p2) n =
     merge_carries (sending_at net t up1 (slice_index n 0)) (sending_at net t up2 (slice_index n 1))
     (receiving_at net t down (slice_index n 2)) p1 p2
 flow_between net t (Diverge up down1 down2 b1 b2) n =
+    let shares = shares_at net.plan up t (b1, b2) in
     diverge_carries (sending_at net t up (slice_index n 0)) (receiving_at net t down1 (slice_index n 1))
-    (receiving_at net t down2 (slice_index n 2)) b1 b2
+    (receiving_at net t down2 (slice_index n 2)) shares.0 shares.1
 
 -- what a connector carries in step t
 abbrev pub flow_of : Network → (t : ℕ) → (ℕ → ℕ) → Connector → Flow

@@ -57,12 +57,15 @@ fn carried_by(net: &Net, t: u64, connector: Connector, n: [u64; 3]) -> Flow
             down2,
             b1,
             b2,
-        } => Flow::of_diverge(
-            sending_at(net, t, up, n[0]),
-            receiving_at(net, t, down1, n[1]),
-            receiving_at(net, t, down2, n[2]),
-            b1,
-            b2,
-        ),
+        } => {
+            let (b1, b2) = net.plan.shares(up, t, (b1, b2));
+            Flow::of_diverge(
+                sending_at(net, t, up, n[0]),
+                receiving_at(net, t, down1, n[1]),
+                receiving_at(net, t, down2, n[2]),
+                b1,
+                b2,
+            )
+        }
     }
 }
