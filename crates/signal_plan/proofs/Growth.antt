@@ -1,5 +1,5 @@
 -- A plan stays laid out with one more cell or record.
-use Rattle.std.specs.Prelude.{map, slice_set, None, Some}
+use Rattle.std.specs.Prelude.{map, slice_set, Some}
 use Rattle.std.proofs.Common.{◌≡◌, ◌≢◌, ℕ, false, ◌<◌, List, [], ◌∷◌, ◌++◌, length, get_or, inl, inr, arith, sym, ◌∙◌, ap}
 use Rattle.std.proofs.lemmas.Bool.{cases_eq, cases_lt}
 use Rattle.std.proofs.lemmas.List.{get_or_append_left, get_or_push, get_or-set_same, get_or-set_other, length-set, length_push}
@@ -41,7 +41,7 @@ laid_out-set cells old new cell c sound own others laid = record {
 
 -- the stored records of the cell that was read, and one more
 pub laid_out-with_limit : (cells : List PlannedCell) (plan : PlanRecords) (limit : LimitRecord) (c new : PlannedCell) →
-    limit.cell < length cells → c ≡ get_or cells limit.cell c → 
+    limit.cell < length cells → c ≡ get_or cells limit.cell c →
     new ≡ record c { records = record c.records { limits = c.records.limits ++ limit ∷ [] } } →
     IsSoundLimit (length plan.cells) limit → IsLaidOut cells plan →
     IsLaidOut (slice_set cells limit.cell new) (with_limit plan limit)
@@ -54,7 +54,7 @@ laid_out-with_limit cells plan limit c new has read grown fits laid =
     (λ other apart. ap (planned plan other) (records_at-with_limit_other plan limit other apart)) laid
 
 pub laid_out-with_demand : (cells : List PlannedCell) (plan : PlanRecords) (demand : DemandRecord) (c new : PlannedCell) →
-    demand.cell < length cells → c ≡ get_or cells demand.cell c → 
+    demand.cell < length cells → c ≡ get_or cells demand.cell c →
     new ≡ record c { records = record c.records { demands = c.records.demands ++ demand ∷ [] } } →
     length plan.demands < MOST_RECORDS → IsSoundDemand (length plan.cells) demand → IsLaidOut cells plan →
     IsLaidOut (slice_set cells demand.cell new) (with_demand plan demand)
@@ -67,7 +67,7 @@ laid_out-with_demand cells plan demand c new has read grown few fits laid =
     (λ other apart. ap (planned plan other) (records_at-with_demand_other plan demand other apart)) laid
 
 pub laid_out-with_signal : (cells : List PlannedCell) (plan : PlanRecords) (signal : SignalRecord) (c new : PlannedCell) →
-    signal.cell < length cells → c ≡ get_or cells signal.cell c → 
+    signal.cell < length cells → c ≡ get_or cells signal.cell c →
     new ≡ record c { records = record c.records { signal = Some signal } } →
     is_signalled plan signal.cell ≡ false → IsSoundSignal (length plan.cells) signal → IsLaidOut cells plan →
     IsLaidOut (slice_set cells signal.cell new) (with_signal plan signal)

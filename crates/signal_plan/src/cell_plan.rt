@@ -47,7 +47,8 @@ impl CellPlan {
     /// Adds a limit record.
     pub(crate) fn put_limit(&mut self, alloc: Global, limit: Limit) -> Result<(), NoMemory>
         ensures added { OnOk result (self.new ≡ record self.old {
-            records = record self.old.records { limits = self.old.records.limits ++ limit ∷ [] } }) }
+          records = record self.old.records { limits = self.old.records.limits ++ limit ∷ [] };
+        }) }
         ensures unchanged { OnErr result (self.new ≡ self.old) }
     {
         match &mut self.records {
@@ -64,7 +65,8 @@ impl CellPlan {
     /// Adds a demand record.
     pub(crate) fn put_demand(&mut self, alloc: Global, demand: Demand) -> Result<(), NoMemory>
         ensures added { OnOk result (self.new ≡ record self.old {
-            records = record self.old.records { demands = self.old.records.demands ++ demand ∷ [] } }) }
+          records = record self.old.records { demands = self.old.records.demands ++ demand ∷ [] };
+        }) }
         ensures unchanged { OnErr result (self.new ≡ self.old) }
     {
         match &mut self.records {
@@ -81,7 +83,8 @@ impl CellPlan {
     /// Gives the cell this signal in place of any that it had.
     pub(crate) fn set_signal(&mut self, alloc: Global, signal: Signal) -> Result<(), NoMemory>
         ensures added { OnOk result (self.new ≡ record self.old {
-            records = record self.old.records { signal = Some signal } }) }
+          records = record self.old.records { signal = Some signal };
+        }) }
         ensures unchanged { OnErr result (self.new ≡ self.old) }
     {
         match &mut self.records {
