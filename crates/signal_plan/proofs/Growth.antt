@@ -20,7 +20,7 @@ capacities-set cells cell c new read kept =
     map-set_same (λ p. p.capacity) cells cell new c (kept ∙ ap (λ p. p.capacity) read)
 
 -- the records of one cell change to what the new plan says of it
-pub laid_out-set : (cells : List CellRecords) (old new : PlanRecords) (cell : ℕ) (c : CellRecords) →
+laid_out-set : (cells : List CellRecords) (old new : PlanRecords) (cell : ℕ) (c : CellRecords) →
     IsSoundPlan new → c ≡ records_at new cell →
     ((k : ℕ) → cell ≢ k → records_at new k ≡ records_at old k) → IsLaidOut cells old →
     IsLaidOut (slice_set cells cell c) new

@@ -4,6 +4,7 @@ pub mod Searches
 pub mod Overlap
 pub mod Sound
 pub mod OwnRecords
+pub mod OwnAnswers
 pub mod Growth
 pub mod Totals
 pub mod Laws

@@ -1,59 +1,18 @@
--- What a plan says of one cell, as its records grow, and as they answer.
-use Rattle.std.specs.Prelude.{◌&&◌, ◌==◌, if◌then◌else◌, Option, None, Some, is_some, reverse}
+-- What a plan says of one cell with one more cell or record.
+use Rattle.std.specs.Prelude.{◌==◌, if◌then◌else◌, Option, None, Some, is_some}
 use Rattle.std.specs.List.{find}
-use Rattle.std.specs.Option.{option_map_or, option_or}
-use Rattle.std.proofs.Common.{◌≡◌, ◌≢◌, ℕ, true, false, ◌<◌, List, [], ◌∷◌, ◌++◌, length, get_or, arith, refl, sym, ◌∙◌, ap}
+use Rattle.std.specs.Option.{option_or}
+use Rattle.std.proofs.Common.{◌≡◌, ◌≢◌, ℕ, false, ◌<◌, [], ◌∷◌, ◌++◌, length, arith, refl, ◌∙◌, ap}
 use Rattle.std.proofs.lemmas.Bool.{eq-eqb, ne_eqb}
 use Rattle.std.proofs.lemmas.List.{get_or_append_left, get_or_push}
 use Rattle.std.proofs.lemmas.List.Elements.{All-weaker}
 use Rattle.std.proofs.lemmas.List.Folds.{find-append}
-use Rattle.signal_plan.specs.Records.{DemandRecord, LimitRecord, PlanRecords, SignalRecord, in_range, with_cell, with_demand, with_limit, with_signal}
+use Rattle.signal_plan.specs.Records.{DemandRecord, LimitRecord, PlanRecords, SignalRecord, with_cell, with_demand, with_limit, with_signal}
 use Rattle.signal_plan.specs.Sound.{IsSoundDemand, IsSoundLimit, IsSoundPlan, IsSoundSignal}
-use Rattle.signal_plan.specs.Capacity.{capacity_at}
-use Rattle.signal_plan.specs.Green.{green_at, is_signalled, signal_of}
-use Rattle.signal_plan.specs.Demand.{amount_at, demand_at}
-use Rattle.signal_plan.specs.CellRecords.{CellRecords, brings, own_capacity, own_demand, own_green, records_at}
-use Rattle.signal_plan.specs.Layout.{IsLaidOut}
-use Rattle.signal_plan.proofs.Sums.{sum_by_agree}
-use Rattle.signal_plan.proofs.Filters.{filter-none, filter-reverse, filter_push_no, filter_push_yes, sum_by-filter}
-use Rattle.signal_plan.proofs.Searches.{find-filter, find-none}
-
--- the answers of a cell's own records are the plan's
-pub own_capacity_is : (plan : PlanRecords) (cell t : ℕ) → own_capacity (records_at plan cell) t ≡ capacity_at plan cell t
-unfolding capacity_at
-own_capacity_is plan cell t =
-    let q : ℕ = get_or plan.cells cell 0 in
-    ap (λ limits. option_map_or (λ limit. limit.capacity) (find (λ limit. in_range limit.from limit.to t) limits) q)
-    (sym (filter-reverse (λ limit. limit.cell == cell) plan.limits)) ∙
-    ap (λ found. option_map_or (λ limit. limit.capacity) found q)
-    (find-filter (λ limit. in_range limit.from limit.to t) (λ limit. limit.cell == cell) (reverse plan.limits))
-
-pub own_green_is : (plan : PlanRecords) (cell t : ℕ) → own_green (records_at plan cell) t ≡ green_at plan cell t
-unfolding green_at
-own_green_is plan cell t = refl
-
-pub own_demand_is : (plan : PlanRecords) (cell t : ℕ) → own_demand (records_at plan cell) t ≡ demand_at plan cell t
-unfolding demand_at
-own_demand_is plan cell t =
-    sum_by-filter (λ demand. brings demand t) (λ demand. demand.cell == cell) plan.demands ∙
-    sum_by_agree (λ demand. if demand.cell == cell then brings demand t else 0) (λ demand. amount_at demand cell t) plan.demands
-    (λ d. elim (d.cell == cell) as (λ b. (if b then brings d t else 0) ≡ (if b && in_range d.from d.to t then d.amount else 0)) [ true ↦ refl | false ↦ refl ])
-
--- what is read of a cell that is stored
-pub own_capacity_read : (cells : List CellRecords) (plan : PlanRecords) (cell t : ℕ) (c : CellRecords) → IsLaidOut cells plan →
-    cell < length cells → c ≡ get_or cells cell c → own_capacity c t ≡ capacity_at plan cell t
-own_capacity_read cells plan cell t c laid has read =
-    ap (λ own. own_capacity own t) (read ∙ laid.own cell c has) ∙ own_capacity_is plan cell t
-
-pub own_green_read : (cells : List CellRecords) (plan : PlanRecords) (cell t : ℕ) (c : CellRecords) → IsLaidOut cells plan →
-    cell < length cells → c ≡ get_or cells cell c → own_green c t ≡ green_at plan cell t
-own_green_read cells plan cell t c laid has read =
-    ap (λ own. own_green own t) (read ∙ laid.own cell c has) ∙ own_green_is plan cell t
-
-pub own_demand_read : (cells : List CellRecords) (plan : PlanRecords) (cell t : ℕ) (c : CellRecords) → IsLaidOut cells plan →
-    cell < length cells → c ≡ get_or cells cell c → own_demand c t ≡ demand_at plan cell t
-own_demand_read cells plan cell t c laid has read =
-    ap (λ own. own_demand own t) (read ∙ laid.own cell c has) ∙ own_demand_is plan cell t
+use Rattle.signal_plan.specs.Green.{is_signalled, signal_of}
+use Rattle.signal_plan.specs.CellRecords.{records_at}
+use Rattle.signal_plan.proofs.Filters.{filter-none, filter_push_no, filter_push_yes}
+use Rattle.signal_plan.proofs.Searches.{find-none}
 
 -- the records of the older cells stay as they are where a cell comes
 pub records_at-with_cell_old : (plan : PlanRecords) (capacity cell : ℕ) → cell < length plan.cells →

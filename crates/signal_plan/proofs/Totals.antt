@@ -11,10 +11,10 @@ use Rattle.signal_plan.specs.Total.{demand_from, total_demand}
 use Rattle.signal_plan.proofs.Sums.{sum_by_agree, sum_by_splits, sum_by-zero, sum_by_range_one}
 use Rattle.signal_plan.proofs.Overlap.{steps_in}
 
-abbrev pub steps_below : ℕ → List ℕ
+abbrev steps_below : ℕ → List ℕ
 steps_below steps = range_with_len 0 (steps - 0)
 
-abbrev pub cells_below : ℕ → List ℕ
+abbrev cells_below : ℕ → List ℕ
 cells_below cells = range_with_len 0 cells
 
 -- what one record brings to its cell in the steps below `steps`
@@ -22,17 +22,17 @@ abbrev pub brought : ℕ → DemandRecord → ℕ
 brought steps d = d.amount * (min d.to steps - d.from)
 
 -- what one record brings to the cell in these steps, step by step
-abbrev pub brought_to : (steps : ℕ) → DemandRecord → (cell : ℕ) → ℕ
+abbrev brought_to : (steps : ℕ) → DemandRecord → (cell : ℕ) → ℕ
 brought_to steps d cell = sum_by (amount_at d cell) (steps_below steps)
 
 -- what the records bring to the cell in one step, in these steps, and to all cells
-abbrev pub step_sum : List DemandRecord → (cell t : ℕ) → ℕ
+abbrev step_sum : List DemandRecord → (cell t : ℕ) → ℕ
 step_sum ds cell t = sum_by (λ d. amount_at d cell t) ds
 
-abbrev pub cell_sum : (steps : ℕ) → List DemandRecord → (cell : ℕ) → ℕ
+abbrev cell_sum : (steps : ℕ) → List DemandRecord → (cell : ℕ) → ℕ
 cell_sum steps ds cell = sum_by (step_sum ds cell) (steps_below steps)
 
-abbrev pub total_sum : (cells steps : ℕ) → List DemandRecord → ℕ
+abbrev total_sum : (cells steps : ℕ) → List DemandRecord → ℕ
 total_sum cells steps ds = sum_by (cell_sum steps ds) (cells_below cells)
 
 brought_to_is : (steps : ℕ) (d : DemandRecord) (own : Bool) →
@@ -62,7 +62,7 @@ total_sum-nil cells steps =
     sum_by-zero (cell_sum steps []) (cells_below cells) (λ k e below. omega (arith, no_steps))
 
 -- summed over the records, where each is of one of the cells
-pub total_sum_is : (cells steps : ℕ) (ds : List DemandRecord) → All (λ d. d.cell < cells) ds →
+total_sum_is : (cells steps : ℕ) (ds : List DemandRecord) → All (λ d. d.cell < cells) ds →
     total_sum cells steps ds ≡ sum_by (brought steps) ds
 total_sum_is cells steps [] has = total_sum-nil cells steps
 total_sum_is cells steps (d ∷ ds) has =

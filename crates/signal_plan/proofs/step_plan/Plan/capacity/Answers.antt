@@ -1,6 +1,6 @@
 use Rattle.std.proofs.Common.{◌∙◌}
 use Rattle.std.proofs.lemmas.List.{length-map}
-use Rattle.signal_plan.proofs.OwnRecords.{own_capacity_read}
+use Rattle.signal_plan.proofs.OwnAnswers.{own_capacity_read}
 use Rattle.signal_plan.proofs.step_plan.Plan.capacity.Goals as goal
 
 pub returns : goal.returns

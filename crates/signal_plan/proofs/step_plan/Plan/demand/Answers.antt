@@ -1,6 +1,6 @@
 use Rattle.std.proofs.Common.{arith, ◌∙◌}
 use Rattle.std.proofs.lemmas.List.{length-map}
-use Rattle.signal_plan.proofs.OwnRecords.{own_demand_read}
+use Rattle.signal_plan.proofs.OwnAnswers.{own_demand_read}
 use Rattle.signal_plan.proofs.Laws.{demand_at-le}
 use Rattle.signal_plan.proofs.step_plan.Plan.demand.Goals as goal
 

@@ -1,6 +1,6 @@
 use Rattle.std.proofs.Common.{◌∙◌}
 use Rattle.std.proofs.lemmas.List.{length-map}
-use Rattle.signal_plan.proofs.OwnRecords.{own_green_read}
+use Rattle.signal_plan.proofs.OwnAnswers.{own_green_read}
 use Rattle.signal_plan.proofs.step_plan.Plan.green.Goals as goal
 
 pub returns : goal.returns

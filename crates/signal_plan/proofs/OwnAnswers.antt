@@ -1,0 +1,51 @@
+-- What the records that are stored with a cell answer.
+use Rattle.std.specs.Prelude.{◌&&◌, ◌==◌, if◌then◌else◌, reverse}
+use Rattle.std.specs.List.{find}
+use Rattle.std.specs.Option.{option_map_or}
+use Rattle.std.proofs.Common.{◌≡◌, ℕ, true, false, ◌<◌, List, length, get_or, refl, sym, ◌∙◌, ap}
+use Rattle.signal_plan.specs.Records.{PlanRecords, in_range}
+use Rattle.signal_plan.specs.Capacity.{capacity_at}
+use Rattle.signal_plan.specs.Green.{green_at}
+use Rattle.signal_plan.specs.Demand.{amount_at, demand_at}
+use Rattle.signal_plan.specs.CellRecords.{CellRecords, brings, own_capacity, own_demand, own_green, records_at}
+use Rattle.signal_plan.specs.Layout.{IsLaidOut}
+use Rattle.signal_plan.proofs.Sums.{sum_by_agree}
+use Rattle.signal_plan.proofs.Filters.{filter-reverse, sum_by-filter}
+use Rattle.signal_plan.proofs.Searches.{find-filter}
+
+-- the answers of a cell's own records are the plan's
+own_capacity_is : (plan : PlanRecords) (cell t : ℕ) → own_capacity (records_at plan cell) t ≡ capacity_at plan cell t
+unfolding capacity_at
+own_capacity_is plan cell t =
+    let q : ℕ = get_or plan.cells cell 0 in
+    ap (λ limits. option_map_or (λ limit. limit.capacity) (find (λ limit. in_range limit.from limit.to t) limits) q)
+    (sym (filter-reverse (λ limit. limit.cell == cell) plan.limits)) ∙
+    ap (λ found. option_map_or (λ limit. limit.capacity) found q)
+    (find-filter (λ limit. in_range limit.from limit.to t) (λ limit. limit.cell == cell) (reverse plan.limits))
+
+own_green_is : (plan : PlanRecords) (cell t : ℕ) → own_green (records_at plan cell) t ≡ green_at plan cell t
+unfolding green_at
+own_green_is plan cell t = refl
+
+own_demand_is : (plan : PlanRecords) (cell t : ℕ) → own_demand (records_at plan cell) t ≡ demand_at plan cell t
+unfolding demand_at
+own_demand_is plan cell t =
+    sum_by-filter (λ demand. brings demand t) (λ demand. demand.cell == cell) plan.demands ∙
+    sum_by_agree (λ demand. if demand.cell == cell then brings demand t else 0) (λ demand. amount_at demand cell t) plan.demands
+    (λ d. elim (d.cell == cell) as (λ b. (if b then brings d t else 0) ≡ (if b && in_range d.from d.to t then d.amount else 0)) [ true ↦ refl | false ↦ refl ])
+
+-- what is read of a cell that is stored
+pub own_capacity_read : (cells : List CellRecords) (plan : PlanRecords) (cell t : ℕ) (c : CellRecords) → IsLaidOut cells plan →
+    cell < length cells → c ≡ get_or cells cell c → own_capacity c t ≡ capacity_at plan cell t
+own_capacity_read cells plan cell t c laid has read =
+    ap (λ own. own_capacity own t) (read ∙ laid.own cell c has) ∙ own_capacity_is plan cell t
+
+pub own_green_read : (cells : List CellRecords) (plan : PlanRecords) (cell t : ℕ) (c : CellRecords) → IsLaidOut cells plan →
+    cell < length cells → c ≡ get_or cells cell c → own_green c t ≡ green_at plan cell t
+own_green_read cells plan cell t c laid has read =
+    ap (λ own. own_green own t) (read ∙ laid.own cell c has) ∙ own_green_is plan cell t
+
+pub own_demand_read : (cells : List CellRecords) (plan : PlanRecords) (cell t : ℕ) (c : CellRecords) → IsLaidOut cells plan →
+    cell < length cells → c ≡ get_or cells cell c → own_demand c t ≡ demand_at plan cell t
+own_demand_read cells plan cell t c laid has read =
+    ap (λ own. own_demand own t) (read ∙ laid.own cell c has) ∙ own_demand_is plan cell t
