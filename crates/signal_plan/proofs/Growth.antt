@@ -1,5 +1,5 @@
 -- A plan stays laid out with one more cell or record.
-use Rattle.std.specs.Prelude.{map, slice_set, None, Some}
+use Rattle.std.specs.Prelude.{map, slice_set, Some}
 use Rattle.std.proofs.Common.{◌≡◌, ◌≢◌, ℕ, false, ◌<◌, List, [], ◌∷◌, ◌++◌, length, get_or, inl, inr, arith, sym, ◌∙◌, ap}
 use Rattle.std.proofs.lemmas.Bool.{cases_eq, cases_lt}
 use Rattle.std.proofs.lemmas.List.{get_or_append_left, get_or_push, get_or-set_same, get_or-set_other, length-set, length_push}
@@ -8,21 +8,25 @@ use Rattle.signal_plan.specs.declared.bounds.TheConstants.{MOST_CELLS, MOST_RECO
 use Rattle.signal_plan.specs.Records.{DemandRecord, LimitRecord, PlanRecords, SignalRecord, with_cell, with_demand, with_limit, with_signal}
 use Rattle.signal_plan.specs.Sound.{IsSoundDemand, IsSoundLimit, IsSoundPlan, IsSoundSignal}
 use Rattle.signal_plan.specs.Green.{is_signalled}
-use Rattle.signal_plan.specs.CellRecords.{CellRecords, records_at}
+use Rattle.signal_plan.specs.CellRecords.{CellRecords, PlannedCell, bare, planned_at}
 use Rattle.signal_plan.specs.Layout.{IsLaidOut}
-use Rattle.signal_plan.proofs.OwnRecords.{records_at-with_cell_new, records_at-with_cell_old, records_at-with_demand_other, records_at-with_demand_own, records_at-with_limit_other, records_at-with_limit_own, records_at-with_signal_other, records_at-with_signal_own}
+use Rattle.signal_plan.proofs.OwnRecords.{planned_at-with_cell_new, planned_at-with_cell_old, records_at-with_demand_other, records_at-with_demand_own, records_at-with_limit_other, records_at-with_limit_own, records_at-with_signal_other, records_at-with_signal_own}
 use Rattle.signal_plan.proofs.Sound.{IsSoundPlan-with_cell, IsSoundPlan-with_demand, IsSoundPlan-with_limit, IsSoundPlan-with_signal}
 
 -- the plan's capacities stay where a cell's records change and its capacity does not
-pub capacities-set : (cells : List CellRecords) (cell : ℕ) (c new : CellRecords) → c ≡ get_or cells cell c →
+pub capacities-set : (cells : List PlannedCell) (cell : ℕ) (c new : PlannedCell) → c ≡ get_or cells cell c →
     new.capacity ≡ c.capacity → map (λ p. p.capacity) (slice_set cells cell new) ≡ map (λ p. p.capacity) cells
 capacities-set cells cell c new read kept =
     map-set_same (λ p. p.capacity) cells cell new c (kept ∙ ap (λ p. p.capacity) read)
 
+-- the cell with these records and its capacity
+abbrev planned : PlanRecords → (cell : ℕ) → CellRecords → PlannedCell
+planned plan cell own = record { capacity = get_or plan.cells cell 0; records = own }
+
 -- the records of one cell change to what the new plan says of it
-laid_out-set : (cells : List CellRecords) (old new : PlanRecords) (cell : ℕ) (c : CellRecords) →
-    IsSoundPlan new → c ≡ records_at new cell →
-    ((k : ℕ) → cell ≢ k → records_at new k ≡ records_at old k) → IsLaidOut cells old →
+laid_out-set : (cells : List PlannedCell) (old new : PlanRecords) (cell : ℕ) (c : PlannedCell) →
+    IsSoundPlan new → c ≡ planned_at new cell →
+    ((k : ℕ) → cell ≢ k → planned_at new k ≡ planned_at old k) → IsLaidOut cells old →
     IsLaidOut (slice_set cells cell c) new
 laid_out-set cells old new cell c sound own others laid = record {
   sound = sound;
@@ -36,57 +40,58 @@ laid_out-set cells old new cell c sound own others laid = record {
 }
 
 -- the stored records of the cell that was read, and one more
-pub laid_out-with_limit : (cells : List CellRecords) (plan : PlanRecords) (limit : LimitRecord) (c new : CellRecords) →
-    limit.cell < length cells → c ≡ get_or cells limit.cell c → new ≡ record c { limits = c.limits ++ limit ∷ [] } →
+pub laid_out-with_limit : (cells : List PlannedCell) (plan : PlanRecords) (limit : LimitRecord) (c new : PlannedCell) →
+    limit.cell < length cells → c ≡ get_or cells limit.cell c →
+    new ≡ record c { records = record c.records { limits = c.records.limits ++ limit ∷ [] } } →
     IsSoundLimit (length plan.cells) limit → IsLaidOut cells plan →
     IsLaidOut (slice_set cells limit.cell new) (with_limit plan limit)
 laid_out-with_limit cells plan limit c new has read grown fits laid =
-    let more : CellRecords → CellRecords = λ p. record p { limits = p.limits ++ limit ∷ [] } in
+    let more : PlannedCell → PlannedCell =
+    λ p. record p { records = record p.records { limits = p.records.limits ++ limit ∷ [] } } in
     laid_out-set cells plan (with_limit plan limit) limit.cell new
     (IsSoundPlan-with_limit plan limit fits laid.sound)
-    (grown ∙ ap more (read ∙ laid.own limit.cell c has) ∙ sym (records_at-with_limit_own plan limit))
-    (records_at-with_limit_other plan limit) laid
+    (grown ∙ ap more (read ∙ laid.own limit.cell c has) ∙ ap (planned plan limit.cell) (sym (records_at-with_limit_own plan limit)))
+    (λ other apart. ap (planned plan other) (records_at-with_limit_other plan limit other apart)) laid
 
-pub laid_out-with_demand : (cells : List CellRecords) (plan : PlanRecords) (demand : DemandRecord) (c new : CellRecords) →
-    demand.cell < length cells → c ≡ get_or cells demand.cell c → new ≡ record c { demands = c.demands ++ demand ∷ [] } →
+pub laid_out-with_demand : (cells : List PlannedCell) (plan : PlanRecords) (demand : DemandRecord) (c new : PlannedCell) →
+    demand.cell < length cells → c ≡ get_or cells demand.cell c →
+    new ≡ record c { records = record c.records { demands = c.records.demands ++ demand ∷ [] } } →
     length plan.demands < MOST_RECORDS → IsSoundDemand (length plan.cells) demand → IsLaidOut cells plan →
     IsLaidOut (slice_set cells demand.cell new) (with_demand plan demand)
 laid_out-with_demand cells plan demand c new has read grown few fits laid =
-    let more : CellRecords → CellRecords = λ p. record p { demands = p.demands ++ demand ∷ [] } in
+    let more : PlannedCell → PlannedCell =
+    λ p. record p { records = record p.records { demands = p.records.demands ++ demand ∷ [] } } in
     laid_out-set cells plan (with_demand plan demand) demand.cell new
     (IsSoundPlan-with_demand plan demand few fits laid.sound)
-    (grown ∙ ap more (read ∙ laid.own demand.cell c has) ∙ sym (records_at-with_demand_own plan demand))
-    (records_at-with_demand_other plan demand) laid
+    (grown ∙ ap more (read ∙ laid.own demand.cell c has) ∙ ap (planned plan demand.cell) (sym (records_at-with_demand_own plan demand)))
+    (λ other apart. ap (planned plan other) (records_at-with_demand_other plan demand other apart)) laid
 
-pub laid_out-with_signal : (cells : List CellRecords) (plan : PlanRecords) (signal : SignalRecord) (c new : CellRecords) →
-    signal.cell < length cells → c ≡ get_or cells signal.cell c → new ≡ record c { signal = Some signal } →
+pub laid_out-with_signal : (cells : List PlannedCell) (plan : PlanRecords) (signal : SignalRecord) (c new : PlannedCell) →
+    signal.cell < length cells → c ≡ get_or cells signal.cell c →
+    new ≡ record c { records = record c.records { signal = Some signal } } →
     is_signalled plan signal.cell ≡ false → IsSoundSignal (length plan.cells) signal → IsLaidOut cells plan →
     IsLaidOut (slice_set cells signal.cell new) (with_signal plan signal)
 laid_out-with_signal cells plan signal c new has read grown none fits laid =
-    let more : CellRecords → CellRecords = λ p. record p { signal = Some signal } in
+    let more : PlannedCell → PlannedCell = λ p. record p { records = record p.records { signal = Some signal } } in
     laid_out-set cells plan (with_signal plan signal) signal.cell new
     (IsSoundPlan-with_signal plan signal none fits laid.sound)
-    (grown ∙ ap more (read ∙ laid.own signal.cell c has) ∙ sym (records_at-with_signal_own plan signal none))
-    (records_at-with_signal_other plan signal) laid
+    (grown ∙ ap more (read ∙ laid.own signal.cell c has) ∙ ap (planned plan signal.cell) (sym (records_at-with_signal_own plan signal none)))
+    (λ other apart. ap (planned plan other) (records_at-with_signal_other plan signal other apart)) laid
 
--- a cell of this capacity, without records
-abbrev pub bare : (capacity : ℕ) → CellRecords
-bare capacity = record { capacity = capacity; signal = None; limits = []; demands = [] }
-
-pub laid_out-with_cell : (cells : List CellRecords) (plan : PlanRecords) (capacity : ℕ) → length plan.cells ≡ length cells →
+pub laid_out-with_cell : (cells : List PlannedCell) (plan : PlanRecords) (capacity : ℕ) → length plan.cells ≡ length cells →
     length plan.cells < MOST_CELLS → IsLaidOut cells plan →
-    IsLaidOut (cells ++ bare capacity ∷ []) (with_cell plan capacity)
-laid_out-with_cell cells plan capacity as_many few laid = record {
+    IsLaidOut (cells ++ record { capacity = capacity; records = bare } ∷ []) (with_cell plan capacity)
+laid_out-with_cell cells plan capacity as_many few laid = let c : PlannedCell = record { capacity = capacity; records = bare } in record {
   sound = IsSoundPlan-with_cell plan capacity few laid.sound;
   own = λ k d within. elim (cases_lt k (length cells)) [
     | inl old ↦
-        get_or_append_left cells (bare capacity ∷ []) d k old ∙
+        get_or_append_left cells (c ∷ []) d k old ∙
         laid.own k d old ∙
-        sym (records_at-with_cell_old plan capacity k (omega arith))
+        sym (planned_at-with_cell_old plan capacity k (omega arith))
     | inr past ↦
-        let last : length cells ≡ k = omega (arith, length_push cells (bare capacity)) in
-        get_or_push cells (bare capacity) d k last ∙
-        sym (records_at-with_cell_new plan capacity laid.sound) ∙
-        ap (records_at (with_cell plan capacity)) (as_many ∙ last)
+        let last : length cells ≡ k = omega (arith, length_push cells c) in
+        get_or_push cells c d k last ∙
+        sym (planned_at-with_cell_new plan capacity laid.sound) ∙
+        ap (planned_at (with_cell plan capacity)) (as_many ∙ last)
   ];
 }

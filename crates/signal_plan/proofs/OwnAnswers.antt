@@ -7,14 +7,15 @@ use Rattle.signal_plan.specs.Records.{PlanRecords, in_range}
 use Rattle.signal_plan.specs.Capacity.{capacity_at}
 use Rattle.signal_plan.specs.Green.{green_at}
 use Rattle.signal_plan.specs.Demand.{amount_at, demand_at}
-use Rattle.signal_plan.specs.CellRecords.{CellRecords, brings, own_capacity, own_demand, own_green, records_at}
+use Rattle.signal_plan.specs.CellRecords.{PlannedCell, brings, own_capacity, own_demand, own_green, records_at}
 use Rattle.signal_plan.specs.Layout.{IsLaidOut}
 use Rattle.signal_plan.proofs.Sums.{sum_by_agree}
 use Rattle.signal_plan.proofs.Filters.{filter-reverse, sum_by-filter}
 use Rattle.signal_plan.proofs.Searches.{find-filter}
 
 -- the answers of a cell's own records are the plan's
-own_capacity_is : (plan : PlanRecords) (cell t : ℕ) → own_capacity (records_at plan cell) t ≡ capacity_at plan cell t
+own_capacity_is : (plan : PlanRecords) (cell t : ℕ) →
+    own_capacity (records_at plan cell) t (get_or plan.cells cell 0) ≡ capacity_at plan cell t
 unfolding capacity_at
 own_capacity_is plan cell t =
     let q : ℕ = get_or plan.cells cell 0 in
@@ -35,17 +36,17 @@ own_demand_is plan cell t =
     (λ d. elim (d.cell == cell) as (λ b. (if b then brings d t else 0) ≡ (if b && in_range d.from d.to t then d.amount else 0)) [ true ↦ refl | false ↦ refl ])
 
 -- what is read of a cell that is stored
-pub own_capacity_read : (cells : List CellRecords) (plan : PlanRecords) (cell t : ℕ) (c : CellRecords) → IsLaidOut cells plan →
-    cell < length cells → c ≡ get_or cells cell c → own_capacity c t ≡ capacity_at plan cell t
+pub own_capacity_read : (cells : List PlannedCell) (plan : PlanRecords) (cell t : ℕ) (c : PlannedCell) → IsLaidOut cells plan →
+    cell < length cells → c ≡ get_or cells cell c → own_capacity c.records t c.capacity ≡ capacity_at plan cell t
 own_capacity_read cells plan cell t c laid has read =
-    ap (λ own. own_capacity own t) (read ∙ laid.own cell c has) ∙ own_capacity_is plan cell t
+    ap (λ own. own_capacity own.records t own.capacity) (read ∙ laid.own cell c has) ∙ own_capacity_is plan cell t
 
-pub own_green_read : (cells : List CellRecords) (plan : PlanRecords) (cell t : ℕ) (c : CellRecords) → IsLaidOut cells plan →
-    cell < length cells → c ≡ get_or cells cell c → own_green c t ≡ green_at plan cell t
+pub own_green_read : (cells : List PlannedCell) (plan : PlanRecords) (cell t : ℕ) (c : PlannedCell) → IsLaidOut cells plan →
+    cell < length cells → c ≡ get_or cells cell c → own_green c.records t ≡ green_at plan cell t
 own_green_read cells plan cell t c laid has read =
-    ap (λ own. own_green own t) (read ∙ laid.own cell c has) ∙ own_green_is plan cell t
+    ap (λ own. own_green own.records t) (read ∙ laid.own cell c has) ∙ own_green_is plan cell t
 
-pub own_demand_read : (cells : List CellRecords) (plan : PlanRecords) (cell t : ℕ) (c : CellRecords) → IsLaidOut cells plan →
-    cell < length cells → c ≡ get_or cells cell c → own_demand c t ≡ demand_at plan cell t
+pub own_demand_read : (cells : List PlannedCell) (plan : PlanRecords) (cell t : ℕ) (c : PlannedCell) → IsLaidOut cells plan →
+    cell < length cells → c ≡ get_or cells cell c → own_demand c.records t ≡ demand_at plan cell t
 own_demand_read cells plan cell t c laid has read =
-    ap (λ own. own_demand own t) (read ∙ laid.own cell c has) ∙ own_demand_is plan cell t
+    ap (λ own. own_demand own.records t) (read ∙ laid.own cell c has) ∙ own_demand_is plan cell t

@@ -10,23 +10,22 @@ use Rattle.std.proofs.lemmas.List.Folds.{find-append}
 use Rattle.signal_plan.specs.Records.{DemandRecord, LimitRecord, PlanRecords, SignalRecord, with_cell, with_demand, with_limit, with_signal}
 use Rattle.signal_plan.specs.Sound.{IsSoundDemand, IsSoundLimit, IsSoundPlan, IsSoundSignal}
 use Rattle.signal_plan.specs.Green.{is_signalled, signal_of}
-use Rattle.signal_plan.specs.CellRecords.{records_at}
+use Rattle.signal_plan.specs.CellRecords.{bare, planned_at, records_at}
 use Rattle.signal_plan.proofs.Filters.{filter-none, filter_push_no, filter_push_yes}
 use Rattle.signal_plan.proofs.Searches.{find-none}
 
--- the records of the older cells stay as they are where a cell comes
-pub records_at-with_cell_old : (plan : PlanRecords) (capacity cell : ℕ) → cell < length plan.cells →
-    records_at (with_cell plan capacity) cell ≡ records_at plan cell
+-- the older cells stay as they are where a cell comes
+pub planned_at-with_cell_old : (plan : PlanRecords) (capacity cell : ℕ) → cell < length plan.cells →
+    planned_at (with_cell plan capacity) cell ≡ planned_at plan cell
 unfolding signal_of
-records_at-with_cell_old plan capacity cell has =
-    ap (λ q. record (records_at plan cell) { capacity = q }) (get_or_append_left plan.cells (capacity ∷ []) 0 cell has)
+planned_at-with_cell_old plan capacity cell has =
+    ap (λ q. record (planned_at plan cell) { capacity = q }) (get_or_append_left plan.cells (capacity ∷ []) 0 cell has)
 
 -- a cell that comes has no records yet
-pub records_at-with_cell_new : (plan : PlanRecords) (capacity : ℕ) → IsSoundPlan plan →
-    records_at (with_cell plan capacity) (length plan.cells) ≡
-    record { capacity = capacity; signal = None; limits = []; demands = [] }
+pub planned_at-with_cell_new : (plan : PlanRecords) (capacity : ℕ) → IsSoundPlan plan →
+    planned_at (with_cell plan capacity) (length plan.cells) ≡ record { capacity = capacity; records = bare }
 unfolding signal_of
-records_at-with_cell_new plan capacity sound =
+planned_at-with_cell_new plan capacity sound =
     let cells : ℕ = length plan.cells in
     let no_signal = find-none (λ s. s.cell == cells) plan.signals (
     All-weaker (IsSoundSignal cells) (λ s. (s.cell == cells) ≡ false)

@@ -1,33 +1,44 @@
 -- What a plan says of one cell.
-use Rattle.std.specs.Prelude.{ℕ, Bool, true, if◌then◌else◌, ◌==◌, List, Option, reverse, slice_index, sum_by}
+use Rattle.std.specs.Prelude.{ℕ, Bool, true, if◌then◌else◌, ◌==◌, List, [], Option, None, reverse, slice_index, sum_by}
 use Rattle.std.specs.List.{filter, find}
 use Rattle.std.specs.Option.{option_map_or}
 use Rattle.signal_plan.specs.Records.{DemandRecord, LimitRecord, PlanRecords, SignalRecord, in_range}
 use Rattle.signal_plan.specs.Green.{shows_green, signal_of}
 
--- the capacity Q of a cell, its signal, and its limit and demand records in the order that they were put
+-- the records of a cell: its signal, and its limit and demand records in the order that they were put
 pub record CellRecords : Type 0 where
-  pub capacity : ℕ
   pub signal : Option SignalRecord
   pub limits : List LimitRecord
   pub demands : List DemandRecord
 
--- what the plan says of the cell
+-- the capacity Q of a cell, and its records
+pub record PlannedCell : Type 0 where
+  pub capacity : ℕ
+  pub records : CellRecords
+
+-- a cell without records
+abbrev pub bare : CellRecords
+bare = record { signal = None; limits = []; demands = [] }
+
+-- the records of the plan that are of the cell
 abbrev pub records_at : PlanRecords → (cell : ℕ) → CellRecords
 records_at plan cell = record {
-  capacity = slice_index plan.cells cell;
   signal = signal_of plan cell;
   limits = filter (λ limit. limit.cell == cell) plan.limits;
   demands = filter (λ demand. demand.cell == cell) plan.demands;
 }
+
+-- what the plan says of the cell
+abbrev pub planned_at : PlanRecords → (cell : ℕ) → PlannedCell
+planned_at plan cell = record { capacity = slice_index plan.cells cell; records = records_at plan cell }
 
 -- the last limit record whose range contains `t`
 abbrev pub own_limit : CellRecords → (t : ℕ) → Option LimitRecord
 own_limit own t = find (λ limit. in_range limit.from limit.to t) (reverse own.limits)
 
 -- the capacity by that record, and else Q
-abbrev pub own_capacity : CellRecords → (t : ℕ) → ℕ
-own_capacity own t = option_map_or (λ limit. limit.capacity) (own_limit own t) own.capacity
+abbrev pub own_capacity : CellRecords → (t capacity : ℕ) → ℕ
+own_capacity own t capacity = option_map_or (λ limit. limit.capacity) (own_limit own t) capacity
 
 -- the signal shows green; without one it is always green
 abbrev pub own_green : CellRecords → (t : ℕ) → Bool

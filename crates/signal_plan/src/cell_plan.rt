@@ -1,6 +1,7 @@
-ghost use Rattle.std.specs.Prelude.{◌≡◌, ◌<◌, ◌^◌, [], ◌∷◌, ◌++◌, None, Some, is_some, OnOk, OnErr};
+ghost use Rattle.std.specs.Prelude.{◌≡◌, ◌<◌, ◌^◌, [], ◌∷◌, ◌++◌, Some, is_some, OnOk, OnErr};
 
 use crate::bounds::MOST_STEPS;
+use crate::cell_records::CellRecords;
 use crate::demand::Demand;
 use crate::limit::Limit;
 use crate::memory::NoMemory;
@@ -8,92 +9,111 @@ use crate::signal::Signal;
 use std::alloc::Global;
 use std::marker::Model;
 
-/// What the plan says of one cell: its capacity, and its own records in the order of the file.
+/// What the plan says of one cell: its capacity, and its records where it has any.
+///
+/// Most cells have none, and each is asked in each step: the records stand apart, so that the cells
+/// lie close together.
 #[derive(Debug, Drop)]
 pub(crate) struct CellPlan {
     capacity: u64,
-    limits: Vec<Limit>,
-    demands: Vec<Demand>,
-    signal: Option<Signal>,
+    records: Option<Box<CellRecords>>,
 }
 
 impl Model for CellPlan {
-    ghost use Rattle.signal_plan.specs.CellRecords.{CellRecords};
+    ghost use Rattle.std.specs.Option.{option_map_or};
+    ghost use Rattle.signal_plan.specs.CellRecords.{PlannedCell, bare};
 
-    ghost Value = { CellRecords };
+    ghost Value = { PlannedCell };
 
     ghost view = { λ c. record {
       capacity = c.capacity;
-      signal = c.signal;
-      limits = c.limits.items;
-      demands = c.demands.items;
+      records = option_map_or (λ own. own.value) c.records bare;
     } };
 }
 
 impl CellPlan {
-    ghost use Rattle.signal_plan.specs.CellRecords.{own_capacity, own_green, own_demand, own_limit};
+    ghost use Rattle.signal_plan.specs.CellRecords.{bare, own_capacity, own_demand, own_green};
 
-    /// A cell of this capacity, without records. It takes no memory.
-    pub(crate) fn new(alloc: Global, capacity: u64) -> Self
-        ensures { result ≡ record { capacity = capacity; signal = None; limits = []; demands = [] } }
+    /// A cell of this capacity, without records.
+    pub(crate) fn new(capacity: u64) -> Self
+        ensures { result ≡ record { capacity = capacity; records = bare } }
     {
         CellPlan {
             capacity,
-            limits: Vec::new(alloc),
-            demands: Vec::new(alloc),
-            signal: None,
+            records: None,
         }
     }
 
     /// Adds a limit record.
-    pub(crate) fn put_limit(&mut self, limit: Limit) -> Result<(), NoMemory>
-        ensures added { OnOk result (self.new ≡ record self.old { limits = self.old.limits ++ limit ∷ [] }) }
+    pub(crate) fn put_limit(&mut self, alloc: Global, limit: Limit) -> Result<(), NoMemory>
+        ensures added { OnOk result (self.new ≡ record self.old {
+          records = record self.old.records { limits = self.old.records.limits ++ limit ∷ [] };
+        }) }
         ensures unchanged { OnErr result (self.new ≡ self.old) }
     {
-        self.limits.push(limit)?;
+        match &mut self.records {
+            Some(records) => records.put_limit(limit)?,
+            None => {
+                let mut records = CellRecords::new(alloc);
+                records.put_limit(limit)?;
+                self.records = Some(Box::new(alloc, records)?);
+            }
+        }
         Ok(())
     }
 
     /// Adds a demand record.
-    pub(crate) fn put_demand(&mut self, demand: Demand) -> Result<(), NoMemory>
-        ensures added { OnOk result (self.new ≡ record self.old { demands = self.old.demands ++ demand ∷ [] }) }
+    pub(crate) fn put_demand(&mut self, alloc: Global, demand: Demand) -> Result<(), NoMemory>
+        ensures added { OnOk result (self.new ≡ record self.old {
+          records = record self.old.records { demands = self.old.records.demands ++ demand ∷ [] };
+        }) }
         ensures unchanged { OnErr result (self.new ≡ self.old) }
     {
-        self.demands.push(demand)?;
+        match &mut self.records {
+            Some(records) => records.put_demand(demand)?,
+            None => {
+                let mut records = CellRecords::new(alloc);
+                records.put_demand(demand)?;
+                self.records = Some(Box::new(alloc, records)?);
+            }
+        }
         Ok(())
     }
 
     /// Gives the cell this signal in place of any that it had.
-    pub(crate) fn set_signal(&mut self, signal: Signal)
-        ensures { self.new ≡ record self.old { signal = Some signal } }
+    pub(crate) fn set_signal(&mut self, alloc: Global, signal: Signal) -> Result<(), NoMemory>
+        ensures added { OnOk result (self.new ≡ record self.old {
+          records = record self.old.records { signal = Some signal };
+        }) }
+        ensures unchanged { OnErr result (self.new ≡ self.old) }
     {
-        self.signal = Some(signal);
+        match &mut self.records {
+            Some(records) => records.set_signal(signal),
+            None => {
+                let mut records = CellRecords::new(alloc);
+                records.set_signal(signal);
+                self.records = Some(Box::new(alloc, records)?);
+            }
+        }
+        Ok(())
     }
 
     /// Whether the cell has a signal.
     pub(crate) fn has_signal(&self) -> bool
-        ensures { result ≡ is_some self.now.signal }
+        ensures { result ≡ is_some self.now.records.signal }
     {
-        self.signal.is_some()
-    }
-
-    /// The newest limit that speaks of step `t`.
-    fn limit_at(&self, t: u64) -> Option<Limit>
-        ensures { result ≡ own_limit self.now t }
-    {
-        self.limits
-            .iter()
-            .rev()
-            .find(|limit| limit.holds_at(t))
-            .copied()
+        match &self.records {
+            Some(records) => records.has_signal(),
+            None => false,
+        }
     }
 
     /// The capacity at step `t`, by the newest limit that speaks of it.
     pub(crate) fn capacity_at(&self, t: u64) -> u64
-        ensures { result ≡ own_capacity self.now t }
+        ensures { result ≡ own_capacity self.now.records t self.now.capacity }
     {
-        match self.limit_at(t) {
-            Some(limit) => limit.capacity,
+        match &self.records {
+            Some(records) => records.capacity_at(t, self.capacity),
             None => self.capacity,
         }
     }
@@ -101,23 +121,22 @@ impl CellPlan {
     /// Whether the cell may send in step `t`: it has no signal, or a green one.
     pub(crate) fn is_green_at(&self, t: u64) -> bool
         requires in_time { t < MOST_STEPS }
-        ensures { result ≡ own_green self.now t }
+        ensures { result ≡ own_green self.now.records t }
     {
-        match &self.signal {
-            Some(signal) => signal.is_green_at(t),
+        match &self.records {
+            Some(records) => records.is_green_at(t),
             None => true,
         }
     }
 
     /// What all demand records bring in step `t`.
     pub(crate) fn demand_at(&self, t: u64) -> u64
-        requires fits { own_demand self.now t < 2 ^ 64 }
-        ensures { result ≡ own_demand self.now t }
+        requires fits { own_demand self.now.records t < 2 ^ 64 }
+        ensures { result ≡ own_demand self.now.records t }
     {
-        let mut amount = 0;
-        for demand in &self.demands {
-            amount += demand.at(t);
+        match &self.records {
+            Some(records) => records.demand_at(t),
+            None => 0,
         }
-        amount
     }
 }

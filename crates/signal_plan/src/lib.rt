@@ -8,6 +8,7 @@
 
 mod bounds;
 mod cell_plan;
+mod cell_records;
 mod demand;
 mod limit;
 mod memory;

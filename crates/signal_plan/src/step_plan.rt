@@ -60,7 +60,7 @@ impl Plan {
         ensures added { OnOk result (self.new ≡ with_cell self.old capacity) }
         ensures unchanged { OnErr result (self.new ≡ self.old) }
     {
-        self.cells.push(CellPlan::new(self.alloc, capacity))?;
+        self.cells.push(CellPlan::new(capacity))?;
         Ok(())
     }
 
@@ -88,7 +88,7 @@ impl Plan {
         // Room first: after it the last push cannot fail.
         self.limits.reserve(1)?;
         let own = &mut self.cells[cell as usize];
-        own.put_limit(limit)?;
+        own.put_limit(self.alloc, limit)?;
         self.limits.push(limit)?;
         Ok(())
     }
@@ -119,9 +119,11 @@ impl Plan {
             from: from as u32,
             to: to as u32,
         };
-        self.signals.push(signal)?;
+        // Room first: after it the last push cannot fail.
+        self.signals.reserve(1)?;
         let own = &mut self.cells[cell as usize];
-        own.set_signal(signal);
+        own.set_signal(self.alloc, signal)?;
+        self.signals.push(signal)?;
         Ok(())
     }
 
@@ -144,7 +146,7 @@ impl Plan {
         // Room first: after it the last push cannot fail.
         self.demands.reserve(1)?;
         let own = &mut self.cells[cell as usize];
-        own.put_demand(demand)?;
+        own.put_demand(self.alloc, demand)?;
         self.demands.push(demand)?;
         Ok(())
     }

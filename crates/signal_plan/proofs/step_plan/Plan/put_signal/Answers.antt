@@ -4,20 +4,20 @@ use Rattle.std.proofs.lemmas.List.{length-map}
 use Rattle.signal_plan.proofs.Growth.{capacities-set, laid_out-with_signal}
 use Rattle.signal_plan.proofs.step_plan.Plan.put_signal.Goals as goal
 
-same_capacities : (c : goal.After-self-1) →
+same_capacities : (c : goal.In_ok-push) →
     map (λ p. p.capacity) (slice_set c.self.inside.cells.items c.args.cell c.set_signal.new.self) ≡
     map (λ p. p.capacity) c.self.inside.cells.items
 same_capacities c =
     capacities-set c.self.inside.cells.items c.args.cell _ c.set_signal.new.self
-    c.index_mut-own.ensures.value (ap (λ p. p.capacity) c.set_signal.ensures)
+    c.index_mut-own.ensures.value (ap (λ p. p.capacity) c.in_ok-set_signal.ensures.added)
 
 pub invariant_of-self-2 : goal.invariant_of-self-2
 invariant_of-self-2 c =
     let has = rw (← c.self.view_is, length-map) at c.requires.has_cell in
     let none = rw (← c.self.view_is) at c.requires.no_signal in
     let cell = rw (← c.self.view_is) at c.requires.has_cell in
-    rw (c.in_ok-push.ensures.items, same_capacities c) (
-    laid_out-with_signal _ _ _ _ _ has c.index_mut-own.ensures.value c.set_signal.ensures none
+    rw (c.in_ok-push.ensures.items, c.reserve.ensures.items, same_capacities c) (
+    laid_out-with_signal _ _ _ _ _ has c.index_mut-own.ensures.value c.in_ok-set_signal.ensures.added none
     (record {
       cell = cell;
       cycle = c.requires.cycle;
@@ -28,4 +28,4 @@ invariant_of-self-2 c =
     )
 
 pub returns-clause-added : goal.returns-clause-added
-returns-clause-added c = rw (c.in_ok-push.ensures.items, same_capacities c, ← c.self.view_is) refl
+returns-clause-added c = rw (c.in_ok-push.ensures.items, c.reserve.ensures.items, same_capacities c, ← c.self.view_is) refl

@@ -2,7 +2,7 @@ use Rattle.std.proofs.Common.{rules, tests, ◌∙◌}
 use Rattle.std.proofs.lemmas.Iterator.Adapters.{YieldsList-from_rev_slice}
 use Rattle.std.proofs.lemmas.Iterator.Search.{find_from_yields_List}
 use Rattle.signal_plan.specs.Records.{in_range}
-use Rattle.signal_plan.proofs.cell_plan.CellPlan.limit_at.Goals as goal
+use Rattle.signal_plan.proofs.cell_records.CellRecords.limit_at.Goals as goal
 
 pub returns : goal.returns
 returns c =

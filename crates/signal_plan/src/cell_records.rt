@@ -1,0 +1,120 @@
+ghost use Rattle.std.specs.Prelude.{◌≡◌, ◌<◌, ◌^◌, [], ◌∷◌, ◌++◌, Some, is_some, OnOk, OnErr};
+
+use crate::bounds::MOST_STEPS;
+use crate::demand::Demand;
+use crate::limit::Limit;
+use crate::memory::NoMemory;
+use crate::signal::Signal;
+use std::alloc::Global;
+use std::marker::Model;
+
+/// The records of one cell, in the order of the file.
+#[derive(Debug, Drop)]
+pub(crate) struct CellRecords {
+    signal: Option<Signal>,
+    limits: Vec<Limit>,
+    demands: Vec<Demand>,
+}
+
+impl Model for CellRecords {
+    ghost use Rattle.signal_plan.specs.CellRecords as cell;
+
+    ghost Value = { cell.CellRecords };
+
+    ghost view = { λ own. record {
+      signal = own.signal;
+      limits = own.limits.items;
+      demands = own.demands.items;
+    } };
+}
+
+impl CellRecords {
+    ghost use Rattle.signal_plan.specs.CellRecords.{bare, own_capacity, own_demand, own_green, own_limit};
+
+    /// No records. It takes no memory.
+    pub(crate) fn new(alloc: Global) -> Self
+        ensures { result ≡ bare }
+    {
+        CellRecords {
+            signal: None,
+            limits: Vec::new(alloc),
+            demands: Vec::new(alloc),
+        }
+    }
+
+    /// Adds a limit record.
+    pub(crate) fn put_limit(&mut self, limit: Limit) -> Result<(), NoMemory>
+        ensures added { OnOk result (self.new ≡ record self.old { limits = self.old.limits ++ limit ∷ [] }) }
+        ensures unchanged { OnErr result (self.new ≡ self.old) }
+    {
+        self.limits.push(limit)?;
+        Ok(())
+    }
+
+    /// Adds a demand record.
+    pub(crate) fn put_demand(&mut self, demand: Demand) -> Result<(), NoMemory>
+        ensures added { OnOk result (self.new ≡ record self.old { demands = self.old.demands ++ demand ∷ [] }) }
+        ensures unchanged { OnErr result (self.new ≡ self.old) }
+    {
+        self.demands.push(demand)?;
+        Ok(())
+    }
+
+    /// Gives the cell this signal in place of any that it had.
+    pub(crate) fn set_signal(&mut self, signal: Signal)
+        ensures { self.new ≡ record self.old { signal = Some signal } }
+    {
+        self.signal = Some(signal);
+    }
+
+    /// Whether the cell has a signal.
+    pub(crate) fn has_signal(&self) -> bool
+        ensures { result ≡ is_some self.now.signal }
+    {
+        self.signal.is_some()
+    }
+
+    /// The newest limit that speaks of step `t`.
+    fn limit_at(&self, t: u64) -> Option<Limit>
+        ensures { result ≡ own_limit self.now t }
+    {
+        self.limits
+            .iter()
+            .rev()
+            .find(|limit| limit.holds_at(t))
+            .copied()
+    }
+
+    /// The capacity at step `t`, by the newest limit that speaks of it, and else `capacity`.
+    pub(crate) fn capacity_at(&self, t: u64, capacity: u64) -> u64
+        ensures { result ≡ own_capacity self.now t capacity }
+    {
+        match self.limit_at(t) {
+            Some(limit) => limit.capacity,
+            None => capacity,
+        }
+    }
+
+    /// Whether the cell may send in step `t`: it has no signal, or a green one.
+    pub(crate) fn is_green_at(&self, t: u64) -> bool
+        requires in_time { t < MOST_STEPS }
+        ensures { result ≡ own_green self.now t }
+    {
+        match &self.signal {
+            Some(signal) => signal.is_green_at(t),
+            None => true,
+        }
+    }
+
+    /// What all demand records bring in step `t`.
+    pub(crate) fn demand_at(&self, t: u64) -> u64
+        requires fits { own_demand self.now t < 2 ^ 64 }
+        ensures { result ≡ own_demand self.now t }
+    {
+        let mut amount = 0;
+        for demand in &self.demands {
+            amount += demand.at(t);
+        }
+        amount
+    }
+}
