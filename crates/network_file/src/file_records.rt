@@ -36,7 +36,8 @@ pub(crate) fn next_record(
     }
 }
 
-/// What a reader over bytes fails of: want of memory, for the bytes themselves are always read.
+/// Why a reader of such records fails: for want of memory. The other cause that its contract leaves is an error
+/// of what it reads from, and bytes give none.
 fn want_of_memory(error: Error) -> NoMemory
     requires { stops_reader (error_kind error) ≡ true }
 {
