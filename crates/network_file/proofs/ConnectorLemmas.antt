@@ -8,7 +8,7 @@ use Rattle.network_file.specs.Cells.{is_exit_at, is_gate_at}
 use Rattle.network_file.specs.Network.{IsSoundConnector}
 use Rattle.network_file.specs.declared.cell.Cell.{Cell}
 use Rattle.network_file.specs.declared.connector.Connector.TheVariants.{Link, Merge, Diverge}
-use Rattle.network_file.specs.declared.limits.TheConstants.{MOST_RATIO}
+use Rattle.signal_plan.specs.declared.bounds.TheConstants.{MOST_RATIO}
 
 -- a cell that may stand upstream, one that may stand downstream, and a weight
 abbrev Sends : List Cell → ℕ → Type 0

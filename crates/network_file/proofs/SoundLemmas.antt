@@ -9,12 +9,13 @@ use Rattle.std.proofs.lemmas.List.Elements.{All-head, All-push, All-tail}
 use Rattle.std.proofs.lemmas.List.Sums.{sum_by_push, sum_by-cons}
 use Rattle.std.proofs.lemmas.Map.Keys.{IsDistinct-push}
 use Rattle.std.proofs.lemmas.Option.{slice_get_within}
-use Rattle.signal_plan.specs.Records.{DemandRecord, LimitRecord, PlanRecords, SignalRecord, with_cell, with_demand, with_limit, with_signal}
-use Rattle.signal_plan.specs.declared.bounds.TheConstants.{MOST_RECORDS, MOST_STEPS}
+use Rattle.signal_plan.specs.Records.{DemandRecord, LimitRecord, PlanRecords, SignalRecord, TurnRecord, with_cell, with_demand, with_limit, with_signal, with_turn}
+use Rattle.signal_plan.specs.declared.bounds.TheConstants.{MOST_STEPS}
+use Rattle.network_file.specs.Formats.{most_records}
 use Rattle.network_file.proofs.CellLemmas.{no_name}
 use Rattle.network_file.specs.Cells.{cell_named, is_exit_at, is_gate_at}
 use Rattle.network_file.specs.Connectors.{downstream_of, leads_into, leads_out_of, upstream_of}
-use Rattle.network_file.specs.Network.{HasSoundParts, IsPlanOf, IsSoundCell, IsSoundConnector}
+use Rattle.network_file.specs.Network.{HasSoundParts, IsPlanOf, IsSoundCell, IsSoundConnector, IsTurnWithin}
 use Rattle.network_file.specs.declared.cell.Cell.{Cell}
 use Rattle.network_file.specs.declared.connector.Connector.{Connector}
 use Rattle.network_file.specs.declared.limits.TheConstants.{MOST_CAPACITY}
@@ -83,9 +84,9 @@ still_sound cells cell connector sound = record {
 }
 
 -- a plan of the cells is one of one cell more
-plan-add_cell : (cells : List Cell) (plan : PlanRecords) (cell : Cell) (capacity : ℕ) → IsPlanOf cells plan → capacity ≤ MOST_CAPACITY
-    → IsPlanOf (cells ++ cell ∷ []) (with_cell plan capacity)
-plan-add_cell cells plan cell capacity planned low = record {
+plan-add_cell : (format : ℕ) (cells : List Cell) (plan : PlanRecords) (cell : Cell) (capacity : ℕ) → IsPlanOf format cells plan → capacity ≤ MOST_CAPACITY
+    → IsPlanOf format (cells ++ cell ∷ []) (with_cell plan capacity)
+plan-add_cell format cells plan cell capacity planned low = record {
   one_each = simp length-append (omega (arith, planned.one_each));
   capacities = All-push (λ q. q ≤ MOST_CAPACITY) plan.cells capacity planned.capacities low;
   signals = λ k d h.
@@ -97,12 +98,14 @@ plan-add_cell cells plan cell capacity planned low = record {
   demands = λ k d h.
       let (gate, in_time) = planned.demands k d h in
       (rw (same_gate cells cell _ (gate-within cells _ gate)) gate, in_time);
+  few_turns = planned.few_turns;
+  turns = planned.turns;
 }
 
-pub HasSoundParts-add_cell : (cells : List Cell) (connectors : List Connector) (plan : PlanRecords) (cell : Cell) (capacity : ℕ)
-    → HasSoundParts cells connectors plan → length cells < MOST_RECORDS → cell_named cells cell.name ≡ None → IsSoundCell cell → capacity ≤ MOST_CAPACITY
-    → HasSoundParts (cells ++ cell ∷ []) connectors (with_cell plan capacity)
-HasSoundParts-add_cell cells connectors plan cell capacity sound room fresh fits low = record {
+pub HasSoundParts-add_cell : (format : ℕ) (cells : List Cell) (connectors : List Connector) (plan : PlanRecords) (cell : Cell) (capacity : ℕ)
+    → HasSoundParts format cells connectors plan → length cells < most_records format → cell_named cells cell.name ≡ None → IsSoundCell cell → capacity ≤ MOST_CAPACITY
+    → HasSoundParts format (cells ++ cell ∷ []) connectors (with_cell plan capacity)
+HasSoundParts-add_cell format cells connectors plan cell capacity sound room fresh fits low = record {
   few_cells = simp length-append (omega (arith, room));
   few_connectors = sound.few_connectors;
   sound_cells = All-push IsSoundCell cells cell sound.sound_cells fits;
@@ -110,15 +113,15 @@ HasSoundParts-add_cell cells connectors plan cell capacity sound room fresh fits
   sound_connectors = λ k d h. still_sound cells cell _ (sound.sound_connectors k d h);
   one_out = sound.one_out;
   one_in = sound.one_in;
-  planned = plan-add_cell cells plan cell capacity sound.planned low;
+  planned = plan-add_cell format cells plan cell capacity sound.planned low;
 }
 
-pub HasSoundParts-add_connector : (cells : List Cell) (connectors : List Connector) (plan : PlanRecords) (connector : Connector)
-    → HasSoundParts cells connectors plan → length connectors < MOST_RECORDS → IsSoundConnector cells connector
+pub HasSoundParts-add_connector : (format : ℕ) (cells : List Cell) (connectors : List Connector) (plan : PlanRecords) (connector : Connector)
+    → HasSoundParts format cells connectors plan → length connectors < most_records format → IsSoundConnector cells connector
     → All (λ up. list_any (leads_out_of up) connectors ≡ false) (upstream_of connector)
     → All (λ down. list_any (leads_into down) connectors ≡ false) (downstream_of connector)
-    → HasSoundParts cells (connectors ++ connector ∷ []) plan
-HasSoundParts-add_connector cells connectors plan connector sound room fits up_free down_free = record {
+    → HasSoundParts format cells (connectors ++ connector ∷ []) plan
+HasSoundParts-add_connector format cells connectors plan connector sound room fits up_free down_free = record {
   few_cells = sound.few_cells;
   few_connectors = simp length-append (omega (arith, room));
   sound_cells = sound.sound_cells;
@@ -132,9 +135,9 @@ HasSoundParts-add_connector cells connectors plan connector sound room fits up_f
 }
 
 -- what every network keeps, with other records of the plan
-with_plan : (cells : List Cell) (connectors : List Connector) (old new : PlanRecords) → HasSoundParts cells connectors old → IsPlanOf cells new
-    → HasSoundParts cells connectors new
-with_plan cells connectors old new sound planned = record {
+with_plan : (format : ℕ) (cells : List Cell) (connectors : List Connector) (old new : PlanRecords) → HasSoundParts format cells connectors old → IsPlanOf format cells new
+    → HasSoundParts format cells connectors new
+with_plan format cells connectors old new sound planned = record {
   few_cells = sound.few_cells;
   few_connectors = sound.few_connectors;
   sound_cells = sound.sound_cells;
@@ -145,12 +148,12 @@ with_plan cells connectors old new sound planned = record {
   planned = planned;
 }
 
-pub HasSoundParts-add_signal : (cells : List Cell) (connectors : List Connector) (plan : PlanRecords) (signal : SignalRecord)
-    → HasSoundParts cells connectors plan → signal.cell < length cells → is_exit_at cells signal.cell ≡ false
-    → HasSoundParts cells connectors (with_signal plan signal)
-HasSoundParts-add_signal cells connectors plan signal sound there sends =
+pub HasSoundParts-add_signal : (format : ℕ) (cells : List Cell) (connectors : List Connector) (plan : PlanRecords) (signal : SignalRecord)
+    → HasSoundParts format cells connectors plan → signal.cell < length cells → is_exit_at cells signal.cell ≡ false
+    → HasSoundParts format cells connectors (with_signal plan signal)
+HasSoundParts-add_signal format cells connectors plan signal sound there sends =
     let planned = sound.planned in
-    with_plan cells connectors plan (with_signal plan signal) sound (record {
+    with_plan format cells connectors plan (with_signal plan signal) sound (record {
       one_each = planned.one_each;
       capacities = planned.capacities;
       signals = All-push (λ s. (s.cell < length cells) × (is_exit_at cells s.cell ≡ false)) plan.signals signal planned.signals (there, sends);
@@ -158,14 +161,16 @@ HasSoundParts-add_signal cells connectors plan signal sound there sends =
       limits = planned.limits;
       few_demands = planned.few_demands;
       demands = planned.demands;
+      few_turns = planned.few_turns;
+      turns = planned.turns;
     })
 
-pub HasSoundParts-add_limit : (cells : List Cell) (connectors : List Connector) (plan : PlanRecords) (limit : LimitRecord)
-    → HasSoundParts cells connectors plan → length plan.limits < MOST_RECORDS → limit.to ≤ MOST_STEPS → limit.capacity ≤ MOST_CAPACITY
-    → HasSoundParts cells connectors (with_limit plan limit)
-HasSoundParts-add_limit cells connectors plan limit sound room in_time low =
+pub HasSoundParts-add_limit : (format : ℕ) (cells : List Cell) (connectors : List Connector) (plan : PlanRecords) (limit : LimitRecord)
+    → HasSoundParts format cells connectors plan → length plan.limits < most_records format → limit.to ≤ MOST_STEPS → limit.capacity ≤ MOST_CAPACITY
+    → HasSoundParts format cells connectors (with_limit plan limit)
+HasSoundParts-add_limit format cells connectors plan limit sound room in_time low =
     let planned = sound.planned in
-    with_plan cells connectors plan (with_limit plan limit) sound (record {
+    with_plan format cells connectors plan (with_limit plan limit) sound (record {
       one_each = planned.one_each;
       capacities = planned.capacities;
       signals = planned.signals;
@@ -173,14 +178,16 @@ HasSoundParts-add_limit cells connectors plan limit sound room in_time low =
       limits = All-push (λ l. (l.to ≤ MOST_STEPS) × (l.capacity ≤ MOST_CAPACITY)) plan.limits limit planned.limits (in_time, low);
       few_demands = planned.few_demands;
       demands = planned.demands;
+      few_turns = planned.few_turns;
+      turns = planned.turns;
     })
 
-pub HasSoundParts-add_demand : (cells : List Cell) (connectors : List Connector) (plan : PlanRecords) (demand : DemandRecord)
-    → HasSoundParts cells connectors plan → length plan.demands < MOST_RECORDS → is_gate_at cells demand.cell ≡ true → demand.to ≤ MOST_STEPS
-    → HasSoundParts cells connectors (with_demand plan demand)
-HasSoundParts-add_demand cells connectors plan demand sound room gate in_time =
+pub HasSoundParts-add_demand : (format : ℕ) (cells : List Cell) (connectors : List Connector) (plan : PlanRecords) (demand : DemandRecord)
+    → HasSoundParts format cells connectors plan → length plan.demands < most_records format → is_gate_at cells demand.cell ≡ true → demand.to ≤ MOST_STEPS
+    → HasSoundParts format cells connectors (with_demand plan demand)
+HasSoundParts-add_demand format cells connectors plan demand sound room gate in_time =
     let planned = sound.planned in
-    with_plan cells connectors plan (with_demand plan demand) sound (record {
+    with_plan format cells connectors plan (with_demand plan demand) sound (record {
       one_each = planned.one_each;
       capacities = planned.capacities;
       signals = planned.signals;
@@ -188,4 +195,23 @@ HasSoundParts-add_demand cells connectors plan demand sound room gate in_time =
       limits = planned.limits;
       few_demands = simp length-append (omega (arith, room));
       demands = All-push (λ d. (is_gate_at cells d.cell ≡ true) × (d.to ≤ MOST_STEPS)) plan.demands demand planned.demands (gate, in_time);
+      few_turns = planned.few_turns;
+      turns = planned.turns;
+    })
+
+pub HasSoundParts-add_turn : (format : ℕ) (cells : List Cell) (connectors : List Connector) (plan : PlanRecords) (turn : TurnRecord)
+    → HasSoundParts format cells connectors plan → length plan.turns < most_records format → turn.to ≤ MOST_STEPS → IsTurnWithin turn
+    → HasSoundParts format cells connectors (with_turn plan turn)
+HasSoundParts-add_turn format cells connectors plan turn sound room in_time within =
+    let planned = sound.planned in
+    with_plan format cells connectors plan (with_turn plan turn) sound (record {
+      one_each = planned.one_each;
+      capacities = planned.capacities;
+      signals = planned.signals;
+      few_limits = planned.few_limits;
+      limits = planned.limits;
+      few_demands = planned.few_demands;
+      demands = planned.demands;
+      few_turns = simp length-append (omega (arith, room));
+      turns = All-push (λ t. (t.to ≤ MOST_STEPS) × IsTurnWithin t) plan.turns turn planned.turns (in_time, within);
     })

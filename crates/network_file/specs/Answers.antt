@@ -9,3 +9,8 @@ abbrev pub Answers : {A : Type 0} → Result A RecordRefusal → Result A Code �
 Answers (Ok value) wanted = wanted ≡ Ok value
 Answers (Err (Fault code)) wanted = wanted ≡ Err code
 Answers (Err NoMemory) wanted = ⊤
+
+-- the refusal is the wanted fault, or there was no memory
+abbrev pub IsFaultOf : {A : Type 0} → RecordRefusal → Result A Code → Type 0
+IsFaultOf (Fault code) wanted = wanted ≡ Err code
+IsFaultOf NoMemory wanted = ⊤

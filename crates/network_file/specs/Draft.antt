@@ -3,9 +3,9 @@ use Rattle.std.specs.Prelude.{◌≡◌, ℕ, ◌<◌, ◌≤◌, ◌⊎◌, len
 use Rattle.signal_plan.specs.Records.{DemandRecord, LimitRecord, PlanRecords, SignalRecord, TurnRecord, no_records, with_cell, with_demand, with_limit, with_signal, with_turn}
 use Rattle.signal_plan.specs.declared.bounds.TheConstants.{MOST_STEPS}
 use Rattle.network_file.specs.Network.{HasSoundParts}
-use Rattle.network_file.specs.Regions.{RegionRecord}
 use Rattle.network_file.specs.declared.cell.Cell.{Cell}
 use Rattle.network_file.specs.declared.connector.Connector.{Connector}
+use Rattle.network_file.specs.declared.region_record.RegionRecord.{RegionRecord}
 use Rattle.network_file.specs.declared.limits.TheConstants.{MOST_REGIONS}
 
 pub record Draft : Type 0 where

@@ -9,7 +9,8 @@ use Rattle.network_file.specs.CellName.{is_name}
 use Rattle.network_file.specs.Cells.{cell_named, is_exit_at, is_gate_at}
 use Rattle.network_file.specs.Checks.{◌>>=◌, ◌>>◌, must}
 use Rattle.network_file.specs.Connectors.{diverges_from, leads_into, leads_out_of}
-use Rattle.network_file.specs.Regions.{RegionRecord, region_in}
+use Rattle.network_file.specs.Regions.{region_in}
+use Rattle.network_file.specs.declared.region_record.RegionRecord.{RegionRecord}
 use Rattle.network_file.specs.declared.cell.Cell.{Cell}
 use Rattle.network_file.specs.declared.code.Code.{Code}
 use Rattle.network_file.specs.declared.code.Code.TheVariants.{BadName, BadNumber, OutOfRange, Repeated, Unknown, WrongKind, InTaken, OutTaken}

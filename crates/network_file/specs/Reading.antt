@@ -1,14 +1,17 @@
 -- The network that a file is, or its first fault.
-use Rattle.std.specs.Prelude.{ℕ, ◌+◌, ◌==◌, ◌&&◌, List, [], ◌∷◌, Some, None, Result, Ok, Err, Bool, if◌then◌else◌, nat_le, bytes_eq, codes, length}
+use Rattle.std.specs.Prelude.{ℕ, ◌+◌, ◌==◌, not, List, [], ◌∷◌, Some, None, Result, Ok, Err, if◌then◌else◌, nat_le, nat_lt, ok_or, length}
 use Rattle.network_file.specs.Draft.{Draft, empty_draft}
-use Rattle.network_file.specs.Fields.{field}
+use Rattle.network_file.specs.Checks.{◌>>=◌, ◌>>◌, must}
+use Rattle.network_file.specs.Cutting.{has_no_gap}
+use Rattle.network_file.specs.Formats.{format_of}
+use Rattle.network_file.specs.Regions.{all_have_regions, region_numbers}
 use Rattle.network_file.specs.FileRecords.{file_records_of}
 use Rattle.fixed_flow.specs.declared.amount.TheConstants.{MOST_PARTS}
 use Rattle.network_file.specs.Network.{Network, load_of}
 use Rattle.network_file.specs.Refused.{fault_at}
 use Rattle.network_file.specs.Taking.{take_record}
 use Rattle.network_file.specs.declared.code.Code.{Code}
-use Rattle.network_file.specs.declared.code.Code.TheVariants.{NoHeader, NoSteps, NoCells, TooMuch}
+use Rattle.network_file.specs.declared.code.Code.TheVariants.{NoHeader, NoSteps, NoCells, TooMuch, NoRegion, RegionGap}
 use Rattle.network_file.specs.declared.fault.NetFault.{NetFault}
 
 -- the cutting that the region records of a draft make, or the fault that they have as a whole; without any there is none
@@ -30,9 +33,14 @@ network_in_all draft = do
   regions ← regions_of draft
   Ok (record { format = draft.format; steps = steps; cells = draft.cells; connectors = draft.connectors; plan = draft.plan; regions = regions })
 
--- that network, or its fault at a place
-abbrev pub completed : (place : ℕ) → Draft → Result Network NetFault
-completed place draft = map_err (fault_at place) (network_in_all draft)
+-- what is wanted, or its fault at a place
+abbrev pub at_place : {A : Type 0} → (place : ℕ) → Result A Code → Result A NetFault
+at_place place (Ok value) = Ok value
+at_place place (Err code) = Err (fault_at place code)
+
+-- the network of a draft with all records taken, or its fault at a place
+unfoldable pub completed : (place : ℕ) → Draft → Result Network NetFault
+completed place draft = at_place place (network_in_all draft)
 
 -- what follows the record at a place, if it has no fault
 abbrev pub on_taken : (place : ℕ) → Result Draft Code → (Draft → Result Network NetFault) → Result Network NetFault

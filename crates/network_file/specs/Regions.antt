@@ -1,12 +1,8 @@
 -- The region records of a file, and the cutting that they make.
-use Rattle.std.specs.Prelude.{ℕ, ◌==◌, Bool, List, [], Option, is_some, get_or, map, unwrap_or}
+use Rattle.std.specs.Prelude.{ℕ, ◌==◌, Bool, List, Option, is_some, get_or, map, unwrap_or}
 use Rattle.std.specs.List.{find, list_all, range_with_len}
 use Rattle.std.specs.Option.{option_map}
-
--- the cell is in the region of this number
-pub record RegionRecord : Type 0 where
-  pub cell : ℕ
-  pub number : ℕ
+use Rattle.network_file.specs.declared.region_record.RegionRecord.{RegionRecord}
 
 -- the number of the region of a cell, where a record gave it one
 abbrev pub region_in : List RegionRecord → (cell : ℕ) → Option ℕ

@@ -4,9 +4,9 @@ ghost use Rattle.network_file.specs.FaultCode.{code_name, code_number};
 /// Why a record, or the file as a whole, is no network. docs/FORMAT.md says when each comes.
 #[derive(Clone, Copy, Debug, PartialEq, Eq)]
 pub enum Code {
-    /// The first record isn't the two fields `ctm` and `1`, or there is none.
+    /// The first record isn't the two fields `ctm` and `1`, or `ctm` and `2`, or there is none.
     NoHeader,
-    /// The first field of a later record is no kind of the format.
+    /// The first field of a later record is no kind of the file's format.
     BadKind,
     /// The record has too few or too many fields for its kind.
     BadCount,
@@ -16,7 +16,7 @@ pub enum Code {
     BadNumber,
     /// A number is spelled well and is outside its range.
     OutOfRange,
-    /// A name, the number of steps or the signal of a cell is given a second time.
+    /// A name, the number of steps, or the signal or the region of a cell is given a second time.
     Repeated,
     /// No earlier cell has the name.
     Unknown,
@@ -30,10 +30,14 @@ pub enum Code {
     NoSteps,
     /// The file has no cell.
     NoCells,
-    /// One cell, connector, limit or demand more than the greatest number of them.
+    /// One cell, connector, limit, demand or turn more than the greatest number of them.
     TooMany,
     /// First occupancies and demand together are more than 10,000,000 vehicles.
     TooMuch,
+    /// The file gives regions, and a cell has none.
+    NoRegion,
+    /// A region number below the greatest has no cell.
+    RegionGap,
 }
 
 impl Code {
@@ -57,6 +61,8 @@ impl Code {
             Code::NoCells => 13,
             Code::TooMany => 14,
             Code::TooMuch => 15,
+            Code::NoRegion => 16,
+            Code::RegionGap => 17,
         }
     }
 
@@ -80,6 +86,8 @@ impl Code {
             Code::NoCells => "NoCells",
             Code::TooMany => "TooMany",
             Code::TooMuch => "TooMuch",
+            Code::NoRegion => "NoRegion",
+            Code::RegionGap => "RegionGap",
         }
     }
 }

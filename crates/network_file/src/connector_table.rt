@@ -1,6 +1,6 @@
 ghost use Rattle.std.specs.Prelude.{◌≡◌, ◌||◌, ℕ, ◌++◌, ◌∷◌, [], IfOk, length};
 ghost use Rattle.std.specs.List.{list_any};
-ghost use Rattle.network_file.specs.Connectors.{leads_into, leads_out_of};
+ghost use Rattle.network_file.specs.Connectors.{diverges_from, leads_into, leads_out_of};
 ghost use Rattle.network_file.specs.Marks.{is_marked};
 
 use crate::connector::Connector;
@@ -15,6 +15,7 @@ pub(crate) struct ConnectorTable {
     connectors: Vec<Connector>,
     left: Marks,
     entered: Marks,
+    diverging: Marks,
 }
 
 impl Model for ConnectorTable {
@@ -25,12 +26,12 @@ impl Model for ConnectorTable {
 
     ghost use Rattle.std.specs.Prelude.{◌≡◌, ℕ};
     ghost use Rattle.std.specs.List.{list_any};
-    ghost use Rattle.network_file.specs.Connectors.{leads_into, leads_out_of};
+    ghost use Rattle.network_file.specs.Connectors.{diverges_from, leads_into, leads_out_of};
     ghost use Rattle.network_file.specs.Marks.{is_marked};
 
     ghost view = { λ a. a.connectors.items };
 
-    ghost invariant = { λ a. ((i : ℕ) → is_marked a.left i ≡ list_any (leads_out_of i) a.connectors.items) × ((i : ℕ) → is_marked a.entered i ≡ list_any (leads_into i) a.connectors.items) };
+    ghost invariant = { λ a. ((i : ℕ) → is_marked a.left i ≡ list_any (leads_out_of i) a.connectors.items) × ((i : ℕ) → is_marked a.entered i ≡ list_any (leads_into i) a.connectors.items) × ((i : ℕ) → is_marked a.diverging i ≡ list_any (diverges_from i) a.connectors.items) };
 }
 
 impl ConnectorTable {
@@ -41,6 +42,7 @@ impl ConnectorTable {
             connectors: Vec::new(alloc),
             left: Marks::new(alloc),
             entered: Marks::new(alloc),
+            diverging: Marks::new(alloc),
         }
     }
 
@@ -62,6 +64,13 @@ impl ConnectorTable {
         self.entered.has(cell)
     }
 
+    /// Whether a diverge leads out of the cell.
+    pub(crate) fn diverges_from(&self, cell: u32) -> bool
+        ensures { result ≡ list_any (diverges_from cell) self.now }
+    {
+        self.diverging.has(cell)
+    }
+
     /// With one more connector.
     pub(crate) fn with(self, connector: Connector) -> Result<ConnectorTable, NoMemory>
         ensures { IfOk result (λ more. more ≡ self ++ connector ∷ []) }
@@ -70,14 +79,17 @@ impl ConnectorTable {
             mut connectors,
             left,
             entered,
+            diverging,
         } = self;
         let left = with_upstream(left, connector)?;
         let entered = with_downstream(entered, connector)?;
+        let diverging = with_diverging(diverging, connector)?;
         connectors.push(connector)?;
         Ok(ConnectorTable {
             connectors,
             left,
             entered,
+            diverging,
         })
     }
 
@@ -106,5 +118,15 @@ fn with_downstream(marks: Marks, connector: Connector) -> Result<Marks, NoMemory
     match connector {
         Connector::Link { down, .. } | Connector::Merge { down, .. } => marks.with(down),
         Connector::Diverge { down1, down2, .. } => marks.with(down1)?.with(down2),
+    }
+}
+
+/// The marks with the cell out of which a diverge leads.
+fn with_diverging(marks: Marks, connector: Connector) -> Result<Marks, NoMemory>
+    ensures { IfOk result (λ more. (i : ℕ) → is_marked more i ≡ (diverges_from i connector || is_marked marks i)) }
+{
+    match connector {
+        Connector::Link { .. } | Connector::Merge { .. } => Ok(marks),
+        Connector::Diverge { up, .. } => marks.with(up),
     }
 }

@@ -1,9 +1,11 @@
-ghost use Rattle.std.specs.Prelude.{◌≡◌, ◌<◌, ◌≤◌, All, None, true, false, IfOk, length};
+ghost use Rattle.std.specs.Prelude.{◌≡◌, ◌<◌, ◌≤◌, ◌⊎◌, All, None, true, false, IfOk, length};
 ghost use Rattle.std.specs.List.{list_any};
 ghost use Rattle.network_file.specs.Cells.{cell_named, is_exit_at, is_gate_at};
-ghost use Rattle.network_file.specs.Draft.{add_cell, add_connector, add_demand, add_limit, add_signal, empty_draft, with_steps};
+ghost use Rattle.network_file.specs.Draft.{add_cell, add_connector, add_demand, add_limit, add_region, add_signal, add_turn, empty_draft, with_steps};
 ghost use Rattle.network_file.specs.Connectors.{leads_into, leads_out_of, upstream_of, downstream_of};
 ghost use Rattle.signal_plan.specs.Green.{is_signalled};
+ghost use Rattle.network_file.specs.Formats.{most_records};
+ghost use Rattle.network_file.specs.Regions.{region_in};
 ghost use Rattle.network_file.specs.Taking.{taken_before};
 ghost use Rattle.network_file.specs.Network.{IsSoundCell, IsSoundConnector};
 
@@ -11,20 +13,23 @@ use crate::cell::Cell;
 use crate::cell_table::CellTable;
 use crate::connector::Connector;
 use crate::connector_table::ConnectorTable;
-use crate::limits::MOST_CAPACITY;
+use crate::limits::{MOST_CAPACITY, MOST_REGIONS};
 use crate::record_kind::RecordKind;
+use crate::region_table::RegionTable;
 use fixed_flow::MOST_PARTS;
-use signal_plan::{MOST_RECORDS, MOST_STEPS, NoMemory, Plan};
+use signal_plan::{MOST_RATIO, MOST_STEPS, NoMemory, Plan};
 use std::alloc::Global;
 use std::marker::Model;
 
 /// The network as far as its records have been read. At each record it keeps what every network keeps.
 #[derive(Drop)]
 pub(crate) struct NetDraft {
+    pub(crate) format: u32,
     pub(crate) steps: Option<u64>,
     pub(crate) cells: CellTable,
     pub(crate) connectors: ConnectorTable,
     pub(crate) plan: Plan,
+    pub(crate) regions: RegionTable,
 }
 
 impl Model for NetDraft {
@@ -34,20 +39,24 @@ impl Model for NetDraft {
 
     ghost use Rattle.network_file.specs.Draft.{IsSoundDraft};
 
-    ghost view = { λ a. record { steps = a.steps; cells = a.cells; connectors = a.connectors; plan = a.plan } };
+    ghost view = { λ a. record { format = a.format; steps = a.steps; cells = a.cells; connectors = a.connectors; plan = a.plan; regions = a.regions } };
 
-    ghost invariant = { λ a. IsSoundDraft (record { steps = a.steps; cells = a.cells; connectors = a.connectors; plan = a.plan }) };
+    ghost invariant = { λ a. IsSoundDraft (record { format = a.format; steps = a.steps; cells = a.cells; connectors = a.connectors; plan = a.plan; regions = a.regions }) };
 }
 
 impl NetDraft {
-    pub(crate) fn new(alloc: Global) -> NetDraft
-        ensures { result ≡ empty_draft }
+    /// Without records, in a format.
+    pub(crate) fn new(alloc: Global, format: u32) -> NetDraft
+        requires { (format ≡ 1) ⊎ (format ≡ 2) }
+        ensures { result ≡ empty_draft format }
     {
         NetDraft {
+            format,
             steps: None,
             cells: CellTable::new(alloc),
             connectors: ConnectorTable::new(alloc),
             plan: Plan::open(alloc),
+            regions: RegionTable::new(alloc),
         }
     }
 
@@ -58,16 +67,20 @@ impl NetDraft {
         ensures { result ≡ with_steps self steps }
     {
         let NetDraft {
+            format,
             cells,
             connectors,
             plan,
+            regions,
             ..
         } = self;
         NetDraft {
+            format,
             steps: Some(u64::from(steps)),
             cells,
             connectors,
             plan,
+            regions,
         }
     }
 
@@ -78,48 +91,56 @@ impl NetDraft {
         cell: Cell,
         capacity: u64,
     ) -> Result<NetDraft, NoMemory>
-        requires room { length self.cells < MOST_RECORDS }
+        requires room { length self.cells < most_records self.format }
         requires fresh { cell_named self.cells cell.name ≡ None }
         requires sound { IsSoundCell cell }
         requires capacity { capacity ≤ MOST_CAPACITY }
         ensures { IfOk result (λ more. more ≡ add_cell self cell capacity) }
     {
         let NetDraft {
+            format,
             steps,
             cells,
             connectors,
             mut plan,
+            regions,
         } = self;
         plan.put_cell(capacity)?;
         let cells = cells.with(alloc, cell)?;
         Ok(NetDraft {
+            format,
             steps,
             cells,
             connectors,
             plan,
+            regions,
         })
     }
 
     /// With one more connector.
     pub(crate) fn add_connector(self, connector: Connector) -> Result<NetDraft, NoMemory>
-        requires room { length self.connectors < MOST_RECORDS }
+        requires room { length self.connectors < most_records self.format }
         requires sound { IsSoundConnector self.cells connector }
         requires up_free { All (λ up. list_any (leads_out_of up) self.connectors ≡ false) (upstream_of connector) }
         requires down_free { All (λ down. list_any (leads_into down) self.connectors ≡ false) (downstream_of connector) }
         ensures { IfOk result (λ more. more ≡ add_connector self connector) }
     {
         let NetDraft {
+            format,
             steps,
             cells,
             connectors,
             plan,
+            regions,
         } = self;
         let connectors = connectors.with(connector)?;
         Ok(NetDraft {
+            format,
             steps,
             cells,
             connectors,
             plan,
+            regions,
         })
     }
 
@@ -142,10 +163,12 @@ impl NetDraft {
         ensures { IfOk result (λ more. more ≡ add_signal self (record { cell = cell; cycle = cycle; offset = offset; from = from; to = to })) }
     {
         let NetDraft {
+            format,
             steps,
             cells,
             connectors,
             mut plan,
+            regions,
         } = self;
         plan.put_signal(
             cell,
@@ -155,10 +178,12 @@ impl NetDraft {
             u64::from(to),
         )?;
         Ok(NetDraft {
+            format,
             steps,
             cells,
             connectors,
             plan,
+            regions,
         })
     }
 
@@ -170,7 +195,7 @@ impl NetDraft {
         to: u32,
         capacity: u64,
     ) -> Result<NetDraft, NoMemory>
-        requires room { length self.plan.limits < MOST_RECORDS }
+        requires room { length self.plan.limits < most_records self.format }
         requires there { cell < length self.cells }
         requires some_step { from < to }
         requires in_time { to ≤ MOST_STEPS }
@@ -178,17 +203,21 @@ impl NetDraft {
         ensures { IfOk result (λ more. more ≡ add_limit self (record { cell = cell; from = from; to = to; capacity = capacity })) }
     {
         let NetDraft {
+            format,
             steps,
             cells,
             connectors,
             mut plan,
+            regions,
         } = self;
         plan.put_limit(cell, u64::from(from), u64::from(to), capacity)?;
         Ok(NetDraft {
+            format,
             steps,
             cells,
             connectors,
             plan,
+            regions,
         })
     }
 
@@ -200,7 +229,7 @@ impl NetDraft {
         to: u32,
         amount: u64,
     ) -> Result<NetDraft, NoMemory>
-        requires room { length self.plan.demands < MOST_RECORDS }
+        requires room { length self.plan.demands < most_records self.format }
         requires there { gate < length self.cells }
         requires at_gate { is_gate_at self.cells gate ≡ true }
         requires some_step { from < to }
@@ -209,17 +238,85 @@ impl NetDraft {
         ensures { IfOk result (λ more. more ≡ add_demand self (record { cell = gate; from = from; to = to; amount = amount })) }
     {
         let NetDraft {
+            format,
             steps,
             cells,
             connectors,
             mut plan,
+            regions,
         } = self;
         plan.put_demand(gate, u64::from(from), u64::from(to), amount)?;
         Ok(NetDraft {
+            format,
             steps,
             cells,
             connectors,
             plan,
+            regions,
+        })
+    }
+
+    /// With these turning shares of the diverge out of a cell in each step of `[from, to)`.
+    pub(crate) fn add_turn(
+        self,
+        cell: u32,
+        from: u32,
+        to: u32,
+        b1: u32,
+        b2: u32,
+    ) -> Result<NetDraft, NoMemory>
+        requires room { length self.plan.turns < most_records self.format }
+        requires there { cell < length self.cells }
+        requires some_step { from < to }
+        requires in_time { to ≤ MOST_STEPS }
+        requires some_first { 1 ≤ b1 }
+        requires first { b1 ≤ MOST_RATIO }
+        requires some_second { 1 ≤ b2 }
+        requires second { b2 ≤ MOST_RATIO }
+        ensures { IfOk result (λ more. more ≡ add_turn self (record { cell = cell; from = from; to = to; b1 = b1; b2 = b2 })) }
+    {
+        let NetDraft {
+            format,
+            steps,
+            cells,
+            connectors,
+            mut plan,
+            regions,
+        } = self;
+        plan.put_turn(cell, u64::from(from), u64::from(to), b1, b2)?;
+        Ok(NetDraft {
+            format,
+            steps,
+            cells,
+            connectors,
+            plan,
+            regions,
+        })
+    }
+
+    /// With the number of a cell's region.
+    pub(crate) fn add_region(self, cell: u32, number: u32) -> Result<NetDraft, NoMemory>
+        requires there { cell < length self.cells }
+        requires first_region { region_in self.regions cell ≡ None }
+        requires number { number < MOST_REGIONS }
+        ensures { IfOk result (λ more. more ≡ add_region self (record { cell = cell; number = number })) }
+    {
+        let NetDraft {
+            format,
+            steps,
+            cells,
+            connectors,
+            plan,
+            regions,
+        } = self;
+        let regions = regions.with(cell, number)?;
+        Ok(NetDraft {
+            format,
+            steps,
+            cells,
+            connectors,
+            plan,
+            regions,
         })
     }
 
@@ -229,11 +326,12 @@ impl NetDraft {
     {
         let (_, limits, demands) = self.plan.counts();
         match kind {
-            RecordKind::Steps | RecordKind::Signal => 0,
+            RecordKind::Steps | RecordKind::Signal | RecordKind::Region => 0,
             RecordKind::Road | RecordKind::Gate | RecordKind::Exit => self.cells.len(),
             RecordKind::Link | RecordKind::Merge | RecordKind::Diverge => self.connectors.len(),
             RecordKind::Limit => limits as usize,
             RecordKind::Demand => demands as usize,
+            RecordKind::Turn => self.plan.turns() as usize,
         }
     }
 }

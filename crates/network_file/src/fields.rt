@@ -5,14 +5,16 @@ ghost use Rattle.csv.specs.Records.{fields_of};
 ghost use Rattle.signal_plan.specs.Green.{is_signalled};
 ghost use Rattle.network_file.specs.Answers.{Answers};
 ghost use Rattle.network_file.specs.Cells.{cell_named, is_exit_at, is_gate_at};
-ghost use Rattle.network_file.specs.Fields.{amount_within, demand_gate, downstream, field, known_cell, new_name, signal_cell, upstream, whole_within};
-ghost use Rattle.network_file.specs.Connectors.{leads_into, leads_out_of};
+ghost use Rattle.network_file.specs.Fields.{amount_within, demand_gate, downstream, field, known_cell, new_name, region_cell, signal_cell, turn_cell, upstream, whole_within};
+ghost use Rattle.network_file.specs.Regions.{region_in};
+ghost use Rattle.network_file.specs.Connectors.{diverges_from, leads_into, leads_out_of};
 
 use crate::cell_table::CellTable;
 use crate::code::Code;
 use crate::connector_table::ConnectorTable;
 use crate::fault::RecordRefusal;
 use crate::name::Name;
+use crate::region_table::RegionTable;
 use csv::ByteRecord;
 use fixed_flow::{Amount, AmountFault, MOST_PARTS, whole};
 use signal_plan::Plan;
@@ -161,5 +163,38 @@ pub(crate) fn demand_gate(cells: &CellTable, text: &[u8]) -> Result<u32, Code>
         Ok(cell)
     } else {
         Err(Code::WrongKind)
+    }
+}
+
+/// The cell of turning shares.
+#[tactic(auto, unfolding(crate::specs::Fields::turn_cell))]
+pub(crate) fn turn_cell(
+    cells: &CellTable,
+    connectors: &ConnectorTable,
+    text: &[u8],
+) -> Result<u32, Code>
+    ensures value { result ≡ turn_cell cells.now connectors.now text.now }
+    ensures there { IfOk result (λ cell. cell < length cells.now) }
+{
+    let cell = known_cell(cells, text)?;
+    if connectors.diverges_from(cell) {
+        Ok(cell)
+    } else {
+        Err(Code::WrongKind)
+    }
+}
+
+/// The cell of a region.
+#[tactic(auto, unfolding(crate::specs::Fields::region_cell))]
+pub(crate) fn region_cell(cells: &CellTable, regions: &RegionTable, text: &[u8]) -> Result<u32, Code>
+    ensures value { result ≡ region_cell cells.now regions.now text.now }
+    ensures there { IfOk result (λ cell. cell < length cells.now) }
+    ensures first_region { IfOk result (λ cell. region_in regions.now cell ≡ None) }
+{
+    let cell = known_cell(cells, text)?;
+    if regions.number_of(cell).is_some() {
+        Err(Code::Repeated)
+    } else {
+        Ok(cell)
     }
 }

@@ -1,13 +1,15 @@
 ghost use Rattle.std.specs.Prelude.{◌≡◌, ◌≤◌, Ok, IfErr, IfOk, length};
 ghost use Rattle.csv.specs.Records.{fields_of};
-ghost use Rattle.network_file.specs.Reading.{completed, is_header, network_of};
+ghost use Rattle.network_file.specs.Answers.{Answers, IsFaultOf};
+ghost use Rattle.network_file.specs.Reading.{network_in_all, network_of, regions_of};
 ghost use Rattle.network_file.specs.Refused.{IsRefusal};
 
 use crate::code::Code;
+use crate::cutting::has_no_gap;
 use crate::draft::NetDraft;
-use crate::fault::NetRefusal;
-use crate::fields::field;
+use crate::fault::{NetRefusal, RecordRefusal};
 use crate::file_records::{next_record, open_records};
+use crate::format::format_of;
 use crate::limits::MOST_BYTES;
 use crate::net::Net;
 use crate::records::take_record;
@@ -23,10 +25,13 @@ pub(crate) fn read_file(alloc: Global, bytes: &[u8]) -> Result<Net, NetRefusal>
 {
     let mut reader = open_records(alloc, bytes);
     let mut row = ByteRecord::new(alloc);
-    if !next_record(&mut reader, &mut row)? || !is_header(&row) {
+    if !next_record(&mut reader, &mut row)? {
         return Err(NetRefusal::at(1, Code::NoHeader));
     }
-    let mut draft = NetDraft::new(alloc);
+    let Some(format) = format_of(&row) else {
+        return Err(NetRefusal::at(1, Code::NoHeader));
+    };
+    let mut draft = NetDraft::new(alloc, format);
     let mut place = 2;
     while next_record(&mut reader, &mut row)? {
         draft = match take_record(alloc, draft, &row) {
@@ -35,42 +40,59 @@ pub(crate) fn read_file(alloc: Global, bytes: &[u8]) -> Result<Net, NetRefusal>
         };
         place += 1;
     }
-    complete(draft, place)
-}
-
-/// Whether a record is the one header: the two fields `ctm` and `1`.
-#[tactic(auto, unfolding(crate::specs::Reading::is_header))]
-fn is_header(row: &ByteRecord) -> bool
-    ensures { result ≡ is_header (fields_of row.now) }
-{
-    row.len() == 2 && field(row, 0) == b"ctm".as_slice() && field(row, 1) == b"1".as_slice()
+    match complete(alloc, draft) {
+        Ok(net) => Ok(net),
+        Err(refusal) => Err(refusal.at(place)),
+    }
 }
 
 /// The network of a draft with all records taken, where it has steps and cells and is not too much.
-#[tactic(auto, unfolding(crate::specs::Reading::completed))]
-fn complete(draft: NetDraft, place: u32) -> Result<Net, NetRefusal>
-    ensures network { IfOk result (λ net. completed place draft ≡ Ok net) }
-    ensures refusal { IfErr result (λ refusal. IsRefusal refusal (completed place draft)) }
+#[tactic(auto, unfolding(crate::specs::Reading::network_in_all))]
+fn complete(alloc: Global, draft: NetDraft) -> Result<Net, RecordRefusal>
+    ensures { Answers result (network_in_all draft) }
 {
+    let Some(steps) = draft.steps else {
+        return Err(RecordRefusal::Fault(Code::NoSteps));
+    };
+    if draft.cells.len() == 0 {
+        return Err(RecordRefusal::Fault(Code::NoCells));
+    }
+    if draft.cells.first_total() + draft.plan.total(steps) > u128::from(MOST_PARTS) {
+        return Err(RecordRefusal::Fault(Code::TooMuch));
+    }
+    let regions = cutting(alloc, &draft)?;
     let NetDraft {
-        steps,
+        format,
         cells,
         connectors,
         plan,
+        ..
     } = draft;
-    let Some(steps) = steps else {
-        return Err(NetRefusal::at(place, Code::NoSteps));
-    };
-    if cells.len() == 0 {
-        return Err(NetRefusal::at(place, Code::NoCells));
-    }
-    if cells.first_total() + plan.total(steps) > u128::from(MOST_PARTS) {
-        return Err(NetRefusal::at(place, Code::TooMuch));
-    }
     Ok(Net {
+        format,
         steps,
         cells: cells.into_cells(),
         connectors: connectors.into_connectors(),
         plan,
+        regions,
     })
+}
+
+/// The cutting that the region records of a draft make; without any there is none.
+#[tactic(auto, unfolding(crate::specs::Reading::regions_of))]
+fn cutting(alloc: Global, draft: &NetDraft) -> Result<Vec<u32>, RecordRefusal>
+    ensures value { IfOk result (λ regions. regions_of draft.now ≡ Ok regions.items) }
+    ensures refusal { IfErr result (λ refusal. IsFaultOf refusal (regions_of draft.now)) }
+{
+    if draft.regions.is_empty() {
+        return Ok(Vec::new(alloc));
+    }
+    let Some(numbers) = draft.regions.numbers(alloc, draft.cells.len() as u32)? else {
+        return Err(RecordRefusal::Fault(Code::NoRegion));
+    };
+    if has_no_gap(alloc, &numbers)? {
+        Ok(numbers)
+    } else {
+        Err(RecordRefusal::Fault(Code::RegionGap))
+    }
 }

@@ -14,13 +14,15 @@ pub(crate) enum RecordKind {
     Signal,
     Limit,
     Demand,
+    Turn,
+    Region,
 }
 
 impl RecordKind {
-    /// The kind that a first field names.
+    /// The kind that a first field names in a format.
     #[tactic(auto, unfolding(crate::specs::Taking::record_kind_of))]
-    pub(crate) fn named(text: &[u8]) -> Option<RecordKind>
-        ensures { result ≡ record_kind_of text.now }
+    pub(crate) fn named(format: u32, text: &[u8]) -> Option<RecordKind>
+        ensures { result ≡ record_kind_of format text.now }
     {
         match text {
             b"steps" => Some(RecordKind::Steps),
@@ -33,6 +35,8 @@ impl RecordKind {
             b"signal" => Some(RecordKind::Signal),
             b"limit" => Some(RecordKind::Limit),
             b"demand" => Some(RecordKind::Demand),
+            b"turn" if format == 2 => Some(RecordKind::Turn),
+            b"region" if format == 2 => Some(RecordKind::Region),
             _ => None,
         }
     }
@@ -45,8 +49,8 @@ impl RecordKind {
             RecordKind::Steps => 2,
             RecordKind::Road => 7,
             RecordKind::Gate => 4,
-            RecordKind::Exit | RecordKind::Link => 3,
-            RecordKind::Merge | RecordKind::Diverge | RecordKind::Signal => 6,
+            RecordKind::Exit | RecordKind::Link | RecordKind::Region => 3,
+            RecordKind::Merge | RecordKind::Diverge | RecordKind::Signal | RecordKind::Turn => 6,
             RecordKind::Limit | RecordKind::Demand => 5,
         }
     }

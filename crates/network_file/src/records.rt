@@ -1,7 +1,8 @@
 ghost use Rattle.std.specs.Prelude.{◌≡◌, ◌<◌, length};
 ghost use Rattle.csv.specs.Records.{fields_of};
 ghost use Rattle.network_file.specs.Answers.{Answers};
-ghost use Rattle.network_file.specs.Taking.{take_demand, take_diverge, take_exit, take_gate, take_limit, take_link, take_merge, take_record, take_road, take_signal, take_steps};
+ghost use Rattle.network_file.specs.Formats.{most_records};
+ghost use Rattle.network_file.specs.Taking.{take_demand, take_diverge, take_exit, take_gate, take_limit, take_link, take_merge, take_record, take_region, take_road, take_signal, take_steps, take_turn};
 
 use crate::cell::{Cell, Kind};
 use crate::code::Code;
@@ -9,14 +10,15 @@ use crate::connector::Connector;
 use crate::draft::NetDraft;
 use crate::fault::RecordRefusal;
 use crate::fields::{
-    amount_within, demand_gate, downstream, field, known_cell, new_name, signal_cell, upstream,
-    whole_within,
+    amount_within, demand_gate, downstream, field, known_cell, new_name, region_cell, signal_cell,
+    turn_cell, upstream, whole_within,
 };
-use crate::limits::{MOST_CAPACITY, MOST_RATIO, MOST_ROOM};
+use crate::format::most_records;
+use crate::limits::{MOST_CAPACITY, MOST_REGIONS, MOST_ROOM};
 use crate::record_kind::RecordKind;
 use csv::ByteRecord;
 use fixed_flow::MOST_PARTS;
-use signal_plan::{MOST_RECORDS, MOST_STEPS};
+use signal_plan::{MOST_RATIO, MOST_STEPS};
 use std::alloc::Global;
 
 /// The draft with one more record.
@@ -28,13 +30,13 @@ pub(crate) fn take_record(
 ) -> Result<NetDraft, RecordRefusal>
     ensures { Answers result (take_record draft (fields_of row.now)) }
 {
-    let Some(kind) = RecordKind::named(field(row, 0)) else {
+    let Some(kind) = RecordKind::named(draft.format, field(row, 0)) else {
         return Err(RecordRefusal::Fault(Code::BadKind));
     };
     if row.len() != kind.field_count() {
         return Err(RecordRefusal::Fault(Code::BadCount));
     }
-    if draft.taken_before(kind) >= MOST_RECORDS {
+    if draft.taken_before(kind) >= most_records(draft.format) {
         return Err(RecordRefusal::Fault(Code::TooMany));
     }
     match kind {
@@ -48,6 +50,8 @@ pub(crate) fn take_record(
         RecordKind::Signal => take_signal(draft, row),
         RecordKind::Limit => take_limit(draft, row),
         RecordKind::Demand => take_demand(draft, row),
+        RecordKind::Turn => take_turn(draft, row),
+        RecordKind::Region => take_region(draft, row),
     }
 }
 
@@ -64,7 +68,7 @@ fn take_steps(draft: NetDraft, row: &ByteRecord) -> Result<NetDraft, RecordRefus
 
 #[tactic(auto, unfolding(crate::specs::Taking::take_road))]
 fn take_road(alloc: Global, draft: NetDraft, row: &ByteRecord) -> Result<NetDraft, RecordRefusal>
-    requires { length draft.cells < MOST_RECORDS }
+    requires { length draft.cells < most_records draft.format }
     ensures { Answers result (take_road draft (fields_of row.now)) }
 {
     let name = new_name(alloc, &draft.cells, field(row, 1))?;
@@ -86,7 +90,7 @@ fn take_road(alloc: Global, draft: NetDraft, row: &ByteRecord) -> Result<NetDraf
 
 #[tactic(auto, unfolding(crate::specs::Taking::take_gate))]
 fn take_gate(alloc: Global, draft: NetDraft, row: &ByteRecord) -> Result<NetDraft, RecordRefusal>
-    requires { length draft.cells < MOST_RECORDS }
+    requires { length draft.cells < most_records draft.format }
     ensures { Answers result (take_gate draft (fields_of row.now)) }
 {
     let name = new_name(alloc, &draft.cells, field(row, 1))?;
@@ -98,7 +102,7 @@ fn take_gate(alloc: Global, draft: NetDraft, row: &ByteRecord) -> Result<NetDraf
 
 #[tactic(auto, unfolding(crate::specs::Taking::take_exit))]
 fn take_exit(alloc: Global, draft: NetDraft, row: &ByteRecord) -> Result<NetDraft, RecordRefusal>
-    requires { length draft.cells < MOST_RECORDS }
+    requires { length draft.cells < most_records draft.format }
     ensures { Answers result (take_exit draft (fields_of row.now)) }
 {
     let name = new_name(alloc, &draft.cells, field(row, 1))?;
@@ -109,7 +113,7 @@ fn take_exit(alloc: Global, draft: NetDraft, row: &ByteRecord) -> Result<NetDraf
 
 #[tactic(auto, unfolding(crate::specs::Taking::take_link))]
 fn take_link(draft: NetDraft, row: &ByteRecord) -> Result<NetDraft, RecordRefusal>
-    requires { length draft.connectors < MOST_RECORDS }
+    requires { length draft.connectors < most_records draft.format }
     ensures { Answers result (take_link draft (fields_of row.now)) }
 {
     let up = upstream(&draft.cells, &draft.connectors, None, field(row, 1))?;
@@ -119,7 +123,7 @@ fn take_link(draft: NetDraft, row: &ByteRecord) -> Result<NetDraft, RecordRefusa
 
 #[tactic(auto, unfolding(crate::specs::Taking::take_merge))]
 fn take_merge(draft: NetDraft, row: &ByteRecord) -> Result<NetDraft, RecordRefusal>
-    requires { length draft.connectors < MOST_RECORDS }
+    requires { length draft.connectors < most_records draft.format }
     ensures { Answers result (take_merge draft (fields_of row.now)) }
 {
     let up1 = upstream(&draft.cells, &draft.connectors, None, field(row, 1))?;
@@ -138,7 +142,7 @@ fn take_merge(draft: NetDraft, row: &ByteRecord) -> Result<NetDraft, RecordRefus
 
 #[tactic(auto, unfolding(crate::specs::Taking::take_diverge))]
 fn take_diverge(draft: NetDraft, row: &ByteRecord) -> Result<NetDraft, RecordRefusal>
-    requires { length draft.connectors < MOST_RECORDS }
+    requires { length draft.connectors < most_records draft.format }
     ensures { Answers result (take_diverge draft (fields_of row.now)) }
 {
     let up = upstream(&draft.cells, &draft.connectors, None, field(row, 1))?;
@@ -169,7 +173,7 @@ fn take_signal(draft: NetDraft, row: &ByteRecord) -> Result<NetDraft, RecordRefu
 
 #[tactic(auto, unfolding(crate::specs::Taking::take_limit))]
 fn take_limit(draft: NetDraft, row: &ByteRecord) -> Result<NetDraft, RecordRefusal>
-    requires { length draft.plan.limits < MOST_RECORDS }
+    requires { length draft.plan.limits < most_records draft.format }
     ensures { Answers result (take_limit draft (fields_of row.now)) }
 {
     let cell = known_cell(&draft.cells, field(row, 1))?;
@@ -181,7 +185,7 @@ fn take_limit(draft: NetDraft, row: &ByteRecord) -> Result<NetDraft, RecordRefus
 
 #[tactic(auto, unfolding(crate::specs::Taking::take_demand))]
 fn take_demand(draft: NetDraft, row: &ByteRecord) -> Result<NetDraft, RecordRefusal>
-    requires { length draft.plan.demands < MOST_RECORDS }
+    requires { length draft.plan.demands < most_records draft.format }
     ensures { Answers result (take_demand draft (fields_of row.now)) }
 {
     let gate = demand_gate(&draft.cells, field(row, 1))?;
@@ -189,4 +193,26 @@ fn take_demand(draft: NetDraft, row: &ByteRecord) -> Result<NetDraft, RecordRefu
     let to = whole_within(from + 1, MOST_STEPS, field(row, 3))?;
     let amount = amount_within(MOST_PARTS, field(row, 4))?;
     Ok(draft.add_demand(gate, from, to, amount)?)
+}
+
+#[tactic(auto, unfolding(crate::specs::Taking::take_turn))]
+fn take_turn(draft: NetDraft, row: &ByteRecord) -> Result<NetDraft, RecordRefusal>
+    requires { length draft.plan.turns < most_records draft.format }
+    ensures { Answers result (take_turn draft (fields_of row.now)) }
+{
+    let cell = turn_cell(&draft.cells, &draft.connectors, field(row, 1))?;
+    let from = whole_within(0, MOST_STEPS - 1, field(row, 2))?;
+    let to = whole_within(from + 1, MOST_STEPS, field(row, 3))?;
+    let b1 = whole_within(1, MOST_RATIO, field(row, 4))?;
+    let b2 = whole_within(1, MOST_RATIO, field(row, 5))?;
+    Ok(draft.add_turn(cell, from, to, b1, b2)?)
+}
+
+#[tactic(auto, unfolding(crate::specs::Taking::take_region))]
+fn take_region(draft: NetDraft, row: &ByteRecord) -> Result<NetDraft, RecordRefusal>
+    ensures { Answers result (take_region draft (fields_of row.now)) }
+{
+    let cell = region_cell(&draft.cells, &draft.regions, field(row, 1))?;
+    let number = whole_within(0, MOST_REGIONS - 1, field(row, 2))?;
+    Ok(draft.add_region(cell, number)?)
 }

@@ -2,7 +2,7 @@ use Rattle.std.proofs.Common.{◌≡◌, Bool, true, false, List, [], ◌∷◌,
 use Rattle.std.specs.Prelude.{◌||◌}
 use Rattle.std.specs.List.{list_any}
 use Rattle.std.proofs.lemmas.List.Folds.{list_any-append}
-use Rattle.network_file.specs.Connectors.{leads_into, leads_out_of}
+use Rattle.network_file.specs.Connectors.{diverges_from, leads_into, leads_out_of}
 use Rattle.network_file.proofs.connector_table.ConnectorTable.with.Goals as goal
 
 -- the new element passes, or one before it does
@@ -22,4 +22,5 @@ invariant_of-result c =
     rw grown (
       λ i. c.in_ok-left.ensures i ∙ rw (c.self.invariant.0 i) (list_any-push (leads_out_of i) old c.args.connector),
       λ i. c.in_ok-entered.ensures i ∙ rw (c.self.invariant.1 i) (list_any-push (leads_into i) old c.args.connector),
+      λ i. c.in_ok-diverging.ensures i ∙ rw (c.self.invariant.2 i) (list_any-push (diverges_from i) old c.args.connector),
     )

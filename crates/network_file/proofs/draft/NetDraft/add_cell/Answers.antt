@@ -10,8 +10,10 @@ invariant_of-result c =
     let plan : c.put_cell.new.self ≡ with_cell draft.plan c.args.capacity = search rules in
     let given = rw (← c.self.view_is) at c.requires in
     record {
+      format = c.self.invariant.format;
       some_steps = c.self.invariant.some_steps;
       few_steps = c.self.invariant.few_steps;
-      sound = rw (cells, plan) (HasSoundParts-add_cell draft.cells draft.connectors draft.plan c.args.cell c.args.capacity c.self.invariant.sound given.room
+      sound = rw (cells, plan) (HasSoundParts-add_cell draft.format draft.cells draft.connectors draft.plan c.args.cell c.args.capacity c.self.invariant.sound given.room
           given.fresh given.sound given.capacity);
+      regions = c.self.invariant.regions;
     }

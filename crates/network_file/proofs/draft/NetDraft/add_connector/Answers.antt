@@ -8,8 +8,10 @@ invariant_of-result c =
     let connectors : c.in_ok-connectors.connectors ≡ draft.connectors ++ c.args.connector ∷ [] = search rules in
     let given = rw (← c.self.view_is) at c.requires in
     record {
+      format = c.self.invariant.format;
       some_steps = c.self.invariant.some_steps;
       few_steps = c.self.invariant.few_steps;
-      sound = rw connectors (HasSoundParts-add_connector draft.cells draft.connectors draft.plan c.args.connector c.self.invariant.sound given.room
+      sound = rw connectors (HasSoundParts-add_connector draft.format draft.cells draft.connectors draft.plan c.args.connector c.self.invariant.sound given.room
           given.sound given.up_free given.down_free);
+      regions = c.self.invariant.regions;
     }

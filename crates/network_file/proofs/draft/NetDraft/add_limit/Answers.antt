@@ -10,7 +10,9 @@ invariant_of-result c =
     let plan : c.put_limit.new.self ≡ with_limit draft.plan limit = search rules in
     let given = rw (← c.self.view_is) at c.requires in
     record {
+      format = c.self.invariant.format;
       some_steps = c.self.invariant.some_steps;
       few_steps = c.self.invariant.few_steps;
-      sound = rw plan (HasSoundParts-add_limit draft.cells draft.connectors draft.plan limit c.self.invariant.sound given.room given.in_time given.capacity);
+      sound = rw plan (HasSoundParts-add_limit draft.format draft.cells draft.connectors draft.plan limit c.self.invariant.sound given.room given.in_time given.capacity);
+      regions = c.self.invariant.regions;
     }

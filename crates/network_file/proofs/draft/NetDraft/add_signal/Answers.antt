@@ -10,7 +10,9 @@ invariant_of-result c =
     let plan : c.put_signal.new.self ≡ with_signal draft.plan signal = search rules in
     let given = rw (← c.self.view_is) at c.requires in
     record {
+      format = c.self.invariant.format;
       some_steps = c.self.invariant.some_steps;
       few_steps = c.self.invariant.few_steps;
-      sound = rw plan (HasSoundParts-add_signal draft.cells draft.connectors draft.plan signal c.self.invariant.sound given.there given.sends);
+      sound = rw plan (HasSoundParts-add_signal draft.format draft.cells draft.connectors draft.plan signal c.self.invariant.sound given.there given.sends);
+      regions = c.self.invariant.regions;
     }

@@ -1,0 +1,6 @@
+/// A region record: the number of a cell's region.
+#[derive(Clone, Copy, Debug)]
+pub(crate) struct RegionRecord {
+    pub(crate) cell: u32,
+    pub(crate) number: u32,
+}

@@ -1,0 +1,88 @@
+ghost use Rattle.std.specs.Prelude.{◌≡◌, ◌==◌, ◌++◌, ◌∷◌, [], None, IfOk, MatchOption, length, false, true};
+ghost use Rattle.network_file.specs.Regions.{all_have_regions, region_in, region_numbers};
+
+use crate::region_record::RegionRecord;
+use signal_plan::NoMemory;
+use std::alloc::Global;
+use std::marker::Model;
+
+/// The region records read so far, in order, with the number of each cell's region under the cell.
+#[derive(Drop)]
+pub(crate) struct RegionTable {
+    records: Vec<RegionRecord>,
+    numbers: Vec<Option<u32>>,
+}
+
+impl Model for RegionTable {
+    ghost use Rattle.std.specs.Prelude.{List};
+    ghost use Rattle.network_file.specs.declared.region_record.RegionRecord.{RegionRecord};
+
+    ghost Value = { List RegionRecord };
+
+    ghost use Rattle.std.specs.Prelude.{◌≡◌, ℕ, None, slice_index_or};
+    ghost use Rattle.network_file.specs.Regions.{region_in};
+
+    ghost view = { λ a. a.records.items };
+
+    ghost invariant = { λ a. (cell : ℕ) → slice_index_or a.numbers.items cell None ≡ region_in a.records.items cell };
+}
+
+impl RegionTable {
+    pub(crate) fn new(alloc: Global) -> RegionTable
+        ensures { result ≡ [] }
+    {
+        RegionTable {
+            records: Vec::new(alloc),
+            numbers: Vec::new(alloc),
+        }
+    }
+
+    pub(crate) fn is_empty(&self) -> bool
+        ensures { result ≡ (length self.now == 0) }
+    {
+        self.records.is_empty()
+    }
+
+    /// The number of the cell's region, where a record gave it one.
+    pub(crate) fn number_of(&self, cell: u32) -> Option<u32>
+        ensures { result ≡ region_in self.now cell }
+    {
+        match self.numbers.get(cell as usize) {
+            Some(number) => *number,
+            None => None,
+        }
+    }
+
+    /// With the region of one more cell.
+    pub(crate) fn with(self, cell: u32, number: u32) -> Result<RegionTable, NoMemory>
+        requires { region_in self cell ≡ None }
+        ensures { IfOk result (λ more. more ≡ self ++ record { cell = cell; number = number } ∷ []) }
+    {
+        let RegionTable {
+            mut records,
+            mut numbers,
+        } = self;
+        let at = cell as usize;
+        if numbers.len() <= at {
+            numbers.resize(at + 1, None)?;
+        }
+        numbers[at] = Some(number);
+        records.push(RegionRecord { cell, number })?;
+        Ok(RegionTable { records, numbers })
+    }
+
+    /// The number of each of so many cells, where each has one.
+    pub(crate) fn numbers(&self, alloc: Global, cells: u32) -> Result<Option<Vec<u32>>, NoMemory>
+        ensures { IfOk result (λ numbers. MatchOption numbers (all_have_regions cells self.now ≡ false)
+            (λ all. (all_have_regions cells self.now ≡ true) × (all.items ≡ region_numbers cells self.now))) }
+    {
+        let mut numbers = Vec::new(alloc);
+        for cell in 0..cells {
+            match self.number_of(cell) {
+                Some(number) => numbers.push(number)?,
+                None => return Ok(None),
+            }
+        }
+        Ok(Some(numbers))
+    }
+}
