@@ -5,13 +5,13 @@ use Rattle.std.proofs.lemmas.Bool.{cases_eq, cases_lt}
 use Rattle.std.proofs.lemmas.List.{get_or_append_left, get_or_push, get_or-set_same, get_or-set_other, length-set, length_push}
 use Rattle.std.proofs.Math.Seq.{map-set_same}
 use Rattle.signal_plan.specs.declared.bounds.TheConstants.{MOST_CELLS, MOST_RECORDS}
-use Rattle.signal_plan.specs.Records.{DemandRecord, LimitRecord, PlanRecords, SignalRecord, with_cell, with_demand, with_limit, with_signal}
-use Rattle.signal_plan.specs.Sound.{IsSoundDemand, IsSoundLimit, IsSoundPlan, IsSoundSignal}
+use Rattle.signal_plan.specs.Records.{DemandRecord, LimitRecord, PlanRecords, SignalRecord, TurnRecord, with_cell, with_demand, with_limit, with_signal, with_turn}
+use Rattle.signal_plan.specs.Sound.{IsSoundDemand, IsSoundLimit, IsSoundPlan, IsSoundSignal, IsSoundTurn}
 use Rattle.signal_plan.specs.Green.{is_signalled}
 use Rattle.signal_plan.specs.CellRecords.{CellRecords, PlannedCell, bare, planned_at}
 use Rattle.signal_plan.specs.Layout.{IsLaidOut}
-use Rattle.signal_plan.proofs.OwnRecords.{planned_at-with_cell_new, planned_at-with_cell_old, records_at-with_demand_other, records_at-with_demand_own, records_at-with_limit_other, records_at-with_limit_own, records_at-with_signal_other, records_at-with_signal_own}
-use Rattle.signal_plan.proofs.Sound.{IsSoundPlan-with_cell, IsSoundPlan-with_demand, IsSoundPlan-with_limit, IsSoundPlan-with_signal}
+use Rattle.signal_plan.proofs.OwnRecords.{planned_at-with_cell_new, planned_at-with_cell_old, records_at-with_demand_other, records_at-with_demand_own, records_at-with_limit_other, records_at-with_limit_own, records_at-with_signal_other, records_at-with_signal_own, records_at-with_turn_other, records_at-with_turn_own}
+use Rattle.signal_plan.proofs.Sound.{IsSoundPlan-with_cell, IsSoundPlan-with_demand, IsSoundPlan-with_limit, IsSoundPlan-with_signal, IsSoundPlan-with_turn}
 
 -- the plan's capacities stay where a cell's records change and its capacity does not
 pub capacities-set : (cells : List PlannedCell) (cell : ℕ) (c new : PlannedCell) → c ≡ get_or cells cell c →
@@ -65,6 +65,19 @@ laid_out-with_demand cells plan demand c new has read grown few fits laid =
     (IsSoundPlan-with_demand plan demand few fits laid.sound)
     (grown ∙ ap more (read ∙ laid.own demand.cell c has) ∙ ap (planned plan demand.cell) (sym (records_at-with_demand_own plan demand)))
     (λ other apart. ap (planned plan other) (records_at-with_demand_other plan demand other apart)) laid
+
+pub laid_out-with_turn : (cells : List PlannedCell) (plan : PlanRecords) (turn : TurnRecord) (c new : PlannedCell) →
+    turn.cell < length cells → c ≡ get_or cells turn.cell c →
+    new ≡ record c { records = record c.records { turns = c.records.turns ++ turn ∷ [] } } →
+    IsSoundTurn (length plan.cells) turn → IsLaidOut cells plan →
+    IsLaidOut (slice_set cells turn.cell new) (with_turn plan turn)
+laid_out-with_turn cells plan turn c new has read grown fits laid =
+    let more : PlannedCell → PlannedCell =
+    λ p. record p { records = record p.records { turns = p.records.turns ++ turn ∷ [] } } in
+    laid_out-set cells plan (with_turn plan turn) turn.cell new
+    (IsSoundPlan-with_turn plan turn fits laid.sound)
+    (grown ∙ ap more (read ∙ laid.own turn.cell c has) ∙ ap (planned plan turn.cell) (sym (records_at-with_turn_own plan turn)))
+    (λ other apart. ap (planned plan other) (records_at-with_turn_other plan turn other apart)) laid
 
 pub laid_out-with_signal : (cells : List PlannedCell) (plan : PlanRecords) (signal : SignalRecord) (c new : PlannedCell) →
     signal.cell < length cells → c ≡ get_or cells signal.cell c →

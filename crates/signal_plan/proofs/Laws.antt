@@ -1,4 +1,4 @@
--- What callers may know of a plan's capacities, demands and totals.
+-- What callers may know of a plan's capacities, turning shares, demands and totals.
 use Rattle.std.specs.Prelude.{All, reverse, if◌then◌else◌}
 use Rattle.std.specs.List.{range_with_len}
 use Rattle.std.proofs.Common.{◌≡◌, ℕ, suc, true, false, zero-add, ◌+◌, ◌-◌, ◌*◌, ◌<◌, ◌≤◌, length, get_or, arith, refl, ◌∙◌}
@@ -12,6 +12,7 @@ use Rattle.signal_plan.specs.Sound.{IsSoundDemand, IsSoundPlan}
 use Rattle.signal_plan.specs.Capacity.{capacity_at, limits_at}
 use Rattle.signal_plan.specs.Demand.{applies_at, amount_at, demand_at}
 use Rattle.signal_plan.specs.Total.{demand_from, total_demand}
+use Rattle.signal_plan.specs.Turning.{shares_at, turns_at}
 use Rattle.signal_plan.proofs.Sums.{sum_by_range_split}
 use Rattle.signal_plan.proofs.Searches.{All-reverse, find-has}
 use Rattle.signal_plan.proofs.Totals.{brought, total_demand_is}
@@ -24,6 +25,14 @@ capacity_at-le plan cell t most has cells limits =
     let small : ℕ → Type 0 = λ capacity. capacity ≤ most in
     find-has small (λ l. l.capacity) (limits_at cell t) (reverse plan.limits) (get_or plan.cells cell 0)
     (All-reverse (λ l. small l.capacity) plan.limits limits) (cells cell 0 has)
+
+-- the shares at a step have what those of the diverge and of all records have
+pub shares_at-all : (P : ℕ × ℕ → Type 0) (plan : PlanRecords) (cell t : ℕ) (own : ℕ × ℕ) → P own →
+    All (λ turn. P (turn.b1, turn.b2)) plan.turns → P (shares_at plan cell t own)
+unfolding shares_at
+shares_at-all P plan cell t own fallback turns =
+    find-has P (λ u. (u.b1, u.b2)) (turns_at cell t) (reverse plan.turns) own
+    (All-reverse (λ u. P (u.b1, u.b2)) plan.turns turns) fallback
 
 amount_at-le : (d : DemandRecord) (cell t : ℕ) → amount_at d cell t ≤ d.amount
 amount_at-le d cell t =

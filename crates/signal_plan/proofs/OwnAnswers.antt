@@ -7,8 +7,9 @@ use Rattle.signal_plan.specs.Records.{PlanRecords, in_range}
 use Rattle.signal_plan.specs.Capacity.{capacity_at}
 use Rattle.signal_plan.specs.Green.{green_at}
 use Rattle.signal_plan.specs.Demand.{amount_at, demand_at}
-use Rattle.signal_plan.specs.CellRecords.{PlannedCell, brings, own_capacity, own_demand, own_green, records_at}
+use Rattle.signal_plan.specs.CellRecords.{PlannedCell, brings, own_capacity, own_demand, own_green, own_shares, records_at}
 use Rattle.signal_plan.specs.Layout.{IsLaidOut}
+use Rattle.signal_plan.specs.Turning.{shares_at}
 use Rattle.signal_plan.proofs.Sums.{sum_by_agree}
 use Rattle.signal_plan.proofs.Filters.{filter-reverse, sum_by-filter}
 use Rattle.signal_plan.proofs.Searches.{find-filter}
@@ -35,6 +36,15 @@ own_demand_is plan cell t =
     sum_by_agree (λ demand. if demand.cell == cell then brings demand t else 0) (λ demand. amount_at demand cell t) plan.demands
     (λ d. elim (d.cell == cell) as (λ b. (if b then brings d t else 0) ≡ (if b && in_range d.from d.to t then d.amount else 0)) [ true ↦ refl | false ↦ refl ])
 
+own_shares_is : (plan : PlanRecords) (cell t : ℕ) (own : ℕ × ℕ) →
+    own_shares (records_at plan cell) t own ≡ shares_at plan cell t own
+unfolding shares_at
+own_shares_is plan cell t own =
+    ap (λ turns. option_map_or (λ turn. (turn.b1, turn.b2)) (find (λ turn. in_range turn.from turn.to t) turns) own)
+    (sym (filter-reverse (λ turn. turn.cell == cell) plan.turns)) ∙
+    ap (λ found. option_map_or (λ turn. (turn.b1, turn.b2)) found own)
+    (find-filter (λ turn. in_range turn.from turn.to t) (λ turn. turn.cell == cell) (reverse plan.turns))
+
 -- what is read of a cell that is stored
 pub own_capacity_read : (cells : List PlannedCell) (plan : PlanRecords) (cell t : ℕ) (c : PlannedCell) → IsLaidOut cells plan →
     cell < length cells → c ≡ get_or cells cell c → own_capacity c.records t c.capacity ≡ capacity_at plan cell t
@@ -50,3 +60,8 @@ pub own_demand_read : (cells : List PlannedCell) (plan : PlanRecords) (cell t : 
     cell < length cells → c ≡ get_or cells cell c → own_demand c.records t ≡ demand_at plan cell t
 own_demand_read cells plan cell t c laid has read =
     ap (λ own. own_demand own.records t) (read ∙ laid.own cell c has) ∙ own_demand_is plan cell t
+
+pub own_shares_read : (cells : List PlannedCell) (plan : PlanRecords) (cell t : ℕ) (own : ℕ × ℕ) (c : PlannedCell) →
+    IsLaidOut cells plan → cell < length cells → c ≡ get_or cells cell c → own_shares c.records t own ≡ shares_at plan cell t own
+own_shares_read cells plan cell t own c laid has read =
+    ap (λ planned. own_shares planned.records t own) (read ∙ laid.own cell c has) ∙ own_shares_is plan cell t own

@@ -7,8 +7,8 @@ use Rattle.std.proofs.lemmas.Bool.{eq-eqb, ne_eqb}
 use Rattle.std.proofs.lemmas.List.{get_or_append_left, get_or_push}
 use Rattle.std.proofs.lemmas.List.Elements.{All-weaker}
 use Rattle.std.proofs.lemmas.List.Folds.{find-append}
-use Rattle.signal_plan.specs.Records.{DemandRecord, LimitRecord, PlanRecords, SignalRecord, with_cell, with_demand, with_limit, with_signal}
-use Rattle.signal_plan.specs.Sound.{IsSoundDemand, IsSoundLimit, IsSoundPlan, IsSoundSignal}
+use Rattle.signal_plan.specs.Records.{DemandRecord, LimitRecord, PlanRecords, SignalRecord, TurnRecord, with_cell, with_demand, with_limit, with_signal, with_turn}
+use Rattle.signal_plan.specs.Sound.{IsSoundDemand, IsSoundLimit, IsSoundPlan, IsSoundSignal, IsSoundTurn}
 use Rattle.signal_plan.specs.Green.{is_signalled, signal_of}
 use Rattle.signal_plan.specs.CellRecords.{bare, planned_at, records_at}
 use Rattle.signal_plan.proofs.Filters.{filter-none, filter_push_no, filter_push_yes}
@@ -36,7 +36,10 @@ planned_at-with_cell_new plan capacity sound =
     let no_demand = filter-none (λ d. d.cell == cells) plan.demands (
     All-weaker (IsSoundDemand cells) (λ d. (d.cell == cells) ≡ false)
     (λ d fits. ne_eqb d.cell cells (λ same. let below = fits.cell in absurd (omega arith))) plan.demands sound.demands) in
-    rw (no_signal, no_limit, no_demand, get_or_push plan.cells capacity 0 (length plan.cells) refl) refl
+    let no_turn = filter-none (λ u. u.cell == cells) plan.turns (
+    All-weaker (IsSoundTurn cells) (λ u. (u.cell == cells) ≡ false)
+    (λ u fits. ne_eqb u.cell cells (λ same. let below = fits.cell in absurd (omega arith))) plan.turns sound.turns) in
+    rw (no_signal, no_limit, no_demand, no_turn, get_or_push plan.cells capacity 0 (length plan.cells) refl) refl
 
 -- a record changes what the plan says of its own cell alone
 pub records_at-with_limit_own : (plan : PlanRecords) (limit : LimitRecord) →
@@ -68,6 +71,21 @@ unfolding signal_of
 records_at-with_demand_other plan demand cell other =
     ap (λ demands. record (records_at plan cell) { demands = demands })
     (filter_push_no (λ d. d.cell == cell) plan.demands demand (ne_eqb demand.cell cell other))
+
+pub records_at-with_turn_own : (plan : PlanRecords) (turn : TurnRecord) →
+    records_at (with_turn plan turn) turn.cell ≡
+    record (records_at plan turn.cell) { turns = (records_at plan turn.cell).turns ++ turn ∷ [] }
+unfolding signal_of
+records_at-with_turn_own plan turn =
+    ap (λ turns. record (records_at plan turn.cell) { turns = turns })
+    (filter_push_yes (λ u. u.cell == turn.cell) plan.turns turn (eq-eqb turn.cell turn.cell refl))
+
+pub records_at-with_turn_other : (plan : PlanRecords) (turn : TurnRecord) (cell : ℕ) → turn.cell ≢ cell →
+    records_at (with_turn plan turn) cell ≡ records_at plan cell
+unfolding signal_of
+records_at-with_turn_other plan turn cell other =
+    ap (λ turns. record (records_at plan cell) { turns = turns })
+    (filter_push_no (λ u. u.cell == cell) plan.turns turn (ne_eqb turn.cell cell other))
 
 none_before : (o : Option SignalRecord) (last : Option SignalRecord) → is_some o ≡ false → option_or o last ≡ last
 none_before None last none = refl

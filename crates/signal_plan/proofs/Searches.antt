@@ -22,7 +22,7 @@ find-none p (x ∷ xs) none =
     rw (All-head (λ y. p y ≡ false) x xs none) (find-none p xs (All-tail (λ y. p y ≡ false) x xs none))
 
 -- the value of what a search finds, or else the default, has what all of them have
-pub find-has : {X : Type 0} (P : ℕ → Type 0) (value : X → ℕ) (p : X → Bool) (xs : List X) (default : ℕ) →
+pub find-has : {X Y : Type 0} (P : Y → Type 0) (value : X → Y) (p : X → Bool) (xs : List X) (default : Y) →
     All (λ x. P (value x)) xs → P default → P (option_map_or value (find p xs) default)
 find-has P value p [] default each fallback = fallback
 find-has P value p (x ∷ xs) default each fallback =

@@ -10,8 +10,8 @@ use Rattle.std.proofs.lemmas.Map.Views.{Contains-from_any}
 use Rattle.std.proofs.lemmas.Bool.{eqb-true}
 use Rattle.std.specs.Cmp.{nat_eq_equiv}
 use Rattle.signal_plan.specs.declared.bounds.TheConstants.{MOST_CELLS, MOST_RECORDS}
-use Rattle.signal_plan.specs.Records.{DemandRecord, LimitRecord, PlanRecords, SignalRecord, no_records, with_cell, with_demand, with_limit, with_signal}
-use Rattle.signal_plan.specs.Sound.{IsSoundDemand, IsSoundLimit, IsSoundPlan, IsSoundSignal}
+use Rattle.signal_plan.specs.Records.{DemandRecord, LimitRecord, PlanRecords, SignalRecord, TurnRecord, no_records, with_cell, with_demand, with_limit, with_signal, with_turn}
+use Rattle.signal_plan.specs.Sound.{IsSoundDemand, IsSoundLimit, IsSoundPlan, IsSoundSignal, IsSoundTurn}
 use Rattle.signal_plan.specs.Green.{is_signalled, signal_of}
 
 pub IsSoundPlan-no_records : IsSoundPlan no_records
@@ -23,6 +23,7 @@ IsSoundPlan-no_records = record {
   limits = All-nil (IsSoundLimit 0);
   few_demands = omega arith;
   demands = All-nil (IsSoundDemand 0);
+  turns = All-nil (IsSoundTurn 0);
 }
 
 pub IsSoundPlan-with_cell : (plan : PlanRecords) (capacity : ℕ) → length plan.cells < MOST_CELLS → IsSoundPlan plan →
@@ -49,6 +50,16 @@ IsSoundPlan-with_cell plan capacity few sound =
       demands = All-weaker (IsSoundDemand old) (IsSoundDemand new)
           (λ d fits. record { cell = omega (arith, fits.cell); steps = fits.steps; amount = fits.amount })
           plan.demands sound.demands;
+      turns = All-weaker (IsSoundTurn old) (IsSoundTurn new)
+          (λ u fits. record {
+            cell = omega (arith, fits.cell);
+            steps = fits.steps;
+            some_first = fits.some_first;
+            some_second = fits.some_second;
+            first = fits.first;
+            second = fits.second;
+          })
+          plan.turns sound.turns;
     }
 
 pub IsSoundPlan-with_limit : (plan : PlanRecords) (limit : LimitRecord) →
@@ -60,6 +71,7 @@ IsSoundPlan-with_limit plan limit fits sound = record {
   limits = All-push (IsSoundLimit (length plan.cells)) plan.limits limit sound.limits fits;
   few_demands = sound.few_demands;
   demands = sound.demands;
+  turns = sound.turns;
 }
 
 pub IsSoundPlan-with_demand : (plan : PlanRecords) (demand : DemandRecord) → length plan.demands < MOST_RECORDS →
@@ -71,6 +83,19 @@ IsSoundPlan-with_demand plan demand few fits sound = record {
   limits = sound.limits;
   few_demands = omega (arith, length_push plan.demands demand);
   demands = All-push (IsSoundDemand (length plan.cells)) plan.demands demand sound.demands fits;
+  turns = sound.turns;
+}
+
+pub IsSoundPlan-with_turn : (plan : PlanRecords) (turn : TurnRecord) →
+    IsSoundTurn (length plan.cells) turn → IsSoundPlan plan → IsSoundPlan (with_turn plan turn)
+IsSoundPlan-with_turn plan turn fits sound = record {
+  few_cells = sound.few_cells;
+  signals = sound.signals;
+  one_signal = sound.one_signal;
+  limits = sound.limits;
+  few_demands = sound.few_demands;
+  demands = sound.demands;
+  turns = All-push (IsSoundTurn (length plan.cells)) plan.turns turn sound.turns fits;
 }
 
 -- the cell stands among the cells of the signals exactly where it has a signal
@@ -97,6 +122,7 @@ IsSoundPlan-with_signal plan signal none fits sound =
       limits = sound.limits;
       few_demands = sound.few_demands;
       demands = sound.demands;
+      turns = sound.turns;
     }
 
 -- a cell has at most one signal

@@ -2,14 +2,15 @@
 use Rattle.std.specs.Prelude.{ℕ, Bool, true, if◌then◌else◌, ◌==◌, List, [], Option, None, reverse, slice_index, sum_by}
 use Rattle.std.specs.List.{filter, find}
 use Rattle.std.specs.Option.{option_map_or}
-use Rattle.signal_plan.specs.Records.{DemandRecord, LimitRecord, PlanRecords, SignalRecord, in_range}
+use Rattle.signal_plan.specs.Records.{DemandRecord, LimitRecord, PlanRecords, SignalRecord, TurnRecord, in_range}
 use Rattle.signal_plan.specs.Green.{shows_green, signal_of}
 
--- the records of a cell: its signal, and its limit and demand records in the order that they were put
+-- the records of a cell: its signal, and its limit, demand and turn records in the order that they were put
 pub record CellRecords : Type 0 where
   pub signal : Option SignalRecord
   pub limits : List LimitRecord
   pub demands : List DemandRecord
+  pub turns : List TurnRecord
 
 -- the capacity Q of a cell, and its records
 pub record PlannedCell : Type 0 where
@@ -18,7 +19,7 @@ pub record PlannedCell : Type 0 where
 
 -- a cell without records
 abbrev pub bare : CellRecords
-bare = record { signal = None; limits = []; demands = [] }
+bare = record { signal = None; limits = []; demands = []; turns = [] }
 
 -- the records of the plan that are of the cell
 abbrev pub records_at : PlanRecords → (cell : ℕ) → CellRecords
@@ -26,6 +27,7 @@ records_at plan cell = record {
   signal = signal_of plan cell;
   limits = filter (λ limit. limit.cell == cell) plan.limits;
   demands = filter (λ demand. demand.cell == cell) plan.demands;
+  turns = filter (λ turn. turn.cell == cell) plan.turns;
 }
 
 -- what the plan says of the cell
@@ -51,3 +53,11 @@ brings demand t = if in_range demand.from demand.to t then demand.amount else 0
 -- what all demand records bring
 abbrev pub own_demand : CellRecords → (t : ℕ) → ℕ
 own_demand own t = sum_by (λ demand. brings demand t) own.demands
+
+-- the last turn record whose range contains `t`
+abbrev pub own_turn : CellRecords → (t : ℕ) → Option TurnRecord
+own_turn own t = find (λ turn. in_range turn.from turn.to t) (reverse own.turns)
+
+-- the turning shares by that record, and else those of the diverge itself
+abbrev pub own_shares : CellRecords → (t : ℕ) → (shares : ℕ × ℕ) → ℕ × ℕ
+own_shares own t shares = option_map_or (λ turn. (turn.b1, turn.b2)) (own_turn own t) shares

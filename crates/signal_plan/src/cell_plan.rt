@@ -6,6 +6,7 @@ use crate::demand::Demand;
 use crate::limit::Limit;
 use crate::memory::NoMemory;
 use crate::signal::Signal;
+use crate::turn::Turn;
 use std::alloc::Global;
 use std::marker::Model;
 
@@ -32,7 +33,7 @@ impl Model for CellPlan {
 }
 
 impl CellPlan {
-    ghost use Rattle.signal_plan.specs.CellRecords.{bare, own_capacity, own_demand, own_green};
+    ghost use Rattle.signal_plan.specs.CellRecords.{bare, own_capacity, own_demand, own_green, own_shares};
 
     /// A cell of this capacity, without records.
     pub(crate) fn new(capacity: u64) -> Self
@@ -80,6 +81,24 @@ impl CellPlan {
         Ok(())
     }
 
+    /// Adds a turn record.
+    pub(crate) fn put_turn(&mut self, alloc: Global, turn: Turn) -> Result<(), NoMemory>
+        ensures added { OnOk result (self.new ≡ record self.old {
+          records = record self.old.records { turns = self.old.records.turns ++ turn ∷ [] };
+        }) }
+        ensures unchanged { OnErr result (self.new ≡ self.old) }
+    {
+        match &mut self.records {
+            Some(records) => records.put_turn(turn)?,
+            None => {
+                let mut records = CellRecords::new(alloc);
+                records.put_turn(turn)?;
+                self.records = Some(Box::new(alloc, records)?);
+            }
+        }
+        Ok(())
+    }
+
     /// Gives the cell this signal in place of any that it had.
     pub(crate) fn set_signal(&mut self, alloc: Global, signal: Signal) -> Result<(), NoMemory>
         ensures added { OnOk result (self.new ≡ record self.old {
@@ -115,6 +134,16 @@ impl CellPlan {
         match &self.records {
             Some(records) => records.capacity_at(t, self.capacity),
             None => self.capacity,
+        }
+    }
+
+    /// The turning shares at step `t`, by the newest turn record that speaks of it, and else `own`.
+    pub(crate) fn shares_at(&self, t: u64, own: (u32, u32)) -> (u32, u32)
+        ensures { result ≡ own_shares self.now.records t own }
+    {
+        match &self.records {
+            Some(records) => records.shares_at(t, own),
+            None => own,
         }
     }
 

@@ -5,6 +5,7 @@ use crate::demand::Demand;
 use crate::limit::Limit;
 use crate::memory::NoMemory;
 use crate::signal::Signal;
+use crate::turn::Turn;
 use std::alloc::Global;
 use std::marker::Model;
 
@@ -14,6 +15,7 @@ pub(crate) struct CellRecords {
     signal: Option<Signal>,
     limits: Vec<Limit>,
     demands: Vec<Demand>,
+    turns: Vec<Turn>,
 }
 
 impl Model for CellRecords {
@@ -25,11 +27,12 @@ impl Model for CellRecords {
       signal = own.signal;
       limits = own.limits.items;
       demands = own.demands.items;
+      turns = own.turns.items;
     } };
 }
 
 impl CellRecords {
-    ghost use Rattle.signal_plan.specs.CellRecords.{bare, own_capacity, own_demand, own_green, own_limit};
+    ghost use Rattle.signal_plan.specs.CellRecords.{bare, own_capacity, own_demand, own_green, own_limit, own_shares, own_turn};
 
     /// No records. It takes no memory.
     pub(crate) fn new(alloc: Global) -> Self
@@ -39,6 +42,7 @@ impl CellRecords {
             signal: None,
             limits: Vec::new(alloc),
             demands: Vec::new(alloc),
+            turns: Vec::new(alloc),
         }
     }
 
@@ -57,6 +61,15 @@ impl CellRecords {
         ensures unchanged { OnErr result (self.new ≡ self.old) }
     {
         self.demands.push(demand)?;
+        Ok(())
+    }
+
+    /// Adds a turn record.
+    pub(crate) fn put_turn(&mut self, turn: Turn) -> Result<(), NoMemory>
+        ensures added { OnOk result (self.new ≡ record self.old { turns = self.old.turns ++ turn ∷ [] }) }
+        ensures unchanged { OnErr result (self.new ≡ self.old) }
+    {
+        self.turns.push(turn)?;
         Ok(())
     }
 
@@ -92,6 +105,27 @@ impl CellRecords {
         match self.limit_at(t) {
             Some(limit) => limit.capacity,
             None => capacity,
+        }
+    }
+
+    /// The newest turn record that speaks of step `t`.
+    fn turn_at(&self, t: u64) -> Option<Turn>
+        ensures { result ≡ own_turn self.now t }
+    {
+        self.turns
+            .iter()
+            .rev()
+            .find(|turn| turn.holds_at(t))
+            .copied()
+    }
+
+    /// The turning shares at step `t`, by the newest turn record that speaks of it, and else `own`.
+    pub(crate) fn shares_at(&self, t: u64, own: (u32, u32)) -> (u32, u32)
+        ensures { result ≡ own_shares self.now t own }
+    {
+        match self.turn_at(t) {
+            Some(turn) => (turn.b1, turn.b2),
+            None => own,
         }
     }
 

@@ -1,22 +1,24 @@
 ghost use Rattle.std.specs.Prelude.{◌≡◌, ◌*◌, ◌^◌, ◌<◌, ◌≤◌, false, length, OnOk, OnErr};
-ghost use Rattle.signal_plan.specs.Records.{no_records, with_cell, with_demand, with_limit, with_signal};
+ghost use Rattle.signal_plan.specs.Records.{no_records, with_cell, with_demand, with_limit, with_signal, with_turn};
 ghost use Rattle.signal_plan.specs.Sound.{IsSoundPlan};
 ghost use Rattle.signal_plan.specs.Capacity.{capacity_at};
 ghost use Rattle.signal_plan.specs.Green.{green_at, is_signalled};
 ghost use Rattle.signal_plan.specs.Demand.{demand_at};
 ghost use Rattle.signal_plan.specs.Total.{total_demand};
+ghost use Rattle.signal_plan.specs.Turning.{shares_at};
 
-use crate::bounds::{MOST_CELLS, MOST_PARTS, MOST_RECORDS, MOST_STEPS};
+use crate::bounds::{MOST_CELLS, MOST_PARTS, MOST_RATIO, MOST_RECORDS, MOST_STEPS};
 use crate::cell_plan::CellPlan;
 use crate::demand::Demand;
 use crate::limit::Limit;
 use crate::memory::NoMemory;
 use crate::signal::Signal;
+use crate::turn::Turn;
 use std::alloc::Global;
 use std::marker::Model;
 
-/// What varies from step to step: the capacity of each cell, the light of each signal and the demand
-/// of each gate.
+/// What varies from step to step: the capacity of each cell, the light of each signal, the demand of
+/// each gate and the turning shares of each diverge.
 ///
 /// Each record stands twice: in the list of its kind, and with its cell, which is asked for it.
 #[derive(Debug, Drop)]
@@ -26,6 +28,7 @@ pub struct Plan {
     signals: Vec<Signal>,
     limits: Vec<Limit>,
     demands: Vec<Demand>,
+    turns: Vec<Turn>,
 }
 
 impl Model for Plan {
@@ -34,10 +37,11 @@ impl Model for Plan {
 
     ghost Value = { PlanRecords };
 
-    ghost view = { λ plan. records_of plan.cells.items plan.signals.items plan.limits.items plan.demands.items };
+    ghost view = { λ plan. records_of plan.cells.items plan.signals.items plan.limits.items plan.demands.items
+        plan.turns.items };
 
     ghost invariant = { λ plan. IsLaidOut plan.cells.items
-        (records_of plan.cells.items plan.signals.items plan.limits.items plan.demands.items) };
+        (records_of plan.cells.items plan.signals.items plan.limits.items plan.demands.items plan.turns.items) };
 }
 
 impl Plan {
@@ -51,6 +55,7 @@ impl Plan {
             signals: Vec::new(alloc),
             limits: Vec::new(alloc),
             demands: Vec::new(alloc),
+            turns: Vec::new(alloc),
         }
     }
 
@@ -151,6 +156,41 @@ impl Plan {
         Ok(())
     }
 
+    /// Adds the turn record by which the diverge out of the cell has the turning shares `b1` and `b2` in
+    /// each step of `[from, to)`. Of the turn records that speak of a step the last one holds.
+    pub fn put_turn(
+        &mut self,
+        cell: u32,
+        from: u64,
+        to: u64,
+        b1: u32,
+        b2: u32,
+    ) -> Result<(), NoMemory>
+        requires has_cell { cell < length self.old.cells }
+        requires some_step { from < to }
+        requires some_first { 1 ≤ b1 }
+        requires some_second { 1 ≤ b2 }
+        requires first { b1 ≤ MOST_RATIO }
+        requires second { b2 ≤ MOST_RATIO }
+        ensures added { OnOk result (self.new ≡ with_turn self.old
+            (record { cell = cell; from = from; to = to; b1 = b1; b2 = b2 })) }
+        ensures unchanged { OnErr result (self.new ≡ self.old) }
+    {
+        let turn = Turn {
+            cell,
+            from,
+            to,
+            b1,
+            b2,
+        };
+        // Room first: after it the last push cannot fail.
+        self.turns.reserve(1)?;
+        let own = &mut self.cells[cell as usize];
+        own.put_turn(self.alloc, turn)?;
+        self.turns.push(turn)?;
+        Ok(())
+    }
+
     /// The capacity of a cell at a step, in parts: `Q` of Daganzo (1994). The time it takes grows with
     /// the limits of this cell alone.
     pub fn capacity(&self, cell: u32, t: u64) -> u64
@@ -181,6 +221,16 @@ impl Plan {
         self.cells[cell as usize].demand_at(t)
     }
 
+    /// The turning shares of the diverge out of a cell at a step: by the last turn record that speaks of
+    /// it, and else `own`. The time it takes grows with the turn records of this cell alone.
+    pub fn shares(&self, cell: u32, t: u64, own: (u32, u32)) -> (u32, u32)
+        requires has_cell { cell < length self.now.cells }
+        requires in_time { t < MOST_STEPS }
+        ensures { result ≡ shares_at self.now cell t own }
+    {
+        self.cells[cell as usize].shares_at(t, own)
+    }
+
     /// Whether a cell has a signal.
     pub fn has_signal(&self, cell: u32) -> bool
         requires has_cell { cell < length self.now.cells }
@@ -199,6 +249,14 @@ impl Plan {
             self.limits.len() as u32,
             self.demands.len() as u32,
         )
+    }
+
+    /// The number of turn records.
+    pub fn turns(&self) -> u32
+        requires few_turns { length self.now.turns < 2 ^ 32 }
+        ensures { result ≡ length self.now.turns }
+    {
+        self.turns.len() as u32
     }
 
     /// The sum of all demand of the steps below `steps`, in parts.
