@@ -5,3 +5,4 @@ pub mod NumberLemmas
 pub mod ReadingLemmas
 pub mod RecordLemmas
 pub mod SoundLemmas
+mod CuttingLemmas

@@ -1,11 +1,12 @@
 -- The definition of a file's network, by its header and by one record more.
-use Rattle.std.proofs.Common.{ℕ, ◌≡◌, ◌+◌, true, false, List, [], ◌∷◌, Ok, Err, ◌∙◌, refl}
+use Rattle.std.proofs.Common.{ℕ, ◌≡◌, ◌+◌, Some, None, List, [], ◌∷◌, Ok, Err, ◌∙◌, refl}
 use Rattle.std.specs.Prelude.{Result}
 use Rattle.network_file.specs.Answers.{Answers}
 use Rattle.network_file.specs.Draft.{Draft, empty_draft}
+use Rattle.network_file.specs.Formats.{format_of}
 use Rattle.network_file.specs.FileRecords.{file_records_of}
 use Rattle.network_file.specs.Network.{Network}
-use Rattle.network_file.specs.Reading.{completed, is_header, network_of, read_file, read_records}
+use Rattle.network_file.specs.Reading.{completed, network_in_all, network_of, read_file, read_records}
 use Rattle.network_file.specs.Refused.{IsRefusal, fault_at, refusal_at}
 use Rattle.network_file.specs.Taking.{take_record}
 use Rattle.network_file.specs.declared.code.Code.TheVariants.{NoHeader}
@@ -18,14 +19,14 @@ unfolding network_of read_file
 network_of-headless bytes none = rw none refl
 
 pub network_of-misheaded : (bytes : List ℕ) (header : List (List ℕ)) (rest : List (List (List ℕ))) → file_records_of bytes ≡ header ∷ rest
-    → is_header header ≡ false → network_of bytes ≡ Err (fault_at 1 NoHeader)
+    → format_of header ≡ None → network_of bytes ≡ Err (fault_at 1 NoHeader)
 unfolding network_of read_file
-network_of-misheaded bytes header rest all no_header = rw (all, no_header) refl
+network_of-misheaded bytes header rest all no_format = rw (all, no_format) refl
 
-pub network_of-headed : (bytes : List ℕ) (header : List (List ℕ)) (rest : List (List (List ℕ))) → file_records_of bytes ≡ header ∷ rest
-    → is_header header ≡ true → network_of bytes ≡ read_records 2 empty_draft rest
+pub network_of-headed : (bytes : List ℕ) (header : List (List ℕ)) (rest : List (List (List ℕ))) (format : ℕ) → file_records_of bytes ≡ header ∷ rest
+    → format_of header ≡ Some format → network_of bytes ≡ read_records 2 (empty_draft format) rest
 unfolding network_of read_file
-network_of-headed bytes header rest all header_first = rw (all, header_first) refl
+network_of-headed bytes header rest format all headed = rw (all, headed) refl
 
 pub read_records-none : (place : ℕ) (draft : Draft) → read_records place draft [] ≡ completed place draft
 unfolding read_records
@@ -42,3 +43,13 @@ pub read_records-refused : (place : ℕ) (draft : Draft) (fields : List (List �
 unfolding read_records
 read_records-refused place draft fields rest (Fault code) whole same refused = same ∙ rw refused refl
 read_records-refused place draft fields rest NoMemory whole same refused = tt
+
+-- the network of a draft, or its refusal, where all records are taken
+pub completed-network : (place : ℕ) (draft : Draft) (net : Network) → network_in_all draft ≡ Ok net → completed place draft ≡ Ok net
+unfolding completed
+completed-network place draft net whole = rw whole refl
+
+pub completed-refused : (place : ℕ) (draft : Draft) (refusal : RecordRefusal) → Answers {A = Network} (Err refusal) (network_in_all draft) → IsRefusal (refusal_at place refusal) (completed place draft)
+unfolding completed
+completed-refused place draft (Fault code) refused = rw refused refl
+completed-refused place draft NoMemory refused = tt

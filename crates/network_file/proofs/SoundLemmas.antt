@@ -18,7 +18,8 @@ use Rattle.network_file.specs.Connectors.{downstream_of, leads_into, leads_out_o
 use Rattle.network_file.specs.Network.{HasSoundParts, IsPlanOf, IsSoundCell, IsSoundConnector, IsTurnWithin}
 use Rattle.network_file.specs.declared.cell.Cell.{Cell}
 use Rattle.network_file.specs.declared.connector.Connector.{Connector}
-use Rattle.network_file.specs.declared.limits.TheConstants.{MOST_CAPACITY}
+use Rattle.network_file.specs.declared.limits.TheConstants.{MOST_CAPACITY, MOST_REGIONS}
+use Rattle.network_file.specs.declared.region_record.RegionRecord.{RegionRecord}
 
 -- an earlier element stays where it was
 slice_get-push : {X : Type 0} (xs : List X) (x : X) (i : ℕ) → i < length xs → slice_get (xs ++ x ∷ []) i ≡ slice_get xs i
@@ -215,3 +216,17 @@ HasSoundParts-add_turn format cells connectors plan turn sound room in_time with
       few_turns = simp length-append (omega (arith, room));
       turns = All-push (λ t. (t.to ≤ MOST_STEPS) × IsTurnWithin t) plan.turns turn planned.turns (in_time, within);
     })
+
+-- the regions of a draft with one more cell
+pub regions-add_cell : (cells : List Cell) (cell : Cell) (regions : List RegionRecord)
+    → All (λ region. (region.cell < length cells) × (region.number < MOST_REGIONS)) regions
+    → All (λ region. (region.cell < length (cells ++ cell ∷ [])) × (region.number < MOST_REGIONS)) regions
+regions-add_cell cells cell regions all = λ k d h.
+    let (there, few) = all k d h in
+    (simp length-append (omega (arith, there)), few)
+
+pub regions-add_region : (cells : List Cell) (regions : List RegionRecord) (region : RegionRecord) → region.cell < length cells → region.number < MOST_REGIONS
+    → All (λ r. (r.cell < length cells) × (r.number < MOST_REGIONS)) regions
+    → All (λ r. (r.cell < length cells) × (r.number < MOST_REGIONS)) (regions ++ region ∷ [])
+regions-add_region cells regions region there few all =
+    All-push (λ r. (r.cell < length cells) × (r.number < MOST_REGIONS)) regions region all (there, few)

@@ -1,5 +1,5 @@
 -- The network that a file is, or its first fault.
-use Rattle.std.specs.Prelude.{ℕ, ◌+◌, ◌==◌, not, List, [], ◌∷◌, Some, None, Result, Ok, Err, if◌then◌else◌, nat_le, nat_lt, ok_or, length}
+use Rattle.std.specs.Prelude.{ℕ, ◌+◌, ◌==◌, not, List, [], ◌∷◌, Option, Some, None, Result, Ok, Err, if◌then◌else◌, nat_le, nat_lt, ok_or, length}
 use Rattle.network_file.specs.Draft.{Draft, empty_draft}
 use Rattle.network_file.specs.Checks.{◌>>=◌, ◌>>◌, must}
 use Rattle.network_file.specs.Cutting.{has_no_gap}
@@ -52,13 +52,15 @@ unfoldable pub read_records : (place : ℕ) → Draft → List (List (List ℕ))
 read_records place draft [] = completed place draft
 read_records place draft (fields ∷ rest) = on_taken place (take_record draft fields) (λ more. read_records (place + 1) more rest)
 
+-- the records behind a header that names this format
+abbrev pub read_headed : Option ℕ → List (List (List ℕ)) → Result Network NetFault
+read_headed None rest = Err (fault_at 1 NoHeader)
+read_headed (Some format) rest = read_records 2 (empty_draft format) rest
+
 -- the network of a list of records, of which the first is the header
 unfoldable pub read_file : List (List (List ℕ)) → Result Network NetFault
 read_file [] = Err (fault_at 1 NoHeader)
-read_file (header ∷ rest) = elim (format_of header) [
-  | None ↦ Err (fault_at 1 NoHeader)
-  | Some format ↦ read_records 2 (empty_draft format) rest
-]
+read_file (header ∷ rest) = read_headed (format_of header) rest
 
 -- the network that a file is, or its first fault
 unfoldable pub network_of : List ℕ → Result Network NetFault

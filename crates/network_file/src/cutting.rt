@@ -33,7 +33,9 @@ fn greatest(numbers: &[u32]) -> u32
 {
     let mut most = 0;
     for number in numbers {
-        most = most.max(*number);
+        if *number > most {
+            most = *number;
+        }
     }
     most
 }

@@ -1,4 +1,4 @@
-ghost use Rattle.std.specs.Prelude.{◌≡◌, ◌==◌, ◌++◌, ◌∷◌, [], None, IfOk, MatchOption, length, false, true};
+ghost use Rattle.std.specs.Prelude.{◌≡◌, ◌==◌, ◌++◌, ◌∷◌, [], ℕ, None, IfOk, MatchOption, if◌then◌else◌, length, slice_index_or, false, true};
 ghost use Rattle.network_file.specs.Regions.{all_have_regions, region_in, region_numbers};
 
 use crate::region_record::RegionRecord;
@@ -60,13 +60,9 @@ impl RegionTable {
     {
         let RegionTable {
             mut records,
-            mut numbers,
+            numbers,
         } = self;
-        let at = cell as usize;
-        if numbers.len() <= at {
-            numbers.resize(at + 1, None)?;
-        }
-        numbers[at] = Some(number);
+        let numbers = with_number(numbers, cell, number)?;
         records.push(RegionRecord { cell, number })?;
         Ok(RegionTable { records, numbers })
     }
@@ -85,4 +81,22 @@ impl RegionTable {
         }
         Ok(Some(numbers))
     }
+}
+
+// The numbers with that of one more cell.
+fn with_number(
+    numbers: Vec<Option<u32>>,
+    cell: u32,
+    number: u32,
+) -> Result<Vec<Option<u32>>, NoMemory>
+    ensures { IfOk result (λ more. (i : ℕ) → slice_index_or more.items i None
+        ≡ (if i == cell then Some number else slice_index_or numbers.items i None)) }
+{
+    let mut numbers = numbers;
+    let at = cell as usize;
+    if numbers.len() <= at {
+        numbers.resize(at + 1, None)?;
+    }
+    numbers[at] = Some(number);
+    Ok(numbers)
 }

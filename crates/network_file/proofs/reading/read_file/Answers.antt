@@ -1,4 +1,4 @@
-use Rattle.std.proofs.Common.{◌≡◌, ◌∙◌, ◌∷◌, [], Bor, List, ℕ, Some, arith, length, sym, ap}
+use Rattle.std.proofs.Common.{rules, ◌≡◌, ◌∙◌, ◌∷◌, [], Bor, List, ℕ, Some, arith, length, sym, ap}
 use Rattle.std.specs.Prelude.{Result}
 use Rattle.csv.specs.Records.{fields_of}
 use Rattle.network_file.specs.FileRecords.{records_left, file_records_of}
@@ -6,20 +6,20 @@ use Rattle.network_file.specs.Network.{Network}
 use Rattle.network_file.specs.Reading.{completed, network_of, read_records}
 use Rattle.network_file.specs.declared.fault.NetFault.{NetFault}
 use Rattle.network_file.proofs.RecordLemmas.{length-file_records_of}
-use Rattle.network_file.proofs.ReadingLemmas.{network_of-headless, network_of-misheaded, network_of-headed, read_records-none, read_records-taken, read_records-refused}
-use Rattle.network_file.proofs.reading.read_file.Goals.{then-not-branch-via-then-not-branch, then-not-branch-via-else-not-branch+then-not-is_header}
+use Rattle.network_file.proofs.ReadingLemmas.{network_of-headless, network_of-misheaded, network_of-headed, read_records-none, read_records-taken, read_records-refused, completed-network, completed-refused}
 use Rattle.network_file.proofs.reading.read_file.Goals as goal
 
 pub returns-then-not-branch-clause-refusal : goal.returns-then-not-branch-clause-refusal
 returns-then-not-branch-clause-refusal c =
     let left = sym c.open_records-reader.ensures.left in
-    rw c.at.ensures (elim c.then-not-branch.branch [
-      | then-not-branch-via-then-not-branch w ↦
-          network_of-headless c.args.bytes.now (left ∙ c.in_ok-next_record.ensures.end w.if-not-branch.true)
-      | then-not-branch-via-else-not-branch+then-not-is_header w ↦
-          network_of-misheaded c.args.bytes.now (fields_of c.next_record.new.row) (records_left (λ (s : Bor (List ℕ)). Some s.now) c.next_record.new.reader)
-          (left ∙ c.in_ok-next_record.ensures.found w.if-not-branch.false) (sym w.is_header.ensures ∙ w.if-not-is_header.true)
-    ])
+    rw c.at.ensures (network_of-headless c.args.bytes.now (left ∙ c.in_ok-next_record.ensures.end c.if-not-branch.true))
+
+pub returns-in_default-clause-refusal : goal.returns-in_default-clause-refusal
+returns-in_default-clause-refusal c =
+    let rest = records_left (λ (s : Bor (List ℕ)). Some s.now) c.next_record.new.reader in
+    let all : file_records_of c.args.bytes.now ≡ fields_of c.next_record.new.row ∷ rest =
+    sym c.open_records-reader.ensures.left ∙ c.in_ok-next_record.ensures.found c.if-not-branch.false in
+    rw c.at-in_default.ensures (network_of-misheaded c.args.bytes.now (fields_of c.next_record.new.row) rest all (search rules))
 
 pub loop-draft-init : goal.loop-draft-init
 loop-draft-init c =
@@ -28,7 +28,7 @@ loop-draft-init c =
     sym c.open_records-reader.ensures.left ∙ c.in_ok-next_record.ensures.found c.if-not-branch.false in
     record {
       reading = c.in_ok-next_record.ensures.reading c.if-not-branch.false;
-      same = rw c.new-draft.ensures (network_of-headed c.args.bytes.now (fields_of c.next_record.new.row) rest all (sym c.is_header.ensures ∙ c.if-not-is_header.false));
+      same = rw c.new-draft.ensures (network_of-headed c.args.bytes.now (fields_of c.next_record.new.row) rest c.in-Some.format all (sym c.format_of.ensures.value ∙ c.in-Some.is));
       few = omega (arith, length-file_records_of c.args.bytes.now, ap length all);
     }
 
@@ -54,12 +54,12 @@ loop-draft-preserved c =
 completes : (whole : Result Network NetFault) (place : ℕ) (draft : _) (left : List (List (List ℕ))) → whole ≡ read_records place draft left → left ≡ [] → whole ≡ completed place draft
 completes whole place draft left same none = same ∙ rw none (read_records-none place draft)
 
-pub returns-clause-network : goal.returns-clause-network
-returns-clause-network c =
+pub returns-in-Ok-complete-clause-network : goal.returns-in-Ok-complete-clause-network
+returns-in-Ok-complete-clause-network c =
     let whole = completes (network_of c.args.bytes.now) c.loop-draft.place c.loop-draft.draft _ c.loop-draft.invariant.same (c.in_ok-next_record-2.ensures.end c.if-branch.false) in
-    rw whole c.complete.ensures.network
+    whole ∙ completed-network c.loop-draft.place c.loop-draft.draft c.in-Ok-complete.net c.in-Ok-complete.ensures
 
 pub returns-clause-refusal : goal.returns-clause-refusal
 returns-clause-refusal c =
     let whole = completes (network_of c.args.bytes.now) c.loop-draft.place c.loop-draft.draft _ c.loop-draft.invariant.same (c.in_ok-next_record-2.ensures.end c.if-branch.false) in
-    rw whole c.complete.ensures.refusal
+    rw (c.at-in-Err-complete.ensures, whole) (completed-refused c.loop-draft.place c.loop-draft.draft c.in-Err-complete.refusal c.in-Err-complete.ensures)

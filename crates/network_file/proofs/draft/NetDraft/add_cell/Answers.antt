@@ -1,6 +1,6 @@
 use Rattle.std.proofs.Common.{rules, ◌≡◌, ◌++◌, ◌∷◌, []}
 use Rattle.signal_plan.specs.Records.{with_cell}
-use Rattle.network_file.proofs.SoundLemmas.{HasSoundParts-add_cell}
+use Rattle.network_file.proofs.SoundLemmas.{HasSoundParts-add_cell, regions-add_cell}
 use Rattle.network_file.proofs.draft.NetDraft.add_cell.Goals as goal
 
 pub invariant_of-result : goal.invariant_of-result
@@ -15,5 +15,5 @@ invariant_of-result c =
       few_steps = c.self.invariant.few_steps;
       sound = rw (cells, plan) (HasSoundParts-add_cell draft.format draft.cells draft.connectors draft.plan c.args.cell c.args.capacity c.self.invariant.sound given.room
           given.fresh given.sound given.capacity);
-      regions = c.self.invariant.regions;
+      regions = rw cells (regions-add_cell draft.cells c.args.cell draft.regions c.self.invariant.regions);
     }

@@ -5,7 +5,8 @@ use Rattle.network_file.proofs.draft.NetDraft.new.Goals as goal
 
 pub invariant_of-result : goal.invariant_of-result
 unfolding IsDistinct
-invariant_of-result c = rw (c.new.ensures, c.new-2.ensures, c.open.ensures) (record {
+invariant_of-result c = rw (c.new.ensures, c.new-2.ensures, c.open.ensures, c.new-3.ensures) (record {
+  format = c.requires;
   some_steps = λ steps none. cc none;
   few_steps = λ steps none. cc none;
   sound = record {
@@ -24,6 +25,9 @@ invariant_of-result c = rw (c.new.ensures, c.new-2.ensures, c.open.ensures) (rec
       limits = All-nil _;
       few_demands = omega arith;
       demands = All-nil _;
+      few_turns = omega arith;
+      turns = All-nil _;
     };
   };
+  regions = All-nil _;
 })

@@ -21,3 +21,9 @@ unfolding record_kind_of
 returns-in-diverge c =
     let same : c.args.text.now ≡ codes "diverge" = text_from_reads c.args.text.now (codes "diverge") (omega arith) (search rules) in
     rw same refl
+
+pub returns-in-region : goal.returns-in-region
+unfolding record_kind_of
+returns-in-region c =
+    let same : c.args.text.now ≡ codes "region" = text_from_reads c.args.text.now (codes "region") (omega arith) (search rules) in
+    rw (same, c.if-format-eq2-2.true) refl

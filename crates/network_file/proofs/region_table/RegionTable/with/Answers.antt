@@ -1,0 +1,10 @@
+use Rattle.std.proofs.Common.{◌≡◌, ◌∷◌, ◌++◌, [], rules, ◌∙◌}
+use Rattle.network_file.proofs.CuttingLemmas.{region_in-push}
+use Rattle.network_file.proofs.region_table.RegionTable.with.Goals as goal
+
+pub invariant_of-result : goal.invariant_of-result
+invariant_of-result c =
+    let old = c.self.inside.records.items in
+    let grown : c.push.new.self.items ≡ old ++ record { cell = c.args.cell; number = c.args.number } ∷ [] = search rules in
+    let none = rw (← c.self.view_is) at c.requires in
+    rw grown (λ i. c.in_ok-numbers.ensures i ∙ rw (c.self.invariant i) (region_in-push old c.args.cell c.args.number i none))
