@@ -1,13 +1,14 @@
 -- What is in force, and that steps rise, where a change comes last.
-use Rattle.std.specs.Prelude.{nat_le, if◌then◌else◌, reverse, All, Some}
+use Rattle.std.specs.Prelude.{nat_le, nat_lt, if◌then◌else◌, map, reverse, All, Option, None, Some}
 use Rattle.std.specs.List.{find}
-use Rattle.std.specs.Option.{option_map_or}
-use Rattle.std.proofs.Common.{◌≡◌, ◌≢◌, ℕ, zero, suc, true, false, ◌<◌, ◌≤◌, ◌+◌, ◌-◌, List, [], ◌∷◌, ◌++◌, length, get_or, inl, inr, arith, refl, sym, ap, ◌∙◌, take}
+use Rattle.std.specs.Option.{option_map, option_map_or, unwrap_or}
+use Rattle.std.proofs.Common.{◌≡◌, ◌≢◌, ℕ, zero, suc, true, false, ◌<◌, ◌≤◌, ◌+◌, ◌-◌, List, [], ◌∷◌, ◌++◌, length, get_or, inl, inr, arith, refl, sym, ap, subst, ◌∙◌, take}
 use Rattle.std.proofs.lemmas.Bool.{cases_eq, cases_lt}
 use Rattle.std.proofs.lemmas.Bool.Decides.{nat_tests}
-use Rattle.std.proofs.lemmas.List.{get_or_append_left, get_or_default, get_or_push, length_push, reverse-append, take_all, take_more}
+use Rattle.std.proofs.lemmas.List.{get_or-map, get_or_append_left, get_or_default, get_or_push, length-map, length_push, map-append, reverse-append, take_all, take_more}
 use Rattle.signal_plan.specs.declared.change.Change.{Change}
 use Rattle.signal_plan.specs.Changes.{in_force, IsRising}
+use Rattle.signal_plan.specs.Records.{in_range}
 
 pub in_force-nil : {X : Type 0} (start : X) (t : ℕ) → in_force start [] t ≡ start
 unfolding in_force
@@ -60,3 +61,90 @@ step_le xs i k c d rising upto within = elim (cases_eq i k) [
   | inl same ↦ rw (same, get_or_default xs k c d within) (omega arith)
   | inr other ↦ let later = rising i k d (omega arith) within in rw (get_or_default xs i c d (omega arith)) (omega arith)
 ]
+
+-- no step is in an empty range
+pub in_range-none : (from to t : ℕ) → to ≤ from → in_range from to t ≡ false
+in_range-none from to t none = grind (arith, nat_tests)
+
+-- a value from one step on, and nothing from a later one on
+pub in_force_span : {X : Type 0} (none value : X) (from to t : ℕ) → from < to →
+    in_force none (([] ++ record { step = from; value = value } ∷ []) ++ record { step = to; value = none } ∷ []) t ≡
+    (if in_range from to t then value else none)
+in_force_span none value from to t some =
+    in_force_push none (record { step = from; value = value } ∷ []) (record { step = to; value = none }) t ∙
+    ap (λ x. if nat_le to t then none else x) (in_force_push none [] (record { step = from; value = value }) t) ∙
+    (elim (cases_lt t from) [
+      | inl before ↦
+          let a : nat_le from t ≡ false = grind (arith, nat_tests) in
+          let b : nat_le to t ≡ false = grind (arith, nat_tests) in
+          rw (a, b) (in_force-nil none t)
+      | inr past ↦
+          let a : nat_le from t ≡ true = grind (arith, nat_tests) in
+          elim (cases_lt t to) [
+            | inl within ↦
+                let b : nat_le to t ≡ false = grind (arith, nat_tests) in
+                let d : nat_lt t to ≡ true = grind (arith, nat_tests) in
+                rw (a, b, d) refl
+            | inr after ↦
+                let b : nat_le to t ≡ true = grind (arith, nat_tests) in
+                let d : nat_lt t to ≡ false = grind (arith, nat_tests) in
+                rw (a, b, d) refl
+          ]
+    ])
+
+-- the changes of what a function makes of the values
+abbrev pub changed : {X Y : Type 0} → (X → Y) → Change X → Change Y
+changed f c = record { step = c.step; value = f c.value }
+
+find-changed : {X Y : Type 0} (f : X → Y) (xs : List (Change X)) (t : ℕ) →
+    find (λ c. nat_le c.step t) (map (changed f) xs) ≡ option_map (changed f) (find (λ c. nat_le c.step t) xs)
+find-changed f [] t = refl
+find-changed f (x ∷ xs) t =
+    elim (nat_le x.step t) as (λ b. (if b then Some (changed f x) else find (λ c. nat_le c.step t) (map (changed f) xs)) ≡
+    option_map (changed f) (if b then Some x else find (λ c. nat_le c.step t) xs)) [ true ↦ refl | false ↦ find-changed f xs t ]
+
+value-changed : {X Y : Type 0} (f : X → Y) (start : X) (o : Option (Change X)) →
+    option_map_or (λ c. c.value) (option_map (changed f) o) (f start) ≡ f (option_map_or (λ c. c.value) o start)
+value-changed f start None = refl
+value-changed f start (Some c) = refl
+
+map-reverse : {X Y : Type 0} (f : X → Y) (xs : List X) → reverse (map f xs) ≡ map f (reverse xs)
+map-reverse f [] = refl
+map-reverse f (x ∷ xs) =
+    reverse-append (f x ∷ []) (map f xs) ∙
+    ap (λ front. front ++ f x ∷ []) (map-reverse f xs) ∙
+    sym (map-append f (reverse xs) (x ∷ [])) ∙
+    ap (map f) (sym (reverse-append (x ∷ []) xs))
+
+pub in_force-map : {X Y : Type 0} (f : X → Y) (start : X) (xs : List (Change X)) (t : ℕ) →
+    in_force (f start) (map (changed f) xs) t ≡ f (in_force start xs t)
+unfolding in_force
+in_force-map f start xs t =
+    rw (map-reverse (changed f) xs, find-changed f (reverse xs) t) (value-changed f start (find (λ c. nat_le c.step t) (reverse xs)))
+
+pub IsRising-map : {X Y : Type 0} (f : X → Y) (xs : List (Change X)) → IsRising xs → IsRising (map (changed f) xs)
+IsRising-map f [] rising i j d before within = absurd (omega arith)
+IsRising-map f (x ∷ xs) rising i j d before within =
+    let inside : j < length (x ∷ xs) = rw length-map at within in
+    let both = rising i j x before inside in
+    rw (get_or-map (changed f) (x ∷ xs) i x d (omega arith), get_or-map (changed f) (x ∷ xs) j x d inside) both
+
+-- with `own` in force where the changes say nothing
+abbrev pub filled : {X : Type 0} → (own : X) → List (Change (Option X)) → List (Change X)
+filled own changes = map (λ c. record { step = c.step; value = unwrap_or c.value own }) changes
+
+pub in_force-filled : {X Y : Type 0} (own : Y) (changes : List (Change (Option Y))) (all : List (Change Y)) (value : X → Y) (o : Option X) (t : ℕ) →
+    all ≡ filled own changes → in_force None changes t ≡ option_map value o → in_force own all t ≡ option_map_or value o own
+in_force-filled own changes all value o t is found =
+    ap (λ xs. in_force own xs t) is ∙
+    in_force-map (λ v. unwrap_or v own) None changes t ∙
+    ap (λ v. unwrap_or v own) found ∙
+    unwrap_or-option_map value o own
+  where
+    unwrap_or-option_map : {X Y : Type 0} (f : X → Y) (o : Option X) (d : Y) → unwrap_or (option_map f o) d ≡ option_map_or f o d
+    unwrap_or-option_map f None d = refl
+    unwrap_or-option_map f (Some x) d = refl
+
+pub IsRising-filled : {X : Type 0} (own : X) (changes : List (Change (Option X))) (all : List (Change X)) → all ≡ filled own changes →
+    IsRising changes → IsRising all
+IsRising-filled own changes all is rising = subst (λ xs. IsRising xs) (sym is) (IsRising-map (λ v. unwrap_or v own) changes rising)
