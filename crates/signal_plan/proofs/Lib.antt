@@ -1,4 +1,6 @@
 pub mod Sums
+pub mod Changes
+pub mod Merging
 pub mod Filters
 pub mod Searches
 pub mod Overlap

@@ -1,10 +1,11 @@
 -- Which element of a list a search finds.
-use Rattle.std.specs.Prelude.{Bool, ◌&&◌, if◌then◌else◌, None, Some, reverse, All}
+use Rattle.std.specs.Prelude.{Bool, ◌&&◌, if◌then◌else◌, Option, None, Some, reverse, All}
 use Rattle.std.specs.List.{filter, find}
-use Rattle.std.specs.Option.{option_map_or}
-use Rattle.std.proofs.Common.{◌≡◌, ℕ, true, false, ◌<◌, ◌-◌, List, [], ◌∷◌, length, arith, refl, ap}
-use Rattle.std.proofs.lemmas.List.{get_or-reverse, length-reverse}
+use Rattle.std.specs.Option.{option_map, option_map_or, option_or}
+use Rattle.std.proofs.Common.{◌≡◌, ℕ, true, false, ◌<◌, ◌-◌, List, [], ◌∷◌, ◌++◌, length, arith, refl, sym, ap, ◌∙◌, take, drop}
+use Rattle.std.proofs.lemmas.List.{get_or-reverse, length-reverse, reverse-append, take-append-drop}
 use Rattle.std.proofs.lemmas.List.Elements.{All-head, All-tail}
+use Rattle.std.proofs.lemmas.List.Folds.{find-append}
 
 -- among those that a filter leaves
 pub find-filter : {X : Type 0} (p q : X → Bool) (xs : List X) → find p (filter q xs) ≡ find (λ x. q x && p x) xs
@@ -35,3 +36,25 @@ pub All-reverse : {X : Type 0} (P : X → Type 0) (xs : List X) → All P xs →
 All-reverse P xs each k d within =
     let inside : k < length xs = rw length-reverse at within in
     rw (get_or-reverse xs k d inside) (each (length xs - 1 - k) d (omega arith))
+
+-- what the last element that passes gives, in two lists one after the other
+pub last_found-append : {X Y : Type 0} (value : X → Y) (p : X → Bool) (xs ys : List X) →
+    option_map value (find p (reverse (xs ++ ys))) ≡
+    option_or (option_map value (find p (reverse ys))) (option_map value (find p (reverse xs)))
+last_found-append value p xs ys =
+    ap (λ all. option_map value (find p all)) (reverse-append xs ys) ∙
+    ap (option_map value) (find-append p (reverse ys) (reverse xs)) ∙
+    option_map-option_or value (find p (reverse ys)) (find p (reverse xs))
+  where
+    option_map-option_or : {X Y : Type 0} (f : X → Y) (o p : Option X) →
+        option_map f (option_or o p) ≡ option_or (option_map f o) (option_map f p)
+    option_map-option_or f None p = refl
+    option_map-option_or f (Some x) p = refl
+
+-- in a list that is split in two
+pub last_found-split : {X Y : Type 0} (value : X → Y) (p : X → Bool) (xs front back : List X) (n : ℕ) →
+    front ≡ take n xs → back ≡ drop n xs →
+    option_or (option_map value (find p (reverse back))) (option_map value (find p (reverse front))) ≡ option_map value (find p (reverse xs))
+last_found-split value p xs front back n first second =
+    let whole : front ++ back ≡ xs = rw (first, second) (take-append-drop n xs) in
+    sym (last_found-append value p front back) ∙ ap (λ all. option_map value (find p (reverse all))) whole

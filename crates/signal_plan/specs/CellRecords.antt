@@ -35,12 +35,12 @@ abbrev pub planned_at : PlanRecords → (cell : ℕ) → PlannedCell
 planned_at plan cell = record { capacity = slice_index plan.cells cell; records = records_at plan cell }
 
 -- the last limit record whose range contains `t`
-abbrev pub own_limit : CellRecords → (t : ℕ) → Option LimitRecord
-own_limit own t = find (λ limit. in_range limit.from limit.to t) (reverse own.limits)
+abbrev pub last_limit : List LimitRecord → (t : ℕ) → Option LimitRecord
+last_limit limits t = find (λ limit. in_range limit.from limit.to t) (reverse limits)
 
 -- the capacity by that record, and else Q
 abbrev pub own_capacity : CellRecords → (t capacity : ℕ) → ℕ
-own_capacity own t capacity = option_map_or (λ limit. limit.capacity) (own_limit own t) capacity
+own_capacity own t capacity = option_map_or (λ limit. limit.capacity) (last_limit own.limits t) capacity
 
 -- the signal shows green; without one it is always green
 abbrev pub own_green : CellRecords → (t : ℕ) → Bool
@@ -55,9 +55,9 @@ abbrev pub own_demand : CellRecords → (t : ℕ) → ℕ
 own_demand own t = sum_by (λ demand. brings demand t) own.demands
 
 -- the last turn record whose range contains `t`
-abbrev pub own_turn : CellRecords → (t : ℕ) → Option TurnRecord
-own_turn own t = find (λ turn. in_range turn.from turn.to t) (reverse own.turns)
+abbrev pub last_turn : List TurnRecord → (t : ℕ) → Option TurnRecord
+last_turn turns t = find (λ turn. in_range turn.from turn.to t) (reverse turns)
 
 -- the turning shares by that record, and else those of the diverge itself
 abbrev pub own_shares : CellRecords → (t : ℕ) → (shares : ℕ × ℕ) → ℕ × ℕ
-own_shares own t shares = option_map_or (λ turn. (turn.b1, turn.b2)) (own_turn own t) shares
+own_shares own t shares = option_map_or (λ turn. (turn.b1, turn.b2)) (last_turn own.turns t) shares

@@ -8,3 +8,4 @@ pub mod CellRecords
 pub mod Layout
 pub mod Turning
 pub mod Changes
+pub mod Merging

@@ -1,7 +1,9 @@
-ghost use Rattle.std.specs.Prelude.{◌≡◌, ◌<◌, ◌^◌, [], ◌∷◌, ◌++◌, Some, is_some, OnOk, OnErr};
+ghost use Rattle.std.specs.Prelude.{◌≡◌, ℕ, ◌<◌, ◌^◌, [], ◌∷◌, ◌++◌, Some, is_some, IfOk, OnOk, OnErr};
+ghost use Rattle.signal_plan.specs.Changes.{in_force, IsRising};
 
 use crate::bounds::MOST_STEPS;
 use crate::cell_records::CellRecords;
+use crate::change::Change;
 use crate::demand::Demand;
 use crate::limit::Limit;
 use crate::memory::NoMemory;
@@ -117,6 +119,16 @@ impl CellPlan {
         Ok(())
     }
 
+    /// The cell's signal.
+    pub(crate) fn signal(&self) -> Option<Signal>
+        ensures { result ≡ self.now.records.signal }
+    {
+        match &self.records {
+            Some(records) => records.signal(),
+            None => None,
+        }
+    }
+
     /// Whether the cell has a signal.
     pub(crate) fn has_signal(&self) -> bool
         ensures { result ≡ is_some self.now.records.signal }
@@ -166,6 +178,46 @@ impl CellPlan {
         match &self.records {
             Some(records) => records.demand_at(t),
             None => 0,
+        }
+    }
+    /// The changes of the capacity.
+    pub(crate) fn capacity_changes(&self, alloc: Global) -> Result<Vec<Change<u64>>, NoMemory>
+        ensures in_force { IfOk result (λ changes. (t : ℕ) → in_force self.now.capacity changes.items t ≡
+            own_capacity self.now.records t self.now.capacity) }
+        ensures rising { IfOk result (λ changes. IsRising changes.items) }
+    {
+        match &self.records {
+            Some(records) => records.capacity_changes(alloc, self.capacity),
+            None => Ok(Vec::new(alloc)),
+        }
+    }
+
+    /// The changes of what all demand records bring.
+    pub(crate) fn demand_changes(&self, alloc: Global) -> Result<Vec<Change<u64>>, NoMemory>
+        requires fits { (t : ℕ) → own_demand self.now.records t < 2 ^ 64 }
+        ensures in_force { IfOk result (λ changes. (t : ℕ) → in_force 0 changes.items t ≡
+            own_demand self.now.records t) }
+        ensures rising { IfOk result (λ changes. IsRising changes.items) }
+    {
+        match &self.records {
+            Some(records) => records.demand_changes(alloc),
+            None => Ok(Vec::new(alloc)),
+        }
+    }
+
+    /// The changes of the turning shares, which are `own` where no turn record speaks.
+    pub(crate) fn share_changes(
+        &self,
+        alloc: Global,
+        own: (u32, u32),
+    ) -> Result<Vec<Change<(u32, u32)>>, NoMemory>
+        ensures in_force { IfOk result (λ changes. (t : ℕ) → in_force own changes.items t ≡
+            own_shares self.now.records t own) }
+        ensures rising { IfOk result (λ changes. IsRising changes.items) }
+    {
+        match &self.records {
+            Some(records) => records.share_changes(alloc, own),
+            None => Ok(Vec::new(alloc)),
         }
     }
 }

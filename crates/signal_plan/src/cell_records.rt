@@ -1,9 +1,13 @@
-ghost use Rattle.std.specs.Prelude.{◌≡◌, ◌<◌, ◌^◌, [], ◌∷◌, ◌++◌, Some, is_some, OnOk, OnErr};
+ghost use Rattle.std.specs.Prelude.{◌≡◌, ℕ, ◌<◌, ◌^◌, [], ◌∷◌, ◌++◌, Some, is_some, IfOk, OnOk, OnErr};
+ghost use Rattle.signal_plan.specs.Changes.{in_force, IsRising};
 
 use crate::bounds::MOST_STEPS;
+use crate::change::Change;
 use crate::demand::Demand;
+use crate::fallback::with_fallback;
 use crate::limit::Limit;
 use crate::memory::NoMemory;
+use crate::record_changes::{demand_changes, limit_changes, turn_changes};
 use crate::signal::Signal;
 use crate::turn::Turn;
 use std::alloc::Global;
@@ -32,7 +36,7 @@ impl Model for CellRecords {
 }
 
 impl CellRecords {
-    ghost use Rattle.signal_plan.specs.CellRecords.{bare, own_capacity, own_demand, own_green, own_limit, own_shares, own_turn};
+    ghost use Rattle.signal_plan.specs.CellRecords.{bare, last_limit, last_turn, own_capacity, own_demand, own_green, own_shares};
 
     /// No records. It takes no memory.
     pub(crate) fn new(alloc: Global) -> Self
@@ -80,6 +84,13 @@ impl CellRecords {
         self.signal = Some(signal);
     }
 
+    /// The cell's signal.
+    pub(crate) fn signal(&self) -> Option<Signal>
+        ensures { result ≡ self.now.signal }
+    {
+        self.signal
+    }
+
     /// Whether the cell has a signal.
     pub(crate) fn has_signal(&self) -> bool
         ensures { result ≡ is_some self.now.signal }
@@ -89,7 +100,7 @@ impl CellRecords {
 
     /// The newest limit that speaks of step `t`.
     fn limit_at(&self, t: u64) -> Option<Limit>
-        ensures { result ≡ own_limit self.now t }
+        ensures { result ≡ last_limit self.now.limits t }
     {
         self.limits
             .iter()
@@ -110,7 +121,7 @@ impl CellRecords {
 
     /// The newest turn record that speaks of step `t`.
     fn turn_at(&self, t: u64) -> Option<Turn>
-        ensures { result ≡ own_turn self.now t }
+        ensures { result ≡ last_turn self.now.turns t }
     {
         self.turns
             .iter()
@@ -150,5 +161,40 @@ impl CellRecords {
             amount += demand.at(t);
         }
         amount
+    }
+    /// The changes of the capacity, which is `capacity` where no limit speaks.
+    pub(crate) fn capacity_changes(
+        &self,
+        alloc: Global,
+        capacity: u64,
+    ) -> Result<Vec<Change<u64>>, NoMemory>
+        ensures in_force { IfOk result (λ changes. (t : ℕ) → in_force capacity changes.items t ≡
+            own_capacity self.now t capacity) }
+        ensures rising { IfOk result (λ changes. IsRising changes.items) }
+    {
+        let changes = limit_changes(alloc, &self.limits)?;
+        with_fallback(alloc, &changes, capacity)
+    }
+
+    /// The changes of what all demand records bring.
+    pub(crate) fn demand_changes(&self, alloc: Global) -> Result<Vec<Change<u64>>, NoMemory>
+        requires fits { (t : ℕ) → own_demand self.now t < 2 ^ 64 }
+        ensures in_force { IfOk result (λ changes. (t : ℕ) → in_force 0 changes.items t ≡ own_demand self.now t) }
+        ensures rising { IfOk result (λ changes. IsRising changes.items) }
+    {
+        demand_changes(alloc, &self.demands)
+    }
+
+    /// The changes of the turning shares, which are `own` where no turn record speaks.
+    pub(crate) fn share_changes(
+        &self,
+        alloc: Global,
+        own: (u32, u32),
+    ) -> Result<Vec<Change<(u32, u32)>>, NoMemory>
+        ensures in_force { IfOk result (λ changes. (t : ℕ) → in_force own changes.items t ≡ own_shares self.now t own) }
+        ensures rising { IfOk result (λ changes. IsRising changes.items) }
+    {
+        let changes = turn_changes(alloc, &self.turns)?;
+        with_fallback(alloc, &changes, own)
     }
 }

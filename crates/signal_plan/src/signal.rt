@@ -5,14 +5,19 @@ use crate::bounds::MOST_STEPS;
 use crate::range::is_in_range;
 use std::marker::Model;
 
-/// A signal: its cell sends only where `(t + offset) mod cycle` is in `[from, to)`.
+/// A signal: its cell sends only in steps `t` where `(t + offset) mod cycle` is in `[from, to)`.
 #[derive(Clone, Copy, Debug)]
-pub(crate) struct Signal {
-    pub(crate) cell: u32,
-    pub(crate) cycle: u32,
-    pub(crate) offset: u32,
-    pub(crate) from: u32,
-    pub(crate) to: u32,
+pub struct Signal {
+    /// The number of the cell that it stands at.
+    pub cell: u32,
+    /// After how many steps it begins anew: 1 to `MOST_STEPS`.
+    pub cycle: u32,
+    /// Its place in the cycle at step 0, below `cycle`.
+    pub offset: u32,
+    /// The first place of the cycle that is green.
+    pub from: u32,
+    /// The place after the last one that is green, at most `cycle`.
+    pub to: u32,
 }
 
 impl Model for Signal {

@@ -1,14 +1,16 @@
-ghost use Rattle.std.specs.Prelude.{◌≡◌, ◌*◌, ◌^◌, ◌<◌, ◌≤◌, false, length, OnOk, OnErr};
+ghost use Rattle.std.specs.Prelude.{◌≡◌, ◌*◌, ◌^◌, ◌<◌, ◌≤◌, ℕ, false, length, slice_index, IfOk, OnOk, OnErr};
 ghost use Rattle.signal_plan.specs.Records.{no_records, with_cell, with_demand, with_limit, with_signal, with_turn};
 ghost use Rattle.signal_plan.specs.Sound.{IsSoundPlan};
 ghost use Rattle.signal_plan.specs.Capacity.{capacity_at};
-ghost use Rattle.signal_plan.specs.Green.{green_at, is_signalled};
+ghost use Rattle.signal_plan.specs.Green.{green_at, is_signalled, signal_of};
+ghost use Rattle.signal_plan.specs.Changes.{in_force, IsRising};
 ghost use Rattle.signal_plan.specs.Demand.{demand_at};
 ghost use Rattle.signal_plan.specs.Total.{total_demand};
 ghost use Rattle.signal_plan.specs.Turning.{shares_at};
 
 use crate::bounds::{MOST_CELLS, MOST_PARTS, MOST_RATIO, MOST_RECORDS, MOST_STEPS};
 use crate::cell_plan::CellPlan;
+use crate::change::Change;
 use crate::demand::Demand;
 use crate::limit::Limit;
 use crate::memory::NoMemory;
@@ -237,6 +239,50 @@ impl Plan {
         ensures { result ≡ is_signalled self.now cell }
     {
         self.cells[cell as usize].has_signal()
+    }
+
+    /// The signal of a cell, where it has one.
+    pub fn signal(&self, cell: u32) -> Option<Signal>
+        requires has_cell { cell < length self.now.cells }
+        ensures { result ≡ signal_of self.now cell }
+    {
+        self.cells[cell as usize].signal()
+    }
+
+    /// The changes of a cell's capacity, in parts, from its own capacity at the start. For k limits of
+    /// the cell it takes a time in the order k log k.
+    pub fn capacity_changes(&self, alloc: Global, cell: u32) -> Result<Vec<Change<u64>>, NoMemory>
+        requires has_cell { cell < length self.now.cells }
+        ensures in_force { IfOk result (λ changes. (t : ℕ) →
+            in_force (slice_index self.now.cells cell) changes.items t ≡ capacity_at self.now cell t) }
+        ensures rising { IfOk result (λ changes. IsRising changes.items) }
+    {
+        self.cells[cell as usize].capacity_changes(alloc)
+    }
+
+    /// The changes of what enters a gate in a step, in parts, from 0 at the start. For k demand records
+    /// of the cell it takes a time in the order k log k.
+    pub fn demand_changes(&self, alloc: Global, cell: u32) -> Result<Vec<Change<u64>>, NoMemory>
+        requires has_cell { cell < length self.now.cells }
+        ensures in_force { IfOk result (λ changes. (t : ℕ) → in_force 0 changes.items t ≡ demand_at self.now cell t) }
+        ensures rising { IfOk result (λ changes. IsRising changes.items) }
+    {
+        self.cells[cell as usize].demand_changes(alloc)
+    }
+
+    /// The changes of the turning shares of the diverge out of a cell, from `own` at the start. For k
+    /// turn records of the cell it takes a time in the order k log k.
+    pub fn share_changes(
+        &self,
+        alloc: Global,
+        cell: u32,
+        own: (u32, u32),
+    ) -> Result<Vec<Change<(u32, u32)>>, NoMemory>
+        requires has_cell { cell < length self.now.cells }
+        ensures in_force { IfOk result (λ changes. (t : ℕ) → in_force own changes.items t ≡ shares_at self.now cell t own) }
+        ensures rising { IfOk result (λ changes. IsRising changes.items) }
+    {
+        self.cells[cell as usize].share_changes(alloc, own)
     }
 
     /// The numbers of signals, limits and demand records.
