@@ -15,12 +15,12 @@ abbrev pub mode_rule : Rule
 mode_rule = record (new_rule (codes "mode")) { required = true }
 
 -- the words have no program's name before them
-abbrev pub no_words : App
-no_words = on_top (λ shape. record shape { no_binary_name = true }) (new_app (codes "ctm"))
+abbrev pub bare_command : App
+bare_command = on_top (λ shape. record shape { no_binary_name = true }) (new_app (codes "ctm"))
 
--- every option is known, in every mode
 abbrev pub all_options : List Setting
 all_options = Regions ∷ Workers ∷ Every ∷ Shots ∷ Size ∷ Seed ∷ []
 
+-- it knows every option, in every mode
 unfoldable pub command : App
-command = with_rule (fold with_rule no_words (map option_rule all_options)) mode_rule
+command = with_rule (fold with_rule bare_command (map option_rule all_options)) mode_rule

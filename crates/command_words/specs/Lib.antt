@@ -1,6 +1,6 @@
 pub mod KnownWords
 pub mod Modes
 pub mod Refusing
-pub mod Settings
 pub mod Sequence
+pub mod Settings
 pub mod Words

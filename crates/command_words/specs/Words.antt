@@ -1,5 +1,5 @@
 -- What the words on the command line ask for.
-use Rattle.std.specs.Prelude.{ℕ, List, Option, Some, None, if◌then◌else◌, codes}
+use Rattle.std.specs.Prelude.{ℕ, Bool, List, Option, Some, None, if◌then◌else◌, codes}
 use Rattle.clap.specs.Walk.{first_of, is_empty}
 use Rattle.clap.specs.Words.{Row, fault_of, matches_of}
 use Rattle.command_words.specs.KnownWords.{command}
@@ -33,9 +33,13 @@ request_in found = do
   seed ← value_of mode Seed found
   Some (record { mode = mode; regions = regions; workers = workers; every = every; shots = shots; size = size; seed = seed })
 
+-- `clap` finds no fault with the words
+abbrev pub are_taken : List (List ℕ) → Bool
+are_taken words = is_empty (fault_of command words)
+
 -- the request of the words, and none where they are refused
 unfoldable pub request_of : List (List ℕ) → Option Request
-request_of words = if is_empty (fault_of command words) then request_in (matches_of command words) else None
+request_of words = if are_taken words then request_in (matches_of command words) else None
 
 -- each value is within its option's range
 pub record IsInRange (request : Request) : Type 0 where

@@ -1,9 +1,18 @@
 //! The words on the command line: which mode they name, and the value of each option.
 //!
-//! `read_words` reads them with `clap`, as one simple command: the mode stands alone, and each option is a word behind
-//! `--` with one value. `clap` knows every option in every mode; the table `Mode::takes` says which of them a mode has,
-//! and the table `Setting::terms` which values an option has. A later mode or option is a line of these tables and one
-//! of their definitions (specs/Modes.antt, specs/Settings.antt). Nothing else in the repository stands on `clap`.
+//! ```text
+//! match read_words(alloc, &words) {
+//!     Ok(request) => ..                    // the mode and six values, each within its range
+//!     Err(WordsRefusal::Refused) => ..     // the program doesn't take the words
+//!     Err(WordsRefusal::NoMemory) => ..    // memory was wanted, of the words nothing is said
+//! }
+//! ```
+//!
+//! `clap` reads the words as one simple command: the mode stands alone, and each option is a word behind `--` with one
+//! value. It knows every option in every mode, so that a missing value or a repeated option is refused alike in each.
+//! Then the table `Mode::takes` says which options a mode has, and the table `Setting::terms` which values an option
+//! has. A later mode or option is a line in these tables and one in their definitions (specs/Modes.antt,
+//! specs/Settings.antt). No other crate of the repository stands on `clap`.
 #![tactic(auto)]
 
 mod known_words;

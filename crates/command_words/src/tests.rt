@@ -2,18 +2,18 @@ use crate::{Mode, Request, Setting, WordsRefusal, read_words};
 use std::alloc::{AllocError, Global};
 use std::test::Fail;
 
-// What these words give.
-fn read(alloc: Global, words: &[&str]) -> Result<Result<Request, WordsRefusal>, AllocError> {
-    let mut all = Vec::new(alloc);
-    for word in words {
-        all.push(String::from_str(alloc, word)?)?;
+// What the words of this text give.
+fn read(alloc: Global, text: &str) -> Result<Result<Request, WordsRefusal>, AllocError> {
+    let mut words = Vec::new(alloc);
+    for word in text.split_whitespace() {
+        words.push(String::from_str(alloc, word)?)?;
     }
-    Ok(read_words(alloc, &all))
+    Ok(read_words(alloc, &words))
 }
 
 // A request that gives no option.
-fn plain(mode: Mode) -> Result<Request, WordsRefusal> {
-    Ok(Request {
+fn plain(mode: Mode) -> Request {
+    Request {
         mode,
         regions: 1,
         workers: 1,
@@ -21,97 +21,45 @@ fn plain(mode: Mode) -> Result<Request, WordsRefusal> {
         shots: 4,
         size: 100,
         seed: 1,
-    })
+    }
 }
 
 #[test]
 fn words_give_a_request_or_are_refused(rt: HostRuntime) -> Result<(), Fail> {
-    let refused = Err(WordsRefusal::Refused);
-    for (shows, words, want) in [
-        ("a network is run", ["run"].as_slice(), plain(Mode::Run)),
-        (
-            "a network is checked",
-            ["check"].as_slice(),
-            plain(Mode::Check),
-        ),
-        (
-            "a network is converted",
-            ["convert"].as_slice(),
-            plain(Mode::Convert),
-        ),
-        (
-            "the mode may stand behind two dashes",
-            ["--", "run"].as_slice(),
-            plain(Mode::Run),
-        ),
-        ("or before them", ["run", "--"].as_slice(), plain(Mode::Run)),
-        ("there must be a mode", [].as_slice(), refused),
-        ("and not the dashes alone", ["--"].as_slice(), refused),
-        ("the word must be a mode's", ["drive"].as_slice(), refused),
-        ("in lower case", ["Run"].as_slice(), refused),
-        ("whole", ["ru"].as_slice(), refused),
-        ("and not empty", [""].as_slice(), refused),
-        ("there is one mode", ["run", "check"].as_slice(), refused),
-        ("even if it is the same", ["run", "run"].as_slice(), refused),
-        (
-            "a run has no option yet",
-            ["run", "--regions", "2"].as_slice(),
-            refused,
-        ),
-        (
-            "nor with a value out of range",
-            ["run", "--regions", "0"].as_slice(),
-            refused,
-        ),
-        (
-            "a check has none",
-            ["check", "--every", "1"].as_slice(),
-            refused,
-        ),
-        (
-            "nor before it",
-            ["--every", "1", "check"].as_slice(),
-            refused,
-        ),
-        (
-            "a conversion has none",
-            ["convert", "--seed=1"].as_slice(),
-            refused,
-        ),
-        (
-            "an option has a value",
-            ["run", "--workers"].as_slice(),
-            refused,
-        ),
-        (
-            "an option stands once",
-            ["run", "--size", "1", "--size", "1"].as_slice(),
-            refused,
-        ),
-        (
-            "an option has its whole name",
-            ["run", "--reg", "1"].as_slice(),
-            refused,
-        ),
-        ("an option has a name", ["run", "--=1"].as_slice(), refused),
-        (
-            "no other option is known",
-            ["run", "--speed", "1"].as_slice(),
-            refused,
-        ),
-        ("help is refused", ["--help"].as_slice(), refused),
-        ("help in short too", ["-h"].as_slice(), refused),
-        ("with a mode too", ["run", "--help"].as_slice(), refused),
-        ("the version is refused", ["--version"].as_slice(), refused),
-        ("the version in short too", ["-V"].as_slice(), refused),
-        ("help is no mode", ["help"].as_slice(), refused),
-        (
-            "an option behind the dashes is a second mode",
-            ["run", "--", "--regions"].as_slice(),
-            refused,
-        ),
+    for (words, mode, shows) in [
+        ("run", Some(Mode::Run), "a network is run"),
+        ("check", Some(Mode::Check), "a network is checked"),
+        ("convert", Some(Mode::Convert), "one is converted"),
+        ("-- run", Some(Mode::Run), "dashes may stand before"),
+        ("run --", Some(Mode::Run), "and behind"),
+        ("", None, "there is a mode"),
+        ("--", None, "the dashes are none"),
+        ("drive", None, "nor is another word"),
+        ("Run", None, "a mode is in lower case"),
+        ("ru", None, "and whole"),
+        ("help", None, "help is no mode"),
+        ("run check", None, "there is one mode"),
+        ("run run", None, "even where it is the same"),
+        ("run --regions 2", None, "a run has no option yet"),
+        ("run --regions 0", None, "whatever its value"),
+        ("--every 1 check", None, "nor has a check"),
+        ("check --every 1", None, "wherever it stands"),
+        ("convert --seed=1", None, "nor has a conversion"),
+        ("run --workers", None, "an option has a value"),
+        ("run --size 1 --size 1", None, "an option stands once"),
+        ("run --reg 1", None, "an option has its whole name"),
+        ("run --=1", None, "an option has a name"),
+        ("run --speed 1", None, "an option is known"),
+        ("run -r 1", None, "an option has no short name"),
+        ("run -- --shots", None, "behind the dashes is a mode"),
+        ("--help", None, "help is refused"),
+        ("run --help", None, "in a mode too"),
+        ("-h", None, "in short too"),
+        ("--version", None, "the version is refused"),
+        ("-V", None, "by one letter too"),
     ] {
-        assert!(rt; read(rt.alloc(), words)? == want, "{shows}: {words:?}");
+        let want = mode.map(plain).ok_or(WordsRefusal::Refused);
+        assert!(rt; read(rt.alloc(), words)? == want, "{shows}: {words}");
     }
     Ok(())
 }

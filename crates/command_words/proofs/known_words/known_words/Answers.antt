@@ -2,14 +2,14 @@ use Rattle.std.proofs.Common.{◌≡◌, ◌∙◌, rules, ap, true, false}
 use Rattle.std.proofs.lemmas.Result.{IfOk-weaker}
 use Rattle.clap.specs.Simple.{app_of_fields, on_top}
 use Rattle.clap.specs.Words.{app_of, rule_of}
-use Rattle.command_words.specs.KnownWords.{command, mode_rule, no_words}
+use Rattle.command_words.specs.KnownWords.{command, mode_rule, bare_command}
 use Rattle.command_words.proofs.CommandLemmas.{app_of-added}
 use Rattle.command_words.proofs.known_words.known_words.Goals as goal
 
 pub returns : goal.returns
 unfolding command
 returns c =
-    let start : app_of c.no_binary_name.result ≡ no_words =
+    let start : app_of c.no_binary_name.result ≡ bare_command =
     ap app_of_fields c.no_binary_name.ensures ∙ ap (on_top (λ shape. record shape { no_binary_name = true })) c.new.ensures.app in
     let regions = app_of-added _ _ _ _ _ c.in_ok-arg.ensures c.option.ensures.own start c.option.ensures.rule in
     let workers = app_of-added _ _ _ _ _ c.in_ok-arg-2.ensures c.option-2.ensures.own regions c.option-2.ensures.rule in
