@@ -12,7 +12,7 @@ mode_named word =
     else if bytes_eq word (codes "convert") then Some Convert
     else None
 
--- the options of each mode
+-- whether a mode has an option
 abbrev pub takes_option : Mode → Setting → Bool
 takes_option Run option = false
 takes_option Check option = false

@@ -11,8 +11,10 @@
 //! `clap` reads the words as one simple command: the mode stands alone, and each option is a word behind `--` with one
 //! value. It knows every option in every mode, so that a missing value or a repeated option is refused alike in each.
 //! Then the table `Mode::takes` says which options a mode has, and the table `Setting::terms` which values an option
-//! has. A later mode or option is a line in these tables and one in their definitions (specs/Modes.antt,
-//! specs/Settings.antt). No other crate of the repository stands on `clap`.
+//! has. To give a mode one more option takes a line in the first table and one in its definition (specs/Modes.antt).
+//! An option that is wholly new has besides its line in the second table and in its definition (specs/Settings.antt),
+//! its field in `Request`, and its line where `clap` learns it and where its value is read.
+//! No other crate of the repository stands on `clap`.
 #![tactic(auto)]
 
 mod known_words;
