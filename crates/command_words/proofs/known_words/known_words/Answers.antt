@@ -1,0 +1,22 @@
+use Rattle.std.proofs.Common.{◌≡◌, ◌∙◌, rules, ap, true, false}
+use Rattle.std.proofs.lemmas.Result.{IfOk-weaker}
+use Rattle.clap.specs.Simple.{app_of_fields, on_top}
+use Rattle.clap.specs.Words.{app_of, rule_of}
+use Rattle.command_words.specs.KnownWords.{command, mode_rule, bare_command}
+use Rattle.command_words.proofs.CommandLemmas.{app_of-added}
+use Rattle.command_words.proofs.known_words.known_words.Goals as goal
+
+pub returns : goal.returns
+unfolding command
+returns c =
+    let start : app_of c.no_binary_name.result ≡ bare_command =
+    ap app_of_fields c.no_binary_name.ensures ∙ ap (on_top (λ shape. record shape { no_binary_name = true })) c.new.ensures.app in
+    let regions = app_of-added _ _ _ _ _ c.in_ok-arg.ensures c.option.ensures.own start c.option.ensures.rule in
+    let workers = app_of-added _ _ _ _ _ c.in_ok-arg-2.ensures c.option-2.ensures.own regions c.option-2.ensures.rule in
+    let every = app_of-added _ _ _ _ _ c.in_ok-arg-3.ensures c.option-3.ensures.own workers c.option-3.ensures.rule in
+    let shots = app_of-added _ _ _ _ _ c.in_ok-arg-4.ensures c.option-4.ensures.own every c.option-4.ensures.rule in
+    let size = app_of-added _ _ _ _ _ c.in_ok-arg-5.ensures c.option-5.ensures.own shots c.option-5.ensures.rule in
+    let seed = app_of-added _ _ _ _ _ c.in_ok-arg-6.ensures c.option-6.ensures.own size c.option-6.ensures.rule in
+    let mode : rule_of c.required.result ≡ mode_rule = search rules in
+    let own : c.required.result.global ≡ false = search rules in
+    IfOk-weaker c.arg-7.result _ _ (λ known added. app_of-added _ _ _ _ _ added own seed mode) c.arg-7.ensures

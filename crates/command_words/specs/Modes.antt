@@ -1,0 +1,19 @@
+-- The modes: the word of each, and its options.
+use Rattle.std.specs.Prelude.{ℕ, Bool, false, List, Option, Some, None, if◌then◌else◌, bytes_eq, codes}
+use Rattle.command_words.specs.declared.mode.Mode.{Mode}
+use Rattle.command_words.specs.declared.mode.Mode.TheVariants.{Run, Check, Convert}
+use Rattle.command_words.specs.declared.setting.Setting.{Setting}
+
+-- the mode that a word names
+abbrev pub mode_named : List ℕ → Option Mode
+mode_named word =
+    if bytes_eq word (codes "run") then Some Run
+    else if bytes_eq word (codes "check") then Some Check
+    else if bytes_eq word (codes "convert") then Some Convert
+    else None
+
+-- whether a mode has an option
+abbrev pub takes_option : Mode → Setting → Bool
+takes_option Run option = false
+takes_option Check option = false
+takes_option Convert option = false

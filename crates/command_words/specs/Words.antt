@@ -1,0 +1,51 @@
+-- What the words on the command line ask for.
+use Rattle.std.specs.Prelude.{ℕ, Bool, List, Option, Some, None, if◌then◌else◌, codes}
+use Rattle.clap.specs.Walk.{first_of, is_empty}
+use Rattle.clap.specs.Words.{Row, fault_of, matches_of}
+use Rattle.command_words.specs.KnownWords.{command}
+use Rattle.command_words.specs.Modes.{mode_named, takes_option}
+use Rattle.command_words.specs.Sequence.{◌>>=◌}
+use Rattle.command_words.specs.Settings.{IsAllowed, terms_of, value_spelled}
+use Rattle.command_words.specs.declared.mode.Mode.{Mode}
+use Rattle.command_words.specs.declared.request.Request.{Request}
+use Rattle.command_words.specs.declared.setting.Setting.{Setting}
+use Rattle.command_words.specs.declared.setting.Setting.TheVariants.{Regions, Workers, Every, Shots, Size, Seed}
+
+-- an option that isn't given has its default, and one that the mode hasn't is refused
+abbrev pub value_given : Mode → Setting → Option (List ℕ) → Option ℕ
+value_given mode option None = Some (terms_of option).default
+value_given mode option (Some text) = if takes_option mode option then value_spelled option text else None
+
+-- the value of an option, from what `clap` found
+abbrev pub value_of : Mode → Setting → List Row → Option ℕ
+value_of mode option found = value_given mode option (first_of (terms_of option).word found)
+
+-- the request, from what `clap` found
+unfoldable pub request_in : List Row → Option Request
+request_in found = do
+  word ← first_of (codes "mode") found
+  mode ← mode_named word
+  regions ← value_of mode Regions found
+  workers ← value_of mode Workers found
+  every ← value_of mode Every found
+  shots ← value_of mode Shots found
+  size ← value_of mode Size found
+  seed ← value_of mode Seed found
+  Some (record { mode = mode; regions = regions; workers = workers; every = every; shots = shots; size = size; seed = seed })
+
+-- `clap` finds no fault with the words
+abbrev pub are_taken : List (List ℕ) → Bool
+are_taken words = is_empty (fault_of command words)
+
+-- the request of the words, and none where they are refused
+unfoldable pub request_of : List (List ℕ) → Option Request
+request_of words = if are_taken words then request_in (matches_of command words) else None
+
+-- each value is within its option's range
+pub record IsInRange (request : Request) : Type 0 where
+  pub regions : IsAllowed Regions request.regions
+  pub workers : IsAllowed Workers request.workers
+  pub every : IsAllowed Every request.every
+  pub shots : IsAllowed Shots request.shots
+  pub size : IsAllowed Size request.size
+  pub seed : IsAllowed Seed request.seed

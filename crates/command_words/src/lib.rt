@@ -1,0 +1,33 @@
+//! The words on the command line: which mode they name, and the value of each option.
+//!
+//! ```text
+//! match read_words(alloc, &words) {
+//!     Ok(request) => ..                    // the mode and six values, each within its range
+//!     Err(WordsRefusal::Refused) => ..     // the program doesn't take the words
+//!     Err(WordsRefusal::NoMemory) => ..    // memory was wanted, of the words nothing is said
+//! }
+//! ```
+//!
+//! `clap` reads the words as one simple command: the mode stands alone, and each option is a word behind `--` with one
+//! value. It knows every option in every mode, so that a missing value or a repeated option is refused alike in each.
+//! Then the table `Mode::takes` says which options a mode has, and the table `Setting::terms` which values an option
+//! has. To give a mode one more option takes a line in the first table and one in its definition (specs/Modes.antt).
+//! An option that is wholly new has besides its line in the second table and in its definition (specs/Settings.antt),
+//! its field in `Request`, and its line where `clap` learns it and where its value is read.
+//! No other crate of the repository stands on `clap`.
+#![tactic(auto)]
+
+mod known_words;
+mod mode;
+mod reading;
+mod refusal;
+mod request;
+mod setting;
+#[cfg(test)]
+mod tests;
+
+pub use mode::Mode;
+pub use reading::read_words;
+pub use refusal::WordsRefusal;
+pub use request::Request;
+pub use setting::{Setting, Terms};

@@ -1,0 +1,40 @@
+ghost use Rattle.std.specs.Prelude.{◌≡◌};
+ghost use Rattle.command_words.specs.Modes.{mode_named, takes_option};
+
+use crate::setting::Setting;
+
+/// What the program is to do.
+#[derive(Clone, Copy, Debug, PartialEq, Eq)]
+pub enum Mode {
+    /// Takes the network through its steps and writes the report.
+    Run,
+    /// Reads the network and writes its counts.
+    Check,
+    /// Writes the network again, in the newest form of the file.
+    Convert,
+}
+
+impl Mode {
+    /// The mode that a word names, in lower case.
+    pub fn named(word: &str) -> Option<Mode>
+        ensures { result ≡ mode_named word.now }
+    {
+        match word {
+            "run" => Some(Mode::Run),
+            "check" => Some(Mode::Check),
+            "convert" => Some(Mode::Convert),
+            _ => None,
+        }
+    }
+
+    /// Whether the mode has the option. In a mode that hasn't it, the option is refused whatever its value.
+    pub fn takes(self, setting: Setting) -> bool
+        ensures { result ≡ takes_option self setting }
+    {
+        match (self, setting) {
+            (Mode::Run, _) => false,
+            (Mode::Check, _) => false,
+            (Mode::Convert, _) => false,
+        }
+    }
+}

@@ -1,0 +1,20 @@
+use crate::mode::Mode;
+
+/// What the words ask for. An option that they don't give has its default.
+#[derive(Clone, Copy, Debug, PartialEq, Eq)]
+pub struct Request {
+    /// What to do.
+    pub mode: Mode,
+    /// Into how many regions the network is cut, 1 to 512.
+    pub regions: u32,
+    /// How many workers take the regions through the steps, 1 to 16.
+    pub workers: u32,
+    /// Every how many steps the state is recorded, up to 100,000; 0 for never.
+    pub every: u32,
+    /// How many shots are taken on the way, 1 to 64.
+    pub shots: u32,
+    /// How many main cells a made network has, 1 to 10,000.
+    pub size: u32,
+    /// Where the draws of a made network start, up to 999,999,999.
+    pub seed: u32,
+}
