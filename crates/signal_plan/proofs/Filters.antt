@@ -1,10 +1,9 @@
--- A filter of a reversed or grown list, and the sum over what a filter leaves.
-use Rattle.std.specs.Prelude.{Bool, if◌then◌else◌, reverse, sum_by, All}
+-- A filter of a reversed or grown list.
+use Rattle.std.specs.Prelude.{Bool, if◌then◌else◌, reverse, All}
 use Rattle.std.specs.List.{filter}
-use Rattle.std.proofs.Common.{◌≡◌, ℕ, true, false, ◌+◌, zero-add, List, [], ◌∷◌, ◌++◌, append-nil, refl, sym, ◌∙◌, ap}
+use Rattle.std.proofs.Common.{◌≡◌, true, false, List, [], ◌∷◌, ◌++◌, append-nil, refl, sym, ◌∙◌, ap}
 use Rattle.std.proofs.lemmas.List.{reverse-append}
 use Rattle.std.proofs.lemmas.List.Elements.{All-head, All-tail, filter-append}
-use Rattle.std.proofs.lemmas.List.Sums.{sum_by-cons}
 
 filter_one : {X : Type 0} (p : X → Bool) (x : X) → reverse (filter p (x ∷ [])) ≡ filter p (x ∷ [])
 filter_one p x = elim (p x) as (λ b. reverse (if b then x ∷ [] else []) ≡ (if b then x ∷ [] else [])) [ true ↦ refl | false ↦ refl ]
@@ -18,19 +17,6 @@ filter-reverse p (x ∷ xs) =
     ap (λ last. reverse (filter p xs) ++ last) (sym (filter_one p x)) ∙
     sym (reverse-append (filter p (x ∷ [])) (filter p xs)) ∙
     ap reverse (sym (filter-append p (x ∷ []) xs))
-
-pub sum_by-filter : {X : Type 0} (f : X → ℕ) (p : X → Bool) (xs : List X) →
-    sum_by f (filter p xs) ≡ sum_by (λ x. if p x then f x else 0) xs
-sum_by-filter f p [] = refl
-sum_by-filter f p (x ∷ xs) =
-    sum_by-filter_cons f p x xs (p x) ∙
-    ap (λ rest. (if p x then f x else 0) + rest) (sum_by-filter f p xs) ∙
-    sym (sum_by-cons (λ y. if p y then f y else 0) x xs)
-  where
-    sum_by-filter_cons : {X : Type 0} (f : X → ℕ) (p : X → Bool) (x : X) (xs : List X) (b : Bool) →
-        sum_by f (if b then x ∷ filter p xs else filter p xs) ≡ (if b then f x else 0) + sum_by f (filter p xs)
-    sum_by-filter_cons f p x xs true = sum_by-cons f x (filter p xs)
-    sum_by-filter_cons f p x xs false = sym (zero-add (sum_by f (filter p xs)))
 
 pub filter-none : {X : Type 0} (p : X → Bool) (xs : List X) → All (λ x. p x ≡ false) xs → filter p xs ≡ []
 filter-none p [] none = refl

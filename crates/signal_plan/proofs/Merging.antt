@@ -1,13 +1,13 @@
 -- What the merge of two lists of changes keeps.
-use Rattle.std.specs.Prelude.{nat_le, if◌then◌else◌, All, ◌⊎◌}
-use Rattle.std.proofs.Common.{◌≡◌, ℕ, true, false, ◌<◌, ◌≤◌, ◌+◌, ◌-◌, List, [], ◌∷◌, ◌++◌, length, get_or, inl, inr, arith, refl, sym, ap, ◌∙◌, take}
-use Rattle.std.proofs.lemmas.Bool.{cases_eq, cases_lt}
+use Rattle.std.specs.Prelude.{nat_le, All, ◌⊎◌}
+use Rattle.std.proofs.Common.{◌≡◌, ℕ, true, false, ◌<◌, ◌≤◌, ◌+◌, ◌-◌, List, [], ◌∷◌, ◌++◌, length, get_or, inl, inr, arith, refl, sym, ◌∙◌, take}
+use Rattle.std.proofs.lemmas.Bool.{cases_lt}
 use Rattle.std.proofs.lemmas.Bool.Decides.{nat_tests}
 use Rattle.std.proofs.lemmas.List.Elements.{All-nil, All-push, All-weaker}
 use Rattle.std.proofs.lemmas.List.{get_or_default, get_or_push, length_push, take_all}
 use Rattle.signal_plan.specs.declared.change.Change.{Change}
 use Rattle.signal_plan.specs.Changes.{in_force, IsRising}
-use Rattle.signal_plan.specs.Merging.{IsHere, IsLeft, IsNext, IsTaken}
+use Rattle.signal_plan.specs.Merging.{IsHere, IsTaken}
 use Rattle.signal_plan.proofs.Changes.{in_force-nil, in_force_push, in_force-take, in_force-take_more, IsRising_push, step_le}
 
 -- the change at this place is at the step

@@ -5,13 +5,13 @@ use Rattle.std.specs.Option.{option_map_or}
 use Rattle.std.proofs.Common.{◌≡◌, ℕ, true, false, ◌<◌, List, length, get_or, refl, sym, ◌∙◌, ap}
 use Rattle.signal_plan.specs.Records.{PlanRecords, in_range}
 use Rattle.signal_plan.specs.Capacity.{capacity_at}
-use Rattle.signal_plan.specs.Green.{green_at}
+use Rattle.signal_plan.specs.Green.{green_at, signal_of}
 use Rattle.signal_plan.specs.Demand.{amount_at, demand_at}
 use Rattle.signal_plan.specs.CellRecords.{PlannedCell, brings, own_capacity, own_demand, own_green, own_shares, records_at}
 use Rattle.signal_plan.specs.Layout.{IsLaidOut}
 use Rattle.signal_plan.specs.Turning.{shares_at}
-use Rattle.signal_plan.proofs.Sums.{sum_by_agree}
-use Rattle.signal_plan.proofs.Filters.{filter-reverse, sum_by-filter}
+use Rattle.signal_plan.proofs.Sums.{sum_by_agree, sum_by-filter}
+use Rattle.signal_plan.proofs.Filters.{filter-reverse}
 use Rattle.signal_plan.proofs.Searches.{find-filter}
 
 -- the answers of a cell's own records are the plan's
@@ -46,6 +46,14 @@ own_shares_is plan cell t own =
     (find-filter (λ turn. in_range turn.from turn.to t) (λ turn. turn.cell == cell) (reverse plan.turns))
 
 -- what is read of a cell that is stored
+pub capacity_read : (cells : List PlannedCell) (plan : PlanRecords) (cell : ℕ) (c : PlannedCell) → IsLaidOut cells plan →
+    cell < length cells → c ≡ get_or cells cell c → c.capacity ≡ get_or plan.cells cell 0
+capacity_read cells plan cell c laid has read = ap (λ own. own.capacity) (read ∙ laid.own cell c has)
+
+pub signal_read : (cells : List PlannedCell) (plan : PlanRecords) (cell : ℕ) (c : PlannedCell) → IsLaidOut cells plan →
+    cell < length cells → c ≡ get_or cells cell c → c.records.signal ≡ signal_of plan cell
+signal_read cells plan cell c laid has read = ap (λ own. own.records.signal) (read ∙ laid.own cell c has)
+
 pub own_capacity_read : (cells : List PlannedCell) (plan : PlanRecords) (cell t : ℕ) (c : PlannedCell) → IsLaidOut cells plan →
     cell < length cells → c ≡ get_or cells cell c → own_capacity c.records t c.capacity ≡ capacity_at plan cell t
 own_capacity_read cells plan cell t c laid has read =

@@ -1,14 +1,13 @@
 -- The sum over cells and steps of what the records bring is the sum over the records of what each brings.
 use Rattle.std.specs.Prelude.{if◌then◌else◌, ◌==◌, ◌&&◌, nat_le, nat_lt, sum_by, min, max, All}
 use Rattle.std.specs.List.{range_with_len}
-use Rattle.std.proofs.Common.{◌≡◌, ℕ, Bool, true, false, ◌+◌, ◌-◌, ◌*◌, ◌<◌, List, [], ◌∷◌, length, arith, ◌∙◌, ap}
-use Rattle.std.proofs.lemmas.List.Sums.{sum_by-cons}
-use Rattle.std.proofs.lemmas.List.Elements.{All-head, All-tail, All-weaker}
+use Rattle.std.proofs.Common.{◌≡◌, ℕ, Bool, true, false, ◌+◌, ◌-◌, ◌*◌, ◌<◌, List, length, arith, ◌∙◌, ap}
+use Rattle.std.proofs.lemmas.List.Elements.{All-weaker}
 use Rattle.signal_plan.specs.Records.{DemandRecord, PlanRecords}
 use Rattle.signal_plan.specs.Sound.{IsSoundDemand, IsSoundPlan}
 use Rattle.signal_plan.specs.Demand.{amount_at, demand_at}
 use Rattle.signal_plan.specs.Total.{demand_from, total_demand}
-use Rattle.signal_plan.proofs.Sums.{sum_by_agree, sum_by_splits, sum_by-zero, sum_by_range_one}
+use Rattle.signal_plan.proofs.Sums.{sum_by_agree, sum_by-same, sum_by-swap, sum_by-zero, sum_by_range_one}
 use Rattle.signal_plan.proofs.Overlap.{steps_in}
 
 abbrev steps_below : ℕ → List ℕ
@@ -50,29 +49,15 @@ sum_brought_to cells steps d has =
     sum_by_agree (brought_to steps d) own (cells_below cells) (λ c. brought_to_is steps d (d.cell == c)) ∙
     sum_by_range_one (brought steps d) d.cell 0 cells (omega arith) (omega arith)
 
-cell_sum-cons : (steps : ℕ) (d : DemandRecord) (ds : List DemandRecord) (cell : ℕ) →
-    cell_sum steps (d ∷ ds) cell ≡ brought_to steps d cell + cell_sum steps ds cell
-cell_sum-cons steps d ds cell =
-    let at_step = λ (t : ℕ). sum_by-cons (λ e. amount_at e cell t) d ds in
-    sum_by_splits (step_sum (d ∷ ds) cell) (amount_at d cell) (step_sum ds cell) (steps_below steps) at_step
-
-total_sum-nil : (cells steps : ℕ) → total_sum cells steps [] ≡ 0
-total_sum-nil cells steps =
-    let no_steps = sum_by-zero (λ t. 0) (steps_below steps) (λ k e below. omega arith) in
-    sum_by-zero (cell_sum steps []) (cells_below cells) (λ k e below. omega (arith, no_steps))
-
 -- summed over the records, where each is of one of the cells
 total_sum_is : (cells steps : ℕ) (ds : List DemandRecord) → All (λ d. d.cell < cells) ds →
     total_sum cells steps ds ≡ sum_by (brought steps) ds
-total_sum_is cells steps [] has = total_sum-nil cells steps
-total_sum_is cells steps (d ∷ ds) has =
-    sum_by_splits (cell_sum steps (d ∷ ds)) (brought_to steps d) (cell_sum steps ds) (cells_below cells) (cell_sum-cons steps d ds) ∙
-    omega (
-      arith,
-      sum_brought_to cells steps d (All-head (λ e. e.cell < cells) d ds has),
-      total_sum_is cells steps ds (All-tail (λ e. e.cell < cells) d ds has),
-      sum_by-cons (brought steps) d ds,
-    )
+total_sum_is cells steps ds has =
+    sum_by_agree (cell_sum steps ds) (λ cell. sum_by (λ d. brought_to steps d cell) ds) (cells_below cells)
+    (λ cell. sum_by-swap (λ t d. amount_at d cell t) (steps_below steps) ds) ∙
+    sum_by-swap (λ cell d. brought_to steps d cell) (cells_below cells) ds ∙
+    sum_by-same (λ d. d.cell < cells) (λ d. sum_by (brought_to steps d) (cells_below cells)) (brought steps) ds
+    (λ d own. sum_brought_to cells steps d own) has
 
 pub total_demand_is : (plan : PlanRecords) (steps : ℕ) → IsSoundPlan plan →
     total_demand plan steps ≡ sum_by (brought steps) plan.demands

@@ -1,5 +1,16 @@
-use crate::Plan;
+use crate::{Change, Plan};
 use std::test::Fail;
+
+/// The amount in force at step `t`, `start` before the first change.
+fn amount_at(start: u64, changes: &[Change<u64>], t: u64) -> u64 {
+    let mut amount = start;
+    for change in changes {
+        if change.step <= t {
+            amount = change.value;
+        }
+    }
+    amount
+}
 
 #[test]
 fn last_limit_in_range_holds(rt: HostRuntime) -> Result<(), Fail> {
@@ -30,6 +41,15 @@ fn signal_shows_red_and_green(rt: HostRuntime) -> Result<(), Fail> {
         assert!(rt; plan.green(1, t), "at {t}");
     }
     assert_eq!(rt; plan.counts(), (1, 0, 0));
+    assert!(rt; plan.signal(1).is_none());
+    assert!(rt;
+        plan.signal(0)
+            .is_some_and(|signal| signal.cycle == 4 && signal.offset == 3)
+    );
+    assert!(rt;
+        plan.signal(0)
+            .is_some_and(|signal| signal.from == 0 && signal.to == 2)
+    );
     Ok(())
 }
 
@@ -54,5 +74,58 @@ fn records_of_a_gate_add_up(rt: HostRuntime) -> Result<(), Fail> {
     assert_eq!(rt; plan.total(2), 870_000);
     assert_eq!(rt; plan.total(4), 1_272_000);
     assert_eq!(rt; plan.counts(), (0, 0, 3));
+    Ok(())
+}
+
+#[test]
+fn last_turn_in_range_holds(rt: HostRuntime) -> Result<(), Fail> {
+    let mut plan = Plan::open(rt.alloc());
+    plan.put_cell(1)?;
+    plan.put_cell(1)?;
+    plan.put_turn(0, 2, 4, 3, 1)?;
+    plan.put_turn(0, 3, 5, 1, 1_000)?;
+    for (t, shares) in [
+        (0, (7, 5)),
+        (1, (7, 5)),
+        (2, (3, 1)),
+        (3, (1, 1_000)),
+        (5, (7, 5)),
+    ] {
+        assert_eq!(rt; plan.shares(0, t, (7, 5)), shares, "at {t}");
+        assert_eq!(rt; plan.shares(1, t, (7, 5)), (7, 5), "at {t}");
+    }
+    assert_eq!(rt; plan.turns(), 2);
+    let changes = plan.share_changes(rt.alloc(), 0, (7, 5))?;
+    assert_eq!(rt; changes.len(), 4);
+    assert_eq!(rt; plan.share_changes(rt.alloc(), 1, (7, 5))?.len(), 0);
+    Ok(())
+}
+
+#[test]
+fn capacity_changes_where_limits_begin_and_end(rt: HostRuntime) -> Result<(), Fail> {
+    let mut plan = Plan::open(rt.alloc());
+    plan.put_cell(5)?;
+    plan.put_cell(10)?;
+    plan.put_limit(0, 0, 2, 1)?;
+    plan.put_limit(0, 1, 3, 3)?;
+    let changes = plan.capacity_changes(rt.alloc(), 0)?;
+    for (t, capacity) in [(0, 1), (1, 3), (2, 3), (3, 5), (4, 5)] {
+        assert_eq!(rt; amount_at(5, &changes, t), capacity, "at {t}");
+    }
+    assert_eq!(rt; plan.capacity_changes(rt.alloc(), 1)?.len(), 0);
+    Ok(())
+}
+
+#[test]
+fn demand_changes_where_records_overlap(rt: HostRuntime) -> Result<(), Fail> {
+    let mut plan = Plan::open(rt.alloc());
+    plan.put_cell(5)?;
+    plan.put_demand(0, 1, 4, 100)?;
+    plan.put_demand(0, 2, 3, 20)?;
+    plan.put_demand(0, 3, 9, 7)?;
+    let changes = plan.demand_changes(rt.alloc(), 0)?;
+    for (t, amount) in [(0, 0), (1, 100), (2, 120), (3, 107), (4, 7), (8, 7), (9, 0)] {
+        assert_eq!(rt; amount_at(0, &changes, t), amount, "at {t}");
+    }
     Ok(())
 }

@@ -14,7 +14,7 @@ returns-in-empty-clause-in_force t c step =
 pub returns-in_ok-newer-in_default-clause-in_force : goal.returns-in_ok-newer-in_default-clause-in_force
 returns-in_ok-newer-in_default-clause-in_force t c =
     IfOk-weaker c.merge.result _ _ (λ merged same step.
-        same step ∙
-        rw (c.deref.ensures.value, c.deref-in_default.ensures.value, c.in_ok-older-in_default.ensures.in_force step, c.in_ok-newer-in_default.ensures.in_force step)
-        (last_found-split (λ turn. (turn.b1, turn.b2)) (λ turn. in_range turn.from turn.to step) c.args.turns.now c.split_at.result.0.now c.split_at.result.1.now _ c.split_at.ensures.front c.split_at.ensures.back))
+    same step ∙
+    rw (c.deref.ensures.value, c.deref-in_default.ensures.value, c.in_ok-older-in_default.ensures.in_force step, c.in_ok-newer-in_default.ensures.in_force step)
+    (last_found-split (λ turn. (turn.b1, turn.b2)) (λ turn. in_range turn.from turn.to step) c.args.turns.now c.split_at.result.0.now c.split_at.result.1.now _ c.split_at.ensures.front c.split_at.ensures.back))
     c.merge.ensures.in_force

@@ -1,4 +1,3 @@
-use Rattle.std.proofs.Common.{None}
 use Rattle.std.proofs.lemmas.Result.{IfOk-weaker}
 use Rattle.signal_plan.specs.CellRecords.{last_turn}
 use Rattle.signal_plan.proofs.Changes.{in_force-filled, IsRising-filled}
@@ -8,12 +7,12 @@ pub returns-clause-in_force : goal.returns-clause-in_force
 returns-clause-in_force c =
     let found = rw c.deref.ensures.value at c.in_ok-changes.ensures.in_force in
     IfOk-weaker c.with_fallback.result _ _ (λ changes is t. rw (← c.self.view_is)
-        (in_force-filled c.args.own c.deref-2.result.now changes.items (λ turn. (turn.b1, turn.b2)) (last_turn c.self.inside.turns.items t) t is
-        (rw c.deref-2.ensures.value (found t))))
+    (in_force-filled c.args.own c.deref-2.result.now changes.items (λ turn. (turn.b1, turn.b2)) (last_turn c.self.inside.turns.items t) t is
+    (rw c.deref-2.ensures.value (found t))))
     c.with_fallback.ensures
 
 pub returns-clause-rising : goal.returns-clause-rising
 returns-clause-rising c =
     IfOk-weaker c.with_fallback.result _ _ (λ changes is.
-        IsRising-filled c.args.own c.deref-2.result.now changes.items is (rw c.deref-2.ensures.value c.in_ok-changes.ensures.rising))
+    IsRising-filled c.args.own c.deref-2.result.now changes.items is (rw c.deref-2.ensures.value c.in_ok-changes.ensures.rising))
     c.with_fallback.ensures
