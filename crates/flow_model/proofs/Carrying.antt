@@ -1,7 +1,6 @@
 -- A connector carries its flow, one move after the other: what leaves each cell upstream, and then what enters each cell downstream.
-use Rattle.std.specs.Prelude.{All, eqb, map, if◌then◌else◌, ◌==◌}
-use Rattle.std.specs.List.{list_any}
-use Rattle.std.proofs.Common.{◌≡◌, inl, inr, ℕ, zero, suc, add-zero, add-one, ◌+◌, ◌<◌, ◌≤◌, Bool, true, false, List, [], ◌∷◌, ◌++◌, length, get_or, take, set, arith, refl, sym, ap, subst, ◌∙◌}
+use Rattle.std.specs.Prelude.{All, map, if◌then◌else◌, ◌==◌}
+use Rattle.std.proofs.Common.{◌≡◌, inl, inr, ℕ, zero, suc, add-zero, ◌+◌, ◌<◌, ◌≤◌, true, false, List, [], ◌∷◌, ◌++◌, length, get_or, take, set, arith, refl, sym, ap, subst, ◌∙◌}
 use Rattle.std.proofs.lemmas.Bool.{cases_Bool, eq-eqb}
 use Rattle.std.proofs.lemmas.List.{get_or-map, get_or_append_left, length-append, take_all, take_more}
 use Rattle.std.proofs.lemmas.List.Elements.{All-append, All-weaker}
@@ -12,7 +11,7 @@ use Rattle.network_file.specs.Connectors.{upstream_of, downstream_of, cells_of, 
 use Rattle.network_file.specs.Network.{Network, IsNetwork, IsSoundConnector}
 use Rattle.network_file.specs.declared.connector.Connector.{Connector}
 use Rattle.network_file.specs.declared.connector.Connector.TheVariants.{Link, Merge, Diverge}
-use Rattle.flow_model.specs.Bounds.{AreHeldInBounds, AreInBounds}
+use Rattle.flow_model.specs.Bounds.{AreHeldInBounds, AreInBounds, IsHeldInBounds}
 use Rattle.flow_model.specs.Flows.{flow_between, flow_of, sent_by, received_by, amount_for, leaving, entering, left_by, entered_by, outflow, inflow}
 use Rattle.flow_model.specs.Rows.{row_less, row_more}
 use Rattle.flow_model.specs.State.{row_at, occupancy, rows_moved, rows_by}
@@ -182,7 +181,7 @@ moves-out net t k j ins cell parts rows now flow carried within few place parts_
     rw is (
       move.0,
       move.1 ∙ rows_moved-same net rows (entered_so_far net t k rows flow ins) (λ i. left_so_far net t k rows flow j i + (if i == cell then parts else 0))
-      (entered_so_far net t k rows flow ins) (left_so_far net t k rows flow (j + 1)) (λ i. refl) more,
+          (entered_so_far net t k rows flow ins) (left_so_far net t k rows flow (j + 1)) (λ i. refl) more,
     )
 
 -- one move in: into the cell downstream of this place
@@ -207,7 +206,7 @@ moves-in net t k outs j cell parts rows now flow carried within few place parts_
     rw is (
       move.0,
       move.1 ∙ rows_moved-same net rows (λ i. entered_so_far net t k rows flow j i + (if i == cell then parts else 0)) (left_so_far net t k rows flow outs)
-      (entered_so_far net t k rows flow (j + 1)) (left_so_far net t k rows flow outs) more (λ i. refl),
+          (entered_so_far net t k rows flow (j + 1)) (left_so_far net t k rows flow outs) more (λ i. refl),
     )
 
 -- what the cells of a connector hold
@@ -254,6 +253,22 @@ three_held net t k ups downs cells rows sound there bounds is up_long down_long 
     let connector : Connector = connector_at net.connectors k in
     rw (← is) (subst (AreHeldInBounds net t (cells_of connector)) (three (occupancy rows) connector ups downs up_long down_long all)
     (cells_held net t k rows sound there bounds))
+
+pub two_held : (net : Network) (t k : ℕ) (cells : List ℕ) (rows : List Row) → IsNetwork net → k < length net.connectors →
+    AreInBounds net t rows → cells_of (connector_at net.connectors k) ≡ cells → length (upstream_of (connector_at net.connectors k)) ≡ 1 →
+    length (downstream_of (connector_at net.connectors k)) ≡ 1 →
+    AreHeldInBounds net t (cells_of (connector_at net.connectors k)) (occupancy rows (get_or cells 0 0) ∷ occupancy rows (get_or cells 1 0) ∷ 0 ∷ [])
+two_held net t k cells rows sound there bounds is up_long down_long =
+    let connector : Connector = connector_at net.connectors k in
+    let long : length (cells_of connector) ≡ 2 = omega (arith, length-append (upstream_of connector) (downstream_of connector)) in
+    rw (← is) (record { each = of_place long })
+  where
+    of_place : length (cells_of (connector_at net.connectors k)) ≡ 2 → (j : ℕ) → j < length (cells_of (connector_at net.connectors k)) →
+        IsHeldInBounds net t (get_or (cells_of (connector_at net.connectors k)) j 0)
+        (get_or (occupancy rows (get_or (cells_of (connector_at net.connectors k)) 0 0) ∷ occupancy rows (get_or (cells_of (connector_at net.connectors k)) 1 0) ∷ 0 ∷ []) j 0)
+    of_place long zero within = (bounds.each _ (cells_there net k sound there 0 0 within)).held
+    of_place long (suc zero) within = (bounds.each _ (cells_there net k sound there 1 0 within)).held
+    of_place long (suc (suc j)) within = absurd (omega arith)
 
 pub three_carried : (net : Network) (t k ups downs : ℕ) (cells : List ℕ) (rows : List Row) (flow : Flow) → IsNetwork net → t < net.steps →
     k < length net.connectors → AreInBounds net t rows → cells_of (connector_at net.connectors k) ≡ cells →

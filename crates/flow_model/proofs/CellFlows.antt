@@ -1,17 +1,17 @@
 -- What leaves and enters a cell in a step, by its one connector or by none; what leaves the cells of a connector enters them.
 use Rattle.std.specs.Prelude.{All, eqb, sum_by, if◌then◌else◌, ◌==◌}
 use Rattle.std.specs.List.{IsDistinct, list_any}
-use Rattle.std.proofs.Common.{◌≡◌, inl, inr, ℕ, zero, suc, Bool, true, false, ◌+◌, ◌<◌, List, [], ◌∷◌, length, get_or, arith, refl, sym, ap, ◌∙◌}
+use Rattle.std.proofs.Common.{◌≡◌, inl, inr, ℕ, true, false, ◌+◌, ◌<◌, List, length, get_or, arith, refl, sym, ◌∙◌}
 use Rattle.std.proofs.lemmas.Bool.{cases_Bool, eq-eqb, eqb-true}
 use Rattle.std.proofs.lemmas.List.Folds.{list_any_at}
 use Rattle.network_file.specs.Cells.{is_gate_at}
 use Rattle.network_file.specs.Connectors.{upstream_of, downstream_of, connector_at, leads_out_of, leads_into}
-use Rattle.network_file.specs.Network.{Network, IsNetwork, IsSoundConnector}
+use Rattle.network_file.specs.Network.{Network, IsNetwork}
 use Rattle.network_file.specs.declared.connector.Connector.{Connector}
 use Rattle.network_file.specs.declared.connector.Connector.TheVariants.{Link, Merge, Diverge}
-use Rattle.flow_model.specs.Flows.{flow_between, flow_of, sent_by, received_by, amount_for, leaving, entering, left_by, entered_by, outflow, inflow}
+use Rattle.flow_model.specs.Flows.{flow_between, flow_of, leaving, entering, left_by, entered_by, outflow, inflow}
 use Rattle.flow_model.specs.declared.carried.Flow.{Flow}
-use Rattle.flow_model.proofs.Sums.{sum_by-one, sum_by-no, sum_by-same}
+use Rattle.signal_plan.proofs.Sums.{sum_by-one, sum_by-no, sum_by-same}
 use Rattle.flow_model.proofs.CellKinds.{sound_connector}
 use Rattle.flow_model.proofs.Connectors.{leaving-other, entering-other, flow_between-conserved}
 

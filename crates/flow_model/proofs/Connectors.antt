@@ -1,16 +1,19 @@
 -- What one connector carries: what leaves in all is what enters in all, and each cell keeps its limit.
 use Rattle.std.specs.Prelude.{All, eqb, map, slice_index, if◌then◌else◌, ◌==◌, ◌||◌}
 use Rattle.std.specs.List.{AllByRecursion, IsDistinct, list_any}
-use Rattle.std.proofs.Common.{◌≡◌, inl, inr, ℕ, zero, suc, Bool, true, false, ◌+◌, ◌-◌, ◌<◌, ◌≤◌, List, [], ◌∷◌, ◌++◌, length, get_or, take, arith, refl, sym, ◌∙◌, ap, subst}
+use Rattle.std.proofs.Common.{◌≡◌, inl, inr, ℕ, zero, suc, Bool, true, false, ◌+◌, ◌-◌, ◌<◌, ◌≤◌, List, [], ◌∷◌, ◌++◌, length, get_or, arith, refl, sym, ◌∙◌, ap, subst}
 use Rattle.std.proofs.lemmas.Bool.{cases_Bool, eqb-true}
-use Rattle.std.proofs.lemmas.List.Elements.{All-head, All-tail}
+use Rattle.std.proofs.lemmas.List.Elements.{All-head, All-tail, All-weaker}
 use Rattle.std.proofs.lemmas.List.{get_or-map, get_or_append_left, get_or-append_right, length-append}
 use Rattle.ordinary_link.proofs.Bounds.{link_flow_of-le-sent, link_flow_of-le-received}
 use Rattle.merge_rule.proofs.MergeFacts.{merge_of-first_sends, merge_of-second_sends, merge_of-receives}
 use Rattle.diverge_rule.proofs.DivergeFacts.{diverge_of-conserved, diverge_of-sends, diverge_of-first_receives, diverge_of-second_receives}
+use Rattle.signal_plan.specs.Records.{TurnRecord}
 use Rattle.signal_plan.specs.Turning.{shares_at}
+use Rattle.signal_plan.specs.declared.bounds.TheConstants.{MOST_STEPS}
+use Rattle.signal_plan.proofs.Laws.{shares_at-all}
 use Rattle.network_file.specs.Connectors.{upstream_of, downstream_of, cells_of, leads_out_of, leads_into}
-use Rattle.network_file.specs.Network.{Network, IsSoundConnector}
+use Rattle.network_file.specs.Network.{Network, IsNetwork, IsSoundConnector, IsTurnWithin}
 use Rattle.network_file.specs.declared.cell.Cell.{Cell}
 use Rattle.network_file.specs.declared.connector.Connector.{Connector}
 use Rattle.network_file.specs.declared.connector.Connector.TheVariants.{Link, Merge, Diverge}
@@ -22,6 +25,14 @@ use Rattle.flow_model.specs.declared.carried.Flow.{Flow}
 -- the weights of a merge are not both 0
 some_weight : (cells : List Cell) (up1 up2 down p1 p2 : ℕ) → IsSoundConnector cells (Merge up1 up2 down p1 p2) → 1 ≤ p1 + p2
 some_weight cells up1 up2 down p1 p2 sound = let first = (sound.weights 0 0 (omega arith)).0 in omega arith
+
+-- the shares of a diverge in a step are not 0
+pub some_shares : (net : Network) (t up b1 b2 : ℕ) → IsNetwork net → 1 ≤ b1 → 1 ≤ b2 →
+    (1 ≤ (shares_at net.plan up t (b1, b2)).0) × (1 ≤ (shares_at net.plan up t (b1, b2)).1)
+some_shares net t up b1 b2 sound first second =
+    shares_at-all (λ shares. (1 ≤ shares.0) × (1 ≤ shares.1)) net.plan up t (b1, b2) (first, second)
+    (All-weaker (λ (turn : TurnRecord). (turn.to ≤ MOST_STEPS) × IsTurnWithin turn) (λ turn. (1 ≤ turn.b1) × (1 ≤ turn.b2))
+    (λ turn within. (within.1.some_first, within.1.some_second)) net.plan.turns sound.sound.planned.turns)
 
 pub flow_between-conserved : (net : Network) (t : ℕ) (connector : Connector) (n : List ℕ) →
     let flow = flow_between net t connector n in

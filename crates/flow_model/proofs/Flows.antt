@@ -1,5 +1,5 @@
 -- What leaves a cell is at most what it can send, and what enters it is at most what it can receive.
-use Rattle.std.specs.Prelude.{All, count_by, if◌then◌else◌}
+use Rattle.std.specs.Prelude.{count_by}
 use Rattle.std.proofs.Common.{◌≡◌, inl, inr, ℕ, ◌*◌, ◌<◌, ◌≤◌, true, false, length, arith, refl}
 use Rattle.std.proofs.lemmas.Bool.{cases_Bool}
 use Rattle.std.proofs.lemmas.List.Elements.{All-weaker}
@@ -11,7 +11,7 @@ use Rattle.network_file.specs.Network.{Network, IsNetwork, IsSoundConnector}
 use Rattle.network_file.specs.declared.connector.Connector.{Connector}
 use Rattle.flow_model.specs.Limits.{sending_at, receiving_at}
 use Rattle.flow_model.specs.Flows.{flow_of, leaving, entering, left_by, entered_by, outflow, inflow}
-use Rattle.flow_model.proofs.Sums.{sum_by-le-count_by}
+use Rattle.signal_plan.proofs.Sums.{sum_by-le-count_by}
 use Rattle.flow_model.proofs.Connectors.{leaving-le, entering-le, leaving-other, at_listed}
 
 -- at most one connector leads out of a cell, and at most one into it

@@ -1,4 +1,3 @@
-pub mod Sums
 pub mod CellKinds
 pub mod CellLimits
 pub mod Connectors

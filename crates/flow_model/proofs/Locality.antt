@@ -1,7 +1,7 @@
 -- The next row of a cell depends on the occupancies of the cells that share a connector with it, and on no other.
 use Rattle.std.specs.Prelude.{All, eqb, map, ◌&&◌, ◌||◌, if◌then◌else◌}
 use Rattle.std.specs.List.{list_any}
-use Rattle.std.proofs.Common.{◌≡◌, inl, inr, ℕ, Bool, true, false, ◌<◌, List, [], ◌∷◌, ◌++◌, length, get_or, refl, sym, ap, ◌∙◌}
+use Rattle.std.proofs.Common.{◌≡◌, inl, inr, ℕ, Bool, true, false, List, [], ◌∷◌, get_or, refl, sym, ap, ◌∙◌}
 use Rattle.std.proofs.lemmas.Bool.{cases_Bool, eq-eqb}
 use Rattle.std.proofs.lemmas.List.Folds.{list_any-append, list_any_at}
 use Rattle.signal_plan.specs.Demand.{demand_at}
@@ -10,9 +10,9 @@ use Rattle.network_file.specs.Connectors.{upstream_of, downstream_of, cells_of, 
 use Rattle.network_file.specs.Network.{Network}
 use Rattle.network_file.specs.declared.connector.Connector.{Connector}
 use Rattle.flow_model.specs.Flows.{flow_between, flow_of, leaving, entering, left_by, entered_by, outflow, inflow}
-use Rattle.flow_model.specs.Rows.{moved_row, row_by, next_row}
+use Rattle.flow_model.specs.Rows.{row_by, next_row}
 use Rattle.flow_model.specs.declared.row.Row.{Row}
-use Rattle.flow_model.proofs.Sums.{sum_by-same}
+use Rattle.signal_plan.proofs.Sums.{sum_by-same}
 use Rattle.flow_model.proofs.Connectors.{leaving-other, entering-other}
 
 -- occupancies that agree at these cells

@@ -1,7 +1,6 @@
 -- One move of a step: so much leaves a row, or so much enters it.
 use Rattle.std.specs.Prelude.{if◌then◌else◌, ◌==◌}
-use Rattle.std.specs.List.{range_with_len}
-use Rattle.std.proofs.Common.{◌≡◌, inl, inr, ℕ, add-zero, zero-add, ◌+◌, ◌-◌, ◌<◌, ◌≤◌, ◌^◌, true, false, List, length, map, set, arith, refl, sym, ap, ◌∙◌}
+use Rattle.std.proofs.Common.{◌≡◌, inl, inr, ℕ, add-zero, zero-add, ◌+◌, ◌-◌, ◌<◌, ◌≤◌, ◌^◌, true, false, List, length, set, arith, sym, ap, ◌∙◌}
 use Rattle.std.proofs.lemmas.Bool.{cases_Bool, cases_eq, eq-eqb, ne_eqb}
 use Rattle.std.proofs.lemmas.List.{length-set, get_or-set_same, get_or-set_other, ext_get_or}
 use Rattle.std.proofs.lemmas.List.FromFn.{length-map-range_with_len, get_or-map-range_with_len}
@@ -12,7 +11,7 @@ use Rattle.flow_model.specs.Rows.{empty_row, moved_row, row_less, row_more}
 use Rattle.flow_model.specs.State.{row_at, occupancy, rows_moved}
 use Rattle.flow_model.specs.Moves.{CanLeave, CanEnter}
 use Rattle.flow_model.specs.declared.row.Row.{Row}
-use Rattle.flow_model.proofs.Bounds.{IsChange, moved_row-in_bounds, IsSmall, small}
+use Rattle.flow_model.proofs.Bounds.{IsChange, moved_row-in_bounds, small}
 
 -- a move out of a row under way, where with it no more has left the cell than may
 pub record IsMoveOut (net : Network) (i : ℕ) (row : Row) (enters leaves parts : ℕ) : Type 0 where
@@ -116,20 +115,19 @@ rows_moved-less net t rows enters leaves cell parts sound before has bounds chan
     let here = row_at-rows_moved net rows enters leaves cell has in
     let out = moves_out net t cell (row_at rows cell) (enters cell) (leaves cell) parts sound before has (bounds.each cell has) change in
     let long = length-rows_moved net rows enters leaves in
-    let there : cell < length now = omega arith in
-    (
+    let there : cell < length now = omega arith in (
       record { there = there; held = rw here out.held; waiting = rw here out.waiting; fits = rw here out.fits },
       rows_moved-from_each net rows (set now cell (row_less (row_at now cell) parts)) enters _ (omega (arith, length-set now cell (row_less (row_at now cell) parts)))
-      (λ i has_i. elim (cases_eq i cell) [
-        | inl same ↦
-            let own : (i == cell) ≡ true = eq-eqb i cell same in
-            rw (own, same) (get_or-set_same now cell (row_less (row_at now cell) parts) empty_row there ∙ ap (λ row. row_less row parts) here ∙ out.done)
-        | inr other ↦
-            let apart : (i == cell) ≡ false = ne_eqb i cell other in
-            rw (apart, add-zero (leaves i)) (
-            get_or-set_other now cell i (row_less (row_at now cell) parts) empty_row other ∙ row_at-rows_moved net rows enters leaves i has_i
-            )
-      ]),
+          (λ i has_i. elim (cases_eq i cell) [
+            | inl same ↦
+                let own : (i == cell) ≡ true = eq-eqb i cell same in
+                rw (own, same) (get_or-set_same now cell (row_less (row_at now cell) parts) empty_row there ∙ ap (λ row. row_less row parts) here ∙ out.done)
+            | inr other ↦
+                let apart : (i == cell) ≡ false = ne_eqb i cell other in
+                rw (apart, add-zero (leaves i)) (
+                get_or-set_other now cell i (row_less (row_at now cell) parts) empty_row other ∙ row_at-rows_moved net rows enters leaves i has_i
+                )
+          ]),
     )
 
 -- so much enters it
@@ -144,18 +142,17 @@ rows_moved-more net t rows enters leaves cell parts sound before has bounds chan
     let here = row_at-rows_moved net rows enters leaves cell has in
     let into = moves_in net t cell (row_at rows cell) (enters cell) (leaves cell) parts sound before has (bounds.each cell has) change in
     let long = length-rows_moved net rows enters leaves in
-    let there : cell < length now = omega arith in
-    (
+    let there : cell < length now = omega arith in (
       record { there = there; fits = rw here into.fits; all_fit = rw here into.all_fit },
       rows_moved-from_each net rows (set now cell (row_more (row_at now cell) parts)) _ leaves (omega (arith, length-set now cell (row_more (row_at now cell) parts)))
-      (λ i has_i. elim (cases_eq i cell) [
-        | inl same ↦
-            let own : (i == cell) ≡ true = eq-eqb i cell same in
-            rw (own, same) (get_or-set_same now cell (row_more (row_at now cell) parts) empty_row there ∙ ap (λ row. row_more row parts) here ∙ into.done)
-        | inr other ↦
-            let apart : (i == cell) ≡ false = ne_eqb i cell other in
-            rw (apart, add-zero (enters i)) (
-            get_or-set_other now cell i (row_more (row_at now cell) parts) empty_row other ∙ row_at-rows_moved net rows enters leaves i has_i
-            )
-      ]),
+          (λ i has_i. elim (cases_eq i cell) [
+            | inl same ↦
+                let own : (i == cell) ≡ true = eq-eqb i cell same in
+                rw (own, same) (get_or-set_same now cell (row_more (row_at now cell) parts) empty_row there ∙ ap (λ row. row_more row parts) here ∙ into.done)
+            | inr other ↦
+                let apart : (i == cell) ≡ false = ne_eqb i cell other in
+                rw (apart, add-zero (enters i)) (
+                get_or-set_other now cell i (row_more (row_at now cell) parts) empty_row other ∙ row_at-rows_moved net rows enters leaves i has_i
+                )
+          ]),
     )

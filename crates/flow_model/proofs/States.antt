@@ -3,7 +3,7 @@ use Rattle.std.specs.Prelude.{map, slice_get}
 use Rattle.std.specs.Prelude.{Some}
 use Rattle.std.specs.Option.{option_map}
 use Rattle.std.proofs.lemmas.Option.{slice_get_within, get_or_from_slice_get, slice_get-map}
-use Rattle.std.proofs.Common.{◌≡◌, ℕ, zero, suc, add-one, zero-add, ◌+◌, [], take, ◌<◌, ◌≤◌, List, length, get_or, arith, refl, sym, ap, ◌∙◌}
+use Rattle.std.proofs.Common.{◌≡◌, ℕ, zero, suc, add-one, ◌+◌, [], take, ◌<◌, ◌≤◌, List, length, get_or, arith, refl, sym, ap, ◌∙◌}
 use Rattle.std.proofs.lemmas.List.{length-map, take_all}
 use Rattle.std.proofs.lemmas.List.Sums.{get_or-le-sum_by}
 use Rattle.signal_plan.specs.Total.{demand_from}

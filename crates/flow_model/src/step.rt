@@ -70,7 +70,12 @@ fn carry(net: &Net, t: u64, k: u32, old: &[Row], new: &mut [Row])
         Connector::Merge { up1, up2, down, .. } => {
             carry_merge(net, t, k, [up1, up2, down], old, new);
         }
-        Connector::Diverge { up, down1, down2, .. } => {
+        Connector::Diverge {
+            up,
+            down1,
+            down2,
+            ..
+        } => {
             carry_diverge(net, t, k, [up, down1, down2], old, new);
         }
     }
@@ -95,14 +100,7 @@ fn carry_link(net: &Net, t: u64, k: u32, cells: [u32; 2], old: &[Row], new: &mut
 }
 
 // Connector `k`, a merge, carries its flow.
-fn carry_merge(
-    net: &Net,
-    t: u64,
-    k: u32,
-    cells: [u32; 3],
-    old: &[Row],
-    new: &mut [Row],
-)
+fn carry_merge(net: &Net, t: u64, k: u32, cells: [u32; 3], old: &[Row], new: &mut [Row])
     requires sound { IsNetwork net.now }
     requires has_connector { k < length net.now.connectors }
     requires cells { cells_of (connector_at net.now.connectors k) ≡ cells }
@@ -114,7 +112,11 @@ fn carry_merge(
     ensures { new.new ≡ rows_by (take (k + 1) net.now.connectors) net.now t old.now }
 {
     let [up1, up2, down] = cells;
-    let n = [old[up1 as usize].n, old[up2 as usize].n, old[down as usize].n];
+    let n = [
+        old[up1 as usize].n,
+        old[up2 as usize].n,
+        old[down as usize].n,
+    ];
     let carried = flow(net, t, k, n);
     leave(new, up1, carried.out1);
     leave(new, up2, carried.out2);
@@ -122,14 +124,7 @@ fn carry_merge(
 }
 
 // Connector `k`, a diverge, carries its flow.
-fn carry_diverge(
-    net: &Net,
-    t: u64,
-    k: u32,
-    cells: [u32; 3],
-    old: &[Row],
-    new: &mut [Row],
-)
+fn carry_diverge(net: &Net, t: u64, k: u32, cells: [u32; 3], old: &[Row], new: &mut [Row])
     requires sound { IsNetwork net.now }
     requires has_connector { k < length net.now.connectors }
     requires cells { cells_of (connector_at net.now.connectors k) ≡ cells }
@@ -141,7 +136,11 @@ fn carry_diverge(
     ensures { new.new ≡ rows_by (take (k + 1) net.now.connectors) net.now t old.now }
 {
     let [up, down1, down2] = cells;
-    let n = [old[up as usize].n, old[down1 as usize].n, old[down2 as usize].n];
+    let n = [
+        old[up as usize].n,
+        old[down1 as usize].n,
+        old[down2 as usize].n,
+    ];
     let carried = flow(net, t, k, n);
     leave(new, up, carried.out1);
     enter(new, down1, carried.in1);

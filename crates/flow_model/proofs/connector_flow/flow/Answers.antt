@@ -1,4 +1,4 @@
-use Rattle.std.proofs.Common.{◌≡◌, sym, subst, ap, ◌∙◌}
+use Rattle.std.proofs.Common.{sym, subst, ap}
 use Rattle.network_file.specs.Connectors.{cells_of, connector_at}
 use Rattle.network_file.specs.Network.{IsNetwork, IsSoundConnector}
 use Rattle.flow_model.specs.Bounds.{AreHeldInBounds}

@@ -1,4 +1,4 @@
-use Rattle.std.proofs.Common.{◌≡◌, ◌∙◌, get_or, refl, sym, ap, arith}
+use Rattle.std.proofs.Common.{◌∙◌, get_or, refl, sym, ap, arith}
 use Rattle.flow_model.proofs.Carrying.{three_held, carrying-begins, carrying-ends, moves-in, moves-out, three_carried}
 use Rattle.flow_model.proofs.step.carry_diverge.Goals as goal
 

@@ -1,6 +1,11 @@
-use Rattle.std.proofs.Common.{◌≡◌, ◌∙◌, get_or, refl, sym, ap, arith}
-use Rattle.flow_model.proofs.Carrying.{carrying-begins, carrying-ends, moves-in, moves-out, two_carried}
+use Rattle.std.proofs.Common.{◌∙◌, get_or, refl, sym, ap, arith}
+use Rattle.flow_model.proofs.Carrying.{carrying-begins, carrying-ends, moves-in, moves-out, two_carried, two_held}
 use Rattle.flow_model.proofs.step.carry_link.Goals as goal
+
+pub flow-carried-requires-clause-held : goal.flow-carried-requires-clause-held
+flow-carried-requires-clause-held c =
+    two_held c.args.net.now c.args.t c.args.k c.args.cells c.args.old.now c.requires.sound c.requires.has_connector
+    c.requires.in_bounds c.requires.cells c.requires.upstream c.requires.downstream
 
 pub leave-requires : goal.leave-requires
 leave-requires c =
