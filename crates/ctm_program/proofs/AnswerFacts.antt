@@ -1,52 +1,109 @@
 -- The answer by its cases, and inputs that a source may have.
-use Rattle.std.proofs.Common.{◌≡◌, ℕ, ◌+◌, ◌<◌, List, [], Option, Some, None, String, Global, IfSome, true, false, refl, subst, inl, inr, length, replicate, arith, rules}
+use Rattle.std.proofs.Common.{append-nil, ◌≡◌, ℕ, ◌+◌, ◌<◌, ◌≤◌, List, [], Option, Some, None, Ok, Err, String, Global, IfSome, true, false, refl, sym, inl, inr, length, replicate, arith, rules}
 use Rattle.std.proofs.lemmas.List.{length-replicate}
+use Rattle.command_words.specs.declared.request.Request.{Request}
+use Rattle.network_file.specs.Reading.{network_of}
 use Rattle.network_file.specs.declared.limits.TheConstants.{MOST_BYTES}
-use Rattle.ctm_program.specs.Answer.{Answer, answer_of, refused}
-use Rattle.ctm_program.specs.Ending.{IsComplete, IsInput, IsStatusOf}
+use Rattle.ctm_program.specs.Answer.{Answer, IsTextBy, IsTextOf, Task, answer_of, answer_with, refused, requested}
+use Rattle.ctm_program.specs.Counts.{counts_line}
+use Rattle.ctm_program.specs.Report.{report_of}
+use Rattle.network_file.specs.Converted.{converted}
+use Rattle.command_words.specs.declared.mode.Mode.{Mode}
+use Rattle.command_words.specs.declared.mode.Mode.TheVariants.{Run, Check, Convert}
+use Rattle.command_words.specs.declared.refusal.WordsRefusal.{WordsRefusal}
+use Rattle.command_words.specs.declared.refusal.WordsRefusal.TheVariants as of_words
+use Rattle.ctm_ports.specs.Written.{AppendsPrefix}
+use Rattle.ctm_program.specs.Ending.{IsComplete, IsOfWords, IsStatusOf, line_after}
+use Rattle.ctm_program.specs.Refusing.{IsRefusalOf, line_of, refusal_of_words, status_of}
+use Rattle.ctm_program.specs.declared.refusal.Refusal.{Refusal}
+use Rattle.ctm_program.specs.declared.refusal.Refusal.TheVariants as refusal
 use Rattle.ctm_program.specs.Lines.{words_line, too_large_line}
-use Rattle.ctm_program.specs.Words.{are_run}
 use Rattle.ctm_program.specs.declared.status.Status.{Status}
 use Rattle.ctm_program.specs.declared.status.Status.TheVariants as status
 use Rattle.ctm_program.specs.declared.status.Status.TheVariants.{Done, Words, Network, TooLarge, ReadFault, WriteFault, NoMemory}
 
-pub answer_of-words : (words : List (String Global)) (input : List ℕ) → are_run words ≡ false →
+pub answer_of-words : (words : List (String Global)) (input : List ℕ) → requested words ≡ None →
     answer_of words input ≡ refused status.Words words_line
 unfolding answer_of
 answer_of-words words input refuses = rw refuses refl
 
-pub answer_of-too_large : (words : List (String Global)) (input : List ℕ) → are_run words ≡ true → MOST_BYTES < length input →
-    answer_of words input ≡ refused status.TooLarge too_large_line
+pub answer_of-too_large : (words : List (String Global)) (input : List ℕ) (request : Request) → requested words ≡ Some request →
+    MOST_BYTES < length input → answer_of words input ≡ refused status.TooLarge too_large_line
 unfolding answer_of
-answer_of-too_large words input accepts large = rw accepts (search rules)
+answer_of-too_large words input request accepts large = rw accepts (search rules)
 
-completes_at : (answer : Answer) (given : Status) (ReadRose WriteRose : Type 0) → IsStatusOf answer given →
+pub answer_of-file : (words : List (String Global)) (input : List ℕ) (request : Request) → requested words ≡ Some request →
+    length input ≤ MOST_BYTES → answer_of words input ≡ answer_with request input (network_of input)
+unfolding answer_of
+answer_of-file words input request accepts fits = rw accepts (search rules)
+
+-- where the status is the answer's and each fault has its cause, a task is done but for these causes
+pub completes : (answer : Answer) (given : Status) (ReadRose WriteRose : Type 0) → IsStatusOf answer given →
     (given ≡ ReadFault → ReadRose) → (given ≡ WriteFault → WriteRose) → IsComplete answer given ReadRose WriteRose
-completes_at answer Done ReadRose WriteRose agrees read write = λ done no_read no_write. inl refl
-completes_at answer Words ReadRose WriteRose agrees read write = λ done no_read no_write. cc
-completes_at answer Network ReadRose WriteRose agrees read write = λ done no_read no_write. cc
-completes_at answer TooLarge ReadRose WriteRose agrees read write = λ done no_read no_write. cc
-completes_at answer ReadFault ReadRose WriteRose agrees read write = λ done no_read no_write. absurd (no_read (read refl))
-completes_at answer WriteFault ReadRose WriteRose agrees read write = λ done no_read no_write. absurd (no_write (write refl))
-completes_at answer NoMemory ReadRose WriteRose agrees read write = λ done no_read no_write. inr refl
+completes answer Done ReadRose WriteRose agrees read write = λ done no_read no_write. inl refl
+completes answer Words ReadRose WriteRose agrees read write = λ done no_read no_write. cc
+completes answer Network ReadRose WriteRose agrees read write = λ done no_read no_write. cc
+completes answer TooLarge ReadRose WriteRose agrees read write = λ done no_read no_write. cc
+completes answer ReadFault ReadRose WriteRose agrees read write = λ done no_read no_write. absurd (no_read (read refl))
+completes answer WriteFault ReadRose WriteRose agrees read write = λ done no_read no_write. absurd (no_write (write refl))
+completes answer NoMemory ReadRose WriteRose agrees read write = λ done no_read no_write. inr refl
 
 -- some input that a source may have
-pub some_input : (left : Option (List ℕ)) → (input : List ℕ) × IsInput left input
+pub some_input : (left : Option (List ℕ)) → (input : List ℕ) × IfSome left (λ bytes. input ≡ bytes)
 some_input None = ([], tt)
 some_input (Some bytes) = (bytes, refl)
 
 -- one that is longer than a limit, where the source has no less
 pub long_input : (most : ℕ) (left : Option (List ℕ)) → IfSome left (λ bytes. most < length bytes) →
-    (input : List ℕ) × IsInput left input × (most < length input)
+    (input : List ℕ) × IfSome left (λ bytes. input ≡ bytes) × (most < length input)
 long_input most None none = (replicate (most + 1) 0, tt, omega (arith, length-replicate {A = ℕ}))
 long_input most (Some bytes) long = (bytes, refl, long)
 
--- where the status is the answer's and each fault has its cause, a report is given but for these causes
-pub completes : (left : Option (List ℕ)) (words : List (String Global)) (given : Status) (ReadRose WriteRose : Type 0) (input : List ℕ) →
-    IsInput left input → IsStatusOf (answer_of words input) given →
-    (given ≡ ReadFault → ReadRose) → (given ≡ WriteFault → WriteRose) →
-    IfSome left (λ bytes. IsComplete (answer_of words bytes) given ReadRose WriteRose)
-completes None words given ReadRose WriteRose input told agrees read write = tt
-completes (Some bytes) words given ReadRose WriteRose input told agrees read write =
-    let P : List ℕ → Type 0 = λ xs. IsComplete (answer_of words xs) given ReadRose WriteRose in
-    subst P told (completes_at (answer_of words input) given ReadRose WriteRose agrees read write)
+-- some text of a task
+some_text_by : (mode : Mode) (task : Task) → (text : List ℕ) × IsTextBy mode task text
+some_text_by Run task = (report_of task.net, refl)
+some_text_by Check task = (counts_line task.net, refl)
+some_text_by Convert task = (converted task.input, refl)
+
+-- some text of an answer
+pub some_text : (answer : Answer) → (text : List ℕ) × IsTextOf answer text
+some_text (Ok task) = some_text_by task.request.mode task
+some_text (Err why) = ([], refl)
+
+-- words that are refused, or for which memory was wanted
+pub refused_words : (words : List (String Global)) (refusal : WordsRefusal) (left : Option (List ℕ)) →
+    (refusal ≡ of_words.Refused → requested words ≡ None) →
+    (input : List ℕ) × IfSome left (λ bytes. input ≡ bytes) × IsRefusalOf (answer_of words input) (refusal_of_words refusal)
+refused_words words of_words.Refused left none =
+    let some = some_input left in (some.0, some.1, answer_of-words words some.0 (none refl))
+refused_words words of_words.NoMemory left none = let some = some_input left in (some.0, some.1, tt)
+
+pub status_of-words : (refusal : WordsRefusal) → IsOfWords (status_of (refusal_of_words refusal))
+status_of-words of_words.Refused = inl refl
+status_of-words of_words.NoMemory = inr refl
+
+-- a call that is refused before anything is written
+
+pub record IsUnwritten (answer : Answer) (refusal : Refusal) : Type 0 where
+  pub text : List ℕ
+  pub of_answer : IsTextOf answer text
+  pub status : IsStatusOf answer (status_of refusal)
+  pub line : line_of refusal ≡ line_after answer (status_of refusal)
+  pub not_done : status_of refusal ≡ Done → ⊥
+
+pub unwritten : (answer : Answer) (refusal : Refusal) → IsRefusalOf answer refusal → IsUnwritten answer refusal
+unwritten answer refusal.Words is = rw is (record { text = []; of_answer = refl; status = refl; line = refl; not_done = λ done. cc })
+unwritten answer (refusal.Network line) is = rw is (record { text = []; of_answer = refl; status = refl; line = refl; not_done = λ done. cc })
+unwritten answer refusal.TooLarge is = rw is (record { text = []; of_answer = refl; status = refl; line = refl; not_done = λ done. cc })
+unwritten answer refusal.ReadFault is =
+    let some = some_text answer in
+    record { text = some.0; of_answer = some.1; status = tt; line = refl; not_done = λ done. cc }
+unwritten answer refusal.WriteFault is = absurd is
+unwritten answer refusal.NoMemory is =
+    let some = some_text answer in
+    record { text = some.0; of_answer = some.1; status = tt; line = refl; not_done = λ done. cc }
+
+-- nothing is a beginning of every text
+pub appends_nothing : (old : Option (List ℕ)) (text : List ℕ) → AppendsPrefix old old text
+appends_nothing None text = (0, omega arith, tt)
+appends_nothing (Some taken) text = (0, omega arith, sym (append-nil taken))

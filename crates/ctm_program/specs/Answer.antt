@@ -1,37 +1,70 @@
 -- The answer to the words and the input.
-use Rattle.std.specs.Prelude.{ℕ, List, [], String, not, nat_lt, if◌then◌else◌, length, Result, Ok, Err}
+use Rattle.std.specs.Prelude.{◌≡◌, ℕ, List, [], Option, Some, None, String, map, nat_lt, if◌then◌else◌, length, string_bytes, Result, Ok, Err}
 use Rattle.std.specs.declared.alloc.Global.{Global}
+use Rattle.command_words.specs.Words.{request_of}
+use Rattle.command_words.specs.declared.mode.Mode.{Mode}
+use Rattle.command_words.specs.declared.mode.Mode.TheVariants.{Run, Check, Convert}
+use Rattle.command_words.specs.declared.request.Request.{Request}
+use Rattle.network_file.specs.Converted.{converted}
 use Rattle.network_file.specs.Network.{Network}
 use Rattle.network_file.specs.Reading.{network_of}
 use Rattle.network_file.specs.declared.fault.NetFault.{NetFault}
 use Rattle.network_file.specs.declared.limits.TheConstants.{MOST_BYTES}
+use Rattle.ctm_program.specs.Counts.{counts_line}
 use Rattle.ctm_program.specs.Lines.{words_line, too_large_line, network_line}
 use Rattle.ctm_program.specs.Report.{report_of}
-use Rattle.ctm_program.specs.Words.{are_run}
 use Rattle.ctm_program.specs.declared.status.Status.{Status}
 use Rattle.ctm_program.specs.declared.status.Status.TheVariants as status
 
-pub record Answer : Type 0 where
-  pub status : Status
-  -- the text on out
-  pub out : List ℕ
-  -- the line on err
-  pub err : List ℕ
+-- what is to be done: a request, with its input and the network of it
+pub record Task : Type 0 where
+  pub request : Request
+  pub input : List ℕ
+  pub net : Network
 
-abbrev pub done : List ℕ → Answer
-done report = record { status = status.Done; out = report; err = [] }
+-- why there is no text: the status, and the line on err
+pub record Why : Type 0 where
+  pub status : Status
+  pub line : List ℕ
+
+-- a task is answered by a text on out, and else there is a line on err
+abbrev pub Answer : Type 0
+Answer = Result Task Why
 
 abbrev pub refused : Status → List ℕ → Answer
-refused why line = record { status = why; out = []; err = line }
+refused status line = Err (record { status = status; line = line })
 
--- the answer to a file of not too many bytes
-abbrev pub answer_to_file : Result Network NetFault → Answer
-answer_to_file (Ok net) = done (report_of net)
-answer_to_file (Err fault) = refused status.Network (network_line fault)
+-- which texts answer a task, by its mode
+abbrev pub IsTextBy : Mode → Task → List ℕ → Type 0
+IsTextBy Run task text = text ≡ report_of task.net
+IsTextBy Check task text = text ≡ counts_line task.net
+IsTextBy Convert task text = text ≡ converted task.input
+
+-- which texts may stand on out: those of the task, and nothing where there is none
+abbrev pub IsTextOf : Answer → List ℕ → Type 0
+IsTextOf (Ok task) text = IsTextBy task.request.mode task text
+IsTextOf (Err why) text = text ≡ []
+
+-- the answer to a request, by the network of the input
+abbrev pub answer_with : Request → (input : List ℕ) → Result Network NetFault → Answer
+answer_with request input (Ok net) = Ok (record { request = request; input = input; net = net })
+answer_with request input (Err fault) = refused status.Network (network_line fault)
+
+-- the answer to a request that reads this input
+abbrev pub answer_to : Request → (input : List ℕ) → Answer
+answer_to request input =
+    if nat_lt MOST_BYTES (length input) then refused status.TooLarge too_large_line
+    else answer_with request input (network_of input)
+
+-- the answer where the words give this request, or none
+abbrev pub answer_by : Option Request → (input : List ℕ) → Answer
+answer_by None input = refused status.Words words_line
+answer_by (Some request) input = answer_to request input
+
+-- the request of the words
+abbrev pub requested : List (String Global) → Option Request
+requested words = request_of (map string_bytes words)
 
 -- the first that applies
 unfoldable pub answer_of : (words : List (String Global)) (input : List ℕ) → Answer
-answer_of words input =
-    if not (are_run words) then refused status.Words words_line
-    else if nat_lt MOST_BYTES (length input) then refused status.TooLarge too_large_line
-    else answer_to_file (network_of input)
+answer_of words input = answer_by (requested words) input

@@ -1,7 +1,7 @@
 pub mod Answer
+pub mod Counts
 pub mod Ending
 pub mod Lines
 pub mod Refusing
 pub mod Report
 pub mod Totals
-pub mod Words

@@ -1,7 +1,12 @@
 -- The status and the line of a refusal.
 use Rattle.std.specs.Prelude.{◌≡◌, ℕ, ⊤, List, Result, Ok, Err}
-use Rattle.ctm_program.specs.Answer.{Answer, done, refused}
-use Rattle.ctm_program.specs.Lines.{words_line, too_large_line, read_fault_line, write_fault_line, no_memory_line}
+use Rattle.command_words.specs.declared.refusal.WordsRefusal.{WordsRefusal}
+use Rattle.command_words.specs.declared.refusal.WordsRefusal.TheVariants as of_words
+use Rattle.network_file.specs.declared.fault.NetFault.{NetFault}
+use Rattle.network_file.specs.declared.fault.NetRefusal.{NetRefusal}
+use Rattle.network_file.specs.declared.fault.NetRefusal.TheVariants as of_net
+use Rattle.ctm_program.specs.Answer.{Answer, refused}
+use Rattle.ctm_program.specs.Lines.{network_line, words_line, too_large_line, read_fault_line, write_fault_line, no_memory_line}
 use Rattle.ctm_program.specs.declared.refusal.Refusal.{Refusal}
 use Rattle.ctm_program.specs.declared.refusal.Refusal.TheVariants as refusal
 use Rattle.ctm_program.specs.declared.status.Status.{Status}
@@ -23,6 +28,10 @@ line_of refusal.ReadFault = read_fault_line
 line_of refusal.WriteFault = write_fault_line
 line_of refusal.NoMemory = no_memory_line
 
+abbrev pub refusal_of_words : WordsRefusal → Refusal
+refusal_of_words of_words.Refused = refusal.Words
+refusal_of_words of_words.NoMemory = refusal.NoMemory
+
 -- the status of what comes to a refusal or to no refusal
 abbrev pub status_at_end : {A : Type 0} → Result A Refusal → Status
 status_at_end (Ok done) = status.Done
@@ -36,3 +45,17 @@ IsRefusalOf answer refusal.TooLarge = answer ≡ refused status.TooLarge too_lar
 IsRefusalOf answer refusal.ReadFault = ⊤
 IsRefusalOf answer refusal.WriteFault = ⊥
 IsRefusalOf answer refusal.NoMemory = ⊤
+
+-- the refusal of a file by its fault: the line that tells it, or want of memory
+abbrev pub IsFaultTold : NetFault → Refusal → Type 0
+IsFaultTold fault refusal.Words = ⊥
+IsFaultTold fault (refusal.Network line) = line.items ≡ network_line fault
+IsFaultTold fault refusal.TooLarge = ⊥
+IsFaultTold fault refusal.ReadFault = ⊥
+IsFaultTold fault refusal.WriteFault = ⊥
+IsFaultTold fault refusal.NoMemory = ⊤
+
+-- the refusal of a file
+abbrev pub IsNetRefusal : NetRefusal → Refusal → Type 0
+IsNetRefusal (of_net.Fault fault) told = IsFaultTold fault told
+IsNetRefusal of_net.NoMemory told = told ≡ refusal.NoMemory

@@ -1,67 +1,98 @@
-ghost use Rattle.std.specs.Prelude.{◌≡◌, ◌≢◌, ◌+◌, ◌≤◌, ◌↔◌, ℕ, List, IfOk, IfErr, OnOk, false, length};
-ghost use Rattle.std.specs.Io.KnownBytes.{IsAtEnd};
+ghost use Rattle.std.specs.Prelude.{◌≡◌, ◌≢◌, ◌+◌, ◌≤◌, ℕ, List, None, Ok, IfOk, IfErr, OnOk, length};
 ghost use Rattle.ctm_ports.specs.Count.{Rose};
 ghost use Rattle.ctm_ports.specs.ReadEnd.{LosesAtMost};
 ghost use Rattle.network_file.specs.Reading.{network_of};
-ghost use Rattle.ctm_program.specs.Answer.{answer_of, answer_to_file, done};
-ghost use Rattle.ctm_program.specs.Ending.{IsInput};
+ghost use Rattle.ctm_program.specs.Answer.{IsTextOf, answer_of, answer_with, requested};
+ghost use Rattle.ctm_program.specs.Ending.{IsInputOf, IsOfWords, IsReadWhole, status_in};
 ghost use Rattle.ctm_program.specs.Lines.{network_line};
-ghost use Rattle.ctm_program.specs.Refusing.{IsRefusalOf, status_at_end};
-ghost use Rattle.ctm_program.specs.Words.{are_run};
+ghost use Rattle.ctm_program.specs.Report.{report_of};
+ghost use Rattle.ctm_program.specs.Refusing.{IsNetRefusal, IsRefusalOf, status_at_end};
 
+use crate::counts::counts;
 use crate::refusal::Refusal;
 use crate::report::report;
 use crate::run::final_rows;
 use crate::status::Status;
-use crate::words::is_run;
+use command_words::{Mode, Request, read_words};
 use ctm_ports::{ReadEnd, Source, read_up_to};
 use itoa::Buffer;
-use network_file::{MOST_BYTES, Net, NetFault, NetRefusal};
+use network_file::{MOST_BYTES, Net, NetFault, NetRefusal, convert};
 use signal_plan::NoMemory;
 use std::alloc::Global;
 
-/// The report of the network that the source gives, or why there is none.
+/// The text that answers the words over the input that the source gives, or why there is none.
 #[tactic(auto, unfolding(crate::specs::Answer::answer_of))]
 pub(crate) fn answer<S: Source>(
     alloc: Global,
     words: &[String],
     source: &mut S,
 ) -> Result<Vec<u8>, Refusal>
-    ensures words { (status_at_end result ≡ Status.Words) ↔ (are_run words.now ≡ false) }
-    ensures unread { status_at_end result ≡ Status.Words → source.new ≡ source.old }
-    ensures text { IfOk result (λ text. (input : List ℕ) × IsInput (S.left source.old) input
-        × (answer_of words.now input ≡ done text.items)) }
-    ensures refusal { IfErr result (λ refusal. (input : List ℕ) × IsInput (S.left source.old) input
+    ensures words { status_at_end result ≡ Status.Words → requested words.now ≡ None }
+    ensures words_refused { requested words.now ≡ None → IsOfWords (status_at_end result) }
+    ensures unread { requested words.now ≡ None → source.new ≡ source.old }
+    ensures text { IfOk result (λ text. (input : List ℕ) × IsInputOf (requested words.now) (S.left source.old) input
+        × IsTextOf (answer_of words.now input) text.items × (status_in (answer_of words.now input) ≡ Status.Done)) }
+    ensures refusal { IfErr result (λ refusal. (input : List ℕ) × IsInputOf (requested words.now) (S.left source.old) input
         × IsRefusalOf (answer_of words.now input) refusal) }
     ensures read_fault { status_at_end result ≡ Status.ReadFault → Rose (S.faults source.old) (S.faults source.new) }
-    ensures at_end { OnOk result (IsAtEnd (S.left source.new)) }
+    ensures at_end { OnOk result (IsReadWhole (requested words.now) (S.left source.new)) }
     ensures bounded { LosesAtMost (S.left source.old) (S.left source.new) (MOST_BYTES + 1) }
 {
-    if !is_run(words) {
-        return Err(Refusal::Words);
-    }
+    let request = match read_words(alloc, words) {
+        Ok(request) => request,
+        Err(refusal) => return Err(Refusal::from(refusal)),
+    };
     match read_up_to(alloc, source, MOST_BYTES) {
-        ReadEnd::Whole(input) => report_of_file(alloc, &input),
+        ReadEnd::Whole(input) => text_of(alloc, request, &input),
         ReadEnd::TooLong => Err(Refusal::TooLarge),
         ReadEnd::Failed => Err(Refusal::ReadFault),
         ReadEnd::NoMemory => Err(Refusal::NoMemory),
     }
 }
 
-// The report of the network that a file is, or why there is none.
-fn report_of_file(alloc: Global, input: &[u8]) -> Result<Vec<u8>, Refusal>
+// The text that answers a request over an input, or why there is none.
+fn text_of(alloc: Global, request: Request, input: &[u8]) -> Result<Vec<u8>, Refusal>
     requires { length input.now ≤ MOST_BYTES }
-    ensures text { IfOk result (λ text. answer_to_file (network_of input.now) ≡ done text.items) }
-    ensures refusal { IfErr result (IsRefusalOf (answer_to_file (network_of input.now))) }
+    ensures text { IfOk result (λ text. IsTextOf (answer_with request input.now (network_of input.now)) text.items
+        × (status_in (answer_with request input.now (network_of input.now)) ≡ Status.Done)) }
+    ensures refusal { IfErr result (IsRefusalOf (answer_with request input.now (network_of input.now))) }
+    ensures no_words { status_at_end result ≢ Status.Words }
     ensures no_read { status_at_end result ≢ Status.ReadFault }
 {
-    match Net::read(alloc, input) {
-        Ok(net) => {
-            let rows = final_rows(alloc, &net)?;
-            Ok(report(alloc, &net, &rows)?)
-        }
-        Err(NetRefusal::Fault(fault)) => Err(Refusal::Network(fault_line(alloc, fault)?)),
-        Err(NetRefusal::NoMemory) => Err(Refusal::NoMemory),
+    match request.mode {
+        Mode::Run => match Net::read(alloc, input) {
+            Ok(net) => Ok(reported(alloc, &net)?),
+            Err(refusal) => Err(refused(alloc, refusal)),
+        },
+        Mode::Check => match Net::read(alloc, input) {
+            Ok(net) => Ok(counts(alloc, &net)?),
+            Err(refusal) => Err(refused(alloc, refusal)),
+        },
+        Mode::Convert => match convert(alloc, input) {
+            Ok(text) => Ok(text),
+            Err(refusal) => Err(refused(alloc, refusal)),
+        },
+    }
+}
+
+// The report of a network, taken through all its steps.
+fn reported(alloc: Global, net: &Net) -> Result<Vec<u8>, NoMemory>
+    ensures { IfOk result (λ text. text.items ≡ report_of net.now) }
+{
+    let rows = final_rows(alloc, net)?;
+    report(alloc, net, &rows)
+}
+
+// The refusal of a file, with the line that tells its fault.
+fn refused(alloc: Global, refusal: NetRefusal) -> Refusal
+    ensures { IsNetRefusal refusal result }
+{
+    match refusal {
+        NetRefusal::Fault(fault) => match fault_line(alloc, fault) {
+            Ok(line) => Refusal::Network(line),
+            Err(NoMemory) => Refusal::NoMemory,
+        },
+        NetRefusal::NoMemory => Refusal::NoMemory,
     }
 }
 

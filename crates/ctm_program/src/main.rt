@@ -1,16 +1,20 @@
-//! `ctm run` reads a network file from standard input, takes the network through all its steps and writes
-//! its report on standard output (docs/FORMAT.md).
+//! `ctm run` reads a network file from standard input, takes the network through all its steps and writes its report
+//! on standard output; `ctm check` counts what is in the file, and `ctm convert` writes it in the newest format
+//! (docs/FORMAT.md).
 //!
-//! - `top_call` has the call that the program makes, over any source and sinks; its contract is the
-//!   theorem from the bytes of the input to the bytes of the report.
-//! - `answer` finds the report or the refusal: it asks `words`, reads the input, and has `run` take the
-//!   network through its steps and `report` print what came of it, with the sums of `total`.
+//! - `top_call` has the call that the program makes, over any source and sinks; its contract is the theorem from the
+//!   words and the bytes of the input to the bytes on standard output.
+//! - `answer` finds the text or the refusal: it has the words read, reads the input, and does what the mode asks. For
+//!   `run` it has `run` take the network through its steps and `report` print what came of it, with the sums of
+//!   `total`; for `check` it has `counts`.
 //! - `status` has the exit status of each ending, `refusal` the line that goes with it.
-//! - `main` stands at the edge: the real streams, and the words of `command_line`.
+//! - `main` stands at the edge: the real streams, the words of `command_line`, and the `ending`.
 #![tactic(auto)]
 
 mod answer;
 mod command_line;
+mod counts;
+mod ending;
 mod refusal;
 mod report;
 mod run;
@@ -19,9 +23,9 @@ mod status;
 mod tests;
 mod top_call;
 mod total;
-mod words;
 
 use ctm_ports::{OpenGate, StdSink, StdSource};
+use ending::ending;
 use refusal::Refusal;
 use std::process::ExitCode;
 use top_call::{ctm, tell};
@@ -42,5 +46,5 @@ fn main(rt: HostRuntime) -> ExitCode {
         ),
         Err(error) => tell(&Refusal::from(error), &mut err),
     };
-    ExitCode::from(status.number())
+    ending(status)
 }

@@ -2,9 +2,10 @@ ghost use Rattle.std.specs.Prelude.{◌≡◌};
 ghost use Rattle.ctm_program.specs.Refusing.{line_of, status_of};
 
 use crate::status::Status;
+use command_words::WordsRefusal;
 use signal_plan::NoMemory;
 
-/// Why there is no report, or why it wasn't written: the endings of [`Status`] but `Done`.
+/// Why there is no text, or why it wasn't written: the endings of [`Status`] but `Done`.
 #[derive(Debug, Drop)]
 pub(crate) enum Refusal {
     Words,
@@ -53,5 +54,19 @@ impl From<NoMemory> for Refusal {
 
     fn from(_: NoMemory) -> Self {
         Refusal::NoMemory
+    }
+}
+
+impl From<WordsRefusal> for Refusal {
+    ghost use Rattle.std.specs.Prelude.{◌≡◌};
+    ghost use Rattle.ctm_program.specs.Refusing.{refusal_of_words};
+
+    ghost from_gives = { λ words r. r ≡ refusal_of_words words };
+
+    fn from(refusal: WordsRefusal) -> Self {
+        match refusal {
+            WordsRefusal::Refused => Refusal::Words,
+            WordsRefusal::NoMemory => Refusal::NoMemory,
+        }
     }
 }

@@ -1,13 +1,12 @@
-ghost use Rattle.std.specs.Prelude.{◌≡◌, ◌+◌, ◌↔◌, ◌⊎◌, ℕ, List, IfErr, IfSome, false};
-ghost use Rattle.std.specs.Io.KnownBytes.{Appends, IsAtEnd};
+ghost use Rattle.std.specs.Prelude.{◌≡◌, ◌+◌, ◌⊎◌, ℕ, List, None, IfErr};
+ghost use Rattle.std.specs.Io.KnownBytes.{Appends};
 ghost use Rattle.ctm_ports.specs.Count.{Rose};
 ghost use Rattle.ctm_ports.specs.ReadEnd.{LosesAtMost};
 ghost use Rattle.ctm_ports.specs.Written.{AppendsPrefix};
 ghost use Rattle.network_file.specs.declared.limits.TheConstants.{MOST_BYTES};
-ghost use Rattle.ctm_program.specs.Answer.{answer_of};
-ghost use Rattle.ctm_program.specs.Ending.{IsComplete, IsInput, IsStatusOf, KeepsOut, Reported, Told, line_after};
+ghost use Rattle.ctm_program.specs.Answer.{IsTextOf, answer_of, requested};
+ghost use Rattle.ctm_program.specs.Ending.{IsComplete, IsInputOf, IsReadWhole, IsOfWords, IsStatusOf, KeepsOut, Reported, Told, line_after};
 ghost use Rattle.ctm_program.specs.Refusing.{line_of, status_at_end, status_of};
-ghost use Rattle.ctm_program.specs.Words.{are_run};
 
 use crate::answer::answer;
 use crate::refusal::Refusal;
@@ -16,9 +15,9 @@ use ctm_ports::{Gate, Sink, Source, Written, write_all};
 use std::alloc::Global;
 use std::thread::Threads;
 
-/// Runs the program: reads a network from the source and writes its report on `out`, or says on `err` why
-/// there is none (docs/FORMAT.md). The words are those after the program's name. The run is taken on the
-/// caller's thread: neither `rt` nor `gate` is asked.
+/// Runs the program: does what the words ask for, over the network that the source gives, and writes the text of it
+/// on `out`, or says on `err` why there is none (docs/FORMAT.md). The words are those after the program's name. All is
+/// done on the caller's thread: neither `rt` nor `gate` is asked.
 pub fn ctm<R: Threads + Sync, S: Source, O: Sink, E: Sink, G: Gate>(
     rt: &R,
     alloc: Global,
@@ -28,29 +27,30 @@ pub fn ctm<R: Threads + Sync, S: Source, O: Sink, E: Sink, G: Gate>(
     err: &mut E,
     gate: &G,
 ) -> Status
-    // There is an input, which is what the source has left where it tells it, of which all this holds.
-    ensures answered { (input : List ℕ) × IsInput (S.left source.old) input
+    // There is an input, which is what the source has left where it tells it, and a text of the answer to it, of which
+    // all this holds. The last line: a task is done, but for faults that were counted in this call and want of memory.
+    ensures answered { (input : List ℕ) × (text : List ℕ) × IsInputOf (requested words.now) (S.left source.old) input
+        × IsTextOf (answer_of words.now input) text
         × IsStatusOf (answer_of words.now input) result
-        × Reported (answer_of words.now input) result (O.taken out.old) (O.taken out.new)
+        × Reported text result (O.taken out.old) (O.taken out.new)
         × Told (answer_of words.now input) result (E.taken err.old) (E.taken err.new)
-        (Rose (E.faults err.old) (E.faults err.new) ⊎ Rose (E.wants err.old) (E.wants err.new)) }
+        (Rose (E.faults err.old) (E.faults err.new) ⊎ Rose (E.wants err.old) (E.wants err.new))
+        × IsComplete (answer_of words.now input) result
+        (Rose (S.faults source.old) (S.faults source.new)) (Rose (O.faults out.old) (O.faults out.new)) }
 
     // The words decide first, and nothing is read where they are refused.
-    ensures words { (result ≡ Status.Words) ↔ (are_run words.now ≡ false) }
-    ensures unread { result ≡ Status.Words → source.new ≡ source.old }
+    ensures words { result ≡ Status.Words → requested words.now ≡ None }
+    ensures words_refused { requested words.now ≡ None → IsOfWords result }
+    ensures unread { requested words.now ≡ None → source.new ≡ source.old }
 
     // A fault is answered only where it was counted in this call.
     ensures read_fault { result ≡ Status.ReadFault → Rose (S.faults source.old) (S.faults source.new) }
     ensures write_fault { result ≡ Status.WriteFault → Rose (O.faults out.old) (O.faults out.new) }
 
-    // A file that is a network is reported, but for these faults and for want of memory.
-    ensures complete { IfSome (S.left source.old) (λ input. IsComplete (answer_of words.now input) result
-        (Rose (S.faults source.old) (S.faults source.new)) (Rose (O.faults out.old) (O.faults out.new))) }
-
     // What stays as it was, and how much is read.
     ensures out_kept { KeepsOut result (out.new ≡ out.old) (Rose (O.wants out.old) (O.wants out.new)) }
     ensures err_kept { result ≡ Status.Done → err.new ≡ err.old }
-    ensures at_end { result ≡ Status.Done → IsAtEnd (S.left source.new) }
+    ensures at_end { result ≡ Status.Done → IsReadWhole (requested words.now) (S.left source.new) }
     ensures bounded { LosesAtMost (S.left source.old) (S.left source.new) (MOST_BYTES + 1) }
 {
     match run(alloc, words, source, out) {
@@ -59,7 +59,7 @@ pub fn ctm<R: Threads + Sync, S: Source, O: Sink, E: Sink, G: Gate>(
     }
 }
 
-/// Says on `err` why there is no report.
+/// Says on `err` why there is no text.
 pub(crate) fn tell<E: Sink>(refusal: &Refusal, err: &mut E) -> Status
     ensures status { result ≡ status_of refusal.now }
     ensures prefix { AppendsPrefix (E.taken err.old) (E.taken err.new) (line_of refusal.now) }
@@ -77,22 +77,26 @@ fn run<S: Source, O: Sink>(
     source: &mut S,
     out: &mut O,
 ) -> Result<(), Refusal>
-    ensures answered { (input : List ℕ) × IsInput (S.left source.old) input
+    ensures answered { (input : List ℕ) × (text : List ℕ) × IsInputOf (requested words.now) (S.left source.old) input
+        × IsTextOf (answer_of words.now input) text
         × IsStatusOf (answer_of words.now input) (status_at_end result)
-        × Reported (answer_of words.now input) (status_at_end result) (O.taken out.old) (O.taken out.new)
+        × Reported text (status_at_end result) (O.taken out.old) (O.taken out.new)
         × IfErr result (λ refusal. line_of refusal ≡ line_after (answer_of words.now input) (status_of refusal)) }
-    ensures words { (status_at_end result ≡ Status.Words) ↔ (are_run words.now ≡ false) }
-    ensures unread { status_at_end result ≡ Status.Words → source.new ≡ source.old }
+    ensures words { status_at_end result ≡ Status.Words → requested words.now ≡ None }
+    ensures words_refused { requested words.now ≡ None → IsOfWords (status_at_end result) }
+    ensures unread { requested words.now ≡ None → source.new ≡ source.old }
     ensures read_fault { status_at_end result ≡ Status.ReadFault → Rose (S.faults source.old) (S.faults source.new) }
     ensures write_fault { status_at_end result ≡ Status.WriteFault → Rose (O.faults out.old) (O.faults out.new) }
     ensures out_kept { KeepsOut (status_at_end result) (out.new ≡ out.old) (Rose (O.wants out.old) (O.wants out.new)) }
-    ensures at_end { status_at_end result ≡ Status.Done → IsAtEnd (S.left source.new) }
+    ensures at_end { status_at_end result ≡ Status.Done → IsReadWhole (requested words.now) (S.left source.new) }
     ensures bounded { LosesAtMost (S.left source.old) (S.left source.new) (MOST_BYTES + 1) }
 {
-    let report = answer(alloc, words, source)?;
-    match write_all(out, &report) {
-        Written::All => Ok(()),
-        Written::Failed => Err(Refusal::WriteFault),
-        Written::NoMemory => Err(Refusal::NoMemory),
+    match answer(alloc, words, source) {
+        Ok(text) => match write_all(out, &text) {
+            Written::All => Ok(()),
+            Written::Failed => Err(Refusal::WriteFault),
+            Written::NoMemory => Err(Refusal::NoMemory),
+        },
+        Err(refusal) => Err(refusal),
     }
 }
