@@ -6,3 +6,11 @@ pub mod ReadingLemmas
 pub mod RecordLemmas
 pub mod SoundLemmas
 mod CuttingLemmas
+mod JoinedLemmas
+mod PlainText
+mod PlainLines
+mod TakenFields
+mod TakenKinds
+mod KindWords
+mod TakenRecords
+mod ConvertedLemmas

@@ -17,4 +17,5 @@ pub mod NumbersByName
 pub mod Reading
 pub mod Refused
 pub mod Regions
+pub mod SameNetwork
 pub mod Taking

@@ -1,0 +1,58 @@
+ghost use Rattle.std.specs.Prelude.{◌≡◌, ◌≤◌, ◌++◌, IfErr, IfOk, length};
+ghost use Rattle.csv.specs.Records.{fields_of};
+ghost use Rattle.network_file.specs.Converted.{converted, record_line};
+ghost use Rattle.network_file.specs.Reading.{network_of};
+ghost use Rattle.network_file.specs.Refused.{IsRefusal};
+ghost use Rattle.network_file.specs.SameNetwork.{SaysTheSame};
+
+use crate::fault::NetRefusal;
+use crate::fields::field;
+use crate::file_records::{next_record, open_records};
+use crate::limits::MOST_BYTES;
+use crate::reading::read_file;
+use csv::ByteRecord;
+use signal_plan::NoMemory;
+use std::alloc::Global;
+
+/// The text of a file in format 2, of the same network, without comments, blank lines and quotes.
+pub fn convert(alloc: Global, bytes: &[u8]) -> Result<Vec<u8>, NetRefusal>
+    requires { length bytes.now ≤ MOST_BYTES }
+    ensures text { IfOk result (λ text. text.items ≡ converted bytes.now) }
+    ensures same { IfOk result (λ text. SaysTheSame bytes.now text.items) }
+    ensures refusal { IfErr result (λ refusal. IsRefusal refusal (network_of bytes.now)) }
+{
+    let _network = read_file(alloc, bytes)?;
+    Ok(text_of_records(alloc, bytes)?)
+}
+
+/// The header of format 2, and then the later records of a file as lines.
+fn text_of_records(alloc: Global, bytes: &[u8]) -> Result<Vec<u8>, NoMemory>
+    ensures { IfOk result (λ text. text.items ≡ converted bytes.now) }
+{
+    let mut reader = open_records(alloc, bytes);
+    let mut row = ByteRecord::new(alloc);
+    let mut text = Vec::new(alloc);
+    text.extend_from_slice(b"ctm,2\n")?;
+    if !next_record(&mut reader, &mut row)? {
+        return Ok(text);
+    }
+    while next_record(&mut reader, &mut row)? {
+        text = with_line(text, &row)?;
+    }
+    Ok(text)
+}
+
+/// A text with a record as one more line.
+fn with_line(text: Vec<u8>, row: &ByteRecord) -> Result<Vec<u8>, NoMemory>
+    ensures { IfOk result (λ more. more.items ≡ text.items ++ record_line (fields_of row.now)) }
+{
+    let mut text = text;
+    for i in 0..row.len() {
+        if i > 0 {
+            text.push(b',')?;
+        }
+        text.extend_from_slice(field(row, i))?;
+    }
+    text.push(b'\n')?;
+    Ok(text)
+}
