@@ -3,3 +3,4 @@ pub mod Space
 pub mod Receiving
 pub mod LinkFlow
 pub mod Row
+pub mod Waiting

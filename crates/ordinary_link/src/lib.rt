@@ -13,6 +13,6 @@ mod space;
 
 pub use link::link_flow;
 pub use receive::receiving;
-pub use rows::link_row;
+pub use rows::{link_row, send_row, step_row};
 pub use send::sending;
 pub use space::{MOST_PARTS, MOST_RATIO, Room};

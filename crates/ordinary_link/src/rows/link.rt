@@ -6,7 +6,6 @@ use crate::link::link_flow;
 use std::simd::prelude::*;
 
 /// What each of many links carries in a step: `link_flow` at each place of the slices.
-
 pub fn link_row(s: &[u64], r: &[u64], y: &mut [u64])
     requires s_len { length s.now ≡ length y.old }
     requires r_len { length r.now ≡ length y.old }
@@ -34,7 +33,6 @@ fn link_lanes(at: usize, s: &[u64], r: &[u64], y: &mut [u64])
 }
 
 // The places from `at` to the end.
-
 fn link_rest(at: usize, s: &[u64], r: &[u64], y: &mut [u64])
     requires s_len { length s.now ≡ length y.old }
     requires r_len { length r.now ≡ length y.old }
