@@ -2,3 +2,5 @@ pub mod Sending
 pub mod Space
 pub mod Receiving
 pub mod LinkFlow
+pub mod Row
+pub mod Waiting

@@ -7,10 +7,12 @@
 
 mod link;
 mod receive;
+mod rows;
 mod send;
 mod space;
 
 pub use link::link_flow;
 pub use receive::receiving;
+pub use rows::{link_row, send_row, step_row};
 pub use send::sending;
 pub use space::{MOST_PARTS, MOST_RATIO, Room};

@@ -1,0 +1,15 @@
+//! The calls over slices, for a step that takes many cells at once: eight places at a time by vectors,
+//! and the rest one by one.
+mod add;
+mod hold;
+mod link;
+mod marks;
+mod send;
+mod step;
+#[cfg(test)]
+mod tests;
+mod wait;
+
+pub use link::link_row;
+pub use send::send_row;
+pub use step::step_row;
