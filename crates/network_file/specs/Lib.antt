@@ -3,6 +3,7 @@ pub mod CellName
 pub mod Cells
 pub mod Checks
 pub mod Connectors
+pub mod Cutting
 pub mod Draft
 pub mod FaultCode
 pub mod Fields

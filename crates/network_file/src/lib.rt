@@ -25,6 +25,6 @@ pub use cell::{Cell, Kind};
 pub use code::Code;
 pub use connector::Connector;
 pub use fault::{NetFault, NetRefusal};
-pub use limits::{MOST_BYTES, MOST_CAPACITY, MOST_RATIO, MOST_ROOM};
+pub use limits::{MOST_BYTES, MOST_CAPACITY, MOST_RATIO, MOST_REGIONS, MOST_ROOM};
 pub use name::Name;
 pub use net::Net;

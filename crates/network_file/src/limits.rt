@@ -7,5 +7,8 @@ pub const MOST_ROOM: u64 = 100_000_000_000;
 /// The greatest capacity of a cell, in parts: 100,000 vehicles.
 pub const MOST_CAPACITY: u64 = 100_000_000_000;
 
+/// The most regions of a cutting.
+pub const MOST_REGIONS: u32 = 512;
+
 /// The most bytes of a file.
 pub const MOST_BYTES: usize = 16_777_216;

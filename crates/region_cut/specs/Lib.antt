@@ -1,0 +1,4 @@
+pub mod Cuttings
+pub mod Joins
+pub mod Chart
+pub mod LawfulSteps
