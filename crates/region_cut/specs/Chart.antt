@@ -1,6 +1,7 @@
 -- The chart of a network that is cut: lists for each region, each in ascending order.
 use Rattle.std.specs.Prelude.{◌≡◌, ◌≢◌, ℕ, ◌==◌, ◌&&◌, ◌<◌, List, [], length, map, slice_index, slice_index_or}
-use Rattle.std.specs.List.{Contains, filter, position_or_len, range_with_len, IsStrictlyIncreasing}
+use Rattle.std.specs.List.{Contains, filter, position_or_len, range_with_len}
+use Rattle.std.specs.List.Sorted.{IsStrictlyIncreasing}
 use Rattle.network_file.specs.Connectors.{connector_at}
 use Rattle.network_file.specs.Network.{Network}
 use Rattle.region_cut.specs.Cuttings.{region_at, region_count}

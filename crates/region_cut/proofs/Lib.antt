@@ -1,0 +1,11 @@
+pub mod Anys
+pub mod Ranges
+pub mod Increasing
+pub mod Cuttings
+pub mod CutFaults
+pub mod EvenCutting
+pub mod ListsByRegion
+pub mod ConnectorCells
+pub mod MetCells
+pub mod HaloPlaces
+pub mod Filters
