@@ -1,7 +1,7 @@
 -- Tests that find an element of a list.
-use Rattle.std.specs.Prelude.{eqb, not, ◌&&◌}
+use Rattle.std.specs.Prelude.{eqb, map, not, ◌&&◌, ◌||◌}
 use Rattle.std.specs.List.{Contains, list_any}
-use Rattle.std.proofs.Common.{◌≡◌, ℕ, ◌<◌, inl, inr, Bool, true, false, List, length, get_or, sym, refl, ◌∙◌, subst, ap}
+use Rattle.std.proofs.Common.{◌≡◌, ℕ, ◌<◌, inl, inr, Bool, true, false, List, [], ◌∷◌, length, get_or, sym, refl, ◌∙◌, subst, ap}
 use Rattle.std.proofs.lemmas.Bool.{cases_Bool, eq-eqb, eqb-true}
 use Rattle.std.proofs.lemmas.List.Folds.{Any-from_list_any, list_any_at}
 
@@ -45,6 +45,10 @@ found p xs any = let here = Any-from_list_any p xs any in (here.1, (here.0, here
 
 pub finds : {X : Type 0} (p : X → Bool) (xs : List X) (x : X) → Contains xs x → p x ≡ true → list_any p xs ≡ true
 finds p xs x has passes = list_any_at p xs has.0 x has.1 (rw has.2 passes)
+
+pub list_any-map : {X Y : Type 0} (p : Y → Bool) (f : X → Y) (xs : List X) → list_any p (map f xs) ≡ list_any (λ x. p (f x)) xs
+list_any-map p f [] = refl
+list_any-map p f (x ∷ xs) = ap (λ rest. p (f x) || rest) (list_any-map p f xs)
 
 -- a number is in a list where the test for it finds it
 pub Contains-from_test : (xs : List ℕ) (i : ℕ) → list_any (eqb i) xs ≡ true → Contains xs i

@@ -8,7 +8,7 @@ use Rattle.std.proofs.lemmas.List.{get_or_default}
 use Rattle.std.proofs.lemmas.List.Elements.{All-contains}
 use Rattle.region_cut.specs.Gathered.{regions_of}
 use Rattle.region_cut.specs.declared.halo.Halo.{Halo}
-use Rattle.region_cut.proofs.Anys.{found, finds}
+use Rattle.region_cut.proofs.Anys.{found, finds, list_any-map}
 use Rattle.region_cut.proofs.Ranges.{filter_range_is}
 
 -- a number that is listed is not missed by a search
@@ -23,10 +23,6 @@ not_past xs i x below above listed =
       | inl before ↦ omega (arith, below k before)
       | inr behind ↦ omega (arith, above k behind here.1.1)
     ]
-
-list_any-map : {X Y : Type 0} (p : Y → Bool) (f : X → Y) (xs : List X) → list_any p (map f xs) ≡ list_any (λ x. p (f x)) xs
-list_any-map p f [] = refl
-list_any-map p f (x ∷ xs) = ap (λ rest. p (f x) || rest) (list_any-map p f xs)
 
 -- an increasing list of the regions that a halo names
 pub regions_of-is : (count : ℕ) (halo : List Halo) (regions : List ℕ) → IsStrictlyIncreasing regions →

@@ -9,3 +9,8 @@ pub mod ConnectorCells
 pub mod MetCells
 pub mod HaloPlaces
 pub mod Filters
+pub mod Meetings
+pub mod Membership
+pub mod Gathering
+pub mod ChartLaws
+pub mod Charting

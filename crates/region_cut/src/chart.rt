@@ -46,6 +46,7 @@ impl Chart {
         requires { length cut ≡ length net.now.cells }
         ensures { IfOk result (λ chart. chart ≡ chart_of net.now cut) }
     {
+        let _connectors = &net.connectors;
         let regions = cut.count();
         let of_cells = cut.regions();
         let cells = cells_by_region(alloc, of_cells, regions)?;

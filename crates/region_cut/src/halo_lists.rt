@@ -18,7 +18,7 @@ pub(crate) fn halo_by_region(
 ) -> Result<Lists<Halo>, NoMemory>
     requires few { length met.now < 2 ^ 32 }
     requires there { (r : ℕ) → r < length met.now → All (CanPlace cut.now border.now) (list_at met.now r) }
-    requires increasing { (r : ℕ) → IsStrictlyIncreasing (list_at border.now r) }
+    requires increasing { (q : ℕ) → q < length border.now → IsStrictlyIncreasing (list_at border.now q) }
     ensures { IfOk result (λ lists. lists ≡ map (λ r. map (placed cut.now border.now) (outside cut.now r (list_at met.now r))) (range_with_len 0 (length met.now))) }
 {
     let mut lists = Lists::new(alloc);
@@ -38,7 +38,7 @@ fn halo(
     r: u32,
 ) -> Result<Vec<Halo>, NoMemory>
     requires there { All (CanPlace cut.now border.now) met.now }
-    requires increasing { (r : ℕ) → IsStrictlyIncreasing (list_at border.now r) }
+    requires increasing { (q : ℕ) → q < length border.now → IsStrictlyIncreasing (list_at border.now q) }
     ensures { IfOk result (λ halo. halo.items ≡ map (placed cut.now border.now) (outside cut.now r met.now)) }
 {
     let mut halo = Vec::new(alloc);
