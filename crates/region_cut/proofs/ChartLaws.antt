@@ -1,10 +1,11 @@
 -- What holds of every chart.
 use Rattle.std.specs.Prelude.{slice_index}
-use Rattle.std.specs.List.{Contains, position_or_len, range_with_len}
+use Rattle.std.specs.List.{Contains, range_with_len}
 use Rattle.std.specs.List.Sorted.{IsStrictlyIncreasing}
 use Rattle.std.proofs.Common.{◌≡◌, ℕ, ◌<◌, List, length, map, refl, sym, ap, subst, ◌∙◌}
 use Rattle.std.proofs.lemmas.List.FromFn.{length-map-range_with_len}
-use Rattle.network_file.specs.Network.{IsNetwork, Network}
+use Rattle.network_file.specs.Cutting.{IsCutting}
+use Rattle.network_file.specs.Network.{Network}
 use Rattle.region_cut.specs.Chart.{IsChart, IsRegion, border_of, cells_in, chart_of, connectors_of, halo_at, halo_of, list_at, neighbours_of}
 use Rattle.region_cut.specs.Cuttings.{region_at, region_count}
 use Rattle.region_cut.specs.declared.halo.Halo.{Halo}
@@ -24,8 +25,7 @@ place-halo net cut r halo has =
     ap (list_at lists) region ∙ list_at-map (border_of net cut) (region_count cut) (region_at cut halo.cell) (region_at-there cut halo.cell) in
     let stands =
     place-in (border_of net cut (region_at cut halo.cell)) halo.cell (border_of-increasing net cut (region_at cut halo.cell))
-    (border_of-Contains net cut (region_at cut halo.cell) halo.cell is.0 refl (halo-border net.connectors cut r halo.cell is.1)) in
-    (
+    (border_of-Contains net cut (region_at cut halo.cell) halo.cell is.0 refl (halo-border net.connectors cut r halo.cell is.1)) in (
       subst (λ cells. halo.place < length cells) (sym border) (rw place stands.0),
       subst (λ cells. slice_index cells halo.place ≡ halo.cell) (sym border) (rw place stands.1),
     )
@@ -53,20 +53,18 @@ chart_of-IsRegion net cut r one_each within =
           subst (λ list. Contains list i) (sym cells) (cells_in-Contains net cut r i here.0 here.1);
       others = λ q has.
           let here = Contains-neighbours_of net cut r q (subst (λ list. Contains list q) neighbours has) in
-          let by = neighbours-by net.connectors cut r q here.1 in
-          (
+          let by = neighbours-by net.connectors cut r q here.1 in (
             here.0,
             (λ same. by.differ (sym same)),
             subst (λ list. Contains list r) (sym (list_at-map (neighbours_of net cut) n q here.0))
-            (neighbours_of-Contains net cut q r within (neighbours-sym net.connectors cut r q here.1)),
+                (neighbours_of-Contains net cut q r within (neighbours-sym net.connectors cut r q here.1)),
           );
       met = λ other has.
           let inside = subst (λ list. Contains list other) halo has in
           let is = Contains-halo_of net cut r other inside in
           let region : other.region ≡ region_at cut other.cell = ap (λ h. h.region) is.2 in
           let near = neighbours_of-Contains net cut r (region_at cut other.cell) (region_at-there cut other.cell) (halo-neighbours net.connectors cut r other.cell is.1) in
-          let stands = place-halo net cut r other inside in
-          (
+          let stands = place-halo net cut r other inside in (
             subst (λ list. Contains list other.region) (sym neighbours) (rw region near),
             sym region,
             stands.0,
@@ -74,9 +72,10 @@ chart_of-IsRegion net cut r one_each within =
           );
     }
 
-pub chart_of-IsChart : (net : Network) (cut : List ℕ) → length cut ≡ length net.cells → IsChart (chart_of net cut)
+pub chart_of-IsChart : (net : Network) (cut : List ℕ) → length cut ≡ length net.cells → IsCutting (length cut) cut → IsChart (chart_of net cut)
 unfolding chart_of
-chart_of-IsChart net cut one_each = record {
+chart_of-IsChart net cut one_each cutting = record {
+  cutting = cutting;
   cells = length-map-range_with_len (cells_in net cut) 0 (region_count cut);
   neighbours = length-map-range_with_len (neighbours_of net cut) 0 (region_count cut);
   border = length-map-range_with_len (border_of net cut) 0 (region_count cut);

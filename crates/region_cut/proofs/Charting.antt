@@ -1,6 +1,6 @@
 -- From the lists that were gathered to those of the chart; all are over the regions of a cutting of the network's cells.
 use Rattle.std.specs.Prelude.{All, not, ◌==◌, ◌&&◌, ◌^◌}
-use Rattle.std.specs.List.{Contains, filter, list_any, position_or_len, range_with_len}
+use Rattle.std.specs.List.{filter, position_or_len, range_with_len}
 use Rattle.std.specs.List.Sorted.{IsStrictlyIncreasing}
 use Rattle.std.proofs.Common.{◌≡◌, ℕ, ◌<◌, Bool, List, [], ◌∷◌, length, map, get_or, refl, sym, ap, subst, ◌∙◌, arith}
 use Rattle.std.proofs.lemmas.Bool.{eq-eqb}

@@ -1,7 +1,7 @@
 -- The cells of a network's connectors.
 use Rattle.std.specs.Prelude.{All, eqb, ◌^◌}
 use Rattle.std.specs.List.{Contains, list_any}
-use Rattle.std.proofs.Common.{◌≡◌, ℕ, ◌<◌, Bool, true, false, List, [], ◌∷◌, length, get_or, refl, sym, ap, ◌∙◌, arith}
+use Rattle.std.proofs.Common.{◌≡◌, ℕ, ◌<◌, Bool, true, false, List, length, get_or, sym, ap, ◌∙◌, arith}
 use Rattle.std.proofs.lemmas.List.{get_or_default}
 use Rattle.std.proofs.lemmas.List.Elements.{All-append, All-contains, All-weaker, Contains-get_or}
 use Rattle.network_file.specs.Cells.{is_exit_at, is_gate_at}
@@ -9,7 +9,6 @@ use Rattle.network_file.specs.Connectors.{cells_of, connector_at, downstream_of,
 use Rattle.network_file.specs.Network.{IsNetwork, IsSoundConnector, Network}
 use Rattle.network_file.specs.declared.connector.Connector.{Connector}
 use Rattle.network_file.specs.declared.connector.Connector.TheVariants.{Link}
-use Rattle.network_file.proofs.NetworkFacts.{connector_at-sound}
 use Rattle.region_cut.proofs.Anys.{Contains-from_test, test_from_Contains}
 
 -- there are few enough cells and connectors for numbers of 32 bits

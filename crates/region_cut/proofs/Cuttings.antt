@@ -1,12 +1,14 @@
 -- The greatest number of a list, and whether each number below it is there.
 use Rattle.std.specs.Prelude.{All, eqb, map, max}
 use Rattle.std.specs.List.{list_all, list_any, range_with_len}
-use Rattle.std.proofs.Common.{◌≡◌, ℕ, Bool, suc, zero, ◌<◌, ◌≤◌, ◌+◌, List, [], ◌∷◌, ◌++◌, length, get_or, take, refl, sym, ap, ◌∙◌, arith}
+use Rattle.std.proofs.Common.{◌≡◌, ℕ, Bool, suc, zero, ◌<◌, ◌≤◌, ◌+◌, List, [], ◌∷◌, ◌++◌, length, get_or, take, ap, ◌∙◌, arith}
 use Rattle.std.proofs.lemmas.List.{take_more}
 use Rattle.std.proofs.lemmas.List.Folds.{list_all-map}
 use Rattle.std.proofs.lemmas.List.FromFn.{take-map-range_with_len}
 use Rattle.std.proofs.lemmas.List.Elements.{All-head, All-tail}
-use Rattle.network_file.specs.Cutting.{greatest, has_no_gap}
+use Rattle.network_file.specs.Cutting.{IsCutting, greatest, has_no_gap}
+use Rattle.network_file.specs.declared.limits.TheConstants.{MOST_REGIONS}
+use Rattle.region_cut.specs.Cuttings.{region_count}
 
 greatest-push : (xs : List ℕ) (x : ℕ) → greatest (xs ++ x ∷ []) ≡ max (greatest xs) x
 greatest-push [] x = omega arith
@@ -34,3 +36,7 @@ has_no_gap-marks list marks count is all =
     ap (list_all (λ mark. mark)) (take-map-range_with_len (λ number. list_any (eqb number) list) 0 (greatest list + 1) count (omega arith)) ∙
     list_all-map (λ mark. mark) (λ number. list_any (eqb number) list) (range_with_len 0 count) ∙
     ap (λ n. list_all (λ number. list_any (eqb number) list) (range_with_len 0 n)) all
+
+-- there are few regions
+pub region_count-few : (cells : ℕ) (cut : List ℕ) → IsCutting cells cut → region_count cut ≤ MOST_REGIONS
+region_count-few cells cut cutting = greatest-below cut MOST_REGIONS (omega arith) cutting.few

@@ -1,10 +1,10 @@
 -- The even cutting is a cutting.
 use Rattle.std.specs.Prelude.{All, eqb}
 use Rattle.std.specs.List.{Contains, list_all, list_any, range_with_len}
-use Rattle.std.proofs.Common.{◌≡◌, ℕ, zero, ◌<◌, ◌≤◌, ◌+◌, ◌-◌, ◌*◌, ◌/◌, true, List, [], ◌∷◌, length, map, get_or, refl, sym, ◌∙◌, arith, zero-add, Bool}
+use Rattle.std.proofs.Common.{◌≡◌, ℕ, ◌<◌, ◌≤◌, ◌+◌, ◌-◌, ◌*◌, ◌/◌, true, List, [], ◌∷◌, length, map, get_or, refl, ◌∙◌, arith, zero-add, Bool}
 use Rattle.std.proofs.Math.Nat.{div-eq_of_lt-le, lt-div-mul-add, div-mul-le_self, lt_of_mul-lt-mul_right, mul-lt-mul_of_pos_right, mul-le-mul_left}
 use Rattle.std.proofs.lemmas.Nat.{div_below}
-use Rattle.std.proofs.lemmas.List.FromFn.{get_or-map-range_with_len, length-map-range_with_len, length-range_with_len}
+use Rattle.std.proofs.lemmas.List.FromFn.{get_or-map-range_with_len, length-map-range_with_len}
 use Rattle.std.proofs.lemmas.List.Elements.{All-head, All-tail, All-weaker, Contains-get_or}
 use Rattle.network_file.specs.Cutting.{IsCutting, greatest, has_no_gap}
 use Rattle.network_file.specs.declared.limits.TheConstants.{MOST_REGIONS}
@@ -50,8 +50,7 @@ first_of-region cells k r some few within =
 has_cell : (cells k r : ℕ) → 1 ≤ k → k ≤ cells → r < k → Contains (map (λ i. i * k / cells) (range_with_len 0 cells)) r
 has_cell cells k r some few within =
     let i : ℕ = first_of cells k r in
-    let there : i < cells = first_of-within cells k r some few within in
-    (
+    let there : i < cells = first_of-within cells k r some few within in (
       i,
       rw (length-map-range_with_len (λ j. j * k / cells) 0 cells) there,
       get_or-map-range_with_len (λ j. j * k / cells) 0 cells i i r there (zero-add i) ∙ first_of-region cells k r some few within,
@@ -68,7 +67,7 @@ even_cutting-IsCutting cells k some few within =
       no_gap =
           all_pass (λ r. list_any (eqb r) regions) (range_with_len 0 (greatest regions))
           (λ j r inside.
-              let at : ℕ = get_or (range_with_len 0 (greatest regions)) j r in
-              let early : at < greatest regions = Contains-range (greatest regions) at (Contains-get_or (range_with_len 0 (greatest regions)) j r inside) in
-              test_from_Contains regions at (has_cell cells k at some within (omega (arith, early, greatest-below regions k some below))));
+          let at : ℕ = get_or (range_with_len 0 (greatest regions)) j r in
+          let early : at < greatest regions = Contains-range (greatest regions) at (Contains-get_or (range_with_len 0 (greatest regions)) j r inside) in
+          test_from_Contains regions at (has_cell cells k at some within (omega (arith, early, greatest-below regions k some below))));
     }

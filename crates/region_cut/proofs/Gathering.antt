@@ -1,7 +1,7 @@
 -- The lists that are gathered are those of the chart.
-use Rattle.std.specs.Prelude.{eqb, not, ◌==◌, ◌&&◌}
+use Rattle.std.specs.Prelude.{not, ◌==◌, ◌&&◌}
 use Rattle.std.specs.List.{Contains, filter, list_any, range_with_len}
-use Rattle.std.proofs.Common.{◌≡◌, ◌≢◌, ℕ, ◌<◌, inl, inr, Bool, true, false, List, length, map, refl, sym, ap, subst, ◌∙◌}
+use Rattle.std.proofs.Common.{◌≡◌, ℕ, inl, inr, true, List, length, sym, ap, subst, ◌∙◌}
 use Rattle.std.proofs.lemmas.Bool.{cases_Bool, eq-eqb, eqb-true}
 use Rattle.std.proofs.lemmas.List.Elements.{filter_agree}
 use Rattle.std.proofs.lemmas.List.Kept.{IsStrictlyIncreasing-filter}
@@ -65,8 +65,7 @@ inside-met_by net cut r =
     let parts = Contains-filter (λ j. region_at cut j == r) cells i has in
     let passed = Contains-filter_range (is_met net.connectors cut r) (length net.cells) i parts.0 in
     let by = met-by net.connectors cut r i passed.1 in
-    let is : region_at cut i ≡ r = eqb-true (region_at cut i) r parts.1 in
-    (
+    let is : region_at cut i ≡ r = eqb-true (region_at cut i) r parts.1 in (
       passed.0,
       both (region_at cut i == r) (is_border net.connectors cut i) parts.1 (border-from net.connectors cut i by.connector by.has by.touched (rw is by.leaves)),
     ))

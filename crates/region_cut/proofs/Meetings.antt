@@ -1,7 +1,7 @@
 -- Where connectors, cells and regions meet: what the tests of a cut network say of each other.
-use Rattle.std.specs.Prelude.{eqb, not, ◌==◌, ◌&&◌}
+use Rattle.std.specs.Prelude.{not, ◌==◌, ◌&&◌}
 use Rattle.std.specs.List.{Contains, list_any}
-use Rattle.std.proofs.Common.{◌≡◌, ◌≢◌, ℕ, ◌<◌, Bool, true, false, List, length, refl, sym, ap, subst, ◌∙◌}
+use Rattle.std.proofs.Common.{◌≡◌, ◌≢◌, ℕ, ◌<◌, true, List, length, refl, sym, ◌∙◌}
 use Rattle.std.proofs.lemmas.Bool.{eq-eqb, eqb-true}
 use Rattle.network_file.specs.Connectors.{are_joined, cells_of, touches}
 use Rattle.network_file.specs.Network.{IsNetwork, Network}
@@ -70,8 +70,7 @@ border-from connectors cut i connector has touched leaves =
 pub border-by : (connectors : List Connector) (cut : List ℕ) (i : ℕ) → is_border connectors cut i ≡ true →
     (connector : Connector) × Contains connectors connector × (touches i connector ≡ true) × (leaves_region cut (region_at cut i) connector ≡ true)
 border-by connectors cut i border =
-    let here = found (λ c. touches i c && leaves_region cut (region_at cut i) c) connectors border in
-    (
+    let here = found (λ c. touches i c && leaves_region cut (region_at cut i) c) connectors border in (
       here.0,
       here.1,
       first_of_both (touches i here.0) (leaves_region cut (region_at cut i) here.0) here.2,
@@ -123,8 +122,7 @@ pub neighbours-halo : (net : Network) (cut : List ℕ) (r q : ℕ) → IsNetwork
     (i : ℕ) × (i < length net.cells) × (region_at cut i ≡ q) × (is_halo net.connectors cut r i ≡ true)
 neighbours-halo net cut r q sound near =
     let by = neighbours-by net.connectors cut r q near in
-    let cell = touches_region-cell cut q by.connector by.second in
-    (
+    let cell = touches_region-cell cut q by.connector by.second in (
       cell.0,
       touches-there net by.connector cell.0 sound by.has cell.1,
       cell.2,

@@ -1,8 +1,8 @@
 -- What is in each list of a chart, and that each list rises.
 use Rattle.std.specs.Prelude.{◌==◌, ◌&&◌, slice_index}
-use Rattle.std.specs.List.{Contains, filter, list_any, position_or_len, range_with_len}
+use Rattle.std.specs.List.{Contains, filter, position_or_len, range_with_len}
 use Rattle.std.specs.List.Sorted.{IsStrictlyIncreasing}
-use Rattle.std.proofs.Common.{◌≡◌, ◌≢◌, ℕ, zero, suc, ◌<◌, ◌+◌, Bool, true, false, List, [], ◌∷◌, length, map, get_or, refl, sym, ap, subst, ◌∙◌, arith}
+use Rattle.std.proofs.Common.{◌≡◌, ◌≢◌, ℕ, ◌<◌, true, List, [], ◌∷◌, length, map, get_or, refl, sym, ap, subst, ◌∙◌, arith}
 use Rattle.std.proofs.lemmas.Bool.{eq-eqb, eqb-true}
 use Rattle.std.proofs.lemmas.List.{get_or-map, get_or_default, length-map}
 use Rattle.network_file.specs.Connectors.{are_joined, connector_at}
@@ -67,8 +67,7 @@ pub Contains-border_of : (net : Network) (cut : List ℕ) (r i : ℕ) → Contai
     (i < length net.cells) × (region_at cut i ≡ r) × (is_border net.connectors cut i ≡ true)
 unfolding border_of
 Contains-border_of net cut r i has =
-    let here = Contains-filter_range (λ j. (region_at cut j == r) && is_border net.connectors cut j) (length net.cells) i has in
-    (
+    let here = Contains-filter_range (λ j. (region_at cut j == r) && is_border net.connectors cut j) (length net.cells) i has in (
       here.0,
       eqb-true (region_at cut i) r (first_of_both (region_at cut i == r) (is_border net.connectors cut i) here.1),
       second_of_both (region_at cut i == r) (is_border net.connectors cut i) here.1,

@@ -3,6 +3,7 @@ use Rattle.std.specs.Prelude.{◌≡◌, ◌≢◌, ℕ, ◌==◌, ◌&&◌, ◌
 use Rattle.std.specs.List.{Contains, filter, position_or_len, range_with_len}
 use Rattle.std.specs.List.Sorted.{IsStrictlyIncreasing}
 use Rattle.network_file.specs.Connectors.{connector_at}
+use Rattle.network_file.specs.Cutting.{IsCutting}
 use Rattle.network_file.specs.Network.{Network}
 use Rattle.region_cut.specs.Cuttings.{region_at, region_count}
 use Rattle.region_cut.specs.Joins.{are_neighbours, is_border, is_halo, touches_region}
@@ -83,6 +84,7 @@ pub record IsRegion (chart : ChartLists) (r : ℕ) : Type 0 where
 
 -- what holds of every chart
 pub record IsChart (chart : ChartLists) : Type 0 where
+  pub cutting : IsCutting (length chart.cut) chart.cut
   pub cells : length chart.cells ≡ region_count chart.cut
   pub neighbours : length chart.neighbours ≡ region_count chart.cut
   pub border : length chart.border ≡ region_count chart.cut

@@ -8,7 +8,11 @@ use signal_plan::NoMemory;
 use std::alloc::Global;
 
 /// For each region those of the cells met by its connectors that lie in it.
-pub(crate) fn border_by_region(alloc: Global, cut: &[u32], met: &Lists<u32>) -> Result<Lists<u32>, NoMemory>
+pub(crate) fn border_by_region(
+    alloc: Global,
+    cut: &[u32],
+    met: &Lists<u32>,
+) -> Result<Lists<u32>, NoMemory>
     requires few { length met.now < 2 ^ 32 }
     requires there { (r : ℕ) → r < length met.now → All (λ i. i < length cut.now) (list_at met.now r) }
     ensures { IfOk result (λ lists. lists ≡ map (λ r. inside cut.now r (list_at met.now r)) (range_with_len 0 (length met.now))) }

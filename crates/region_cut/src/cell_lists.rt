@@ -7,7 +7,11 @@ use signal_plan::NoMemory;
 use std::alloc::Global;
 
 /// The cells of each region.
-pub(crate) fn cells_by_region(alloc: Global, cut: &[u32], regions: u32) -> Result<Lists<u32>, NoMemory>
+pub(crate) fn cells_by_region(
+    alloc: Global,
+    cut: &[u32],
+    regions: u32,
+) -> Result<Lists<u32>, NoMemory>
     requires numbered { length cut.now < 2 ^ 32 }
     requires there { All (λ region. region < regions) cut.now }
     ensures { IfOk result (λ lists. lists ≡ map (λ r. inside cut.now r (range_with_len 0 (length cut.now))) (range_with_len 0 regions)) }

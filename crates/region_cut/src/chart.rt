@@ -1,4 +1,5 @@
-ghost use Rattle.std.specs.Prelude.{◌≡◌, ◌<◌, IfOk, length};
+ghost use Rattle.std.specs.Prelude.{◌≡◌, ◌<◌, ◌≤◌, IfOk, length};
+ghost use Rattle.network_file.specs.declared.limits.TheConstants.{MOST_REGIONS};
 ghost use Rattle.region_cut.specs.Chart.{chart_of, list_at};
 ghost use Rattle.region_cut.specs.Cuttings.{region_at, region_count};
 
@@ -11,7 +12,7 @@ use crate::halo_lists::halo_by_region;
 use crate::lists::Lists;
 use crate::met::met_by_region;
 use crate::neighbours::neighbours_by_region;
-use network_file::Net;
+use network_file::{MOST_REGIONS, Net};
 use signal_plan::NoMemory;
 use std::alloc::Global;
 use std::marker::Model;
@@ -74,7 +75,8 @@ impl Chart {
 
     /// How many regions there are.
     pub fn regions(&self) -> u32
-        ensures { result ≡ region_count self.now.cut }
+        ensures count { result ≡ region_count self.now.cut }
+        ensures few { result ≤ MOST_REGIONS }
     {
         self.cells.len() as u32
     }

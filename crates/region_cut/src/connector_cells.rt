@@ -11,6 +11,11 @@ pub(crate) fn three_cells(connector: Connector) -> [u32; 3]
     match connector {
         Connector::Link { up, down } => [up, down, down],
         Connector::Merge { up1, up2, down, .. } => [up1, up2, down],
-        Connector::Diverge { up, down1, down2, .. } => [up, down1, down2],
+        Connector::Diverge {
+            up,
+            down1,
+            down2,
+            ..
+        } => [up, down1, down2],
     }
 }

@@ -10,7 +10,10 @@ use signal_plan::NoMemory;
 use std::alloc::Global;
 
 /// For each region those that its halo names.
-pub(crate) fn neighbours_by_region(alloc: Global, halo: &Lists<Halo>) -> Result<Lists<u32>, NoMemory>
+pub(crate) fn neighbours_by_region(
+    alloc: Global,
+    halo: &Lists<Halo>,
+) -> Result<Lists<u32>, NoMemory>
     requires few { length halo.now < 2 ^ 32 }
     requires there { (r : ℕ) → r < length halo.now → All (λ other. other.region < length halo.now) (list_at halo.now r) }
     ensures { IfOk result (λ lists. lists ≡ map (λ r. regions_of (length halo.now) (list_at halo.now r)) (range_with_len 0 (length halo.now))) }

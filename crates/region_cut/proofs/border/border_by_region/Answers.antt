@@ -1,4 +1,4 @@
-use Rattle.std.proofs.Common.{◌≡◌, ap, ◌∙◌}
+use Rattle.std.proofs.Common.{ap, ◌∙◌}
 use Rattle.region_cut.proofs.ListsByRegion.{by_number_more}
 use Rattle.region_cut.specs.Gathered.{inside}
 use Rattle.region_cut.proofs.border.border_by_region.Goals as goal

@@ -1,4 +1,4 @@
-use Rattle.std.proofs.Common.{◌≡◌, arith}
+use Rattle.std.proofs.Common.{arith}
 use Rattle.region_cut.proofs.Cuttings.{greatest_more}
 use Rattle.region_cut.proofs.gap.greatest.Goals as goal
 

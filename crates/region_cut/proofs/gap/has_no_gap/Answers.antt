@@ -1,5 +1,5 @@
 use Rattle.std.specs.Prelude.{eqb}
-use Rattle.std.specs.List.{list_all, list_any, range_with_len}
+use Rattle.std.specs.List.{list_all, list_any}
 use Rattle.std.proofs.Common.{◌≡◌, ◌-◌, ◌+◌, length, take, arith, ap, ◌∙◌}
 use Rattle.std.proofs.lemmas.List.FromFn.{length-map-range_with_len}
 use Rattle.network_file.specs.Cutting.{greatest}

@@ -1,6 +1,6 @@
-use Rattle.std.specs.Prelude.{eqb, map}
+use Rattle.std.specs.Prelude.{eqb}
 use Rattle.std.specs.List.{list_any}
-use Rattle.std.proofs.Common.{◌≡◌, ℕ, ◌+◌, arith, false, ap, ◌∙◌, refl}
+use Rattle.std.proofs.Common.{◌+◌, arith, false, ap, ◌∙◌}
 use Rattle.std.proofs.lemmas.List.{take_all}
 use Rattle.std.proofs.lemmas.List.FromFn.{fill_by_all}
 use Rattle.network_file.specs.Cutting.{greatest}

@@ -1,10 +1,9 @@
 use Rattle.std.specs.Prelude.{not, ◌==◌}
-use Rattle.std.specs.List.{filter, position_or_len}
-use Rattle.std.proofs.Common.{◌≡◌, ℕ, true, false, [], ◌∷◌, ◌++◌, get_or, map, take, refl, sym, ap, ◌∙◌}
+use Rattle.std.specs.List.{position_or_len}
+use Rattle.std.proofs.Common.{◌≡◌, ℕ, true, [], ◌∷◌, ◌++◌, get_or, map, take, refl, sym, ap, ◌∙◌}
 use Rattle.std.proofs.lemmas.Bool.{eq-eqb}
 use Rattle.region_cut.specs.Cuttings.{region_at}
 use Rattle.region_cut.specs.Gathered.{outside, placed}
-use Rattle.region_cut.specs.declared.halo.Halo.{Halo}
 use Rattle.region_cut.proofs.Anys.{apart, not_false}
 use Rattle.region_cut.proofs.Filters.{filter_keeps, filter_skips}
 use Rattle.region_cut.proofs.halo_lists.halo.Goals.{then-region-r+in_ok-push, else-region-r}

@@ -1,4 +1,4 @@
-use Rattle.std.proofs.Common.{◌≡◌, ap, map, ◌∙◌}
+use Rattle.std.proofs.Common.{ap, map, ◌∙◌}
 use Rattle.region_cut.proofs.ListsByRegion.{by_number_more}
 use Rattle.region_cut.specs.Gathered.{outside, placed}
 use Rattle.region_cut.proofs.halo_lists.halo_by_region.Goals as goal

@@ -1,4 +1,4 @@
-use Rattle.std.proofs.Common.{◌≡◌, ℕ, sym, arith}
+use Rattle.std.proofs.Common.{sym}
 use Rattle.std.proofs.lemmas.List.Sorted.{searched}
 use Rattle.region_cut.proofs.HaloPlaces.{not_past}
 use Rattle.region_cut.proofs.Increasing.{position_is, rising}

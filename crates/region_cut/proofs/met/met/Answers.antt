@@ -1,6 +1,6 @@
 use Rattle.std.specs.Prelude.{All, Bool, not, ◌==◌}
 use Rattle.std.specs.List.{list_any}
-use Rattle.std.proofs.Common.{◌≡◌, ℕ, ◌<◌, true, false, length, get_or, arith, ap, subst, sym, ◌∙◌}
+use Rattle.std.proofs.Common.{◌≡◌, ℕ, ◌<◌, length, get_or, arith, ap, subst, sym, ◌∙◌}
 use Rattle.std.proofs.lemmas.List.{take_all}
 use Rattle.network_file.specs.Connectors.{cells_of, connector_at}
 use Rattle.network_file.specs.Network.{IsNetwork}

@@ -1,4 +1,4 @@
-use Rattle.std.proofs.Common.{◌≡◌, ap, arith, length, ◌∙◌}
+use Rattle.std.proofs.Common.{ap, arith, length, ◌∙◌}
 use Rattle.region_cut.specs.Chart.{connectors_of, list_at}
 use Rattle.region_cut.proofs.ListsByRegion.{by_number_more, list_at-map}
 use Rattle.region_cut.proofs.met.met_by_region.Goals as goal

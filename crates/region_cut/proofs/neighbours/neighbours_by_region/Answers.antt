@@ -1,5 +1,5 @@
 use Rattle.std.specs.Prelude.{All}
-use Rattle.std.proofs.Common.{◌≡◌, ◌<◌, ap, arith, length, subst, sym, ◌∙◌}
+use Rattle.std.proofs.Common.{◌<◌, ap, arith, length, subst, sym, ◌∙◌}
 use Rattle.region_cut.proofs.ListsByRegion.{by_number_more}
 use Rattle.region_cut.specs.Gathered.{regions_of}
 use Rattle.region_cut.proofs.neighbours.neighbours_by_region.Goals as goal

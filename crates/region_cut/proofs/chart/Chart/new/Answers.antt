@@ -1,5 +1,6 @@
 use Rattle.std.specs.List.{range_with_len}
 use Rattle.std.proofs.Common.{◌≡◌, ℕ, List, length, map, ap, arith, subst, sym, ◌∙◌}
+use Rattle.network_file.specs.Cutting.{IsCutting}
 use Rattle.network_file.specs.Network.{IsNetwork}
 use Rattle.region_cut.specs.Chart.{IsChart, border_of, chart_of, connectors_of, halo_of}
 use Rattle.region_cut.specs.Cuttings.{region_count}
@@ -168,7 +169,12 @@ returns c =
     let chart = chart-is c.args.net.now cut c.in_ok-cells.cells c.in_ok-neighbours.neighbours c.in_ok-border.border c.in_ok-connectors.connectors c.in_ok-halo.halo cells neighbours border connectors halo in
     subst
     (λ of. record {
-      cut = of; cells = c.in_ok-cells.cells; neighbours = c.in_ok-neighbours.neighbours; border = c.in_ok-border.border; connectors = c.in_ok-connectors.connectors; halo = c.in_ok-halo.halo
+      cut = of;
+      cells = c.in_ok-cells.cells;
+      neighbours = c.in_ok-neighbours.neighbours;
+      border = c.in_ok-border.border;
+      connectors = c.in_ok-connectors.connectors;
+      halo = c.in_ok-halo.halo;
     } ≡ chart_of c.args.net.now of)
     c.regions-of_cells.ensures chart
 
@@ -187,11 +193,17 @@ invariant_of-result c =
     border-are c.args.net.now cut c.in_ok-met.met c.in_ok-border.border met c.in_ok-border.ensures in
     let halo : AreLists cut (halo_of c.args.net.now cut) c.in_ok-halo.halo =
     halo-are c.args.net.now cut c.in_ok-met.met c.in_ok-border.border c.in_ok-halo.halo met border c.in_ok-halo.ensures in
+    let cutting : IsCutting (length cut) cut = subst (λ of. IsCutting (length of) of) (c.cut.view_is ∙ sym c.regions-of_cells.ensures) c.cut.invariant in
     let cells = cells-are c.args.net.now cut c.in_ok-cells.cells c.count-regions.result one_each count c.in_ok-cells.ensures in
     let neighbours = neighbours-are c.args.net.now cut c.in_ok-halo.halo c.in_ok-neighbours.neighbours sound halo c.in_ok-neighbours.ensures in
     let chart = chart-is c.args.net.now cut c.in_ok-cells.cells c.in_ok-neighbours.neighbours c.in_ok-border.border c.in_ok-connectors.connectors c.in_ok-halo.halo cells neighbours border connectors halo in
     subst
     (λ of. IsChart record {
-      cut = of; cells = c.in_ok-cells.cells; neighbours = c.in_ok-neighbours.neighbours; border = c.in_ok-border.border; connectors = c.in_ok-connectors.connectors; halo = c.in_ok-halo.halo
+      cut = of;
+      cells = c.in_ok-cells.cells;
+      neighbours = c.in_ok-neighbours.neighbours;
+      border = c.in_ok-border.border;
+      connectors = c.in_ok-connectors.connectors;
+      halo = c.in_ok-halo.halo;
     })
-    c.regions-of_cells.ensures (subst IsChart (sym chart) (chart_of-IsChart c.args.net.now cut one_each))
+    c.regions-of_cells.ensures (subst IsChart (sym chart) (chart_of-IsChart c.args.net.now cut one_each cutting))

@@ -1,4 +1,4 @@
-use Rattle.std.proofs.Common.{◌≡◌, ◌≤◌, ◌+◌, arith, ap, ◌∙◌}
+use Rattle.std.proofs.Common.{◌≤◌, ◌+◌, arith, ap, ◌∙◌}
 use Rattle.network_file.specs.Cutting.{greatest}
 use Rattle.network_file.specs.declared.limits.TheConstants.{MOST_REGIONS}
 use Rattle.region_cut.proofs.Cuttings.{greatest-below}

@@ -1,5 +1,4 @@
 use Rattle.std.proofs.Common.{◌≡◌, length, arith, ap, sym, ◌∙◌, Ok}
-use Rattle.region_cut.specs.CutFaults.{cut_of}
 use Rattle.region_cut.proofs.CutFaults.{cut_of-Length, cut_of-Many, cut_of-Gap, cut_of-Ok}
 use Rattle.region_cut.proofs.cut.Cut.of.Goals as goal
 

@@ -1,4 +1,3 @@
-use Rattle.std.proofs.Common.{◌≡◌}
 use Rattle.region_cut.proofs.ListsByRegion.{pushed}
 use Rattle.region_cut.proofs.lists.Lists.push.Goals as goal
 
