@@ -71,3 +71,7 @@ even_cutting-IsCutting cells k some few within =
           let early : at < greatest regions = Contains-range (greatest regions) at (Contains-get_or (range_with_len 0 (greatest regions)) j r inside) in
           test_from_Contains regions at (has_cell cells k at some within (omega (arith, early, greatest-below regions k some below))));
     }
+
+pub length-even_cutting : (cells k : ℕ) → length (even_cutting cells k) ≡ cells
+unfolding even_cutting
+length-even_cutting cells k = length-map-range_with_len (λ i. i * k / cells) 0 cells

@@ -14,3 +14,5 @@ pub mod Membership
 pub mod Gathering
 pub mod ChartLaws
 pub mod Charting
+pub mod ChartParts
+pub mod ChartReads

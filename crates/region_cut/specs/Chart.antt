@@ -91,3 +91,9 @@ pub record IsChart (chart : ChartLists) : Type 0 where
   pub connectors : length chart.connectors ≡ region_count chart.cut
   pub halo : length chart.halo ≡ region_count chart.cut
   pub regions : (r : ℕ) → r < region_count chart.cut → IsRegion chart r
+
+-- a cell of a halo is there, and so is its place
+pub record IsPlaced (chart : ChartLists) (halo : Halo) : Type 0 where
+  pub cell : halo.cell < length chart.cut
+  pub region : halo.region < region_count chart.cut
+  pub place : halo.place < length (list_at chart.border halo.region)

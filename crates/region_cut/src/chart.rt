@@ -1,6 +1,6 @@
-ghost use Rattle.std.specs.Prelude.{◌≡◌, ◌<◌, ◌≤◌, IfOk, length};
+ghost use Rattle.std.specs.Prelude.{◌≡◌, ◌<◌, ◌≤◌, All, IfOk, length};
 ghost use Rattle.network_file.specs.declared.limits.TheConstants.{MOST_REGIONS};
-ghost use Rattle.region_cut.specs.Chart.{chart_of, list_at};
+ghost use Rattle.region_cut.specs.Chart.{IsChart, IsPlaced, chart_of, list_at};
 ghost use Rattle.region_cut.specs.Cuttings.{region_at, region_count};
 
 use crate::border::border_by_region;
@@ -45,7 +45,8 @@ impl Chart {
     /// The chart of a network that is cut so. After want of memory the cutting is gone.
     pub fn new(alloc: Global, net: &Net, cut: Cut) -> Result<Chart, NoMemory>
         requires { length cut ≡ length net.now.cells }
-        ensures { IfOk result (λ chart. chart ≡ chart_of net.now cut) }
+        ensures chart { IfOk result (λ chart. chart ≡ chart_of net.now cut) }
+        ensures cut { IfOk result (λ chart. chart.cut ≡ cut) }
     {
         let _connectors = &net.connectors;
         let regions = cut.count();
@@ -77,6 +78,7 @@ impl Chart {
     pub fn regions(&self) -> u32
         ensures count { result ≡ region_count self.now.cut }
         ensures few { result ≤ MOST_REGIONS }
+        ensures sound { IsChart self.now }
     {
         self.cells.len() as u32
     }
@@ -92,7 +94,8 @@ impl Chart {
     /// The cells of region `r`.
     pub fn cells(&self, r: u32) -> &[u32]
         requires { r < region_count self.now.cut }
-        ensures { result.now ≡ list_at self.now.cells r }
+        ensures list { result.now ≡ list_at self.now.cells r }
+        ensures there { All (λ i. i < length self.now.cut) result.now }
     {
         self.cells.at(r)
     }
@@ -100,7 +103,8 @@ impl Chart {
     /// The neighbours of region `r`: a connector touches cells of both.
     pub fn neighbours(&self, r: u32) -> &[u32]
         requires { r < region_count self.now.cut }
-        ensures { result.now ≡ list_at self.now.neighbours r }
+        ensures list { result.now ≡ list_at self.now.neighbours r }
+        ensures there { All (λ q. q < region_count self.now.cut) result.now }
     {
         self.neighbours.at(r)
     }
@@ -108,7 +112,8 @@ impl Chart {
     /// The cells of region `r` that a connector touches that touches another region.
     pub fn border(&self, r: u32) -> &[u32]
         requires { r < region_count self.now.cut }
-        ensures { result.now ≡ list_at self.now.border r }
+        ensures list { result.now ≡ list_at self.now.border r }
+        ensures there { All (λ i. i < length self.now.cut) result.now }
     {
         self.border.at(r)
     }
@@ -124,7 +129,8 @@ impl Chart {
     /// The cells of other regions that a connector of region `r` touches, in the order of their numbers.
     pub fn halo(&self, r: u32) -> &[Halo]
         requires { r < region_count self.now.cut }
-        ensures { result.now ≡ list_at self.now.halo r }
+        ensures list { result.now ≡ list_at self.now.halo r }
+        ensures there { All (IsPlaced self.now) result.now }
     {
         self.halo.at(r)
     }

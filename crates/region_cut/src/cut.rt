@@ -36,7 +36,8 @@ impl Cut {
         requires some { 1 ≤ k }
         requires few { k ≤ MOST_REGIONS }
         requires cells { k ≤ length net.now.cells }
-        ensures { IfOk result (λ cut. cut ≡ even_cutting (length net.now.cells) k) }
+        ensures cut { IfOk result (λ cut. cut ≡ even_cutting (length net.now.cells) k) }
+        ensures one_each { IfOk result (λ cut. length cut ≡ length net.now.cells) }
     {
         let regions = even_list(alloc, net.cells.len() as u32, k)?;
         Ok(Cut { regions })
@@ -45,6 +46,7 @@ impl Cut {
     /// A list as a cutting of a network's cells, or its first fault.
     pub fn of(alloc: Global, net: &Net, list: &[u32]) -> Result<Cut, CutRefusal>
         ensures cut { IfOk result (λ cut. cut_of net.now list.now ≡ Ok cut) }
+        ensures one_each { IfOk result (λ cut. length cut ≡ length net.now.cells) }
         ensures refusal { IfErr result (λ refusal. IsCutRefusal refusal (cut_of net.now list.now)) }
     {
         if list.len() != net.cells.len() {

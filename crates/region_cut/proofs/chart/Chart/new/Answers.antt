@@ -149,8 +149,8 @@ neighbours_by_region-requires-clause-there c =
     halo-are c.args.net.now cut c.in_ok-met.met c.in_ok-border.border c.in_ok-halo.halo met border c.in_ok-halo.ensures in
     λ r within. halo-there c.args.net.now cut c.in_ok-halo.halo r halo within
 
-pub returns : goal.returns
-returns c =
+pub returns-clause-chart : goal.returns-clause-chart
+returns-clause-chart c =
     let cut : List ℕ = c.regions-of_cells.result.now in
     let one_each : length cut ≡ length c.args.net.now.cells = ap length c.regions-of_cells.ensures ∙ c.requires in
     let count : c.count-regions.result ≡ region_count cut = c.count-regions.ensures.count ∙ ap region_count (sym c.regions-of_cells.ensures) in
