@@ -1,0 +1,8 @@
+use Rattle.std.proofs.Common.{◌≡◌, map}
+use Rattle.std.specs.List.{range_with_len}
+use Rattle.region_cut.specs.Chart.{list_at}
+use Rattle.region_cut.specs.Gathered.{inside}
+use Rattle.region_cut.proofs.border.border_by_region.Given as goal
+
+abbrev pub invariant-loop-r : goal.invariant-loop-r
+invariant-loop-r l = l.lists ≡ map (λ r. inside l.cut r (list_at l.met r)) (range_with_len 0 l.r)

@@ -1,0 +1,7 @@
+pub mod Cuttings
+pub mod CutFaults
+pub mod Joins
+pub mod Chart
+pub mod Gathered
+pub mod LawfulSteps
+pub mod ChartView

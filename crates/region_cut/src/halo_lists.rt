@@ -1,0 +1,69 @@
+ghost use Rattle.std.specs.Prelude.{◌≡◌, ◌==◌, ◌<◌, ℕ, ◌^◌, All, IfOk, length, map, true};
+ghost use Rattle.std.specs.List.{list_any, position_or_len, range_with_len};
+ghost use Rattle.std.specs.List.Sorted.{IsStrictlyIncreasing};
+ghost use Rattle.region_cut.specs.Chart.{list_at};
+ghost use Rattle.region_cut.specs.Gathered.{CanPlace, outside, placed};
+
+use crate::halo::Halo;
+use crate::lists::Lists;
+use signal_plan::NoMemory;
+use std::alloc::Global;
+
+/// For each region those of the cells met by its connectors that lie in others, each with its place in its border.
+pub(crate) fn halo_by_region(
+    alloc: Global,
+    cut: &[u32],
+    met: &Lists<u32>,
+    border: &Lists<u32>,
+) -> Result<Lists<Halo>, NoMemory>
+    requires few { length met.now < 2 ^ 32 }
+    requires there { (r : ℕ) → r < length met.now → All (CanPlace cut.now border.now) (list_at met.now r) }
+    requires increasing { (q : ℕ) → q < length border.now → IsStrictlyIncreasing (list_at border.now q) }
+    ensures { IfOk result (λ lists. lists ≡ map (λ r. map (placed cut.now border.now) (outside cut.now r (list_at met.now r))) (range_with_len 0 (length met.now))) }
+{
+    let mut lists = Lists::new(alloc);
+    for r in 0..met.len() as u32 {
+        let cells = halo(alloc, cut, met.at(r), border, r)?;
+        lists.add(cells)?;
+    }
+    Ok(lists)
+}
+
+// Those of these cells that lie in other regions than `r`, each with its place.
+fn halo(
+    alloc: Global,
+    cut: &[u32],
+    met: &[u32],
+    border: &Lists<u32>,
+    r: u32,
+) -> Result<Vec<Halo>, NoMemory>
+    requires there { All (CanPlace cut.now border.now) met.now }
+    requires increasing { (q : ℕ) → q < length border.now → IsStrictlyIncreasing (list_at border.now q) }
+    ensures { IfOk result (λ halo. halo.items ≡ map (placed cut.now border.now) (outside cut.now r met.now)) }
+{
+    let mut halo = Vec::new(alloc);
+    for cell in met {
+        let region = cut[*cell as usize];
+        if region != r {
+            halo.push(Halo {
+                cell: *cell,
+                region,
+                place: place(border.at(region), *cell),
+            })?;
+        }
+    }
+    Ok(halo)
+}
+
+// The place of a cell in a border.
+fn place(border: &[u32], cell: u32) -> u32
+    requires few { length border.now < 2 ^ 32 }
+    requires increasing { IsStrictlyIncreasing border.now }
+    requires listed { list_any (λ j. j == cell) border.now ≡ true }
+    ensures { result ≡ position_or_len (λ j. j == cell) border.now }
+{
+    match border.binary_search(&cell) {
+        Ok(place) => place as u32,
+        Err(_) => 0,
+    }
+}

@@ -1,0 +1,27 @@
+//! Cuts the cells of a network into regions, and charts what each region has to do with the others.
+//!
+//! A cutting gives each cell the number of its region. The chart of a cut network has five lists for each region,
+//! each in ascending order: its cells, its neighbours, its border cells, the connectors that touch it, and its
+//! halo, which is the cells of other regions that these connectors touch.
+#![tactic(auto)]
+
+mod border;
+mod cell_lists;
+mod chart;
+mod connector_cells;
+mod connector_lists;
+mod cut;
+mod even;
+mod fault;
+mod gap;
+mod halo;
+mod halo_lists;
+mod lists;
+mod met;
+mod neighbours;
+mod ordered;
+
+pub use chart::Chart;
+pub use cut::Cut;
+pub use fault::{CutFault, CutRefusal};
+pub use halo::Halo;

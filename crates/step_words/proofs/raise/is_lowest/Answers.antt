@@ -1,0 +1,9 @@
+use Rattle.std.specs.Prelude.{All, slice_index}
+use Rattle.std.proofs.Common.{◌≤◌, ◌+◌, refl, subst, ◌∙◌}
+use Rattle.std.proofs.lemmas.List.{take_all}
+use Rattle.step_words.proofs.raise.is_lowest.Goals as goal
+
+pub returns : goal.returns
+returns c =
+    let all = subst (All (λ q. slice_index c.args.steps.now c.args.r ≤ slice_index c.args.steps.now q)) (take_all _ c.neighbours-neighbours.result.now c.loop-q-test.false ∙ c.neighbours-neighbours.ensures.list) c.loop-q.invariant in
+    ((λ yes. all), (λ each. refl))
