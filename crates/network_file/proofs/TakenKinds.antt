@@ -48,7 +48,9 @@ take_steps-alike draft more fields names taken =
     let (steps, (is_steps, taken1)) = bind-ok (whole_within 1 MOST_STEPS (field fields 1)) _ more taken0 in (
       (whole_within-plain 1 MOST_STEPS (field fields 1) steps is_steps, tt),
       (
-        (must-as (is_none draft.steps) Repeated _ _ first (bind-as (whole_within 1 MOST_STEPS (field fields 1)) _ steps _ is_steps (same_in_format_2 _ more taken1))),
+        (must-as (is_none draft.steps) Repeated _ _ first
+            (bind-as (whole_within 1 MOST_STEPS (field fields 1)) _ steps _ is_steps
+            (same_in_format_2 _ more taken1))),
         names_kept _ more taken1 names,
       ),
     )
@@ -63,9 +65,30 @@ take_road-alike draft more fields names taken =
     let (den, (is_den, taken5)) = bind-ok (whole_within num MOST_RATIO (field fields 5)) _ more taken4 in
     let (first, (is_first, taken6)) = bind-ok (amount_within room (field fields 6)) _ more taken5 in
     let (same, plain) = new_name-plain draft.cells (field fields 1) name is_name in (
-      (plain, (amount_within-plain MOST_ROOM (field fields 2) room is_room, (amount_within-plain MOST_CAPACITY (field fields 3) capacity is_capacity, (whole_within-plain 1 MOST_RATIO (field fields 4) num is_num, (whole_within-plain num MOST_RATIO (field fields 5) den is_den, (amount_within-plain room (field fields 6) first is_first, tt)))))),
       (
-        (bind-as (new_name draft.cells (field fields 1)) _ name _ is_name (bind-as (amount_within MOST_ROOM (field fields 2)) _ room _ is_room (bind-as (amount_within MOST_CAPACITY (field fields 3)) _ capacity _ is_capacity (bind-as (whole_within 1 MOST_RATIO (field fields 4)) _ num _ is_num (bind-as (whole_within num MOST_RATIO (field fields 5)) _ den _ is_den (bind-as (amount_within room (field fields 6)) _ first _ is_first (same_in_format_2 _ more taken6))))))),
+        plain,
+        (
+          amount_within-plain MOST_ROOM (field fields 2) room is_room,
+          (
+            amount_within-plain MOST_CAPACITY (field fields 3) capacity is_capacity,
+            (
+              whole_within-plain 1 MOST_RATIO (field fields 4) num is_num,
+              (
+                whole_within-plain num MOST_RATIO (field fields 5) den is_den,
+                (amount_within-plain room (field fields 6) first is_first, tt),
+              ),
+            ),
+          ),
+        ),
+      ),
+      (
+        (bind-as (new_name draft.cells (field fields 1)) _ name _ is_name
+            (bind-as (amount_within MOST_ROOM (field fields 2)) _ room _ is_room
+            (bind-as (amount_within MOST_CAPACITY (field fields 3)) _ capacity _ is_capacity
+            (bind-as (whole_within 1 MOST_RATIO (field fields 4)) _ num _ is_num
+            (bind-as (whole_within num MOST_RATIO (field fields 5)) _ den _ is_den
+            (bind-as (amount_within room (field fields 6)) _ first _ is_first
+            (same_in_format_2 _ more taken6))))))),
         names_kept _ more taken6 (All-push (λ (cell : Cell). IsPlain cell.name) draft.cells (record { name = name; kind = kind.Road; room = room; num = num; den = den; first = first }) names (subst IsPlain same plain)),
       ),
     )
@@ -77,9 +100,18 @@ take_gate-alike draft more fields names taken =
     let (capacity, (is_capacity, taken2)) = bind-ok (amount_within MOST_CAPACITY (field fields 2)) _ more taken1 in
     let (first, (is_first, taken3)) = bind-ok (amount_within MOST_PARTS (field fields 3)) _ more taken2 in
     let (same, plain) = new_name-plain draft.cells (field fields 1) name is_name in (
-      (plain, (amount_within-plain MOST_CAPACITY (field fields 2) capacity is_capacity, (amount_within-plain MOST_PARTS (field fields 3) first is_first, tt))),
       (
-        (bind-as (new_name draft.cells (field fields 1)) _ name _ is_name (bind-as (amount_within MOST_CAPACITY (field fields 2)) _ capacity _ is_capacity (bind-as (amount_within MOST_PARTS (field fields 3)) _ first _ is_first (same_in_format_2 _ more taken3)))),
+        plain,
+        (
+          amount_within-plain MOST_CAPACITY (field fields 2) capacity is_capacity,
+          (amount_within-plain MOST_PARTS (field fields 3) first is_first, tt),
+        ),
+      ),
+      (
+        (bind-as (new_name draft.cells (field fields 1)) _ name _ is_name
+            (bind-as (amount_within MOST_CAPACITY (field fields 2)) _ capacity _ is_capacity
+            (bind-as (amount_within MOST_PARTS (field fields 3)) _ first _ is_first
+            (same_in_format_2 _ more taken3)))),
         names_kept _ more taken3 (All-push (λ (cell : Cell). IsPlain cell.name) draft.cells (without_room name kind.Gate first) names (subst IsPlain same plain)),
       ),
     )
@@ -90,9 +122,14 @@ take_exit-alike draft more fields names taken =
     let (name, (is_name, taken1)) = bind-ok (new_name draft.cells (field fields 1)) _ more taken in
     let (capacity, (is_capacity, taken2)) = bind-ok (amount_within MOST_CAPACITY (field fields 2)) _ more taken1 in
     let (same, plain) = new_name-plain draft.cells (field fields 1) name is_name in (
-      (plain, (amount_within-plain MOST_CAPACITY (field fields 2) capacity is_capacity, tt)),
       (
-        (bind-as (new_name draft.cells (field fields 1)) _ name _ is_name (bind-as (amount_within MOST_CAPACITY (field fields 2)) _ capacity _ is_capacity (same_in_format_2 _ more taken2))),
+        plain,
+        (amount_within-plain MOST_CAPACITY (field fields 2) capacity is_capacity, tt),
+      ),
+      (
+        (bind-as (new_name draft.cells (field fields 1)) _ name _ is_name
+            (bind-as (amount_within MOST_CAPACITY (field fields 2)) _ capacity _ is_capacity
+            (same_in_format_2 _ more taken2))),
         names_kept _ more taken2 (All-push (λ (cell : Cell). IsPlain cell.name) draft.cells (without_room name kind.Exit 0) names (subst IsPlain same plain)),
       ),
     )
@@ -102,9 +139,14 @@ unfolding take_link
 take_link-alike draft more fields names taken =
     let (up, (is_up, taken1)) = bind-ok (upstream draft.cells draft.connectors None (field fields 1)) _ more taken in
     let (down, (is_down, taken2)) = bind-ok (downstream draft.cells draft.connectors None (field fields 2)) _ more taken1 in (
-      (upstream-plain draft.cells draft.connectors None (field fields 1) up names is_up, (downstream-plain draft.cells draft.connectors None (field fields 2) down names is_down, tt)),
       (
-        (bind-as (upstream draft.cells draft.connectors None (field fields 1)) _ up _ is_up (bind-as (downstream draft.cells draft.connectors None (field fields 2)) _ down _ is_down (same_in_format_2 _ more taken2))),
+        upstream-plain draft.cells draft.connectors None (field fields 1) up names is_up,
+        (downstream-plain draft.cells draft.connectors None (field fields 2) down names is_down, tt),
+      ),
+      (
+        (bind-as (upstream draft.cells draft.connectors None (field fields 1)) _ up _ is_up
+            (bind-as (downstream draft.cells draft.connectors None (field fields 2)) _ down _ is_down
+            (same_in_format_2 _ more taken2))),
         names_kept _ more taken2 names,
       ),
     )
@@ -117,9 +159,26 @@ take_merge-alike draft more fields names taken =
     let (down, (is_down, taken3)) = bind-ok (downstream draft.cells draft.connectors None (field fields 3)) _ more taken2 in
     let (p1, (is_p1, taken4)) = bind-ok (whole_within 1 MOST_RATIO (field fields 4)) _ more taken3 in
     let (p2, (is_p2, taken5)) = bind-ok (whole_within 1 MOST_RATIO (field fields 5)) _ more taken4 in (
-      (upstream-plain draft.cells draft.connectors None (field fields 1) up1 names is_up1, (upstream-plain draft.cells draft.connectors (Some up1) (field fields 2) up2 names is_up2, (downstream-plain draft.cells draft.connectors None (field fields 3) down names is_down, (whole_within-plain 1 MOST_RATIO (field fields 4) p1 is_p1, (whole_within-plain 1 MOST_RATIO (field fields 5) p2 is_p2, tt))))),
       (
-        (bind-as (upstream draft.cells draft.connectors None (field fields 1)) _ up1 _ is_up1 (bind-as (upstream draft.cells draft.connectors (Some up1) (field fields 2)) _ up2 _ is_up2 (bind-as (downstream draft.cells draft.connectors None (field fields 3)) _ down _ is_down (bind-as (whole_within 1 MOST_RATIO (field fields 4)) _ p1 _ is_p1 (bind-as (whole_within 1 MOST_RATIO (field fields 5)) _ p2 _ is_p2 (same_in_format_2 _ more taken5)))))),
+        upstream-plain draft.cells draft.connectors None (field fields 1) up1 names is_up1,
+        (
+          upstream-plain draft.cells draft.connectors (Some up1) (field fields 2) up2 names is_up2,
+          (
+            downstream-plain draft.cells draft.connectors None (field fields 3) down names is_down,
+            (
+              whole_within-plain 1 MOST_RATIO (field fields 4) p1 is_p1,
+              (whole_within-plain 1 MOST_RATIO (field fields 5) p2 is_p2, tt),
+            ),
+          ),
+        ),
+      ),
+      (
+        (bind-as (upstream draft.cells draft.connectors None (field fields 1)) _ up1 _ is_up1
+            (bind-as (upstream draft.cells draft.connectors (Some up1) (field fields 2)) _ up2 _ is_up2
+            (bind-as (downstream draft.cells draft.connectors None (field fields 3)) _ down _ is_down
+            (bind-as (whole_within 1 MOST_RATIO (field fields 4)) _ p1 _ is_p1
+            (bind-as (whole_within 1 MOST_RATIO (field fields 5)) _ p2 _ is_p2
+            (same_in_format_2 _ more taken5)))))),
         names_kept _ more taken5 names,
       ),
     )
@@ -132,9 +191,26 @@ take_diverge-alike draft more fields names taken =
     let (down2, (is_down2, taken3)) = bind-ok (downstream draft.cells draft.connectors (Some down1) (field fields 3)) _ more taken2 in
     let (b1, (is_b1, taken4)) = bind-ok (whole_within 1 MOST_RATIO (field fields 4)) _ more taken3 in
     let (b2, (is_b2, taken5)) = bind-ok (whole_within 1 MOST_RATIO (field fields 5)) _ more taken4 in (
-      (upstream-plain draft.cells draft.connectors None (field fields 1) up names is_up, (downstream-plain draft.cells draft.connectors None (field fields 2) down1 names is_down1, (downstream-plain draft.cells draft.connectors (Some down1) (field fields 3) down2 names is_down2, (whole_within-plain 1 MOST_RATIO (field fields 4) b1 is_b1, (whole_within-plain 1 MOST_RATIO (field fields 5) b2 is_b2, tt))))),
       (
-        (bind-as (upstream draft.cells draft.connectors None (field fields 1)) _ up _ is_up (bind-as (downstream draft.cells draft.connectors None (field fields 2)) _ down1 _ is_down1 (bind-as (downstream draft.cells draft.connectors (Some down1) (field fields 3)) _ down2 _ is_down2 (bind-as (whole_within 1 MOST_RATIO (field fields 4)) _ b1 _ is_b1 (bind-as (whole_within 1 MOST_RATIO (field fields 5)) _ b2 _ is_b2 (same_in_format_2 _ more taken5)))))),
+        upstream-plain draft.cells draft.connectors None (field fields 1) up names is_up,
+        (
+          downstream-plain draft.cells draft.connectors None (field fields 2) down1 names is_down1,
+          (
+            downstream-plain draft.cells draft.connectors (Some down1) (field fields 3) down2 names is_down2,
+            (
+              whole_within-plain 1 MOST_RATIO (field fields 4) b1 is_b1,
+              (whole_within-plain 1 MOST_RATIO (field fields 5) b2 is_b2, tt),
+            ),
+          ),
+        ),
+      ),
+      (
+        (bind-as (upstream draft.cells draft.connectors None (field fields 1)) _ up _ is_up
+            (bind-as (downstream draft.cells draft.connectors None (field fields 2)) _ down1 _ is_down1
+            (bind-as (downstream draft.cells draft.connectors (Some down1) (field fields 3)) _ down2 _ is_down2
+            (bind-as (whole_within 1 MOST_RATIO (field fields 4)) _ b1 _ is_b1
+            (bind-as (whole_within 1 MOST_RATIO (field fields 5)) _ b2 _ is_b2
+            (same_in_format_2 _ more taken5)))))),
         names_kept _ more taken5 names,
       ),
     )
@@ -147,9 +223,26 @@ take_signal-alike draft more fields names taken =
     let (offset, (is_offset, taken3)) = bind-ok (whole_within 0 (cycle - 1) (field fields 3)) _ more taken2 in
     let (from, (is_from, taken4)) = bind-ok (whole_within 0 (cycle - 1) (field fields 4)) _ more taken3 in
     let (to, (is_to, taken5)) = bind-ok (whole_within (from + 1) cycle (field fields 5)) _ more taken4 in (
-      (signal_cell-plain draft.cells draft.plan (field fields 1) cell names is_cell, (whole_within-plain 1 MOST_STEPS (field fields 2) cycle is_cycle, (whole_within-plain 0 (cycle - 1) (field fields 3) offset is_offset, (whole_within-plain 0 (cycle - 1) (field fields 4) from is_from, (whole_within-plain (from + 1) cycle (field fields 5) to is_to, tt))))),
       (
-        (bind-as (signal_cell draft.cells draft.plan (field fields 1)) _ cell _ is_cell (bind-as (whole_within 1 MOST_STEPS (field fields 2)) _ cycle _ is_cycle (bind-as (whole_within 0 (cycle - 1) (field fields 3)) _ offset _ is_offset (bind-as (whole_within 0 (cycle - 1) (field fields 4)) _ from _ is_from (bind-as (whole_within (from + 1) cycle (field fields 5)) _ to _ is_to (same_in_format_2 _ more taken5)))))),
+        signal_cell-plain draft.cells draft.plan (field fields 1) cell names is_cell,
+        (
+          whole_within-plain 1 MOST_STEPS (field fields 2) cycle is_cycle,
+          (
+            whole_within-plain 0 (cycle - 1) (field fields 3) offset is_offset,
+            (
+              whole_within-plain 0 (cycle - 1) (field fields 4) from is_from,
+              (whole_within-plain (from + 1) cycle (field fields 5) to is_to, tt),
+            ),
+          ),
+        ),
+      ),
+      (
+        (bind-as (signal_cell draft.cells draft.plan (field fields 1)) _ cell _ is_cell
+            (bind-as (whole_within 1 MOST_STEPS (field fields 2)) _ cycle _ is_cycle
+            (bind-as (whole_within 0 (cycle - 1) (field fields 3)) _ offset _ is_offset
+            (bind-as (whole_within 0 (cycle - 1) (field fields 4)) _ from _ is_from
+            (bind-as (whole_within (from + 1) cycle (field fields 5)) _ to _ is_to
+            (same_in_format_2 _ more taken5)))))),
         names_kept _ more taken5 names,
       ),
     )
@@ -161,9 +254,22 @@ take_limit-alike draft more fields names taken =
     let (from, (is_from, taken2)) = bind-ok (whole_within 0 (MOST_STEPS - 1) (field fields 2)) _ more taken1 in
     let (to, (is_to, taken3)) = bind-ok (whole_within (from + 1) MOST_STEPS (field fields 3)) _ more taken2 in
     let (capacity, (is_capacity, taken4)) = bind-ok (amount_within MOST_CAPACITY (field fields 4)) _ more taken3 in (
-      (known_cell-plain draft.cells (field fields 1) cell names is_cell, (whole_within-plain 0 (MOST_STEPS - 1) (field fields 2) from is_from, (whole_within-plain (from + 1) MOST_STEPS (field fields 3) to is_to, (amount_within-plain MOST_CAPACITY (field fields 4) capacity is_capacity, tt)))),
       (
-        (bind-as (known_cell draft.cells (field fields 1)) _ cell _ is_cell (bind-as (whole_within 0 (MOST_STEPS - 1) (field fields 2)) _ from _ is_from (bind-as (whole_within (from + 1) MOST_STEPS (field fields 3)) _ to _ is_to (bind-as (amount_within MOST_CAPACITY (field fields 4)) _ capacity _ is_capacity (same_in_format_2 _ more taken4))))),
+        known_cell-plain draft.cells (field fields 1) cell names is_cell,
+        (
+          whole_within-plain 0 (MOST_STEPS - 1) (field fields 2) from is_from,
+          (
+            whole_within-plain (from + 1) MOST_STEPS (field fields 3) to is_to,
+            (amount_within-plain MOST_CAPACITY (field fields 4) capacity is_capacity, tt),
+          ),
+        ),
+      ),
+      (
+        (bind-as (known_cell draft.cells (field fields 1)) _ cell _ is_cell
+            (bind-as (whole_within 0 (MOST_STEPS - 1) (field fields 2)) _ from _ is_from
+            (bind-as (whole_within (from + 1) MOST_STEPS (field fields 3)) _ to _ is_to
+            (bind-as (amount_within MOST_CAPACITY (field fields 4)) _ capacity _ is_capacity
+            (same_in_format_2 _ more taken4))))),
         names_kept _ more taken4 names,
       ),
     )
@@ -175,9 +281,22 @@ take_demand-alike draft more fields names taken =
     let (from, (is_from, taken2)) = bind-ok (whole_within 0 (MOST_STEPS - 1) (field fields 2)) _ more taken1 in
     let (to, (is_to, taken3)) = bind-ok (whole_within (from + 1) MOST_STEPS (field fields 3)) _ more taken2 in
     let (amount, (is_amount, taken4)) = bind-ok (amount_within MOST_PARTS (field fields 4)) _ more taken3 in (
-      (demand_gate-plain draft.cells (field fields 1) gate names is_gate, (whole_within-plain 0 (MOST_STEPS - 1) (field fields 2) from is_from, (whole_within-plain (from + 1) MOST_STEPS (field fields 3) to is_to, (amount_within-plain MOST_PARTS (field fields 4) amount is_amount, tt)))),
       (
-        (bind-as (demand_gate draft.cells (field fields 1)) _ gate _ is_gate (bind-as (whole_within 0 (MOST_STEPS - 1) (field fields 2)) _ from _ is_from (bind-as (whole_within (from + 1) MOST_STEPS (field fields 3)) _ to _ is_to (bind-as (amount_within MOST_PARTS (field fields 4)) _ amount _ is_amount (same_in_format_2 _ more taken4))))),
+        demand_gate-plain draft.cells (field fields 1) gate names is_gate,
+        (
+          whole_within-plain 0 (MOST_STEPS - 1) (field fields 2) from is_from,
+          (
+            whole_within-plain (from + 1) MOST_STEPS (field fields 3) to is_to,
+            (amount_within-plain MOST_PARTS (field fields 4) amount is_amount, tt),
+          ),
+        ),
+      ),
+      (
+        (bind-as (demand_gate draft.cells (field fields 1)) _ gate _ is_gate
+            (bind-as (whole_within 0 (MOST_STEPS - 1) (field fields 2)) _ from _ is_from
+            (bind-as (whole_within (from + 1) MOST_STEPS (field fields 3)) _ to _ is_to
+            (bind-as (amount_within MOST_PARTS (field fields 4)) _ amount _ is_amount
+            (same_in_format_2 _ more taken4))))),
         names_kept _ more taken4 names,
       ),
     )
@@ -190,9 +309,26 @@ take_turn-alike draft more fields names taken =
     let (to, (is_to, taken3)) = bind-ok (whole_within (from + 1) MOST_STEPS (field fields 3)) _ more taken2 in
     let (b1, (is_b1, taken4)) = bind-ok (whole_within 1 MOST_RATIO (field fields 4)) _ more taken3 in
     let (b2, (is_b2, taken5)) = bind-ok (whole_within 1 MOST_RATIO (field fields 5)) _ more taken4 in (
-      (turn_cell-plain draft.cells draft.connectors (field fields 1) cell names is_cell, (whole_within-plain 0 (MOST_STEPS - 1) (field fields 2) from is_from, (whole_within-plain (from + 1) MOST_STEPS (field fields 3) to is_to, (whole_within-plain 1 MOST_RATIO (field fields 4) b1 is_b1, (whole_within-plain 1 MOST_RATIO (field fields 5) b2 is_b2, tt))))),
       (
-        (bind-as (turn_cell draft.cells draft.connectors (field fields 1)) _ cell _ is_cell (bind-as (whole_within 0 (MOST_STEPS - 1) (field fields 2)) _ from _ is_from (bind-as (whole_within (from + 1) MOST_STEPS (field fields 3)) _ to _ is_to (bind-as (whole_within 1 MOST_RATIO (field fields 4)) _ b1 _ is_b1 (bind-as (whole_within 1 MOST_RATIO (field fields 5)) _ b2 _ is_b2 (same_in_format_2 _ more taken5)))))),
+        turn_cell-plain draft.cells draft.connectors (field fields 1) cell names is_cell,
+        (
+          whole_within-plain 0 (MOST_STEPS - 1) (field fields 2) from is_from,
+          (
+            whole_within-plain (from + 1) MOST_STEPS (field fields 3) to is_to,
+            (
+              whole_within-plain 1 MOST_RATIO (field fields 4) b1 is_b1,
+              (whole_within-plain 1 MOST_RATIO (field fields 5) b2 is_b2, tt),
+            ),
+          ),
+        ),
+      ),
+      (
+        (bind-as (turn_cell draft.cells draft.connectors (field fields 1)) _ cell _ is_cell
+            (bind-as (whole_within 0 (MOST_STEPS - 1) (field fields 2)) _ from _ is_from
+            (bind-as (whole_within (from + 1) MOST_STEPS (field fields 3)) _ to _ is_to
+            (bind-as (whole_within 1 MOST_RATIO (field fields 4)) _ b1 _ is_b1
+            (bind-as (whole_within 1 MOST_RATIO (field fields 5)) _ b2 _ is_b2
+            (same_in_format_2 _ more taken5)))))),
         names_kept _ more taken5 names,
       ),
     )
@@ -202,9 +338,14 @@ unfolding take_region
 take_region-alike draft more fields names taken =
     let (cell, (is_cell, taken1)) = bind-ok (region_cell draft.cells draft.regions (field fields 1)) _ more taken in
     let (number, (is_number, taken2)) = bind-ok (whole_within 0 (MOST_REGIONS - 1) (field fields 2)) _ more taken1 in (
-      (region_cell-plain draft.cells draft.regions (field fields 1) cell names is_cell, (whole_within-plain 0 (MOST_REGIONS - 1) (field fields 2) number is_number, tt)),
       (
-        (bind-as (region_cell draft.cells draft.regions (field fields 1)) _ cell _ is_cell (bind-as (whole_within 0 (MOST_REGIONS - 1) (field fields 2)) _ number _ is_number (same_in_format_2 _ more taken2))),
+        region_cell-plain draft.cells draft.regions (field fields 1) cell names is_cell,
+        (whole_within-plain 0 (MOST_REGIONS - 1) (field fields 2) number is_number, tt),
+      ),
+      (
+        (bind-as (region_cell draft.cells draft.regions (field fields 1)) _ cell _ is_cell
+            (bind-as (whole_within 0 (MOST_REGIONS - 1) (field fields 2)) _ number _ is_number
+            (same_in_format_2 _ more taken2))),
         names_kept _ more taken2 names,
       ),
     )
