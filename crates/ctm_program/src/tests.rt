@@ -1,17 +1,64 @@
 use crate::top_call::ctm;
 use ctm_ports::{MemSink, MemSource, OpenGate, SureSink, SureSource};
+use itoa::Buffer;
 use std::alloc::{AllocError, Global};
 use std::test::Fail;
 use std::thread::Threads;
 
-const CORRIDOR: &[u8] =
-    b"ctm,1\nsteps,3\ngate,in,2,0\nroad,a,6,2,1,2,0\nexit,out,2\nlink,in,a\nlink,a,out\ndemand,in,0,1,4\n";
+// Files and reports are written here as in docs/FORMAT.md: `; ` stands for a line end, and the last one isn't written.
 
-const CORRIDOR_REPORT: &[u8] = b"report,3,3\n\
-cell,in,0.000000,4.000000,4.000000,2.000000\n\
-cell,a,2.000000,4.000000,2.000000,0.000000\n\
-cell,out,2.000000,2.000000,0.000000,0.000000\n\
-total,2.000000,4.000000,2.000000,2.000000\n";
+const CORRIDOR: &str =
+    "ctm,1; steps,3; gate,in,2,0; road,a,6,2,1,2,0; exit,out,2; link,in,a; link,a,out; \
+demand,in,0,1,4";
+
+const CORRIDOR_IN_FORMAT_2: &str =
+    "ctm,2; steps,3; gate,in,2,0; road,a,6,2,1,2,0; exit,out,2; link,in,a; \
+link,a,out; demand,in,0,1,4";
+
+const CORRIDOR_REPORT: &str = "report,3,3; cell,in,0.000000,4.000000,4.000000,2.000000; \
+cell,a,2.000000,4.000000,2.000000,0.000000; cell,out,2.000000,2.000000,0.000000,0.000000; \
+total,2.000000,4.000000,2.000000,2.000000";
+
+// The corridor with a comment, quotes, line ends of two bytes and none at the end.
+const CORRIDOR_IN_OTHER_FORMS: &[u8] =
+    b"# a corridor\r\nctm,1\r\nsteps,3\r\ngate,\"in\",2,0\r\nroad,a,6,2,1,2,0\r\nexit,out,2\r\n\
+link,in,a\r\nlink,a,out\r\ndemand,in,0,1,4";
+
+const TURN: &str =
+    "ctm,2; steps,3; road,b,10,3,1,1,9; exit,x,10; exit,y,10; diverge,b,x,y,1,2; turn,b,1,2,2,1";
+
+// Each kind of record three times or more.
+const CITY: &str =
+    "ctm,2; steps,5; gate,g1,3,3; gate,g2,3,2; gate,g3,2,4; gate,g4,2,1; gate,g5,4,2; \
+road,m1,10,4,1,2,4; road,m2,8,4,1,2,3; road,m3,8,4,1,1,7; road,m4,9,5,1,1,5; road,m5,9,5,1,2,6; \
+road,m6,5,2,1,1,1; road,m7,5,2,1,1,5; exit,x1,2; exit,x2,2; exit,x3,1; exit,x4,3; exit,x5,2; \
+merge,g1,g2,m1,1,1; merge,m1,g3,m2,3,1; merge,m2,g4,m3,1,2; diverge,m3,x1,m4,1,1; diverge,m4,x2,m5,1,2; \
+diverge,m5,x3,x4,1,3; link,g5,m6; link,m6,m7; link,m7,x5; signal,g1,4,1,0,2; signal,m2,3,0,0,2; \
+signal,m7,2,1,0,1; limit,x1,0,2,1; limit,m4,1,4,2; limit,x5,2,5,1; demand,g1,0,2,1.5; demand,g3,1,4,0.5; \
+demand,g3,2,3,0.25; turn,m3,0,2,1,3; turn,m4,1,3,2,1; turn,m5,2,5,1,1";
+
+// The lines of a text in which `; ` stands for a line end.
+fn lines(alloc: Global, text: &str) -> Result<Vec<u8>, AllocError> {
+    let mut lines = text.replace(alloc, "; ", "\n")?.into_bytes();
+    lines.push(b'\n')?;
+    Ok(lines)
+}
+
+// Puts so many lines behind a text. In each, `#` stands for its number, which goes up to 99,999 and begins again.
+fn put_lines(text: &mut Vec<u8>, line: &[u8], count: u32) -> Result<(), AllocError> {
+    let mut digits = Buffer::new();
+    for i in 0..count {
+        for byte in line {
+            if *byte == b'#' {
+                text.extend_from_slice(digits.format(i % 100_000).as_bytes())?;
+            } else {
+                text.push(*byte)?;
+            }
+        }
+        text.push(b'\n')?;
+    }
+    Ok(())
+}
 
 // The exit status of a call, and what it wrote.
 #[derive(Debug, Drop)]
@@ -22,208 +69,519 @@ struct Ended {
 }
 
 impl Ended {
-    // Whether the input was no network, for the fault of this line.
-    fn is_refused_at(&self, line: &[u8]) -> bool {
-        self.status == 3
-            && self.out.bytes().is_empty()
-            && self.err.bytes().strip_prefix(b"ctm: network: ".as_slice()) == Some(line)
+    // Whether the call gave this text.
+    fn gave(&self, text: &[u8]) -> bool {
+        self.status == 0 && self.out.bytes() == text && self.err.bytes().is_empty()
+    }
+
+    // Whether the call gave nothing but this status and line.
+    fn is_refused(&self, status: u8, line: &[u8]) -> bool {
+        self.status == status && self.out.bytes().is_empty() && self.err.bytes() == line
     }
 }
 
-// A call with these words, over ports that never fail.
+// A call with this one word, over ports that never fail.
 fn call<R: Threads + Sync>(
     rt: &R,
     alloc: Global,
-    words: &[&str],
+    word: &str,
     input: Vec<u8>,
 ) -> Result<Ended, AllocError> {
-    let mut all = Vec::new(alloc);
-    for word in words {
-        all.push(String::from_str(alloc, word)?)?;
-    }
+    let words = [String::from_str(alloc, word)?];
     let mut source = SureSource::new(input);
     let mut out = SureSink::new(alloc);
     let mut err = SureSink::new(alloc);
-    let status = ctm(rt, alloc, &all, &mut source, &mut out, &mut err, &OpenGate).number();
+    let status = ctm(
+        rt,
+        alloc,
+        &words,
+        &mut source,
+        &mut out,
+        &mut err,
+        &OpenGate,
+    )
+    .number();
     Ok(Ended { status, out, err })
+}
+
+// Whether `run` refuses this file, for the fault that is told so.
+fn is_fault<R: Threads + Sync>(
+    rt: &R,
+    alloc: Global,
+    file: &str,
+    fault: &str,
+) -> Result<bool, AllocError> {
+    let ended = call(rt, alloc, "run", lines(alloc, file)?)?;
+    let line = format!(in alloc; "ctm: network: record {fault}\n")?;
+    Ok(ended.is_refused(3, line.as_bytes()))
 }
 
 #[test]
 fn a_network_ends_in_its_report(rt: HostRuntime) -> Result<(), Fail> {
-    for (input, report) in [
+    for (file, report) in [
         (CORRIDOR, CORRIDOR_REPORT),
         // what waits in a gate
         (
-            b"ctm,1\nsteps,3\ngate,g,2,4\nexit,x,2\nlink,g,x\n".as_slice(),
-            b"report,3,2\n\
-cell,g,0.000000,0.000000,4.000000,2.000000\n\
-cell,x,4.000000,4.000000,0.000000,0.000000\n\
-total,0.000000,0.000000,4.000000,2.000000\n"
-                .as_slice(),
+            "ctm,1; steps,3; gate,g,2,4; exit,x,2; link,g,x",
+            "report,3,2; cell,g,0.000000,0.000000,4.000000,2.000000; cell,x,4.000000,4.000000,0.000000,0.000000; \
+total,0.000000,0.000000,4.000000,2.000000",
         ),
         // a full road
         (
-            b"ctm,1\nsteps,1\ngate,g,2,4\nroad,a,6,2,1,1,6\nlink,g,a\n",
-            b"report,1,2\n\
-cell,g,4.000000,0.000000,0.000000,4.000000\n\
-cell,a,6.000000,0.000000,0.000000,6.000000\n\
-total,10.000000,0.000000,0.000000,10.000000\n",
+            "ctm,1; steps,1; gate,g,2,4; road,a,6,2,1,1,6; link,g,a",
+            "report,1,2; cell,g,4.000000,0.000000,0.000000,4.000000; cell,a,6.000000,0.000000,0.000000,6.000000; \
+total,10.000000,0.000000,0.000000,10.000000",
         ),
         // a link from a cell to itself
         (
-            b"ctm,1\nsteps,2\nroad,a,6,2,1,1,3\nlink,a,a\n",
-            b"report,2,1\n\
-cell,a,3.000000,4.000000,4.000000,2.000000\n\
-total,3.000000,0.000000,0.000000,2.000000\n",
+            "ctm,1; steps,2; road,a,6,2,1,1,3; link,a,a",
+            "report,2,1; cell,a,3.000000,4.000000,4.000000,2.000000; total,3.000000,0.000000,0.000000,2.000000",
+        ),
+        // a merge into too little room
+        (
+            "ctm,1; steps,1; gate,g,3,3; gate,h,3,1; road,e,10,2,1,1,0; merge,g,h,e,1,1",
+            "report,1,3; cell,g,2.000000,0.000000,1.000000,2.000000; cell,h,0.000000,0.000000,1.000000,0.000000; \
+cell,e,2.000000,2.000000,0.000000,0.000000; total,4.000000,0.000000,0.000000,2.000000",
+        ),
+        // a diverge that shares in whole parts
+        (
+            "ctm,1; steps,1; road,b,10,10,1,1,0.000007; road,c,1,0.000001,1,1,0; exit,x,0.0001; diverge,b,c,x,1,2",
+            "report,1,3; cell,b,0.000004,0.000000,0.000003,0.000004; cell,c,0.000001,0.000001,0.000000,0.000000; \
+cell,x,0.000002,0.000002,0.000000,0.000000; total,0.000005,0.000000,0.000002,0.000004",
+        ),
+        // a signal that is red, green twice, and red
+        (
+            "ctm,1; steps,4; gate,g,1,10; exit,x,5; link,g,x; signal,g,4,3,0,2",
+            "report,4,2; cell,g,8.000000,0.000000,2.000000,35.000000; cell,x,2.000000,2.000000,0.000000,0.000000; \
+total,8.000000,0.000000,2.000000,35.000000",
+        ),
+        // limits that overlap
+        (
+            "ctm,1; steps,3; gate,g,5,10; exit,x,9; link,g,x; limit,g,0,2,1; limit,g,1,3,3",
+            "report,3,2; cell,g,3.000000,0.000000,7.000000,18.000000; cell,x,7.000000,7.000000,0.000000,0.000000; \
+total,3.000000,0.000000,7.000000,18.000000",
+        ),
+        // other shares in the second of three steps
+        (
+            TURN,
+            "report,3,3; cell,b,0.000000,0.000000,9.000000,9.000000; cell,x,4.000000,4.000000,0.000000,0.000000; \
+cell,y,5.000000,5.000000,0.000000,0.000000; total,0.000000,0.000000,9.000000,9.000000",
         ),
     ] {
-        let ended = call(&rt, rt.alloc(), &["run"], input.to_vec(rt.alloc())?)?;
-        assert_eq!(rt; ended.status, 0);
-        assert!(rt; ended.out.bytes() == report, "{:?}", ended.out);
-        assert!(rt; ended.err.bytes().is_empty());
+        let ended = call(&rt, rt.alloc(), "run", lines(rt.alloc(), file)?)?;
+        assert!(rt;
+            ended.gave(&lines(rt.alloc(), report)?),
+            "{file} gave {ended:?}"
+        );
     }
     Ok(())
 }
 
+// The last lines only. In the first file the gate holds 2.903447 at step 1, grows by 0.903447 a step up to 20.068940
+// at step 20, and then falls by 2 a step. Its waits are 189.723870 up to step 20 and 72.620460 from step 21 on. The
+// figures of the second are those of the same recurrences, worked by a program of their own.
 #[test]
-fn comments_quotes_and_line_ends_change_nothing(rt: HostRuntime) -> Result<(), Fail> {
-    let input =
-        b"# a corridor\r\nctm,1\r\nsteps,3\r\ngate,\"in\",2,0\r\nroad,a,6,2,1,2,0\r\nexit,out,2\r\n\
-link,in,a\r\nlink,a,out\r\ndemand,in,0,1,4";
-    let ended = call(&rt, rt.alloc(), &["run"], input.to_vec(rt.alloc())?)?;
-    assert_eq!(rt; ended.status, 0);
-    assert!(rt; ended.out.bytes() == CORRIDOR_REPORT, "{:?}", ended.out);
-    Ok(())
-}
-
-// The gate holds 2.903447 at step 1, grows by 0.903447 a step up to 20.068940 at step 20, and then
-// falls by 2 a step. Its waits are 189.723870 up to step 20 and 72.620460 from step 21 on.
-#[test]
-fn a_long_queue_adds_up_its_waits(rt: HostRuntime) -> Result<(), Fail> {
-    let input =
-        b"ctm,1\nsteps,42\ngate,g,2,0\nroad,m0,12,4,1,2,0\nexit,out,4\nlink,g,m0\nlink,m0,out\n\
-demand,g,0,20,2.903447\n";
-    let ended = call(&rt, rt.alloc(), &["run"], input.to_vec(rt.alloc())?)?;
-    assert_eq!(rt; ended.status, 0);
-    let total = b"\ntotal,0.000000,58.068940,58.068940,262.344330\n";
-    assert!(rt; ended.out.bytes().ends_with(total), "{:?}", ended.out);
+fn a_long_queue_and_many_records_add_up(rt: HostRuntime) -> Result<(), Fail> {
+    for (file, total) in [
+        (
+            "ctm,1; steps,42; gate,g,2,0; road,m0,12,4,1,2,0; exit,out,4; link,g,m0; link,m0,out; \
+demand,g,0,20,2.903447",
+            "cell,out,58.068940,58.068940,0.000000,0.000000; total,0.000000,58.068940,58.068940,262.344330",
+        ),
+        (
+            CITY,
+            "cell,x5,3.000000,3.000000,0.000000,0.000000; total,22.694448,4.750000,25.055552,95.572931",
+        ),
+    ] {
+        let ended = call(&rt, rt.alloc(), "run", lines(rt.alloc(), file)?)?;
+        assert_eq!(rt; ended.status, 0);
+        assert!(rt;
+            ended.out.bytes().ends_with(&lines(rt.alloc(), total)?),
+            "{ended:?}"
+        );
+    }
     Ok(())
 }
 
 #[test]
 fn a_fault_of_one_record_is_told_with_its_code(rt: HostRuntime) -> Result<(), Fail> {
-    for (input, line) in [
-        (b"".as_slice(), b"record 1 code 1 NoHeader\n".as_slice()),
-        (b"ctm,9\n", b"record 1 code 1 NoHeader\n"),
-        (b"ctm,1,\n", b"record 1 code 1 NoHeader\n"),
-        (b"ctm,1\nlane,x\n", b"record 2 code 2 BadKind\n"),
-        (b"ctm,1\nctm,1\n", b"record 2 code 2 BadKind\n"),
-        (b"ctm,1\nexit,x\n", b"record 2 code 3 BadCount\n"),
-        (b"ctm,1\nexit,a b,2\n", b"record 2 code 4 BadName\n"),
-        (b"ctm,1\nexit,x,1.0000001\n", b"record 2 code 5 BadNumber\n"),
-        (b"ctm,1\nsteps,\n", b"record 2 code 5 BadNumber\n"),
+    for (file, fault) in [
+        ("", "1 code 1 NoHeader"),
+        ("ctm,9", "1 code 1 NoHeader"),
+        ("ctm,1,", "1 code 1 NoHeader"),
+        ("ctm,1; lane,x", "2 code 2 BadKind"),
+        ("ctm,1; ctm,1", "2 code 2 BadKind"),
+        ("ctm,1; exit,x", "2 code 3 BadCount"),
+        ("ctm,1; exit,a b,2", "2 code 4 BadName"),
+        ("ctm,1; exit,x,1.0000001", "2 code 5 BadNumber"),
+        ("ctm,1; steps,", "2 code 5 BadNumber"),
+        ("ctm,1; exit,x,100000.000001", "2 code 6 OutOfRange"),
+        ("ctm,1; road,a,6,2,2,1,0", "2 code 6 OutOfRange"),
+        ("ctm,1; road,a,6,2,1,2,6.000001", "2 code 6 OutOfRange"),
+        ("ctm,1; steps,0", "2 code 6 OutOfRange"),
+        ("ctm,1; gate,g,1,0; demand,g,5,5,1", "3 code 6 OutOfRange"),
+        ("ctm,1; exit,x,2; limit,x,5,5,1", "3 code 6 OutOfRange"),
+        ("ctm,1; gate,g,1,0; signal,g,4,4,0,2", "3 code 6 OutOfRange"),
+        ("ctm,1; gate,g,1,0; signal,g,4,0,2,5", "3 code 6 OutOfRange"),
         (
-            b"ctm,1\nexit,x,100000.000001\n",
-            b"record 2 code 6 OutOfRange\n",
+            "ctm,1; gate,g,1,0; gate,h,1,0; exit,x,2; merge,g,h,x,0,1",
+            "5 code 6 OutOfRange",
         ),
         (
-            b"ctm,1\nroad,a,6,2,2,1,0\n",
-            b"record 2 code 6 OutOfRange\n",
-        ),
-        (
-            b"ctm,1\nroad,a,6,2,1,2,6.000001\n",
-            b"record 2 code 6 OutOfRange\n",
-        ),
-        (b"ctm,1\nsteps,0\n", b"record 2 code 6 OutOfRange\n"),
-        (
-            b"ctm,1\ngate,g,1,0\ndemand,g,5,5,1\n",
-            b"record 3 code 6 OutOfRange\n",
+            "ctm,1; gate,g,1,0; exit,x,2; exit,y,2; diverge,g,x,y,1,1001",
+            "5 code 6 OutOfRange",
         ),
     ] {
-        let ended = call(&rt, rt.alloc(), &["run"], input.to_vec(rt.alloc())?)?;
-        assert!(rt; ended.is_refused_at(line), "{ended:?}");
+        assert!(rt; is_fault(&rt, rt.alloc(), file, fault)?, "{file}");
     }
     Ok(())
 }
 
 #[test]
 fn a_fault_among_records_is_told_with_its_code(rt: HostRuntime) -> Result<(), Fail> {
-    for (input, line) in [
+    for (file, fault) in [
+        ("ctm,1; exit,x,2; exit,x,2", "3 code 7 Repeated"),
+        ("ctm,1; steps,3; steps,3", "3 code 7 Repeated"),
         (
-            b"ctm,1\nexit,x,2\nexit,x,2\n".as_slice(),
-            b"record 3 code 7 Repeated\n".as_slice(),
+            "ctm,1; gate,g,1,0; signal,g,4,0,0,2; signal,g,4,0,0,2",
+            "4 code 7 Repeated",
         ),
-        (b"ctm,1\nsteps,3\nsteps,3\n", b"record 3 code 7 Repeated\n"),
-        (b"ctm,1\nlink,p,q\n", b"record 2 code 8 Unknown\n"),
+        ("ctm,1; link,p,q", "2 code 8 Unknown"),
+        ("ctm,1; signal,p,4,0,0,2", "2 code 8 Unknown"),
+        ("ctm,1; limit,p,0,1,1", "2 code 8 Unknown"),
         (
-            b"ctm,1\nexit,x,2\ngate,g,1,0\nlink,x,g\n",
-            b"record 4 code 9 WrongKind\n",
-        ),
-        (
-            b"ctm,1\nexit,x,2\ndemand,x,0,1,1\n",
-            b"record 3 code 9 WrongKind\n",
-        ),
-        (
-            b"ctm,1\ngate,g,1,0\ngate,h,1,0\nexit,x,2\nlink,g,x\nlink,h,x\n",
-            b"record 6 code 10 InTaken\n",
+            "ctm,1; exit,x,2; gate,g,1,0; link,x,g",
+            "4 code 9 WrongKind",
         ),
         (
-            b"ctm,1\ngate,g,1,0\nexit,x,2\nexit,y,2\nlink,g,x\nlink,g,y\n",
-            b"record 6 code 11 OutTaken\n",
+            "ctm,1; gate,g,1,0; gate,h,1,0; merge,g,h,g,1,1",
+            "4 code 9 WrongKind",
         ),
-        (b"ctm,1\nexit,x,2\n", b"record 3 code 12 NoSteps\n"),
-        (b"ctm,1\n", b"record 2 code 12 NoSteps\n"),
-        (b"ctm,1\nsteps,3\n", b"record 3 code 13 NoCells\n"),
         (
-            b"ctm,1\nsteps,3\ngate,g,1,0\ndemand,g,0,3,4000000\n",
-            b"record 5 code 15 TooMuch\n",
+            "ctm,1; exit,x,2; exit,y,2; diverge,x,x,y,1,1",
+            "4 code 9 WrongKind",
+        ),
+        ("ctm,1; exit,x,2; signal,x,4,0,0,2", "3 code 9 WrongKind"),
+        ("ctm,1; exit,x,2; demand,x,0,1,1", "3 code 9 WrongKind"),
+        (
+            "ctm,1; gate,g,1,0; gate,h,1,0; exit,x,2; link,g,x; link,h,x",
+            "6 code 10 InTaken",
+        ),
+        (
+            "ctm,1; gate,g,1,0; exit,x,2; diverge,g,x,x,1,1",
+            "4 code 10 InTaken",
+        ),
+        (
+            "ctm,1; gate,g,1,0; exit,x,2; exit,y,2; link,g,x; link,g,y",
+            "6 code 11 OutTaken",
+        ),
+        (
+            "ctm,1; gate,g,1,0; exit,x,2; merge,g,g,x,1,1",
+            "4 code 11 OutTaken",
+        ),
+        ("ctm,1; exit,x,2", "3 code 12 NoSteps"),
+        ("ctm,1", "2 code 12 NoSteps"),
+        ("ctm,1; steps,3", "3 code 13 NoCells"),
+        (
+            "ctm,1; steps,3; gate,g,1,0; demand,g,0,3,4000000",
+            "5 code 15 TooMuch",
         ),
     ] {
-        let ended = call(&rt, rt.alloc(), &["run"], input.to_vec(rt.alloc())?)?;
-        assert!(rt; ended.is_refused_at(line), "{ended:?}");
+        assert!(rt; is_fault(&rt, rt.alloc(), file, fault)?, "{file}");
     }
     Ok(())
 }
 
 #[test]
-fn the_greatest_capacity_and_demand_past_the_end_are_accepted(rt: HostRuntime) -> Result<(), Fail> {
-    for accepted in [
-        b"ctm,1\nsteps,1\nexit,x,100000\n".as_slice(),
-        b"ctm,1\nsteps,2\ngate,g,1,0\ndemand,g,0,3,4000000\n",
+fn a_fault_of_format_2_is_told_with_its_code(rt: HostRuntime) -> Result<(), Fail> {
+    for (file, fault) in [
+        ("ctm,2,", "1 code 1 NoHeader"),
+        ("ctm,02", "1 code 1 NoHeader"),
+        // turns and regions in format 1
+        (
+            "ctm,1; steps,3; road,b,10,3,1,1,9; exit,x,10; exit,y,10; diverge,b,x,y,1,2; turn,b,1,2,2,1",
+            "7 code 2 BadKind",
+        ),
+        ("ctm,1; exit,x,2; region,x,0", "3 code 2 BadKind"),
+        ("ctm,2; turn,p,0,1,1", "2 code 3 BadCount"),
+        ("ctm,2; region,p", "2 code 3 BadCount"),
+        ("ctm,2; exit,x,2; region,x,", "3 code 5 BadNumber"),
+        ("ctm,2; exit,x,2; region,x,512", "3 code 6 OutOfRange"),
+        (
+            "ctm,2; gate,g,1,0; exit,x,2; exit,y,2; diverge,g,x,y,1,1; turn,g,5,5,1,1",
+            "6 code 6 OutOfRange",
+        ),
+        (
+            "ctm,2; gate,g,1,0; exit,x,2; exit,y,2; diverge,g,x,y,1,1; turn,g,0,1,1,1001",
+            "6 code 6 OutOfRange",
+        ),
+        (
+            "ctm,2; exit,x,2; region,x,0; region,x,0",
+            "4 code 7 Repeated",
+        ),
+        ("ctm,2; turn,p,0,1,1,1", "2 code 8 Unknown"),
+        ("ctm,2; region,p,0", "2 code 8 Unknown"),
+        ("ctm,2; exit,x,2; turn,x,0,1,1,1", "3 code 9 WrongKind"),
+        // a cell without a diverge out of it, one with a link, and one that a diverge leads into
+        (
+            "ctm,2; gate,g,1,0; exit,x,2; exit,y,2; turn,g,0,1,1,1",
+            "5 code 9 WrongKind",
+        ),
+        (
+            "ctm,2; gate,g,1,0; exit,x,2; link,g,x; turn,g,0,1,1,1",
+            "5 code 9 WrongKind",
+        ),
+        (
+            "ctm,2; gate,g,1,0; exit,x,2; exit,y,2; diverge,g,x,y,1,1; turn,x,0,1,1,1",
+            "6 code 9 WrongKind",
+        ),
+        (
+            "ctm,2; steps,1; exit,x,2; exit,y,2; region,x,0",
+            "6 code 16 NoRegion",
+        ),
+        (
+            "ctm,2; steps,1; exit,x,2; region,x,511",
+            "5 code 17 RegionGap",
+        ),
     ] {
-        let ended = call(&rt, rt.alloc(), &["run"], accepted.to_vec(rt.alloc())?)?;
-        assert_eq!(rt; ended.status, 0);
+        assert!(rt; is_fault(&rt, rt.alloc(), file, fault)?, "{file}");
     }
     Ok(())
 }
 
 #[test]
-fn one_cell_too_many_is_a_fault(rt: HostRuntime) -> Result<(), Fail> {
-    let mut input = String::from_str(rt.alloc(), "ctm,1\nsteps,3\n")?;
-    for i in 0..100_001 {
-        write!(input, "exit,x{i},1\n")?;
+fn regions_in_the_file_cover_all_cells(rt: HostRuntime) -> Result<(), Fail> {
+    for (regions, status, out, err) in [
+        (
+            "region,in,0; region,a,1; region,out,1",
+            0,
+            CORRIDOR_REPORT,
+            "",
+        ),
+        (
+            "region,in,0; region,a,1",
+            3,
+            "",
+            "ctm: network: record 11 code 16 NoRegion",
+        ),
+        (
+            "region,in,0; region,a,2; region,out,2",
+            3,
+            "",
+            "ctm: network: record 12 code 17 RegionGap",
+        ),
+    ] {
+        let mut file = lines(rt.alloc(), CORRIDOR_IN_FORMAT_2)?;
+        file.extend_from_slice(&lines(rt.alloc(), regions)?)?;
+        let ended = call(&rt, rt.alloc(), "run", file)?;
+        let holds = if status == 0 {
+            ended.gave(&lines(rt.alloc(), out)?)
+        } else {
+            ended.is_refused(status, &lines(rt.alloc(), err)?)
+        };
+        assert!(rt; holds, "{regions} gave {ended:?}");
     }
-    let ended = call(&rt, rt.alloc(), &["run"], input.into_bytes())?;
-    assert_eq!(rt; ended.status, 3);
-    let line = b"ctm: network: record 100003 code 14 TooMany\n".as_slice();
-    assert!(rt; ended.err.bytes() == line, "{:?}", ended.err);
     Ok(())
 }
 
 #[test]
-fn other_words_than_run_are_refused(rt: HostRuntime) -> Result<(), Fail> {
+fn the_greatest_numbers_are_accepted(rt: HostRuntime) -> Result<(), Fail> {
+    for (file, counts) in [
+        ("ctm,1; steps,1; exit,x,100000", "network,1,0,1,0,0,0"),
+        // the demand past the end isn't counted
+        (
+            "ctm,1; steps,2; gate,g,1,0; demand,g,0,3,4000000",
+            "network,1,0,2,0,0,1",
+        ),
+        ("ctm,1; steps,1; gate,g,0,10000000", "network,1,0,1,0,0,0"),
+        (
+            "ctm,1; steps,100000; road,a,6,2,1000,1000,6",
+            "network,1,0,100000,0,0,0",
+        ),
+    ] {
+        let ended = call(&rt, rt.alloc(), "check", lines(rt.alloc(), file)?)?;
+        assert!(rt;
+            ended.gave(&lines(rt.alloc(), counts)?),
+            "{file} gave {ended:?}"
+        );
+    }
+    Ok(())
+}
+
+#[test]
+fn one_record_past_the_limit_is_a_fault(rt: HostRuntime) -> Result<(), Fail> {
+    for (head, cells, line, most, counts, fault) in [
+        (
+            "ctm,1; steps,3",
+            0,
+            b"exit,x#,1".as_slice(),
+            100_000,
+            "network,100000,0,3,0,0,0",
+            "100003",
+        ),
+        (
+            "ctm,1; steps,3",
+            100_000,
+            b"link,x#,x#",
+            100_000,
+            "network,100000,100000,3,0,0,0",
+            "200003",
+        ),
+        (
+            "ctm,1; steps,3; exit,x,1",
+            0,
+            b"limit,x,#,100000,1",
+            100_000,
+            "network,1,0,3,0,100000,0",
+            "100004",
+        ),
+        (
+            "ctm,1; steps,3; gate,g,1,0",
+            0,
+            b"demand,g,#,100000,1",
+            100_000,
+            "network,1,0,3,0,0,100000",
+            "100004",
+        ),
+        (
+            "ctm,2; steps,3; gate,g,1,0; exit,x,1; exit,y,1; diverge,g,x,y,1,1",
+            0,
+            b"turn,g,#,100000,1,2",
+            200_000,
+            "network2,3,1,3,0,0,0,200000",
+            "200007",
+        ),
+    ] {
+        let mut file = lines(rt.alloc(), head)?;
+        put_lines(&mut file, b"road,x#,1,1,1,1,0", cells)?;
+        put_lines(&mut file, line, most)?;
+        let ended = call(&rt, rt.alloc(), "check", file.clone()?)?;
+        assert!(rt;
+            ended.gave(&lines(rt.alloc(), counts)?),
+            "{head} gave {ended:?}"
+        );
+
+        put_lines(&mut file, line, 1)?;
+        let ended = call(&rt, rt.alloc(), "check", file)?;
+        let told = format!(in rt.alloc(); "ctm: network: record {fault} code 14 TooMany\n")?;
+        assert!(rt;
+            ended.is_refused(3, told.as_bytes()),
+            "{head} gave {ended:?}"
+        );
+    }
+    Ok(())
+}
+
+#[test]
+fn check_counts_the_records(rt: HostRuntime) -> Result<(), Fail> {
+    for (file, counts) in [
+        (CORRIDOR, "network,3,2,3,0,0,1"),
+        (CORRIDOR_IN_FORMAT_2, "network2,3,2,3,0,0,1,0"),
+        (TURN, "network2,3,1,3,0,0,0,1"),
+        (CITY, "network2,17,9,5,3,3,3,3"),
+    ] {
+        let ended = call(&rt, rt.alloc(), "check", lines(rt.alloc(), file)?)?;
+        assert!(rt;
+            ended.gave(&lines(rt.alloc(), counts)?),
+            "{file} gave {ended:?}"
+        );
+    }
+    Ok(())
+}
+
+#[test]
+fn convert_writes_the_same_network_in_format_2(rt: HostRuntime) -> Result<(), Fail> {
+    let plain = lines(rt.alloc(), CORRIDOR_IN_FORMAT_2)?;
+    for file in [
+        lines(rt.alloc(), CORRIDOR)?,
+        CORRIDOR_IN_OTHER_FORMS.to_vec(rt.alloc())?,
+    ] {
+        let report = call(&rt, rt.alloc(), "run", file.clone()?)?;
+        assert!(rt;
+            report.gave(&lines(rt.alloc(), CORRIDOR_REPORT)?),
+            "{report:?}"
+        );
+
+        let converted = call(&rt, rt.alloc(), "convert", file)?;
+        assert!(rt; converted.gave(&plain), "{converted:?}");
+    }
+    let report = call(&rt, rt.alloc(), "run", plain)?;
+    assert!(rt;
+        report.gave(&lines(rt.alloc(), CORRIDOR_REPORT)?),
+        "{report:?}"
+    );
+
+    // A file that needs no change.
+    let city = lines(rt.alloc(), CITY)?;
+    let converted = call(&rt, rt.alloc(), "convert", city.clone()?)?;
+    assert!(rt; converted.gave(&city), "{converted:?}");
+    Ok(())
+}
+
+// The source would fail its first read.
+#[test]
+fn other_words_are_refused_and_nothing_is_read(rt: HostRuntime) -> Result<(), Fail> {
     for words in [
         [].as_slice(),
         &["drive"],
         &["Run"],
         &["run "],
+        &[""],
         &["run", "run"],
+        &["run", "check"],
+        &["run", "--regions", "3"],
+        &["run", "--regions=3"],
+        &["run", "--shots", "2"],
+        &["check", "--every", "1"],
+        &["convert", "--size", "1"],
+        &["--regions", "3"],
         &["--help"],
+        &["run", "--help"],
+        &["-h"],
+        &["--version"],
+        &["help"],
     ] {
-        let ended = call(&rt, rt.alloc(), words, CORRIDOR.to_vec(rt.alloc())?)?;
-        assert_eq!(rt; ended.status, 2, "{words:?}");
-        assert!(rt; ended.out.bytes().is_empty());
-        assert_eq!(rt; ended.err.bytes(), b"ctm: words refused\n".as_slice());
+        let mut all = Vec::new(rt.alloc());
+        for word in words {
+            all.push(String::from_str(rt.alloc(), word)?)?;
+        }
+        let reads = [0].to_vec(rt.alloc())?;
+        let mut source = MemSource::new(lines(rt.alloc(), CORRIDOR)?, 1000, reads);
+        let mut out = SureSink::new(rt.alloc());
+        let mut err = SureSink::new(rt.alloc());
+        let status = ctm(
+            &rt,
+            rt.alloc(),
+            &all,
+            &mut source,
+            &mut out,
+            &mut err,
+            &OpenGate,
+        )
+        .number();
+        let ended = Ended { status, out, err };
+        assert!(rt;
+            ended.is_refused(2, b"ctm: words refused\n"),
+            "{words:?} gave {ended:?}"
+        );
+    }
+    Ok(())
+}
+
+#[test]
+fn a_fault_is_told_in_each_mode(rt: HostRuntime) -> Result<(), Fail> {
+    for mode in ["run", "check", "convert"] {
+        let ended = call(&rt, rt.alloc(), mode, Vec::new(rt.alloc()))?;
+        assert!(rt;
+            ended.is_refused(3, b"ctm: network: record 1 code 1 NoHeader\n"),
+            "{mode} gave {ended:?}"
+        );
+
+        let ended = call(&rt, rt.alloc(), mode, lines(rt.alloc(), "ctm,1; steps,3")?)?;
+        assert!(rt;
+            ended.is_refused(3, b"ctm: network: record 3 code 13 NoCells\n"),
+            "{mode} gave {ended:?}"
+        );
     }
     Ok(())
 }
@@ -231,35 +589,72 @@ fn other_words_than_run_are_refused(rt: HostRuntime) -> Result<(), Fail> {
 #[test]
 fn an_input_past_the_limit_is_too_large(rt: HostRuntime) -> Result<(), Fail> {
     let comment = vec![in rt.alloc(); b'#'; 16_777_217]?;
-    let ended = call(&rt, rt.alloc(), &["run"], comment)?;
-    assert_eq!(rt; ended.status, 4);
-    assert!(rt; ended.out.bytes().is_empty());
-    assert_eq!(rt; ended.err.bytes(), b"ctm: too large: input\n".as_slice());
+    let ended = call(&rt, rt.alloc(), "run", comment)?;
+    assert!(rt;
+        ended.is_refused(4, b"ctm: too large: input\n"),
+        "{ended:?}"
+    );
 
     // With one byte less it is read: a comment that the input ends gives an empty record.
     let comment = vec![in rt.alloc(); b'#'; 16_777_216]?;
-    let ended = call(&rt, rt.alloc(), &["run"], comment)?;
-    assert_eq!(rt; ended.status, 3);
+    let ended = call(&rt, rt.alloc(), "run", comment)?;
+    assert!(rt;
+        ended.is_refused(3, b"ctm: network: record 1 code 1 NoHeader\n"),
+        "{ended:?}"
+    );
     Ok(())
 }
 
 #[test]
 fn a_failing_port_ends_the_call(rt: HostRuntime) -> Result<(), Fail> {
-    let words = [String::from_str(rt.alloc(), "run")?];
-    for (reads, writes, status, text, line) in [
+    for (mode, reads, writes, tells, status, text, line) in [
         (
+            "run",
             [0].as_slice(),
+            [].as_slice(),
             [].as_slice(),
             5,
             b"".as_slice(),
             b"ctm: read fault\n".as_slice(),
         ),
-        (&[], &[1], 6, b"report,3,3", b"ctm: write fault\n"),
+        // the last read, which would have found the end
+        ("run", &[10], &[], &[], 5, b"", b"ctm: read fault\n"),
+        ("run", &[], &[0], &[], 6, b"", b"ctm: write fault\n"),
+        (
+            "run",
+            &[],
+            &[1],
+            &[],
+            6,
+            b"report,3,3",
+            b"ctm: write fault\n",
+        ),
+        (
+            "check",
+            &[],
+            &[1],
+            &[],
+            6,
+            b"network,3,",
+            b"ctm: write fault\n",
+        ),
+        (
+            "convert",
+            &[],
+            &[1],
+            &[],
+            6,
+            b"ctm,2\nstep",
+            b"ctm: write fault\n",
+        ),
+        // standard error fails too
+        ("run", &[], &[0], &[1], 6, b"", b"ctm: write"),
     ] {
-        let input = CORRIDOR.to_vec(rt.alloc())?;
-        let mut source = MemSource::new(input, 1000, reads.to_vec(rt.alloc())?);
+        let words = [String::from_str(rt.alloc(), mode)?];
+        let input = lines(rt.alloc(), CORRIDOR)?;
+        let mut source = MemSource::new(input, 10, reads.to_vec(rt.alloc())?);
         let mut out = MemSink::new(rt.alloc(), 10, writes.to_vec(rt.alloc())?);
-        let mut err = MemSink::new(rt.alloc(), 10, Vec::new(rt.alloc()));
+        let mut err = MemSink::new(rt.alloc(), 10, tells.to_vec(rt.alloc())?);
         let ended = ctm(
             &rt,
             rt.alloc(),
@@ -269,7 +664,7 @@ fn a_failing_port_ends_the_call(rt: HostRuntime) -> Result<(), Fail> {
             &mut err,
             &OpenGate,
         );
-        assert_eq!(rt; ended.number(), status);
+        assert_eq!(rt; ended.number(), status, "{mode}");
         assert_eq!(rt; out.bytes(), text);
         assert_eq!(rt; err.bytes(), line);
     }
