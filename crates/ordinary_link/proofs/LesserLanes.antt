@@ -1,5 +1,5 @@
 -- The lesser of two numbers, lane by lane.
-use Rattle.std.proofs.Common.{◌≡◌, ℕ, ◌+◌, ◌-◌, ◌<◌, ◌≤◌, cond, List, length, slice_index, min, ltb, ap, ◌∙◌, arith}
+use Rattle.std.proofs.Common.{◌≡◌, ℕ, ◌+◌, ◌<◌, ◌≤◌, cond, List, length, slice_index, min, ltb, ap, ◌∙◌, arith}
 use Rattle.std.proofs.lemmas.Bool.Decides.{nat_tests}
 use lib.Lanes.{sel_l}
 use Rattle.ordinary_link.proofs.Lanes.{loaded, length-loaded, slice_index-loaded, compared, length-chosen, slice_index-chosen}
