@@ -1,14 +1,15 @@
 -- The first fault of a list, from the tests that are made of it.
 use Rattle.std.specs.Prelude.{◌==◌, nat_lt, Ok, Err}
 use Rattle.std.specs.List.{list_all}
-use Rattle.std.proofs.Common.{◌≡◌, ◌≢◌, ℕ, true, false, List, length, refl}
-use Rattle.std.proofs.lemmas.Bool.{eq-eqb}
-use Rattle.network_file.specs.Cutting.{has_no_gap}
+use Rattle.std.proofs.Common.{◌≡◌, ◌≢◌, ℕ, true, false, List, get_or, length, refl}
+use Rattle.std.proofs.lemmas.Bool.{eq-eqb, lt-ltb}
+use Rattle.network_file.specs.Cutting.{IsCutting, has_no_gap}
 use Rattle.network_file.specs.Network.{Network}
 use Rattle.network_file.specs.declared.limits.TheConstants.{MOST_REGIONS}
 use Rattle.region_cut.specs.CutFaults.{cut_of}
 use Rattle.region_cut.specs.declared.fault.CutFault.TheVariants.{Length, Gap, Many}
 use Rattle.region_cut.proofs.Anys.{apart}
+use Rattle.region_cut.proofs.EvenCutting.{all_pass}
 
 pub cut_of-Length : (net : Network) (list : List ℕ) → length list ≢ length net.cells → cut_of net list ≡ Err Length
 unfolding cut_of
@@ -25,3 +26,10 @@ cut_of-Gap net list same few gap = let long : (length list == length net.cells) 
 pub cut_of-Ok : (net : Network) (list : List ℕ) → length list ≡ length net.cells → list_all (λ region. nat_lt region MOST_REGIONS) list ≡ true → has_no_gap list ≡ true → cut_of net list ≡ Ok list
 unfolding cut_of
 cut_of-Ok net list same few whole = let long : (length list == length net.cells) ≡ true = eq-eqb _ _ same in rw (long, few, whole) refl
+
+-- a cutting of its cells, as a file's own is
+pub cut_of-IsCutting : (net : Network) (list : List ℕ) → IsCutting (length net.cells) list → cut_of net list ≡ Ok list
+cut_of-IsCutting net list cutting =
+    cut_of-Ok net list cutting.one_each
+    (all_pass (λ region. nat_lt region MOST_REGIONS) list (λ k d within. lt-ltb (get_or list k d) MOST_REGIONS (cutting.few k d within)))
+    cutting.no_gap

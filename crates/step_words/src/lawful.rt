@@ -28,9 +28,11 @@ fn is_close(steps: &[u64], chart: &Chart, r: u32) -> bool
     requires there { r < region_count chart.now.cut }
     ensures { IsTrue result ↔ All (λ q. slice_index steps.now r ≤ slice_index steps.now q + 1) (list_at chart.now.neighbours r) }
 {
+    let step = steps[r as usize];
     let neighbours = chart.neighbours(r);
     for q in neighbours {
-        if steps[r as usize].saturating_sub(steps[*q as usize]) > 1 {
+        let other = steps[*q as usize];
+        if step.saturating_sub(other) > 1 {
             return false;
         }
     }

@@ -34,9 +34,11 @@ fn is_lowest(steps: &[u64], chart: &Chart, r: u32) -> bool
     requires there { r < region_count chart.now.cut }
     ensures { IsTrue result ↔ All (λ q. slice_index steps.now r ≤ slice_index steps.now q) (list_at chart.now.neighbours r) }
 {
+    let step = steps[r as usize];
     let neighbours = chart.neighbours(r);
     for q in neighbours {
-        if steps[*q as usize] < steps[r as usize] {
+        let other = steps[*q as usize];
+        if other < step {
             return false;
         }
     }

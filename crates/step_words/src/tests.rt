@@ -15,25 +15,55 @@ fn list_with_a_fault_is_no_cutting(rt: HostRuntime) -> Result<(), Fail> {
         ([0, 512, 1].as_slice(), CutFault::Many, 3),
         ([0, 2, 2].as_slice(), CutFault::Gap, 2),
     ] {
-        let refusal = Cut::of(rt.alloc(), &net, list).unwrap_err();
-        assert_eq!(rt; refusal, CutRefusal::Fault(fault));
+        let refusal = Cut::of(rt.alloc(), &net, list).err();
+        assert_eq!(rt; refusal, Some(CutRefusal::Fault(fault)));
         assert_eq!(rt; fault.number(), number);
     }
     Ok(())
 }
 
 #[test]
-fn two_regions_rise_in_turn(rt: HostRuntime) -> Result<(), Fail> {
+fn two_regions_are_neighbours(rt: HostRuntime) -> Result<(), Fail> {
     let net = Net::read(rt.alloc(), FILE)?;
     let cut = Cut::of(rt.alloc(), &net, &[1, 0, 1])?;
     let chart = Chart::new(rt.alloc(), &net, cut)?;
     assert_eq!(rt; chart.regions(), 2);
     assert_eq!(rt; chart.neighbours(0), [1].as_slice());
     assert_eq!(rt; chart.neighbours(1), [0].as_slice());
+    let met = Halo {
+        cell: 2,
+        region: 1,
+        place: 1,
+    };
+    assert_eq!(rt; chart.halo(0).last().copied(), Some(met));
+    Ok(())
+}
+
+#[test]
+fn region_rises_to_one_step_ahead(rt: HostRuntime) -> Result<(), Fail> {
+    let net = Net::read(rt.alloc(), FILE)?;
+    let cut = Cut::of(rt.alloc(), &net, &[1, 0, 1])?;
+    let chart = Chart::new(rt.alloc(), &net, cut)?;
     let mut steps = [2, 2];
     assert!(rt; is_lawful(&steps, &net, &chart));
     assert!(rt; rise(&mut steps, &net, &chart, 0));
-    assert!(rt; !rise(&mut steps, &net, &chart, 0), "past the last step");
     assert_eq!(rt; steps, [3, 2]);
+    assert!(rt; !rise(&mut steps, &net, &chart, 0), "past the last step");
+    Ok(())
+}
+
+#[test]
+fn region_waits_for_a_lower_neighbour(rt: HostRuntime) -> Result<(), Fail> {
+    let net = Net::read(rt.alloc(), FILE)?;
+    let cut = Cut::of(rt.alloc(), &net, &[1, 0, 1])?;
+    let chart = Chart::new(rt.alloc(), &net, cut)?;
+    let mut steps = [2, 1];
+    assert!(rt; is_lawful(&steps, &net, &chart));
+    assert!(rt;
+        !rise(&mut steps, &net, &chart, 0),
+        "past a lower neighbour"
+    );
+    assert_eq!(rt; steps, [2, 1]);
+    assert!(rt; !is_lawful(&[3, 1], &net, &chart));
     Ok(())
 }
