@@ -7,3 +7,5 @@ pub mod MemSink
 pub mod SureSink
 pub mod ReadEnd
 pub mod Written
+pub mod StdSource
+pub mod StdSink

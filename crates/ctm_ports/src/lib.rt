@@ -2,7 +2,8 @@
 //!
 //! A [`Source`] gives bytes piece by piece and a [`Sink`] takes them. Either may fail, and each counts
 //! its faults, so that a caller can answer for a failure only where that count rose. Sources and sinks
-//! in memory tell their bytes; the adapters over std's readers and writers, the trusted edge, tell none.
+//! in memory tell their bytes. The adapters over std's readers and writers pass on each byte that their
+//! reader or writer tells; the real streams tell none.
 //!
 //! - `read_up_to` reads a whole source, `write_all` writes a whole text.
 //! - `MemSource` and `MemSink` fail at the calls that they were told to; `SureSource` and `SureSink` never.

@@ -1,42 +1,39 @@
 use crate::sink::{Sink, Wrote};
 use std::io::Write;
-use std::marker::Model;
 
-/// A sink over a writer of std. It tells no bytes. Each error of the writer is a fault, also one that a
-/// signal caused, and so is each write that takes nothing. It never wants memory.
+/// A sink over a writer of std. Where the writer tells the bytes that it has taken, each write is known to
+/// append to them. Each error of the writer is a fault, also one that a signal caused, and so is each
+/// write that takes nothing. It never wants memory.
 #[derive(Debug, Drop)]
 pub struct StdSink<W> {
     inner: W,
     faults: u64,
 }
 
-impl<W> Model for StdSink<W> {
-    ghost use Rattle.std.specs.Prelude.{ℕ};
-
-    ghost Value = { ℕ };
-
-    ghost view = { λ s. s.faults };
-}
-
 impl<W> StdSink<W> {
     ghost use Rattle.std.specs.Prelude.{◌≡◌};
+    ghost use Rattle.ctm_ports.specs.StdSink.{writer_of, writer_faults};
 
     /// A sink over the writer, without a fault so far.
     pub fn new(inner: W) -> StdSink<W>
-        ensures { result ≡ 0 }
+        ensures writer { writer_of result ≡ inner }
+        ensures faults { writer_faults result ≡ 0 }
     {
         StdSink { inner, faults: 0 }
     }
 }
 
 impl<W: Write> Sink for StdSink<W> {
-    ghost use Rattle.std.specs.Prelude.{◌≡◌, ◌<◌, ◌≤◌, None, length};
+    ghost use Rattle.std.specs.Prelude.{◌≡◌, ◌<◌, ◌≤◌, None, length, take};
+    ghost use Rattle.std.specs.Io.KnownBytes.{Appends, Keeps};
     ghost use Rattle.ctm_ports.specs.Count.{Rose};
-    ghost use Rattle.ctm_ports.specs.Wrote.{IfTook, OnFailed, OnNoMemory, faults_after};
+    ghost use Rattle.ctm_ports.specs.Wrote.{IfTook, UnlessTook, OnFailed, OnNoMemory, faults_after};
+    ghost use Rattle.ctm_ports.specs.StdSink.{writer_of, writer_faults};
 
+    // A writer that told nothing may begin to tell in a write that fails, which no sink does.
     ghost taken = { λ _. None };
 
-    ghost faults = { λ s. s };
+    ghost faults = { writer_faults };
 
     ghost wants = { λ _. 0 };
 
@@ -45,12 +42,14 @@ impl<W: Write> Sink for StdSink<W> {
 
         // What every sink ensures, of one that tells no bytes.
         ensures size { IfTook result (λ n. (1 ≤ n) × (n ≤ length piece.now)) }
-        ensures failed { OnFailed result (Rose self.old self.new) }
+        ensures failed { OnFailed result (Rose (writer_faults self.old) (writer_faults self.new)) }
         ensures no_memory { OnNoMemory result (Rose 0 0) }
-        ensures faults_never_fall { self.old ≤ self.new }
+        ensures faults_never_fall { writer_faults self.old ≤ writer_faults self.new }
 
-        // What this one counts.
-        ensures counted { self.new ≡ faults_after self.old result }
+        // The same of the bytes that the writer tells, and what this one counts.
+        ensures takes { IfTook result (λ n. Appends (W.contents (writer_of self.old)) (W.contents (writer_of self.new)) (take n piece.now)) }
+        ensures keeps { UnlessTook result (Keeps (W.contents (writer_of self.old)) (W.contents (writer_of self.new))) }
+        ensures counted { writer_faults self.new ≡ faults_after (writer_faults self.old) result }
     {
         match self.inner.write(piece) {
             Ok(0) | Err(_) => {

@@ -140,7 +140,7 @@ fn a_sink_that_fails_at_its_second_call_has_the_first_chunk(rt: HostRuntime) -> 
 }
 
 #[test]
-fn an_error_of_a_reader_is_a_fault(rt: HostRuntime) -> Result<(), Fail> {
+fn an_error_of_a_reader_is_a_fault_and_its_bytes_pass_whole(rt: HostRuntime) -> Result<(), Fail> {
     let mut source = StdSource::new(Breaking { calls: 0 });
     let want = [Piece::Got(1), Piece::Failed, Piece::End];
     assert_eq!(rt;
@@ -149,11 +149,15 @@ fn an_error_of_a_reader_is_a_fault(rt: HostRuntime) -> Result<(), Fail> {
     );
 
     let mut source = StdSource::new(b"abc".as_slice());
-    let want = [Piece::Got(2), Piece::Got(1), Piece::End];
-    assert_eq!(rt;
-        answers(rt.alloc(), &mut source, 2)?.as_slice(),
-        want.as_slice()
-    );
+    let mut room = [0; 2];
+    for (piece, bytes) in [
+        (Piece::Got(2), b"ab".as_slice()),
+        (Piece::Got(1), b"c".as_slice()),
+        (Piece::End, b"".as_slice()),
+    ] {
+        assert_eq!(rt; source.read(&mut room), piece);
+        assert!(rt; room.starts_with(bytes));
+    }
     Ok(())
 }
 

@@ -4,9 +4,9 @@ ghost use Rattle.ctm_program.specs.Lines.{status_number};
 /// How a call ends (docs/FORMAT.md, "Exit status and standard error").
 #[derive(Clone, Copy, Debug, PartialEq, Eq)]
 pub enum Status {
-    /// The whole report is written.
+    /// The whole text is written.
     Done = 0,
-    /// The words aren't the one word `run`.
+    /// The words ask for nothing that the program does.
     Words = 2,
     /// The input is no network.
     Network = 3,
@@ -14,7 +14,7 @@ pub enum Status {
     TooLarge = 4,
     /// A read of the input failed.
     ReadFault = 5,
-    /// A write of the report failed.
+    /// A write of the text failed.
     WriteFault = 6,
     /// Memory was refused.
     NoMemory = 7,

@@ -1,5 +1,5 @@
 -- A converted file is the same network in format 2.
-use Rattle.std.proofs.Common.{ℕ, ◌≡◌, ◌+◌, ◌==◌, true, false, List, [], ◌∷◌, Ok, Err, Some, None, refl, sym, subst, ap, ◌∙◌, arith, drop, length}
+use Rattle.std.proofs.Common.{ℕ, ◌≡◌, ◌+◌, List, [], ◌∷◌, Ok, Err, Some, None, refl, sym, ap, ◌∙◌, drop, length}
 use Rattle.std.specs.Prelude.{Option, Result, nat_le, nat_lt, ok_or}
 use Rattle.fixed_flow.specs.declared.amount.TheConstants.{MOST_PARTS}
 use Rattle.std.proofs.lemmas.List.Elements.{All-nil}
@@ -13,12 +13,13 @@ use Rattle.network_file.specs.SameNetwork.{SaysTheSame}
 use Rattle.network_file.specs.Taking.{take_record}
 use Rattle.network_file.specs.declared.cell.Cell.{Cell}
 use Rattle.network_file.specs.declared.code.Code.{Code}
-use Rattle.network_file.specs.declared.code.Code.TheVariants.{NoHeader, NoSteps, NoCells, TooMuch}
+use Rattle.network_file.specs.declared.code.Code.TheVariants.{NoSteps, NoCells, TooMuch}
 use Rattle.network_file.specs.declared.fault.NetFault.{NetFault}
 use Rattle.network_file.proofs.PlainLines.{ArePlainRecords, file_records_of-converted, header_2}
 use Rattle.network_file.proofs.PlainText.{IsPlain}
 use Rattle.network_file.proofs.ReadingLemmas.{network_of-headed, read_records-none, read_records-taken}
-use Rattle.network_file.proofs.TakenFields.{ArePlainNames, bind-as, bind-ok, found, must-as, must-ok}
+use Rattle.network_file.proofs.CheckLemmas.{bind-as, bind-ok, must-as, must-ok}
+use Rattle.network_file.proofs.TakenFields.{ArePlainNames}
 use Rattle.network_file.proofs.TakenKinds.{in_format_2}
 use Rattle.network_file.proofs.TakenRecords.{take_record-alike}
 

@@ -2,7 +2,7 @@
 use Rattle.std.specs.Prelude.{All, is_some, not, unwrap_or, map, ◌&&◌, ◌==◌, if◌then◌else◌}
 use Rattle.std.specs.Option.{option_map, option_or}
 use Rattle.std.specs.List.{find, list_all, range_with_len}
-use Rattle.std.proofs.Common.{◌≡◌, ℕ, ◌+◌, max, Bool, true, false, List, [], ◌∷◌, ◌++◌, Option, Some, None, ◌<◌, inl, inr, ◌⊎◌, Result, Ok, Err, length, get_or, zero-add, arith, refl, sym, ap, ◌∙◌}
+use Rattle.std.proofs.Common.{◌≡◌, ℕ, ◌+◌, max, Bool, true, false, List, [], ◌∷◌, ◌++◌, Option, Some, None, ◌<◌, inl, inr, ◌⊎◌, Ok, Err, length, get_or, zero-add, arith, refl, sym, ap, ◌∙◌}
 use Rattle.std.proofs.Math.Bool.{and-true}
 use Rattle.std.proofs.lemmas.Bool.{cases_Bool, cases_eq, eq-eqb, ne_eqb}
 use Rattle.std.proofs.lemmas.List.Elements.{All-head, All-tail, All-weaker}
@@ -11,7 +11,6 @@ use Rattle.std.proofs.lemmas.List.FromFn.{length-range_with_len, get_or-range_wi
 use Rattle.network_file.specs.Cutting.{greatest, has_no_gap, IsCutting}
 use Rattle.network_file.specs.Draft.{Draft}
 use Rattle.network_file.specs.Reading.{regions_of}
-use Rattle.network_file.specs.declared.code.Code.{Code}
 use Rattle.network_file.specs.declared.code.Code.TheVariants.{NoRegion, RegionGap}
 use Rattle.network_file.specs.declared.limits.TheConstants.{MOST_REGIONS}
 use Rattle.network_file.specs.Regions.{all_have_regions, region_in, region_numbers}
@@ -64,6 +63,7 @@ region_in-push regions cell number i none = elim (cases_eq i cell) [
     no_number : (o : Option RegionRecord) → option_map (λ region. region.number) o ≡ None → o ≡ None
     no_number None none = refl
     no_number (Some region) none = cc
+
     last_none : (o : Option RegionRecord) → option_map (λ region. region.number) o ≡ option_map (λ region. region.number) (option_or o None)
     last_none None = refl
     last_none (Some region) = refl

@@ -1,8 +1,8 @@
 -- The word of each kind of record: a kind that is named is named by its word, and is one of format 2.
-use Rattle.std.proofs.Common.{ℕ, ◌≡◌, ◌==◌, ◌&&◌, Bool, true, false, List, Some, None, cond, refl, arith, ap, ◌∙◌, inl, inr, ◌⊎◌, ⊎_elim}
+use Rattle.std.proofs.Common.{ℕ, ◌≡◌, ◌==◌, ◌&&◌, Bool, true, false, List, Some, cond, refl, arith, ap, ◌∙◌}
 use Rattle.std.specs.Prelude.{bytes_eq, codes, Option}
 use Rattle.std.specs.Cmp.Lexicographic.{bytes_decides}
-use Rattle.std.proofs.lemmas.Bool.{and_parts, cases_Bool}
+use Rattle.std.proofs.lemmas.Bool.{and_parts}
 use Rattle.network_file.specs.Taking.{record_kind_of}
 use Rattle.network_file.specs.declared.record_kind.RecordKind.{RecordKind}
 use Rattle.network_file.specs.declared.record_kind.RecordKind.TheVariants.{Steps, Road, Gate, Exit, Link, Merge, Diverge, Signal, Limit, Demand, Turn, Region}
@@ -22,56 +22,29 @@ word_of Demand = codes "demand"
 word_of Turn = codes "turn"
 word_of Region = codes "region"
 
--- a choice by a test that gave a kind: the test holds and it is this kind, or what follows gave it
-chosen : (test : Bool) (first kind : RecordKind) (rest : Option RecordKind) → cond test (Some first) rest ≡ Some kind → ((test ≡ true) × (first ≡ kind)) ⊎ (rest ≡ Some kind)
-chosen true first kind rest named = inl (refl, cc named)
-chosen false first kind rest named = inr named
-
--- a text equal to the word of a kind
-by_word : (text word : List ℕ) (first kind : RecordKind) → word ≡ word_of first → (bytes_eq text word ≡ true) × (first ≡ kind) → text ≡ word_of kind
-by_word text word first kind is_word (same, is_kind) = (bytes_decides text word).0 same ∙ is_word ∙ ap word_of is_kind
+-- a choice by a test that gave a kind: the test holds and it is the first kind, or what follows gave it
+named_by : (text : List ℕ) (test : Bool) (first kind : RecordKind) (rest : Option RecordKind) → (test ≡ true → text ≡ word_of first)
+    → (rest ≡ Some kind → text ≡ word_of kind) → cond test (Some first) rest ≡ Some kind → text ≡ word_of kind
+named_by text true first kind rest here later named = here refl ∙ ap word_of (cc named)
+named_by text false first kind rest here later named = later named
 
 -- a kind is named by its word
 pub record_kind_of-word : (format : ℕ) (text : List ℕ) (kind : RecordKind) → record_kind_of format text ≡ Some kind → text ≡ word_of kind
 unfolding record_kind_of
-record_kind_of-word format text kind named =
-    ⊎_elim (λ here. by_word text (codes "steps") Steps kind refl here)
-    (λ other0.
-    ⊎_elim (λ here. by_word text (codes "road") Road kind refl here)
-    (λ other1.
-    ⊎_elim (λ here. by_word text (codes "gate") Gate kind refl here)
-    (λ other2.
-    ⊎_elim (λ here. by_word text (codes "exit") Exit kind refl here)
-    (λ other3.
-    ⊎_elim (λ here. by_word text (codes "link") Link kind refl here)
-    (λ other4.
-    ⊎_elim (λ here. by_word text (codes "merge") Merge kind refl here)
-    (λ other5.
-    ⊎_elim (λ here. by_word text (codes "diverge") Diverge kind refl here)
-    (λ other6.
-    ⊎_elim (λ here. by_word text (codes "signal") Signal kind refl here)
-    (λ other7.
-    ⊎_elim (λ here. by_word text (codes "limit") Limit kind refl here)
-    (λ other8.
-    ⊎_elim (λ here. by_word text (codes "demand") Demand kind refl here)
-    (λ other9.
-    ⊎_elim (λ here. by_word text (codes "turn") Turn kind refl ((and_parts (format == 2) (bytes_eq text (codes "turn")) here.0).1, here.1))
-    (λ other10.
-    ⊎_elim (λ here. by_word text (codes "region") Region kind refl ((and_parts (format == 2) (bytes_eq text (codes "region")) here.0).1, here.1))
-    (λ other11.
-    cc other11)
-    (chosen ((format == 2) && bytes_eq text (codes "region")) Region kind _ other10))
-    (chosen ((format == 2) && bytes_eq text (codes "turn")) Turn kind _ other9))
-    (chosen (bytes_eq text (codes "demand")) Demand kind _ other8))
-    (chosen (bytes_eq text (codes "limit")) Limit kind _ other7))
-    (chosen (bytes_eq text (codes "signal")) Signal kind _ other6))
-    (chosen (bytes_eq text (codes "diverge")) Diverge kind _ other5))
-    (chosen (bytes_eq text (codes "merge")) Merge kind _ other4))
-    (chosen (bytes_eq text (codes "link")) Link kind _ other3))
-    (chosen (bytes_eq text (codes "exit")) Exit kind _ other2))
-    (chosen (bytes_eq text (codes "gate")) Gate kind _ other1))
-    (chosen (bytes_eq text (codes "road")) Road kind _ other0))
-    (chosen (bytes_eq text (codes "steps")) Steps kind _ named)
+record_kind_of-word format text kind =
+    (named_by text (bytes_eq text (codes "steps")) Steps kind _ ((bytes_decides text (codes "steps")).0)
+    (named_by text (bytes_eq text (codes "road")) Road kind _ ((bytes_decides text (codes "road")).0)
+    (named_by text (bytes_eq text (codes "gate")) Gate kind _ ((bytes_decides text (codes "gate")).0)
+    (named_by text (bytes_eq text (codes "exit")) Exit kind _ ((bytes_decides text (codes "exit")).0)
+    (named_by text (bytes_eq text (codes "link")) Link kind _ ((bytes_decides text (codes "link")).0)
+    (named_by text (bytes_eq text (codes "merge")) Merge kind _ ((bytes_decides text (codes "merge")).0)
+    (named_by text (bytes_eq text (codes "diverge")) Diverge kind _ ((bytes_decides text (codes "diverge")).0)
+    (named_by text (bytes_eq text (codes "signal")) Signal kind _ ((bytes_decides text (codes "signal")).0)
+    (named_by text (bytes_eq text (codes "limit")) Limit kind _ ((bytes_decides text (codes "limit")).0)
+    (named_by text (bytes_eq text (codes "demand")) Demand kind _ ((bytes_decides text (codes "demand")).0)
+    (named_by text ((format == 2) && bytes_eq text (codes "turn")) Turn kind _ (λ both. (bytes_decides text (codes "turn")).0 (and_parts (format == 2) (bytes_eq text (codes "turn")) both).1)
+    (named_by text ((format == 2) && bytes_eq text (codes "region")) Region kind _ (λ both. (bytes_decides text (codes "region")).0 (and_parts (format == 2) (bytes_eq text (codes "region")) both).1)
+    (λ named. cc named)))))))))))))
 
 -- the word of a kind is plain
 pub word_of-plain : (kind : RecordKind) → IsPlain (word_of kind)

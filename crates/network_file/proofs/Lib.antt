@@ -5,12 +5,13 @@ pub mod NumberLemmas
 pub mod ReadingLemmas
 pub mod RecordLemmas
 pub mod SoundLemmas
+mod CheckLemmas
+mod ConvertedLemmas
 mod CuttingLemmas
 mod JoinedLemmas
-mod PlainText
+mod KindWords
 mod PlainLines
+mod PlainText
 mod TakenFields
 mod TakenKinds
-mod KindWords
 mod TakenRecords
-mod ConvertedLemmas

@@ -1,5 +1,5 @@
 -- Lines of plain fields with commas between them are read as the records of these fields.
-use Rattle.std.proofs.Common.{ℕ, suc, zero, ◌≡◌, ◌<◌, ◌+◌, ◌==◌, Bool, true, false, List, [], ◌∷◌, ◌++◌, Some, refl, sym, ap, ◌∙◌, subst, length, ◌≤◌, arith, append_assoc, inl, inr, drop, add-one, length-append}
+use Rattle.std.proofs.Common.{ℕ, suc, zero, ◌≡◌, ◌<◌, ◌+◌, ◌==◌, true, false, List, [], ◌∷◌, ◌++◌, Some, refl, sym, ap, ◌∙◌, length, ◌≤◌, arith, append_assoc, inl, inr, drop, length-append}
 use Rattle.std.specs.Prelude.{⊤, codes}
 use Rattle.std.specs.List.{flat_map, list_all}
 use Rattle.std.proofs.lemmas.List.{append-nil}

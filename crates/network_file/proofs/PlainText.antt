@@ -1,6 +1,6 @@
 -- Texts of letters, digits, `_`, `-` and `.` alone, as each field of a record that is taken.
-use Rattle.std.proofs.Common.{ℕ, ◌≡◌, ◌<◌, ◌==◌, ◌||◌, ◌&&◌, Bool, true, false, suc, ◌+◌, List, [], ◌∷◌, Some, None, refl, sym, ◌∙◌, subst, length, arith, take, drop, inl, inr}
-use Rattle.std.specs.Prelude.{Option, codes, bytes_eq, not, position, nat_lt, nat_le, get_or, All}
+use Rattle.std.proofs.Common.{ℕ, ◌≡◌, ◌<◌, ◌==◌, ◌||◌, ◌&&◌, Bool, true, false, suc, ◌+◌, List, [], ◌∷◌, Some, refl, subst, length, arith, take, drop, inl, inr}
+use Rattle.std.specs.Prelude.{bytes_eq, not, nat_lt, nat_le, get_or, All}
 use Rattle.std.specs.Char.{is_ascii_digit, is_ascii_alphanumeric}
 use Rattle.std.specs.List.{list_all, list_any, before_first, after_first, position_or_len}
 use Rattle.std.specs.Cmp.Lexicographic.{bytes_decides}

@@ -1,10 +1,10 @@
 -- A record of each kind that is taken has plain fields, and is taken alike in format 2.
-use Rattle.std.proofs.Common.{ℕ, zero, suc, ◌≡◌, ◌+◌, ◌-◌, true, List, [], ◌∷◌, ◌++◌, Ok, Err, Some, None, refl, sym, subst, ap}
+use Rattle.std.proofs.Common.{ℕ, zero, suc, ◌≡◌, ◌+◌, ◌-◌, List, [], ◌∷◌, Ok, Some, None, subst, ap}
 use Rattle.std.specs.Prelude.{Result, is_none}
 use Rattle.std.proofs.lemmas.List.Elements.{All-push}
 use Rattle.fixed_flow.specs.declared.amount.TheConstants.{MOST_PARTS}
 use Rattle.signal_plan.specs.declared.bounds.TheConstants.{MOST_RATIO, MOST_STEPS}
-use Rattle.network_file.specs.Draft.{Draft, with_steps, add_cell, add_connector, add_demand, add_limit, add_region, add_signal, add_turn}
+use Rattle.network_file.specs.Draft.{Draft}
 use Rattle.network_file.specs.Fields.{field, whole_within, amount_within, new_name, known_cell, upstream, downstream, signal_cell, demand_gate, turn_cell, region_cell}
 use Rattle.network_file.specs.Taking.{take_demand, take_diverge, take_exit, take_gate, take_limit, take_link, take_merge, take_region, take_road, take_signal, take_steps, take_turn, without_room}
 use Rattle.network_file.specs.declared.limits.TheConstants.{MOST_ROOM, MOST_CAPACITY, MOST_REGIONS}
@@ -12,18 +12,24 @@ use Rattle.network_file.specs.declared.cell.Cell.{Cell}
 use Rattle.network_file.specs.declared.cell.Kind.TheVariants as kind
 use Rattle.network_file.specs.declared.code.Code.{Code}
 use Rattle.network_file.specs.declared.code.Code.TheVariants.{Repeated}
-use Rattle.network_file.specs.declared.connector.Connector.TheVariants as connector
 use Rattle.network_file.proofs.PlainLines.{ArePlain}
 use Rattle.network_file.proofs.PlainText.{IsPlain}
-use Rattle.network_file.proofs.TakenFields.{ArePlainNames, bind-as, bind-ok, must-as, must-ok, whole_within-plain, amount_within-plain, new_name-plain, known_cell-plain, upstream-plain, downstream-plain, signal_cell-plain, demand_gate-plain, turn_cell-plain, region_cell-plain}
+use Rattle.network_file.proofs.CheckLemmas.{bind-as, bind-ok, must-as, must-ok}
+use Rattle.network_file.proofs.TakenFields.{ArePlainNames, whole_within-plain, amount_within-plain, new_name-plain, known_cell-plain, upstream-plain, downstream-plain, signal_cell-plain, demand_gate-plain, turn_cell-plain, region_cell-plain}
 
 -- the same draft in format 2
 abbrev pub in_format_2 : Draft → Draft
 in_format_2 draft = record draft { format = 2 }
 
-abbrev pub result_in_format_2 : Result Draft Code → Result Draft Code
-result_in_format_2 (Ok draft) = Ok (in_format_2 draft)
-result_in_format_2 (Err code) = Err code
+same_in_format_2 : (made more : Draft) → ◌≡◌ {A = Result Draft Code} (Ok made) (Ok more) → ◌≡◌ {A = Result Draft Code} (Ok (in_format_2 made)) (Ok (in_format_2 more))
+same_in_format_2 made more taken =
+    let same : made ≡ more = cc taken in
+    ap (λ (draft : Draft). Ok (in_format_2 draft)) same
+
+names_kept : (made more : Draft) → ◌≡◌ {A = Result Draft Code} (Ok made) (Ok more) → ArePlainNames made.cells → ArePlainNames more.cells
+names_kept made more taken names =
+    let same : made ≡ more = cc taken in
+    subst (λ (draft : Draft). ArePlainNames draft.cells) same names
 
 -- the fields of so many places, from one on
 abbrev pub fields_from : List (List ℕ) → (place count : ℕ) → List (List ℕ)
@@ -39,11 +45,15 @@ pub take_steps-alike : (draft more : Draft) (fields : List (List ℕ)) → ArePl
 unfolding take_steps
 take_steps-alike draft more fields names taken =
     let (first, taken0) = must-ok (is_none draft.steps) Repeated _ more taken in
-    let (steps, (is_steps, taken1)) = bind-ok (whole_within 1 MOST_STEPS (field fields 1)) _ more taken0 in
-    let made : with_steps draft steps ≡ more = cc taken1 in
-    ((whole_within-plain 1 MOST_STEPS (field fields 1) steps is_steps, tt),
-    ((must-as (is_none draft.steps) Repeated _ _ first (bind-as (whole_within 1 MOST_STEPS (field fields 1)) _ steps _ is_steps (ap result_in_format_2 taken1))),
-    subst (λ (draft : Draft). ArePlainNames draft.cells) made names))
+    let (steps, (is_steps, taken1)) = bind-ok (whole_within 1 MOST_STEPS (field fields 1)) _ more taken0 in (
+      (whole_within-plain 1 MOST_STEPS (field fields 1) steps is_steps, tt),
+      (
+        (must-as (is_none draft.steps) Repeated _ _ first
+            (bind-as (whole_within 1 MOST_STEPS (field fields 1)) _ steps _ is_steps
+            (same_in_format_2 _ more taken1))),
+        names_kept _ more taken1 names,
+      ),
+    )
 
 pub take_road-alike : (draft more : Draft) (fields : List (List ℕ)) → ArePlainNames draft.cells → take_road draft fields ≡ Ok more → IsTakenAlike take_road 6 draft fields more
 unfolding take_road
@@ -54,11 +64,34 @@ take_road-alike draft more fields names taken =
     let (num, (is_num, taken4)) = bind-ok (whole_within 1 MOST_RATIO (field fields 4)) _ more taken3 in
     let (den, (is_den, taken5)) = bind-ok (whole_within num MOST_RATIO (field fields 5)) _ more taken4 in
     let (first, (is_first, taken6)) = bind-ok (amount_within room (field fields 6)) _ more taken5 in
-    let (same, plain) = new_name-plain draft.cells (field fields 1) name is_name in
-    let made : add_cell draft (record { name = name; kind = kind.Road; room = room; num = num; den = den; first = first }) capacity ≡ more = cc taken6 in
-    ((plain, (amount_within-plain MOST_ROOM (field fields 2) room is_room, (amount_within-plain MOST_CAPACITY (field fields 3) capacity is_capacity, (whole_within-plain 1 MOST_RATIO (field fields 4) num is_num, (whole_within-plain num MOST_RATIO (field fields 5) den is_den, (amount_within-plain room (field fields 6) first is_first, tt)))))),
-    ((bind-as (new_name draft.cells (field fields 1)) _ name _ is_name (bind-as (amount_within MOST_ROOM (field fields 2)) _ room _ is_room (bind-as (amount_within MOST_CAPACITY (field fields 3)) _ capacity _ is_capacity (bind-as (whole_within 1 MOST_RATIO (field fields 4)) _ num _ is_num (bind-as (whole_within num MOST_RATIO (field fields 5)) _ den _ is_den (bind-as (amount_within room (field fields 6)) _ first _ is_first (ap result_in_format_2 taken6))))))),
-    subst (λ (draft : Draft). ArePlainNames draft.cells) made (All-push (λ (cell : Cell). IsPlain cell.name) draft.cells (record { name = name; kind = kind.Road; room = room; num = num; den = den; first = first }) names (subst IsPlain same plain))))
+    let (same, plain) = new_name-plain draft.cells (field fields 1) name is_name in (
+      (
+        plain,
+        (
+          amount_within-plain MOST_ROOM (field fields 2) room is_room,
+          (
+            amount_within-plain MOST_CAPACITY (field fields 3) capacity is_capacity,
+            (
+              whole_within-plain 1 MOST_RATIO (field fields 4) num is_num,
+              (
+                whole_within-plain num MOST_RATIO (field fields 5) den is_den,
+                (amount_within-plain room (field fields 6) first is_first, tt),
+              ),
+            ),
+          ),
+        ),
+      ),
+      (
+        (bind-as (new_name draft.cells (field fields 1)) _ name _ is_name
+            (bind-as (amount_within MOST_ROOM (field fields 2)) _ room _ is_room
+            (bind-as (amount_within MOST_CAPACITY (field fields 3)) _ capacity _ is_capacity
+            (bind-as (whole_within 1 MOST_RATIO (field fields 4)) _ num _ is_num
+            (bind-as (whole_within num MOST_RATIO (field fields 5)) _ den _ is_den
+            (bind-as (amount_within room (field fields 6)) _ first _ is_first
+            (same_in_format_2 _ more taken6))))))),
+        names_kept _ more taken6 (All-push (λ (cell : Cell). IsPlain cell.name) draft.cells (record { name = name; kind = kind.Road; room = room; num = num; den = den; first = first }) names (subst IsPlain same plain)),
+      ),
+    )
 
 pub take_gate-alike : (draft more : Draft) (fields : List (List ℕ)) → ArePlainNames draft.cells → take_gate draft fields ≡ Ok more → IsTakenAlike take_gate 3 draft fields more
 unfolding take_gate
@@ -66,32 +99,57 @@ take_gate-alike draft more fields names taken =
     let (name, (is_name, taken1)) = bind-ok (new_name draft.cells (field fields 1)) _ more taken in
     let (capacity, (is_capacity, taken2)) = bind-ok (amount_within MOST_CAPACITY (field fields 2)) _ more taken1 in
     let (first, (is_first, taken3)) = bind-ok (amount_within MOST_PARTS (field fields 3)) _ more taken2 in
-    let (same, plain) = new_name-plain draft.cells (field fields 1) name is_name in
-    let made : add_cell draft (without_room name kind.Gate first) capacity ≡ more = cc taken3 in
-    ((plain, (amount_within-plain MOST_CAPACITY (field fields 2) capacity is_capacity, (amount_within-plain MOST_PARTS (field fields 3) first is_first, tt))),
-    ((bind-as (new_name draft.cells (field fields 1)) _ name _ is_name (bind-as (amount_within MOST_CAPACITY (field fields 2)) _ capacity _ is_capacity (bind-as (amount_within MOST_PARTS (field fields 3)) _ first _ is_first (ap result_in_format_2 taken3)))),
-    subst (λ (draft : Draft). ArePlainNames draft.cells) made (All-push (λ (cell : Cell). IsPlain cell.name) draft.cells (without_room name kind.Gate first) names (subst IsPlain same plain))))
+    let (same, plain) = new_name-plain draft.cells (field fields 1) name is_name in (
+      (
+        plain,
+        (
+          amount_within-plain MOST_CAPACITY (field fields 2) capacity is_capacity,
+          (amount_within-plain MOST_PARTS (field fields 3) first is_first, tt),
+        ),
+      ),
+      (
+        (bind-as (new_name draft.cells (field fields 1)) _ name _ is_name
+            (bind-as (amount_within MOST_CAPACITY (field fields 2)) _ capacity _ is_capacity
+            (bind-as (amount_within MOST_PARTS (field fields 3)) _ first _ is_first
+            (same_in_format_2 _ more taken3)))),
+        names_kept _ more taken3 (All-push (λ (cell : Cell). IsPlain cell.name) draft.cells (without_room name kind.Gate first) names (subst IsPlain same plain)),
+      ),
+    )
 
 pub take_exit-alike : (draft more : Draft) (fields : List (List ℕ)) → ArePlainNames draft.cells → take_exit draft fields ≡ Ok more → IsTakenAlike take_exit 2 draft fields more
 unfolding take_exit
 take_exit-alike draft more fields names taken =
     let (name, (is_name, taken1)) = bind-ok (new_name draft.cells (field fields 1)) _ more taken in
     let (capacity, (is_capacity, taken2)) = bind-ok (amount_within MOST_CAPACITY (field fields 2)) _ more taken1 in
-    let (same, plain) = new_name-plain draft.cells (field fields 1) name is_name in
-    let made : add_cell draft (without_room name kind.Exit 0) capacity ≡ more = cc taken2 in
-    ((plain, (amount_within-plain MOST_CAPACITY (field fields 2) capacity is_capacity, tt)),
-    ((bind-as (new_name draft.cells (field fields 1)) _ name _ is_name (bind-as (amount_within MOST_CAPACITY (field fields 2)) _ capacity _ is_capacity (ap result_in_format_2 taken2))),
-    subst (λ (draft : Draft). ArePlainNames draft.cells) made (All-push (λ (cell : Cell). IsPlain cell.name) draft.cells (without_room name kind.Exit 0) names (subst IsPlain same plain))))
+    let (same, plain) = new_name-plain draft.cells (field fields 1) name is_name in (
+      (
+        plain,
+        (amount_within-plain MOST_CAPACITY (field fields 2) capacity is_capacity, tt),
+      ),
+      (
+        (bind-as (new_name draft.cells (field fields 1)) _ name _ is_name
+            (bind-as (amount_within MOST_CAPACITY (field fields 2)) _ capacity _ is_capacity
+            (same_in_format_2 _ more taken2))),
+        names_kept _ more taken2 (All-push (λ (cell : Cell). IsPlain cell.name) draft.cells (without_room name kind.Exit 0) names (subst IsPlain same plain)),
+      ),
+    )
 
 pub take_link-alike : (draft more : Draft) (fields : List (List ℕ)) → ArePlainNames draft.cells → take_link draft fields ≡ Ok more → IsTakenAlike take_link 2 draft fields more
 unfolding take_link
 take_link-alike draft more fields names taken =
     let (up, (is_up, taken1)) = bind-ok (upstream draft.cells draft.connectors None (field fields 1)) _ more taken in
-    let (down, (is_down, taken2)) = bind-ok (downstream draft.cells draft.connectors None (field fields 2)) _ more taken1 in
-    let made : add_connector draft (connector.Link up down) ≡ more = cc taken2 in
-    ((upstream-plain draft.cells draft.connectors None (field fields 1) up names is_up, (downstream-plain draft.cells draft.connectors None (field fields 2) down names is_down, tt)),
-    ((bind-as (upstream draft.cells draft.connectors None (field fields 1)) _ up _ is_up (bind-as (downstream draft.cells draft.connectors None (field fields 2)) _ down _ is_down (ap result_in_format_2 taken2))),
-    subst (λ (draft : Draft). ArePlainNames draft.cells) made names))
+    let (down, (is_down, taken2)) = bind-ok (downstream draft.cells draft.connectors None (field fields 2)) _ more taken1 in (
+      (
+        upstream-plain draft.cells draft.connectors None (field fields 1) up names is_up,
+        (downstream-plain draft.cells draft.connectors None (field fields 2) down names is_down, tt),
+      ),
+      (
+        (bind-as (upstream draft.cells draft.connectors None (field fields 1)) _ up _ is_up
+            (bind-as (downstream draft.cells draft.connectors None (field fields 2)) _ down _ is_down
+            (same_in_format_2 _ more taken2))),
+        names_kept _ more taken2 names,
+      ),
+    )
 
 pub take_merge-alike : (draft more : Draft) (fields : List (List ℕ)) → ArePlainNames draft.cells → take_merge draft fields ≡ Ok more → IsTakenAlike take_merge 5 draft fields more
 unfolding take_merge
@@ -100,11 +158,30 @@ take_merge-alike draft more fields names taken =
     let (up2, (is_up2, taken2)) = bind-ok (upstream draft.cells draft.connectors (Some up1) (field fields 2)) _ more taken1 in
     let (down, (is_down, taken3)) = bind-ok (downstream draft.cells draft.connectors None (field fields 3)) _ more taken2 in
     let (p1, (is_p1, taken4)) = bind-ok (whole_within 1 MOST_RATIO (field fields 4)) _ more taken3 in
-    let (p2, (is_p2, taken5)) = bind-ok (whole_within 1 MOST_RATIO (field fields 5)) _ more taken4 in
-    let made : add_connector draft (connector.Merge up1 up2 down p1 p2) ≡ more = cc taken5 in
-    ((upstream-plain draft.cells draft.connectors None (field fields 1) up1 names is_up1, (upstream-plain draft.cells draft.connectors (Some up1) (field fields 2) up2 names is_up2, (downstream-plain draft.cells draft.connectors None (field fields 3) down names is_down, (whole_within-plain 1 MOST_RATIO (field fields 4) p1 is_p1, (whole_within-plain 1 MOST_RATIO (field fields 5) p2 is_p2, tt))))),
-    ((bind-as (upstream draft.cells draft.connectors None (field fields 1)) _ up1 _ is_up1 (bind-as (upstream draft.cells draft.connectors (Some up1) (field fields 2)) _ up2 _ is_up2 (bind-as (downstream draft.cells draft.connectors None (field fields 3)) _ down _ is_down (bind-as (whole_within 1 MOST_RATIO (field fields 4)) _ p1 _ is_p1 (bind-as (whole_within 1 MOST_RATIO (field fields 5)) _ p2 _ is_p2 (ap result_in_format_2 taken5)))))),
-    subst (λ (draft : Draft). ArePlainNames draft.cells) made names))
+    let (p2, (is_p2, taken5)) = bind-ok (whole_within 1 MOST_RATIO (field fields 5)) _ more taken4 in (
+      (
+        upstream-plain draft.cells draft.connectors None (field fields 1) up1 names is_up1,
+        (
+          upstream-plain draft.cells draft.connectors (Some up1) (field fields 2) up2 names is_up2,
+          (
+            downstream-plain draft.cells draft.connectors None (field fields 3) down names is_down,
+            (
+              whole_within-plain 1 MOST_RATIO (field fields 4) p1 is_p1,
+              (whole_within-plain 1 MOST_RATIO (field fields 5) p2 is_p2, tt),
+            ),
+          ),
+        ),
+      ),
+      (
+        (bind-as (upstream draft.cells draft.connectors None (field fields 1)) _ up1 _ is_up1
+            (bind-as (upstream draft.cells draft.connectors (Some up1) (field fields 2)) _ up2 _ is_up2
+            (bind-as (downstream draft.cells draft.connectors None (field fields 3)) _ down _ is_down
+            (bind-as (whole_within 1 MOST_RATIO (field fields 4)) _ p1 _ is_p1
+            (bind-as (whole_within 1 MOST_RATIO (field fields 5)) _ p2 _ is_p2
+            (same_in_format_2 _ more taken5)))))),
+        names_kept _ more taken5 names,
+      ),
+    )
 
 pub take_diverge-alike : (draft more : Draft) (fields : List (List ℕ)) → ArePlainNames draft.cells → take_diverge draft fields ≡ Ok more → IsTakenAlike take_diverge 5 draft fields more
 unfolding take_diverge
@@ -113,11 +190,30 @@ take_diverge-alike draft more fields names taken =
     let (down1, (is_down1, taken2)) = bind-ok (downstream draft.cells draft.connectors None (field fields 2)) _ more taken1 in
     let (down2, (is_down2, taken3)) = bind-ok (downstream draft.cells draft.connectors (Some down1) (field fields 3)) _ more taken2 in
     let (b1, (is_b1, taken4)) = bind-ok (whole_within 1 MOST_RATIO (field fields 4)) _ more taken3 in
-    let (b2, (is_b2, taken5)) = bind-ok (whole_within 1 MOST_RATIO (field fields 5)) _ more taken4 in
-    let made : add_connector draft (connector.Diverge up down1 down2 b1 b2) ≡ more = cc taken5 in
-    ((upstream-plain draft.cells draft.connectors None (field fields 1) up names is_up, (downstream-plain draft.cells draft.connectors None (field fields 2) down1 names is_down1, (downstream-plain draft.cells draft.connectors (Some down1) (field fields 3) down2 names is_down2, (whole_within-plain 1 MOST_RATIO (field fields 4) b1 is_b1, (whole_within-plain 1 MOST_RATIO (field fields 5) b2 is_b2, tt))))),
-    ((bind-as (upstream draft.cells draft.connectors None (field fields 1)) _ up _ is_up (bind-as (downstream draft.cells draft.connectors None (field fields 2)) _ down1 _ is_down1 (bind-as (downstream draft.cells draft.connectors (Some down1) (field fields 3)) _ down2 _ is_down2 (bind-as (whole_within 1 MOST_RATIO (field fields 4)) _ b1 _ is_b1 (bind-as (whole_within 1 MOST_RATIO (field fields 5)) _ b2 _ is_b2 (ap result_in_format_2 taken5)))))),
-    subst (λ (draft : Draft). ArePlainNames draft.cells) made names))
+    let (b2, (is_b2, taken5)) = bind-ok (whole_within 1 MOST_RATIO (field fields 5)) _ more taken4 in (
+      (
+        upstream-plain draft.cells draft.connectors None (field fields 1) up names is_up,
+        (
+          downstream-plain draft.cells draft.connectors None (field fields 2) down1 names is_down1,
+          (
+            downstream-plain draft.cells draft.connectors (Some down1) (field fields 3) down2 names is_down2,
+            (
+              whole_within-plain 1 MOST_RATIO (field fields 4) b1 is_b1,
+              (whole_within-plain 1 MOST_RATIO (field fields 5) b2 is_b2, tt),
+            ),
+          ),
+        ),
+      ),
+      (
+        (bind-as (upstream draft.cells draft.connectors None (field fields 1)) _ up _ is_up
+            (bind-as (downstream draft.cells draft.connectors None (field fields 2)) _ down1 _ is_down1
+            (bind-as (downstream draft.cells draft.connectors (Some down1) (field fields 3)) _ down2 _ is_down2
+            (bind-as (whole_within 1 MOST_RATIO (field fields 4)) _ b1 _ is_b1
+            (bind-as (whole_within 1 MOST_RATIO (field fields 5)) _ b2 _ is_b2
+            (same_in_format_2 _ more taken5)))))),
+        names_kept _ more taken5 names,
+      ),
+    )
 
 pub take_signal-alike : (draft more : Draft) (fields : List (List ℕ)) → ArePlainNames draft.cells → take_signal draft fields ≡ Ok more → IsTakenAlike take_signal 5 draft fields more
 unfolding take_signal
@@ -126,11 +222,30 @@ take_signal-alike draft more fields names taken =
     let (cycle, (is_cycle, taken2)) = bind-ok (whole_within 1 MOST_STEPS (field fields 2)) _ more taken1 in
     let (offset, (is_offset, taken3)) = bind-ok (whole_within 0 (cycle - 1) (field fields 3)) _ more taken2 in
     let (from, (is_from, taken4)) = bind-ok (whole_within 0 (cycle - 1) (field fields 4)) _ more taken3 in
-    let (to, (is_to, taken5)) = bind-ok (whole_within (from + 1) cycle (field fields 5)) _ more taken4 in
-    let made : add_signal draft (record { cell = cell; cycle = cycle; offset = offset; from = from; to = to }) ≡ more = cc taken5 in
-    ((signal_cell-plain draft.cells draft.plan (field fields 1) cell names is_cell, (whole_within-plain 1 MOST_STEPS (field fields 2) cycle is_cycle, (whole_within-plain 0 (cycle - 1) (field fields 3) offset is_offset, (whole_within-plain 0 (cycle - 1) (field fields 4) from is_from, (whole_within-plain (from + 1) cycle (field fields 5) to is_to, tt))))),
-    ((bind-as (signal_cell draft.cells draft.plan (field fields 1)) _ cell _ is_cell (bind-as (whole_within 1 MOST_STEPS (field fields 2)) _ cycle _ is_cycle (bind-as (whole_within 0 (cycle - 1) (field fields 3)) _ offset _ is_offset (bind-as (whole_within 0 (cycle - 1) (field fields 4)) _ from _ is_from (bind-as (whole_within (from + 1) cycle (field fields 5)) _ to _ is_to (ap result_in_format_2 taken5)))))),
-    subst (λ (draft : Draft). ArePlainNames draft.cells) made names))
+    let (to, (is_to, taken5)) = bind-ok (whole_within (from + 1) cycle (field fields 5)) _ more taken4 in (
+      (
+        signal_cell-plain draft.cells draft.plan (field fields 1) cell names is_cell,
+        (
+          whole_within-plain 1 MOST_STEPS (field fields 2) cycle is_cycle,
+          (
+            whole_within-plain 0 (cycle - 1) (field fields 3) offset is_offset,
+            (
+              whole_within-plain 0 (cycle - 1) (field fields 4) from is_from,
+              (whole_within-plain (from + 1) cycle (field fields 5) to is_to, tt),
+            ),
+          ),
+        ),
+      ),
+      (
+        (bind-as (signal_cell draft.cells draft.plan (field fields 1)) _ cell _ is_cell
+            (bind-as (whole_within 1 MOST_STEPS (field fields 2)) _ cycle _ is_cycle
+            (bind-as (whole_within 0 (cycle - 1) (field fields 3)) _ offset _ is_offset
+            (bind-as (whole_within 0 (cycle - 1) (field fields 4)) _ from _ is_from
+            (bind-as (whole_within (from + 1) cycle (field fields 5)) _ to _ is_to
+            (same_in_format_2 _ more taken5)))))),
+        names_kept _ more taken5 names,
+      ),
+    )
 
 pub take_limit-alike : (draft more : Draft) (fields : List (List ℕ)) → ArePlainNames draft.cells → take_limit draft fields ≡ Ok more → IsTakenAlike take_limit 4 draft fields more
 unfolding take_limit
@@ -138,11 +253,26 @@ take_limit-alike draft more fields names taken =
     let (cell, (is_cell, taken1)) = bind-ok (known_cell draft.cells (field fields 1)) _ more taken in
     let (from, (is_from, taken2)) = bind-ok (whole_within 0 (MOST_STEPS - 1) (field fields 2)) _ more taken1 in
     let (to, (is_to, taken3)) = bind-ok (whole_within (from + 1) MOST_STEPS (field fields 3)) _ more taken2 in
-    let (capacity, (is_capacity, taken4)) = bind-ok (amount_within MOST_CAPACITY (field fields 4)) _ more taken3 in
-    let made : add_limit draft (record { cell = cell; from = from; to = to; capacity = capacity }) ≡ more = cc taken4 in
-    ((known_cell-plain draft.cells (field fields 1) cell names is_cell, (whole_within-plain 0 (MOST_STEPS - 1) (field fields 2) from is_from, (whole_within-plain (from + 1) MOST_STEPS (field fields 3) to is_to, (amount_within-plain MOST_CAPACITY (field fields 4) capacity is_capacity, tt)))),
-    ((bind-as (known_cell draft.cells (field fields 1)) _ cell _ is_cell (bind-as (whole_within 0 (MOST_STEPS - 1) (field fields 2)) _ from _ is_from (bind-as (whole_within (from + 1) MOST_STEPS (field fields 3)) _ to _ is_to (bind-as (amount_within MOST_CAPACITY (field fields 4)) _ capacity _ is_capacity (ap result_in_format_2 taken4))))),
-    subst (λ (draft : Draft). ArePlainNames draft.cells) made names))
+    let (capacity, (is_capacity, taken4)) = bind-ok (amount_within MOST_CAPACITY (field fields 4)) _ more taken3 in (
+      (
+        known_cell-plain draft.cells (field fields 1) cell names is_cell,
+        (
+          whole_within-plain 0 (MOST_STEPS - 1) (field fields 2) from is_from,
+          (
+            whole_within-plain (from + 1) MOST_STEPS (field fields 3) to is_to,
+            (amount_within-plain MOST_CAPACITY (field fields 4) capacity is_capacity, tt),
+          ),
+        ),
+      ),
+      (
+        (bind-as (known_cell draft.cells (field fields 1)) _ cell _ is_cell
+            (bind-as (whole_within 0 (MOST_STEPS - 1) (field fields 2)) _ from _ is_from
+            (bind-as (whole_within (from + 1) MOST_STEPS (field fields 3)) _ to _ is_to
+            (bind-as (amount_within MOST_CAPACITY (field fields 4)) _ capacity _ is_capacity
+            (same_in_format_2 _ more taken4))))),
+        names_kept _ more taken4 names,
+      ),
+    )
 
 pub take_demand-alike : (draft more : Draft) (fields : List (List ℕ)) → ArePlainNames draft.cells → take_demand draft fields ≡ Ok more → IsTakenAlike take_demand 4 draft fields more
 unfolding take_demand
@@ -150,11 +280,26 @@ take_demand-alike draft more fields names taken =
     let (gate, (is_gate, taken1)) = bind-ok (demand_gate draft.cells (field fields 1)) _ more taken in
     let (from, (is_from, taken2)) = bind-ok (whole_within 0 (MOST_STEPS - 1) (field fields 2)) _ more taken1 in
     let (to, (is_to, taken3)) = bind-ok (whole_within (from + 1) MOST_STEPS (field fields 3)) _ more taken2 in
-    let (amount, (is_amount, taken4)) = bind-ok (amount_within MOST_PARTS (field fields 4)) _ more taken3 in
-    let made : add_demand draft (record { cell = gate; from = from; to = to; amount = amount }) ≡ more = cc taken4 in
-    ((demand_gate-plain draft.cells (field fields 1) gate names is_gate, (whole_within-plain 0 (MOST_STEPS - 1) (field fields 2) from is_from, (whole_within-plain (from + 1) MOST_STEPS (field fields 3) to is_to, (amount_within-plain MOST_PARTS (field fields 4) amount is_amount, tt)))),
-    ((bind-as (demand_gate draft.cells (field fields 1)) _ gate _ is_gate (bind-as (whole_within 0 (MOST_STEPS - 1) (field fields 2)) _ from _ is_from (bind-as (whole_within (from + 1) MOST_STEPS (field fields 3)) _ to _ is_to (bind-as (amount_within MOST_PARTS (field fields 4)) _ amount _ is_amount (ap result_in_format_2 taken4))))),
-    subst (λ (draft : Draft). ArePlainNames draft.cells) made names))
+    let (amount, (is_amount, taken4)) = bind-ok (amount_within MOST_PARTS (field fields 4)) _ more taken3 in (
+      (
+        demand_gate-plain draft.cells (field fields 1) gate names is_gate,
+        (
+          whole_within-plain 0 (MOST_STEPS - 1) (field fields 2) from is_from,
+          (
+            whole_within-plain (from + 1) MOST_STEPS (field fields 3) to is_to,
+            (amount_within-plain MOST_PARTS (field fields 4) amount is_amount, tt),
+          ),
+        ),
+      ),
+      (
+        (bind-as (demand_gate draft.cells (field fields 1)) _ gate _ is_gate
+            (bind-as (whole_within 0 (MOST_STEPS - 1) (field fields 2)) _ from _ is_from
+            (bind-as (whole_within (from + 1) MOST_STEPS (field fields 3)) _ to _ is_to
+            (bind-as (amount_within MOST_PARTS (field fields 4)) _ amount _ is_amount
+            (same_in_format_2 _ more taken4))))),
+        names_kept _ more taken4 names,
+      ),
+    )
 
 pub take_turn-alike : (draft more : Draft) (fields : List (List ℕ)) → ArePlainNames draft.cells → take_turn draft fields ≡ Ok more → IsTakenAlike take_turn 5 draft fields more
 unfolding take_turn
@@ -163,18 +308,44 @@ take_turn-alike draft more fields names taken =
     let (from, (is_from, taken2)) = bind-ok (whole_within 0 (MOST_STEPS - 1) (field fields 2)) _ more taken1 in
     let (to, (is_to, taken3)) = bind-ok (whole_within (from + 1) MOST_STEPS (field fields 3)) _ more taken2 in
     let (b1, (is_b1, taken4)) = bind-ok (whole_within 1 MOST_RATIO (field fields 4)) _ more taken3 in
-    let (b2, (is_b2, taken5)) = bind-ok (whole_within 1 MOST_RATIO (field fields 5)) _ more taken4 in
-    let made : add_turn draft (record { cell = cell; from = from; to = to; b1 = b1; b2 = b2 }) ≡ more = cc taken5 in
-    ((turn_cell-plain draft.cells draft.connectors (field fields 1) cell names is_cell, (whole_within-plain 0 (MOST_STEPS - 1) (field fields 2) from is_from, (whole_within-plain (from + 1) MOST_STEPS (field fields 3) to is_to, (whole_within-plain 1 MOST_RATIO (field fields 4) b1 is_b1, (whole_within-plain 1 MOST_RATIO (field fields 5) b2 is_b2, tt))))),
-    ((bind-as (turn_cell draft.cells draft.connectors (field fields 1)) _ cell _ is_cell (bind-as (whole_within 0 (MOST_STEPS - 1) (field fields 2)) _ from _ is_from (bind-as (whole_within (from + 1) MOST_STEPS (field fields 3)) _ to _ is_to (bind-as (whole_within 1 MOST_RATIO (field fields 4)) _ b1 _ is_b1 (bind-as (whole_within 1 MOST_RATIO (field fields 5)) _ b2 _ is_b2 (ap result_in_format_2 taken5)))))),
-    subst (λ (draft : Draft). ArePlainNames draft.cells) made names))
+    let (b2, (is_b2, taken5)) = bind-ok (whole_within 1 MOST_RATIO (field fields 5)) _ more taken4 in (
+      (
+        turn_cell-plain draft.cells draft.connectors (field fields 1) cell names is_cell,
+        (
+          whole_within-plain 0 (MOST_STEPS - 1) (field fields 2) from is_from,
+          (
+            whole_within-plain (from + 1) MOST_STEPS (field fields 3) to is_to,
+            (
+              whole_within-plain 1 MOST_RATIO (field fields 4) b1 is_b1,
+              (whole_within-plain 1 MOST_RATIO (field fields 5) b2 is_b2, tt),
+            ),
+          ),
+        ),
+      ),
+      (
+        (bind-as (turn_cell draft.cells draft.connectors (field fields 1)) _ cell _ is_cell
+            (bind-as (whole_within 0 (MOST_STEPS - 1) (field fields 2)) _ from _ is_from
+            (bind-as (whole_within (from + 1) MOST_STEPS (field fields 3)) _ to _ is_to
+            (bind-as (whole_within 1 MOST_RATIO (field fields 4)) _ b1 _ is_b1
+            (bind-as (whole_within 1 MOST_RATIO (field fields 5)) _ b2 _ is_b2
+            (same_in_format_2 _ more taken5)))))),
+        names_kept _ more taken5 names,
+      ),
+    )
 
 pub take_region-alike : (draft more : Draft) (fields : List (List ℕ)) → ArePlainNames draft.cells → take_region draft fields ≡ Ok more → IsTakenAlike take_region 2 draft fields more
 unfolding take_region
 take_region-alike draft more fields names taken =
     let (cell, (is_cell, taken1)) = bind-ok (region_cell draft.cells draft.regions (field fields 1)) _ more taken in
-    let (number, (is_number, taken2)) = bind-ok (whole_within 0 (MOST_REGIONS - 1) (field fields 2)) _ more taken1 in
-    let made : add_region draft (record { cell = cell; number = number }) ≡ more = cc taken2 in
-    ((region_cell-plain draft.cells draft.regions (field fields 1) cell names is_cell, (whole_within-plain 0 (MOST_REGIONS - 1) (field fields 2) number is_number, tt)),
-    ((bind-as (region_cell draft.cells draft.regions (field fields 1)) _ cell _ is_cell (bind-as (whole_within 0 (MOST_REGIONS - 1) (field fields 2)) _ number _ is_number (ap result_in_format_2 taken2))),
-    subst (λ (draft : Draft). ArePlainNames draft.cells) made names))
+    let (number, (is_number, taken2)) = bind-ok (whole_within 0 (MOST_REGIONS - 1) (field fields 2)) _ more taken1 in (
+      (
+        region_cell-plain draft.cells draft.regions (field fields 1) cell names is_cell,
+        (whole_within-plain 0 (MOST_REGIONS - 1) (field fields 2) number is_number, tt),
+      ),
+      (
+        (bind-as (region_cell draft.cells draft.regions (field fields 1)) _ cell _ is_cell
+            (bind-as (whole_within 0 (MOST_REGIONS - 1) (field fields 2)) _ number _ is_number
+            (same_in_format_2 _ more taken2))),
+        names_kept _ more taken2 names,
+      ),
+    )

@@ -1,14 +1,12 @@
 -- A record that is taken has plain fields, and is taken alike in format 2.
-use Rattle.std.proofs.Common.{ℕ, zero, suc, ◌≡◌, ◌==◌, ◌≤◌, ◌<◌, Bool, true, false, List, [], ◌∷◌, Ok, Err, Some, None, refl, sym, subst, ap, ◌∙◌, arith, cond, length}
-use Rattle.std.specs.Prelude.{Option, Result, nat_lt, ok_or}
+use Rattle.std.proofs.Common.{ℕ, zero, suc, ◌≡◌, ◌==◌, ◌≤◌, ◌<◌, Bool, true, false, List, [], ◌∷◌, Ok, refl, sym, subst, ap, ◌∙◌, arith, cond, length}
+use Rattle.std.specs.Prelude.{nat_lt, ok_or}
 use Rattle.std.proofs.lemmas.Bool.{eqb-true, lt-ltb, ltb-true}
-use Rattle.std.proofs.lemmas.Bool.Decides.{nat_tests}
 use Rattle.signal_plan.specs.declared.bounds.TheConstants.{MOST_RECORDS}
 use Rattle.network_file.specs.Draft.{Draft}
 use Rattle.network_file.specs.Fields.{field}
 use Rattle.network_file.specs.Formats.{most_records}
 use Rattle.network_file.specs.Taking.{field_count, record_kind_of, take_kind, take_record, taken_before}
-use Rattle.network_file.specs.declared.code.Code.{Code}
 use Rattle.network_file.specs.declared.code.Code.TheVariants.{BadKind, BadCount, TooMany}
 use Rattle.network_file.specs.declared.limits.TheConstants.{MOST_RECORDS_OF_FORMAT_1}
 use Rattle.network_file.specs.declared.record_kind.RecordKind.{RecordKind}
@@ -16,7 +14,8 @@ use Rattle.network_file.specs.declared.record_kind.RecordKind.TheVariants.{Steps
 use Rattle.network_file.proofs.KindWords.{record_kind_of-word, record_kind_of-word_of, word_of, word_of-plain}
 use Rattle.network_file.proofs.PlainLines.{ArePlain, IsPlainRecord}
 use Rattle.network_file.proofs.PlainText.{IsPlain}
-use Rattle.network_file.proofs.TakenFields.{ArePlainNames, bind-as, bind-ok, must-as, must-ok}
+use Rattle.network_file.proofs.CheckLemmas.{bind-as, bind-ok, must-as, must-ok, ok_or-some}
+use Rattle.network_file.proofs.TakenFields.{ArePlainNames}
 use Rattle.network_file.proofs.TakenKinds.{IsTakenAlike, fields_from, in_format_2, take_demand-alike, take_diverge-alike, take_exit-alike, take_gate-alike, take_limit-alike, take_link-alike, take_merge-alike, take_region-alike, take_road-alike, take_signal-alike, take_steps-alike, take_turn-alike}
 
 -- how many fields stand behind the kind
@@ -106,10 +105,6 @@ plain-by_places fields later count first rest =
     let each : ArePlain (fields_from fields 0 (suc later)) = (first, rest) in
     record { some = omega (arith, count); each = subst ArePlain all each }
 
-ok_or-some : {A : Type 0} (o : Option A) (code : Code) (a : A) → ok_or o code ≡ Ok a → o ≡ Some a
-ok_or-some (Some a) code b taken = ap Some (cc taken)
-ok_or-some None code b taken = cc taken
-
 -- what is known of a record that is taken
 abbrev pub IsRecordTakenAlike : Draft → List (List ℕ) → Draft → Type 0
 IsRecordTakenAlike draft fields more = IsPlainRecord fields × ((take_record (in_format_2 draft) fields ≡ Ok (in_format_2 more)) × ArePlainNames more.cells)
@@ -126,9 +121,12 @@ take_record-alike draft more fields names taken =
     let count : length fields ≡ suc (later_count kind) = eqb-true (length fields) (field_count kind) counted ∙ field_count-later kind in
     let kind_2 : ok_or (record_kind_of 2 (field fields 0)) BadKind ≡ Ok kind = ap (λ text. ok_or (record_kind_of 2 text) BadKind) named ∙ ap (λ o. ok_or o BadKind) (record_kind_of-word_of kind) in
     let room_2 : nat_lt (taken_before kind (in_format_2 draft)) MOST_RECORDS ≡ true =
-    ap (λ n. nat_lt n MOST_RECORDS) (taken_before-in_format_2 kind draft) ∙ room-in_format_2 (taken_before kind draft) draft.format room in
-    (plain-by_places fields (later_count kind) count (subst IsPlain (sym named) (word_of-plain kind)) plain,
-    (bind-as (ok_or (record_kind_of 2 (field fields 0)) BadKind) _ kind _ kind_2
-    (must-as (length fields == field_count kind) BadCount _ _ counted
-    (must-as (nat_lt (taken_before kind (in_format_2 draft)) MOST_RECORDS) TooMany _ _ room_2 alike)),
-    new_names))
+    ap (λ n. nat_lt n MOST_RECORDS) (taken_before-in_format_2 kind draft) ∙ room-in_format_2 (taken_before kind draft) draft.format room in (
+      plain-by_places fields (later_count kind) count (subst IsPlain (sym named) (word_of-plain kind)) plain,
+      (
+        bind-as (ok_or (record_kind_of 2 (field fields 0)) BadKind) _ kind _ kind_2
+            (must-as (length fields == field_count kind) BadCount _ _ counted
+            (must-as (nat_lt (taken_before kind (in_format_2 draft)) MOST_RECORDS) TooMany _ _ room_2 alike)),
+        new_names,
+      ),
+    )

@@ -1,5 +1,5 @@
 -- The region records of a file, and the cutting that they make.
-use Rattle.std.specs.Prelude.{ℕ, ◌==◌, Bool, List, Option, is_some, get_or, map, unwrap_or}
+use Rattle.std.specs.Prelude.{ℕ, ◌==◌, Bool, List, Option, is_some, map, unwrap_or}
 use Rattle.std.specs.List.{find, list_all, range_with_len}
 use Rattle.std.specs.Option.{option_map}
 use Rattle.network_file.specs.declared.region_record.RegionRecord.{RegionRecord}

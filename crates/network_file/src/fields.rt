@@ -186,7 +186,11 @@ pub(crate) fn turn_cell(
 
 /// The cell of a region.
 #[tactic(auto, unfolding(crate::specs::Fields::region_cell))]
-pub(crate) fn region_cell(cells: &CellTable, regions: &RegionTable, text: &[u8]) -> Result<u32, Code>
+pub(crate) fn region_cell(
+    cells: &CellTable,
+    regions: &RegionTable,
+    text: &[u8],
+) -> Result<u32, Code>
     ensures value { result ≡ region_cell cells.now regions.now text.now }
     ensures there { IfOk result (λ cell. cell < length cells.now) }
     ensures first_region { IfOk result (λ cell. region_in regions.now cell ≡ None) }

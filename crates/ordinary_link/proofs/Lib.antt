@@ -1,3 +1,6 @@
 pub mod Bounds
 pub mod Places
 pub mod Lanes
+pub mod LesserLanes
+pub mod MarkLanes
+pub mod SumLanes

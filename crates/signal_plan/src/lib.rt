@@ -2,8 +2,14 @@
 //!
 //! A plan has a list of cells, each with its capacity, and the signals, limits, demand records and
 //! turn records of these cells. It is asked for the capacity, the light, the demand and the turning
-//! shares of a cell at a step. Amounts are in parts, millionths of a vehicle; cells are numbered from
-//! 0 in the order in which they were put.
+//! shares of a cell at a step, or for all their changes in the order of the steps. Amounts are in
+//! parts, millionths of a vehicle; cells are numbered from 0 in the order in which they were put.
+//!
+//! - The plan is in `step_plan`; what it says of one cell in `cell_plan` and `cell_records`; the records
+//!   in `signal`, `limit`, `demand` and `turn`.
+//! - Lists of changes: `span` has those of one record, `merge` those of two lists together, by a `join`
+//!   of their values; `record_changes` those of all records of a cell, `fallback` the cell's own value
+//!   where no record speaks.
 #![tactic(auto)]
 
 mod bounds;

@@ -16,8 +16,7 @@ pub neighbour-there : (net : Network) (cut : List ℕ) (r q : ℕ) → are_neigh
 neighbour-there net cut r q near =
     let by = neighbours-by net.connectors cut r q near in
     let first = touches_region-cell cut r by.connector by.first in
-    let second = touches_region-cell cut q by.connector by.second in
-    (
+    let second = touches_region-cell cut q by.connector by.second in (
       subst (λ p. p < region_count cut) first.2 (region_at-there cut first.0),
       subst (λ p. p < region_count cut) second.2 (region_at-there cut second.0),
     )

@@ -30,11 +30,10 @@ lawful-from net cut chart steps is long each = record {
 
 pub lawful-at : (net : Network) (cut : List ℕ) (chart : ChartLists) (steps : List ℕ) (r : ℕ) → chart ≡ chart_of net cut → AreLawful net cut steps → r < region_count cut →
     StandsClose net chart steps r
-lawful-at net cut chart steps r is lawful within =
-    (
-      lawful.in_time r 0 (omega (arith, lawful.one_each)),
-      all_neighbours (λ q. slice_index steps r ≤ slice_index steps q + 1) net cut chart r is within (lawful.close r),
-    )
+lawful-at net cut chart steps r is lawful within = (
+  lawful.in_time r 0 (omega (arith, lawful.one_each)),
+  all_neighbours (λ q. slice_index steps r ≤ slice_index steps q + 1) net cut chart r is within (lawful.close r),
+)
 
 -- no neighbour stands lower
 

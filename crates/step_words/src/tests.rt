@@ -4,7 +4,8 @@ use region_cut::{Chart, Cut, CutFault, CutRefusal, Halo};
 use std::test::Fail;
 
 // A gate, a road and an exit, one after the other, through three steps.
-const FILE: &[u8] = b"ctm,1\nsteps,3\ngate,in,2,0\nroad,a,6,2,1,2,0\nexit,out,2\nlink,in,a\nlink,a,out\ndemand,in,0,1,4\n";
+const FILE: &[u8] =
+    b"ctm,1\nsteps,3\ngate,in,2,0\nroad,a,6,2,1,2,0\nexit,out,2\nlink,in,a\nlink,a,out\ndemand,in,0,1,4\n";
 
 #[test]
 fn list_with_a_fault_is_no_cutting(rt: HostRuntime) -> Result<(), Fail> {

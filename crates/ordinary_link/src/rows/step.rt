@@ -31,7 +31,7 @@ pub fn step_row(
     ensures held { (i : ℕ) → i < length n.new → slice_index n.new i ≡ slice_index n.old i + slice_index enter.now i - slice_index out.now i }
     ensures came { (i : ℕ) → i < length come.new → slice_index come.new i ≡ slice_index come.old i + slice_index enter.now i }
     ensures went { (i : ℕ) → i < length gone.new → slice_index gone.new i ≡ slice_index gone.old i + slice_index out.now i }
-    ensures waited { (i : ℕ) → i < length wait.new
+    ensures stayed { (i : ℕ) → i < length wait.new
         → slice_index wait.new i ≡ waited (slice_index wait.old i) (slice_index n.old i) (slice_index out.now i) (slice_index_or waits.now i false) }
     ensures n_len { length n.new ≡ length n.old }
     ensures come_len { length come.new ≡ length come.old }

@@ -5,8 +5,7 @@ use Rattle.ctm_program.proofs.top_call.run.Goals as goal
 pub returns-clause-answered : goal.returns-clause-answered
 returns-clause-answered g c =
     let given = c.in-Err.ensures.refusal in
-    let call = unwritten (answer_of c.args.words.now given.0) c.in-Err.refusal given.2 in
-    (
+    let call = unwritten (answer_of c.args.words.now given.0) c.in-Err.refusal given.2 in (
       given.0,
       call.text,
       given.1,

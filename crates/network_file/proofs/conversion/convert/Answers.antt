@@ -1,5 +1,3 @@
-use Rattle.std.proofs.Common.{sym, subst}
-use Rattle.network_file.specs.SameNetwork.{SaysTheSame}
 use Rattle.network_file.proofs.ConvertedLemmas.{converted-same}
 use Rattle.network_file.proofs.conversion.convert.Goals as goal
 

@@ -1,4 +1,4 @@
-use Rattle.std.proofs.Common.{rules, ◌≡◌, ◌++◌, ◌∷◌, [], ◌∙◌, List, ℕ, Bor, Some, sym}
+use Rattle.std.proofs.Common.{rules, ◌≡◌, ◌∷◌, ◌∙◌, List, ℕ, Bor, Some, sym}
 use Rattle.std.specs.Prelude.{codes}
 use Rattle.csv.specs.Records.{fields_of}
 use Rattle.network_file.specs.FileRecords.{file_records_of, records_left}

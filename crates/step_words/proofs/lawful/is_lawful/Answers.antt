@@ -7,8 +7,7 @@ use Rattle.step_words.proofs.lawful.is_lawful.Goals as goal
 pub returns-then-steps-r : goal.returns-then-steps-r
 returns-then-steps-r c =
     let steps = ap (λ net. net.steps) c.net.view_is in
-    let within : c.loop-r.r < region_count c.args.chart.now.cut = omega (arith, c.regions-r-end.ensures.count) in
-    (
+    let within : c.loop-r.r < region_count c.args.chart.now.cut = omega (arith, c.regions-r-end.ensures.count) in (
       (λ no. cc),
       λ lawful.
           let close = lawful-at c.args.net.now c.args.chart.now.cut c.args.chart.now c.args.steps.now c.loop-r.r c.requires lawful within in

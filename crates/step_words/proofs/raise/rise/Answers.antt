@@ -6,8 +6,7 @@ use Rattle.step_words.proofs.raise.rise.Goals as goal
 
 pub returns-then-step-net-clause-exactly : goal.returns-then-step-net-clause-exactly
 returns-then-step-net-clause-exactly c =
-    let steps = ap (λ net. net.steps) c.net.view_is in
-    (
+    let steps = ap (λ net. net.steps) c.net.view_is in (
       (λ no. cc),
       λ can. elim c.then-step-net.branch [
         | then-step-net-via-then-step-net w ↦ absurd (omega (arith, can.below, steps, w.if-step-net.true))

@@ -1,4 +1,4 @@
-use Rattle.std.proofs.Common.{◌≡◌, ◌++◌, ◌∷◌, [], rules, true, false, Some, None, arith, refl, sym, ap, ◌∙◌}
+use Rattle.std.proofs.Common.{◌≡◌, ◌++◌, ◌∷◌, [], rules, arith, refl, sym, ◌∙◌}
 use Rattle.network_file.proofs.CuttingLemmas.{all_have_regions-more, all_have_regions-not, region_numbers-more}
 use Rattle.network_file.proofs.region_table.RegionTable.numbers.Goals as goal
 

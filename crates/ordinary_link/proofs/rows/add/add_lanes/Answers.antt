@@ -1,6 +1,7 @@
 use Rattle.std.proofs.Common.{◌≡◌, ◌<◌, ◌^◌, ℕ, ◌+◌, ◌≤◌, ◌∙◌, List, length, arith, slice_index}
 use Rattle.ordinary_link.proofs.Places.{Sets-stored}
-use Rattle.ordinary_link.proofs.Lanes.{loaded, length-loaded, slice_index-loaded, added, length-added, slice_index-added}
+use Rattle.ordinary_link.proofs.Lanes.{loaded, length-loaded, slice_index-loaded}
+use Rattle.ordinary_link.proofs.SumLanes.{added, length-added, slice_index-added}
 use Rattle.ordinary_link.proofs.rows.add.add_lanes.Goals as goal
 
 -- a lane of the sum, where its place has room for it

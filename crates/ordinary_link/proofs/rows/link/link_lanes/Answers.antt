@@ -1,6 +1,6 @@
 use Rattle.std.proofs.Common.{arith}
 use Rattle.ordinary_link.proofs.Places.{Sets-stored}
-use Rattle.ordinary_link.proofs.Lanes.{lesser, length-lesser, slice_index-lesser}
+use Rattle.ordinary_link.proofs.LesserLanes.{lesser, length-lesser, slice_index-lesser}
 use Rattle.ordinary_link.proofs.rows.link.link_lanes.Goals as goal
 
 pub returns : goal.returns

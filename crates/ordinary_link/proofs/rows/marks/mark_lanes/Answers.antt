@@ -1,6 +1,6 @@
 use Rattle.std.proofs.Common.{◌+◌, false, if◌then◌else◌, slice_index_or, arith, ◌∙◌}
 use Rattle.std.proofs.Math.ListN.{length-set}
-use Rattle.ordinary_link.proofs.Lanes.{marks_more, bool_byte_is}
+use Rattle.ordinary_link.proofs.MarkLanes.{marks_more, bool_byte_is}
 use Rattle.ordinary_link.proofs.rows.marks.mark_lanes.Goals as goal
 
 pub loop-k-preserved : goal.loop-k-preserved

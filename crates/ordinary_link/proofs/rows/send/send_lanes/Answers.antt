@@ -1,6 +1,7 @@
 use Rattle.std.proofs.Common.{ap, ◌∙◌, arith, ◌+◌, false, if◌then◌else◌, slice_index_or}
 use Rattle.ordinary_link.proofs.Places.{Sets-stored}
-use Rattle.ordinary_link.proofs.Lanes.{lesser, length-lesser, slice_index-lesser, where_set, length-where_set, slice_index-where_set}
+use Rattle.ordinary_link.proofs.LesserLanes.{lesser, length-lesser, slice_index-lesser}
+use Rattle.ordinary_link.proofs.MarkLanes.{where_set, length-where_set, slice_index-where_set}
 use Rattle.ordinary_link.proofs.rows.send.send_lanes.Goals as goal
 
 pub returns : goal.returns

@@ -1,7 +1,9 @@
 use Rattle.std.proofs.Common.{ap, ◌≡◌, ◌<◌, ◌≤◌, ◌^◌, ℕ, ◌+◌, ◌-◌, ◌∙◌, Bool, true, false, if◌then◌else◌, List, length, arith, slice_index, slice_index_or}
 use Rattle.ordinary_link.specs.Waiting.{waited}
 use Rattle.ordinary_link.proofs.Places.{Sets-stored}
-use Rattle.ordinary_link.proofs.Lanes.{loaded, length-loaded, slice_index-loaded, added, length-added, slice_index-added, taken_off, length-taken_off, slice_index-taken_off, where_set, length-where_set, slice_index-where_set}
+use Rattle.ordinary_link.proofs.Lanes.{loaded, length-loaded, slice_index-loaded}
+use Rattle.ordinary_link.proofs.MarkLanes.{where_set, length-where_set, slice_index-where_set}
+use Rattle.ordinary_link.proofs.SumLanes.{added, length-added, slice_index-added, taken_off, length-taken_off, slice_index-taken_off}
 use Rattle.ordinary_link.proofs.rows.wait.wait_lanes.Goals as goal
 
 -- the lanes that waited, and those that stay where the marks are set
