@@ -1,6 +1,5 @@
 use crate::top_call::ctm;
 use ctm_ports::{MemSink, MemSource, OpenGate, SureSink, SureSource};
-use itoa::Buffer;
 use std::alloc::{AllocError, Global};
 use std::test::Fail;
 use std::thread::Threads;
@@ -42,22 +41,6 @@ fn lines(alloc: Global, text: &str) -> Result<Vec<u8>, AllocError> {
     let mut lines = text.replace(alloc, "; ", "\n")?.into_bytes();
     lines.push(b'\n')?;
     Ok(lines)
-}
-
-// Puts so many lines behind a text. In each, `#` stands for its number, which goes up to 99,999 and begins again.
-fn put_lines(text: &mut Vec<u8>, line: &[u8], count: u32) -> Result<(), AllocError> {
-    let mut digits = Buffer::new();
-    for i in 0..count {
-        for byte in line {
-            if *byte == b'#' {
-                text.extend_from_slice(digits.format(i % 100_000).as_bytes())?;
-            } else {
-                text.push(*byte)?;
-            }
-        }
-        text.push(b'\n')?;
-    }
-    Ok(())
 }
 
 // The exit status of a call, and what it wrote.
@@ -408,67 +391,18 @@ fn the_greatest_numbers_are_accepted(rt: HostRuntime) -> Result<(), Fail> {
     Ok(())
 }
 
+// tests/program has the other kinds of records.
 #[test]
-fn one_record_past_the_limit_is_a_fault(rt: HostRuntime) -> Result<(), Fail> {
-    for (head, cells, line, most, counts, fault) in [
-        (
-            "ctm,1; steps,3",
-            0,
-            b"exit,x#,1".as_slice(),
-            100_000,
-            "network,100000,0,3,0,0,0",
-            "100003",
-        ),
-        (
-            "ctm,1; steps,3",
-            100_000,
-            b"link,x#,x#",
-            100_000,
-            "network,100000,100000,3,0,0,0",
-            "200003",
-        ),
-        (
-            "ctm,1; steps,3; exit,x,1",
-            0,
-            b"limit,x,#,100000,1",
-            100_000,
-            "network,1,0,3,0,100000,0",
-            "100004",
-        ),
-        (
-            "ctm,1; steps,3; gate,g,1,0",
-            0,
-            b"demand,g,#,100000,1",
-            100_000,
-            "network,1,0,3,0,0,100000",
-            "100004",
-        ),
-        (
-            "ctm,2; steps,3; gate,g,1,0; exit,x,1; exit,y,1; diverge,g,x,y,1,1",
-            0,
-            b"turn,g,#,100000,1,2",
-            200_000,
-            "network2,3,1,3,0,0,0,200000",
-            "200007",
-        ),
-    ] {
-        let mut file = lines(rt.alloc(), head)?;
-        put_lines(&mut file, b"road,x#,1,1,1,1,0", cells)?;
-        put_lines(&mut file, line, most)?;
-        let ended = call(&rt, rt.alloc(), "check", file.clone()?)?;
-        assert!(rt;
-            ended.gave(&lines(rt.alloc(), counts)?),
-            "{head} gave {ended:?}"
-        );
-
-        put_lines(&mut file, line, 1)?;
-        let ended = call(&rt, rt.alloc(), "check", file)?;
-        let told = format!(in rt.alloc(); "ctm: network: record {fault} code 14 TooMany\n")?;
-        assert!(rt;
-            ended.is_refused(3, told.as_bytes()),
-            "{head} gave {ended:?}"
-        );
+fn one_cell_too_many_is_a_fault(rt: HostRuntime) -> Result<(), Fail> {
+    let mut input = String::from_str(rt.alloc(), "ctm,1\nsteps,3\n")?;
+    for i in 0..100_001 {
+        write!(input, "exit,x{i},1\n")?;
     }
+    let ended = call(&rt, rt.alloc(), "run", input.into_bytes())?;
+    assert!(rt;
+        ended.is_refused(3, b"ctm: network: record 100003 code 14 TooMany\n"),
+        "{ended:?}"
+    );
     Ok(())
 }
 
