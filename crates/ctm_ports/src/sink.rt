@@ -1,5 +1,5 @@
 ghost use Rattle.std.specs.Prelude.{◌≡◌, ℕ, ◌<◌, ◌≤◌, List, Option, length, take};
-ghost use Rattle.std.specs.Io.KnownBytes.{Appends};
+ghost use Rattle.std.specs.Io.KnownBytes.{Appends, Keeps};
 ghost use Rattle.ctm_ports.specs.Count.{Rose};
 ghost use Rattle.ctm_ports.specs.Wrote.{IfTook, UnlessTook, OnFailed, OnNoMemory};
 
@@ -29,7 +29,7 @@ pub trait Sink {
         requires { 0 < length piece.now }
         ensures size { IfTook result (λ n. (1 ≤ n) × (n ≤ length piece.now)) }
         ensures took { IfTook result (λ n. Appends (taken self.old) (taken self.new) (take n piece.now)) }
-        ensures kept { UnlessTook result (taken self.new ≡ taken self.old) }
+        ensures kept { UnlessTook result (Keeps (taken self.old) (taken self.new)) }
         ensures failed { OnFailed result (Rose (faults self.old) (faults self.new)) }
         ensures no_memory { OnNoMemory result (Rose (wants self.old) (wants self.new)) }
         ensures faults_never_fall { faults self.old ≤ faults self.new }

@@ -1,5 +1,5 @@
 ghost use Rattle.std.specs.Prelude.{◌≡◌, ℕ, ◌<◌, ◌≤◌, List, Option, length, take};
-ghost use Rattle.std.specs.Io.KnownBytes.{Consumes, IsAtEnd};
+ghost use Rattle.std.specs.Io.KnownBytes.{Consumes, IsAtEnd, Keeps};
 ghost use Rattle.ctm_ports.specs.Count.{Rose};
 ghost use Rattle.ctm_ports.specs.Piece.{IfGot, UnlessGot, OnEnd, OnFailed};
 
@@ -27,8 +27,8 @@ pub trait Source {
         requires { 0 < length room.old }
         ensures size { IfGot result (λ n. (1 ≤ n) × (n ≤ length room.new)) }
         ensures got { IfGot result (λ n. Consumes (left self.old) (left self.new) (take n room.new)) }
-        ensures kept { UnlessGot result (left self.new ≡ left self.old) }
-        ensures end { OnEnd result (IsAtEnd (left self.old)) }
+        ensures kept { UnlessGot result (Keeps (left self.old) (left self.new)) }
+        ensures end { OnEnd result (IsAtEnd (left self.new)) }
         ensures failed { OnFailed result (Rose (faults self.old) (faults self.new)) }
         ensures never_falls { faults self.old ≤ faults self.new };
 }

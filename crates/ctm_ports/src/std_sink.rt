@@ -30,8 +30,7 @@ impl<W: Write> Sink for StdSink<W> {
     ghost use Rattle.ctm_ports.specs.Wrote.{IfTook, UnlessTook, OnFailed, OnNoMemory, faults_after};
     ghost use Rattle.ctm_ports.specs.StdSink.{writer_of, writer_faults};
 
-    // A writer that told nothing may begin to tell in a write that fails, which no sink does.
-    ghost taken = { λ _. None };
+    ghost taken = { λ s. W.contents (writer_of s) };
 
     ghost faults = { writer_faults };
 
@@ -40,15 +39,14 @@ impl<W: Write> Sink for StdSink<W> {
     fn write(&mut self, piece: &[u8]) -> Wrote
         requires { 0 < length piece.now }
 
-        // What every sink ensures, of one that tells no bytes.
+        // What every sink ensures.
         ensures size { IfTook result (λ n. (1 ≤ n) × (n ≤ length piece.now)) }
         ensures failed { OnFailed result (Rose (writer_faults self.old) (writer_faults self.new)) }
         ensures no_memory { OnNoMemory result (Rose 0 0) }
         ensures faults_never_fall { writer_faults self.old ≤ writer_faults self.new }
 
-        // The same of the bytes that the writer tells, and what this one counts.
-        ensures takes { IfTook result (λ n. Appends (W.contents (writer_of self.old)) (W.contents (writer_of self.new)) (take n piece.now)) }
-        ensures keeps { UnlessTook result (Keeps (W.contents (writer_of self.old)) (W.contents (writer_of self.new))) }
+        ensures took { IfTook result (λ n. Appends (W.contents (writer_of self.old)) (W.contents (writer_of self.new)) (take n piece.now)) }
+        ensures kept { UnlessTook result (Keeps (W.contents (writer_of self.old)) (W.contents (writer_of self.new))) }
         ensures counted { writer_faults self.new ≡ faults_after (writer_faults self.old) result }
     {
         match self.inner.write(piece) {

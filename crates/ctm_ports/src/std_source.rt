@@ -29,23 +29,21 @@ impl<R: Read> Source for StdSource<R> {
     ghost use Rattle.ctm_ports.specs.Piece.{IfGot, UnlessGot, OnEnd, OnFailed, faults_after};
     ghost use Rattle.ctm_ports.specs.StdSource.{reader_of, reader_faults};
 
-    // A reader that told nothing may begin to tell in a read that fails, which no source does.
-    ghost left = { λ _. None };
+    ghost left = { λ s. R.remaining (reader_of s) };
 
     ghost faults = { reader_faults };
 
     fn read(&mut self, room: &mut [u8]) -> Piece
         requires { 0 < length room.old }
 
-        // What every source ensures, of one that tells no bytes.
+        // What every source ensures.
         ensures size { IfGot result (λ n. (1 ≤ n) × (n ≤ length room.new)) }
         ensures failed { OnFailed result (Rose (reader_faults self.old) (reader_faults self.new)) }
         ensures never_falls { reader_faults self.old ≤ reader_faults self.new }
 
-        // The same of the bytes that the reader tells, and what this one counts.
-        ensures gives { IfGot result (λ n. Consumes (R.remaining (reader_of self.old)) (R.remaining (reader_of self.new)) (take n room.new)) }
-        ensures keeps { UnlessGot result (Keeps (R.remaining (reader_of self.old)) (R.remaining (reader_of self.new))) }
-        ensures ends { OnEnd result (IsAtEnd (R.remaining (reader_of self.old))) }
+        ensures got { IfGot result (λ n. Consumes (R.remaining (reader_of self.old)) (R.remaining (reader_of self.new)) (take n room.new)) }
+        ensures kept { UnlessGot result (Keeps (R.remaining (reader_of self.old)) (R.remaining (reader_of self.new))) }
+        ensures end { OnEnd result (IsAtEnd (R.remaining (reader_of self.new))) }
         ensures counted { reader_faults self.new ≡ faults_after (reader_faults self.old) result }
     {
         match self.inner.read(room) {
