@@ -1,7 +1,7 @@
 -- The cells of a network's connectors.
 use Rattle.std.specs.Prelude.{All, eqb, ◌^◌}
 use Rattle.std.specs.List.{Contains, list_any}
-use Rattle.std.proofs.Common.{◌≡◌, ℕ, ◌<◌, ◌≤◌, Bool, true, false, List, length, get_or, cond, sym, ap, ◌∙◌, arith, ◌==◌}
+use Rattle.std.proofs.Common.{◌≡◌, ℕ, ◌<◌, Bool, true, false, List, length, get_or, cond, sym, ap, ◌∙◌, arith, ◌==◌}
 use Rattle.std.proofs.lemmas.List.{get_or_default}
 use Rattle.std.proofs.lemmas.List.Elements.{All-append, All-contains, All-weaker, Contains-get_or}
 use Rattle.signal_plan.specs.declared.bounds.TheConstants.{MOST_RECORDS}

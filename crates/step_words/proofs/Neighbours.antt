@@ -1,11 +1,10 @@
 -- A fact of each neighbour in a chart's list is one of each neighbour in the network.
 use Rattle.std.specs.Prelude.{All}
-use Rattle.std.specs.List.{Contains}
-use Rattle.std.proofs.Common.{◌≡◌, ℕ, ◌<◌, List, true, get_or, length, sym, subst, ◌∙◌}
+use Rattle.std.proofs.Common.{◌≡◌, ℕ, ◌<◌, List, true, get_or, sym, subst}
 use Rattle.std.proofs.lemmas.List.Elements.{All-contains, Contains-get_or}
 use Rattle.network_file.specs.Network.{Network}
 use Rattle.region_cut.specs.Chart.{ChartLists, chart_of, list_at, neighbours_of}
-use Rattle.region_cut.specs.Cuttings.{region_at, region_count}
+use Rattle.region_cut.specs.Cuttings.{region_count}
 use Rattle.region_cut.specs.Joins.{are_neighbours}
 use Rattle.region_cut.proofs.ChartParts.{chart-neighbours}
 use Rattle.region_cut.proofs.Meetings.{neighbours-by, touches_region-cell}

@@ -9,7 +9,7 @@ use Rattle.region_cut.specs.Chart.{ChartLists, chart_of, list_at}
 use Rattle.region_cut.specs.Cuttings.{region_count}
 use Rattle.region_cut.specs.Joins.{are_neighbours}
 use Rattle.region_cut.specs.LawfulSteps.{AreLawful}
-use Rattle.region_cut.proofs.Meetings.{neighbours-by, neighbours-sym}
+use Rattle.region_cut.proofs.Meetings.{neighbours-by}
 use Rattle.step_words.specs.Rising.{CanRise}
 use Rattle.step_words.proofs.Neighbours.{all_neighbours, each_neighbour, neighbour-there}
 

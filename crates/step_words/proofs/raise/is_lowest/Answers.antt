@@ -1,5 +1,5 @@
 use Rattle.std.specs.Prelude.{All, slice_index}
-use Rattle.std.proofs.Common.{◌≤◌, ◌+◌, arith, refl, subst, ◌∙◌}
+use Rattle.std.proofs.Common.{◌≤◌, refl, subst, ◌∙◌}
 use Rattle.std.proofs.lemmas.List.{take_all}
 use Rattle.std.proofs.lemmas.List.Elements.{All-more}
 use Rattle.step_words.proofs.raise.is_lowest.Goals as goal

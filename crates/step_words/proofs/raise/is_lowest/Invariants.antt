@@ -1,5 +1,5 @@
 use Rattle.std.specs.Prelude.{All, slice_index}
-use Rattle.std.proofs.Common.{◌≤◌, ◌+◌, take}
+use Rattle.std.proofs.Common.{◌≤◌, take}
 use Rattle.step_words.proofs.raise.is_lowest.Given as goal
 
 abbrev pub invariant-loop-q : goal.invariant-loop-q
