@@ -16,8 +16,8 @@ use std::alloc::Global;
 use std::thread::Threads;
 
 /// Runs the program: does what the words ask for, over the network that the source gives, and writes the text of it
-/// on `out`, or says on `err` why there is none (docs/FORMAT.md). The words are those after the program's name. All is
-/// done on the caller's thread: neither `rt` nor `gate` is asked.
+/// on `out`, or says on `err` why there is none (docs/FORMAT.md). The words are those after the program's name. The
+/// threads of `rt` and the gate serve modes that are yet to come.
 pub fn ctm<R: Threads + Sync, S: Source, O: Sink, E: Sink, G: Gate>(
     rt: &R,
     alloc: Global,
