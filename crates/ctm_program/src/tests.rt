@@ -87,6 +87,38 @@ fn call<R: Threads + Sync>(
     Ok(Ended { status, out, err })
 }
 
+// A call over the corridor whose source, output and standard error pass 10 bytes at a time, and fail at these calls of
+// theirs. Given are its exit status and what it wrote.
+fn failing_call<R: Threads + Sync>(
+    rt: &R,
+    alloc: Global,
+    words: &[&str],
+    fails: [&[u64]; 3],
+) -> Result<(u8, MemSink, MemSink), AllocError> {
+    let mut all = Vec::new(alloc);
+    for word in words {
+        all.push(String::from_str(alloc, word)?)?;
+    }
+    let [reads, writes, tells] = fails;
+    let mut source = MemSource::new(lines(alloc, CORRIDOR)?, 10, reads.to_vec(alloc)?);
+    let mut out = MemSink::new(alloc, 10, writes.to_vec(alloc)?);
+    let mut err = MemSink::new(alloc, 10, tells.to_vec(alloc)?);
+    let status = ctm(rt, alloc, &all, &mut source, &mut out, &mut err, &OpenGate).number();
+    Ok((status, out, err))
+}
+
+// Whether the mode gives this text of this file.
+fn gives<R: Threads + Sync>(
+    rt: &R,
+    alloc: Global,
+    mode: &str,
+    file: &str,
+    text: &str,
+) -> Result<bool, AllocError> {
+    let ended = call(rt, alloc, mode, lines(alloc, file)?)?;
+    Ok(ended.gave(&lines(alloc, text)?))
+}
+
 // Whether `run` refuses this file, for the fault that is told so.
 fn is_fault<R: Threads + Sync>(
     rt: &R,
@@ -100,7 +132,7 @@ fn is_fault<R: Threads + Sync>(
 }
 
 #[test]
-fn a_network_ends_in_its_report(rt: HostRuntime) -> Result<(), Fail> {
+fn links_end_in_their_report(rt: HostRuntime) -> Result<(), Fail> {
     for (file, report) in [
         (CORRIDOR, CORRIDOR_REPORT),
         // what waits in a gate
@@ -120,6 +152,15 @@ total,10.000000,0.000000,0.000000,10.000000",
             "ctm,1; steps,2; road,a,6,2,1,1,3; link,a,a",
             "report,2,1; cell,a,3.000000,4.000000,4.000000,2.000000; total,3.000000,0.000000,0.000000,2.000000",
         ),
+    ] {
+        assert!(rt; gives(&rt, rt.alloc(), "run", file, report)?, "{file}");
+    }
+    Ok(())
+}
+
+#[test]
+fn junctions_end_in_their_report(rt: HostRuntime) -> Result<(), Fail> {
+    for (file, report) in [
         // a merge into too little room
         (
             "ctm,1; steps,1; gate,g,3,3; gate,h,3,1; road,e,10,2,1,1,0; merge,g,h,e,1,1",
@@ -132,6 +173,21 @@ cell,e,2.000000,2.000000,0.000000,0.000000; total,4.000000,0.000000,0.000000,2.0
             "report,1,3; cell,b,0.000004,0.000000,0.000003,0.000004; cell,c,0.000001,0.000001,0.000000,0.000000; \
 cell,x,0.000002,0.000002,0.000000,0.000000; total,0.000005,0.000000,0.000002,0.000004",
         ),
+        // other shares in the second of three steps
+        (
+            TURN,
+            "report,3,3; cell,b,0.000000,0.000000,9.000000,9.000000; cell,x,4.000000,4.000000,0.000000,0.000000; \
+cell,y,5.000000,5.000000,0.000000,0.000000; total,0.000000,0.000000,9.000000,9.000000",
+        ),
+    ] {
+        assert!(rt; gives(&rt, rt.alloc(), "run", file, report)?, "{file}");
+    }
+    Ok(())
+}
+
+#[test]
+fn a_signal_and_limits_end_in_their_report(rt: HostRuntime) -> Result<(), Fail> {
+    for (file, report) in [
         // a signal that is red, green twice, and red
         (
             "ctm,1; steps,4; gate,g,1,10; exit,x,5; link,g,x; signal,g,4,3,0,2",
@@ -144,18 +200,8 @@ total,8.000000,0.000000,2.000000,35.000000",
             "report,3,2; cell,g,3.000000,0.000000,7.000000,18.000000; cell,x,7.000000,7.000000,0.000000,0.000000; \
 total,3.000000,0.000000,7.000000,18.000000",
         ),
-        // other shares in the second of three steps
-        (
-            TURN,
-            "report,3,3; cell,b,0.000000,0.000000,9.000000,9.000000; cell,x,4.000000,4.000000,0.000000,0.000000; \
-cell,y,5.000000,5.000000,0.000000,0.000000; total,0.000000,0.000000,9.000000,9.000000",
-        ),
     ] {
-        let ended = call(&rt, rt.alloc(), "run", lines(rt.alloc(), file)?)?;
-        assert!(rt;
-            ended.gave(&lines(rt.alloc(), report)?),
-            "{file} gave {ended:?}"
-        );
+        assert!(rt; gives(&rt, rt.alloc(), "run", file, report)?, "{file}");
     }
     Ok(())
 }
@@ -221,7 +267,7 @@ fn a_fault_of_one_record_is_told_with_its_code(rt: HostRuntime) -> Result<(), Fa
 }
 
 #[test]
-fn a_fault_among_records_is_told_with_its_code(rt: HostRuntime) -> Result<(), Fail> {
+fn a_record_that_names_a_wrong_cell_is_told_with_its_code(rt: HostRuntime) -> Result<(), Fail> {
     for (file, fault) in [
         ("ctm,1; exit,x,2; exit,x,2", "3 code 7 Repeated"),
         ("ctm,1; steps,3; steps,3", "3 code 7 Repeated"),
@@ -246,6 +292,15 @@ fn a_fault_among_records_is_told_with_its_code(rt: HostRuntime) -> Result<(), Fa
         ),
         ("ctm,1; exit,x,2; signal,x,4,0,0,2", "3 code 9 WrongKind"),
         ("ctm,1; exit,x,2; demand,x,0,1,1", "3 code 9 WrongKind"),
+    ] {
+        assert!(rt; is_fault(&rt, rt.alloc(), file, fault)?, "{file}");
+    }
+    Ok(())
+}
+
+#[test]
+fn a_taken_cell_is_told_with_its_code(rt: HostRuntime) -> Result<(), Fail> {
+    for (file, fault) in [
         (
             "ctm,1; gate,g,1,0; gate,h,1,0; exit,x,2; link,g,x; link,h,x",
             "6 code 10 InTaken",
@@ -262,6 +317,15 @@ fn a_fault_among_records_is_told_with_its_code(rt: HostRuntime) -> Result<(), Fa
             "ctm,1; gate,g,1,0; exit,x,2; merge,g,g,x,1,1",
             "4 code 11 OutTaken",
         ),
+    ] {
+        assert!(rt; is_fault(&rt, rt.alloc(), file, fault)?, "{file}");
+    }
+    Ok(())
+}
+
+#[test]
+fn an_unfinished_file_is_told_with_its_code(rt: HostRuntime) -> Result<(), Fail> {
+    for (file, fault) in [
         ("ctm,1; exit,x,2", "3 code 12 NoSteps"),
         ("ctm,1", "2 code 12 NoSteps"),
         ("ctm,1; steps,3", "3 code 13 NoCells"),
@@ -276,7 +340,7 @@ fn a_fault_among_records_is_told_with_its_code(rt: HostRuntime) -> Result<(), Fa
 }
 
 #[test]
-fn a_fault_of_format_2_is_told_with_its_code(rt: HostRuntime) -> Result<(), Fail> {
+fn a_field_of_format_2_is_told_with_its_code(rt: HostRuntime) -> Result<(), Fail> {
     for (file, fault) in [
         ("ctm,2,", "1 code 1 NoHeader"),
         ("ctm,02", "1 code 1 NoHeader"),
@@ -298,6 +362,15 @@ fn a_fault_of_format_2_is_told_with_its_code(rt: HostRuntime) -> Result<(), Fail
             "ctm,2; gate,g,1,0; exit,x,2; exit,y,2; diverge,g,x,y,1,1; turn,g,0,1,1,1001",
             "6 code 6 OutOfRange",
         ),
+    ] {
+        assert!(rt; is_fault(&rt, rt.alloc(), file, fault)?, "{file}");
+    }
+    Ok(())
+}
+
+#[test]
+fn a_cell_of_format_2_is_told_with_its_code(rt: HostRuntime) -> Result<(), Fail> {
+    for (file, fault) in [
         (
             "ctm,2; exit,x,2; region,x,0; region,x,0",
             "4 code 7 Repeated",
@@ -382,11 +455,7 @@ fn the_greatest_numbers_are_accepted(rt: HostRuntime) -> Result<(), Fail> {
             "network,1,0,100000,0,0,0",
         ),
     ] {
-        let ended = call(&rt, rt.alloc(), "check", lines(rt.alloc(), file)?)?;
-        assert!(rt;
-            ended.gave(&lines(rt.alloc(), counts)?),
-            "{file} gave {ended:?}"
-        );
+        assert!(rt; gives(&rt, rt.alloc(), "check", file, counts)?, "{file}");
     }
     Ok(())
 }
@@ -414,11 +483,7 @@ fn check_counts_the_records(rt: HostRuntime) -> Result<(), Fail> {
         (TURN, "network2,3,1,3,0,0,0,1"),
         (CITY, "network2,17,9,5,3,3,3,3"),
     ] {
-        let ended = call(&rt, rt.alloc(), "check", lines(rt.alloc(), file)?)?;
-        assert!(rt;
-            ended.gave(&lines(rt.alloc(), counts)?),
-            "{file} gave {ended:?}"
-        );
+        assert!(rt; gives(&rt, rt.alloc(), "check", file, counts)?, "{file}");
     }
     Ok(())
 }
@@ -475,29 +540,10 @@ fn other_words_are_refused_and_nothing_is_read(rt: HostRuntime) -> Result<(), Fa
         &["--version"],
         &["help"],
     ] {
-        let mut all = Vec::new(rt.alloc());
-        for word in words {
-            all.push(String::from_str(rt.alloc(), word)?)?;
-        }
-        let reads = [0].to_vec(rt.alloc())?;
-        let mut source = MemSource::new(lines(rt.alloc(), CORRIDOR)?, 1000, reads);
-        let mut out = SureSink::new(rt.alloc());
-        let mut err = SureSink::new(rt.alloc());
-        let status = ctm(
-            &rt,
-            rt.alloc(),
-            &all,
-            &mut source,
-            &mut out,
-            &mut err,
-            &OpenGate,
-        )
-        .number();
-        let ended = Ended { status, out, err };
-        assert!(rt;
-            ended.is_refused(2, b"ctm: words refused\n"),
-            "{words:?} gave {ended:?}"
-        );
+        let (status, out, err) = failing_call(&rt, rt.alloc(), words, [&[0], &[], &[]])?;
+        assert_eq!(rt; status, 2, "{words:?}");
+        assert!(rt; out.bytes().is_empty(), "{words:?}");
+        assert_eq!(rt; err.bytes(), b"ctm: words refused\n".as_slice());
     }
     Ok(())
 }
@@ -539,68 +585,39 @@ fn an_input_past_the_limit_is_too_large(rt: HostRuntime) -> Result<(), Fail> {
     Ok(())
 }
 
+// The last read would have found the end.
 #[test]
-fn a_failing_port_ends_the_call(rt: HostRuntime) -> Result<(), Fail> {
-    for (mode, reads, writes, tells, status, text, line) in [
-        (
-            "run",
-            [0].as_slice(),
-            [].as_slice(),
-            [].as_slice(),
-            5,
-            b"".as_slice(),
-            b"ctm: read fault\n".as_slice(),
-        ),
-        // the last read, which would have found the end
-        ("run", &[10], &[], &[], 5, b"", b"ctm: read fault\n"),
-        ("run", &[], &[0], &[], 6, b"", b"ctm: write fault\n"),
-        (
-            "run",
-            &[],
-            &[1],
-            &[],
-            6,
-            b"report,3,3",
-            b"ctm: write fault\n",
-        ),
-        (
-            "check",
-            &[],
-            &[1],
-            &[],
-            6,
-            b"network,3,",
-            b"ctm: write fault\n",
-        ),
-        (
-            "convert",
-            &[],
-            &[1],
-            &[],
-            6,
-            b"ctm,2\nstep",
-            b"ctm: write fault\n",
-        ),
-        // standard error fails too
-        ("run", &[], &[0], &[1], 6, b"", b"ctm: write"),
-    ] {
-        let words = [String::from_str(rt.alloc(), mode)?];
-        let input = lines(rt.alloc(), CORRIDOR)?;
-        let mut source = MemSource::new(input, 10, reads.to_vec(rt.alloc())?);
-        let mut out = MemSink::new(rt.alloc(), 10, writes.to_vec(rt.alloc())?);
-        let mut err = MemSink::new(rt.alloc(), 10, tells.to_vec(rt.alloc())?);
-        let ended = ctm(
-            &rt,
-            rt.alloc(),
-            &words,
-            &mut source,
-            &mut out,
-            &mut err,
-            &OpenGate,
-        );
-        assert_eq!(rt; ended.number(), status, "{mode}");
-        assert_eq!(rt; out.bytes(), text);
-        assert_eq!(rt; err.bytes(), line);
+fn a_failing_source_ends_the_call(rt: HostRuntime) -> Result<(), Fail> {
+    for read in [0, 10] {
+        let (status, out, err) = failing_call(&rt, rt.alloc(), &["run"], [&[read], &[], &[]])?;
+        assert_eq!(rt; status, 5, "read {read}");
+        assert!(rt; out.bytes().is_empty(), "read {read}");
+        assert_eq!(rt; err.bytes(), b"ctm: read fault\n".as_slice());
     }
+    Ok(())
+}
+
+#[test]
+fn a_failing_output_ends_the_call(rt: HostRuntime) -> Result<(), Fail> {
+    for (mode, write, begun) in [
+        ("run", 0, b"".as_slice()),
+        ("run", 1, b"report,3,3"),
+        ("check", 1, b"network,3,"),
+        ("convert", 1, b"ctm,2\nstep"),
+    ] {
+        let (status, out, err) = failing_call(&rt, rt.alloc(), &[mode], [&[], &[write], &[]])?;
+        assert_eq!(rt; status, 6, "{mode}");
+        assert_eq!(rt; out.bytes(), begun);
+        assert_eq!(rt; err.bytes(), b"ctm: write fault\n".as_slice());
+    }
+    Ok(())
+}
+
+#[test]
+fn a_failing_standard_error_changes_no_status(rt: HostRuntime) -> Result<(), Fail> {
+    let (status, out, err) = failing_call(&rt, rt.alloc(), &["run"], [&[], &[0], &[1]])?;
+    assert_eq!(rt; status, 6);
+    assert!(rt; out.bytes().is_empty());
+    assert_eq!(rt; err.bytes(), b"ctm: write".as_slice());
     Ok(())
 }
