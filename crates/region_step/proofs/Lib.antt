@@ -1,0 +1,11 @@
+pub mod Known
+pub mod Lists
+pub mod Places
+pub mod Changes
+pub mod Carrying
+pub mod Ground
+pub mod Grids
+pub mod GridStates
+pub mod StartLaws
+pub mod Room
+pub mod Advancing

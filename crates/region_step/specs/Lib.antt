@@ -1,0 +1,12 @@
+pub mod Recording
+pub mod Region
+pub mod Start
+pub mod Grid
+pub mod Layout
+pub mod Ties
+pub mod CellRows
+pub mod Opening
+pub mod Opened
+pub mod Advance
+pub mod Carrying
+pub mod Laws

@@ -1,0 +1,21 @@
+//! The regions of a cut network, each advanced one step at a time by itself.
+#![tactic(auto)]
+
+mod carry;
+mod cell_rows;
+mod change;
+mod note;
+mod opening;
+mod place;
+mod recording;
+mod region;
+mod rows;
+mod sight;
+mod start;
+mod tie;
+mod wiring;
+
+pub use note::Note;
+pub use recording::is_recorded;
+pub use region::Region;
+pub use start::Start;

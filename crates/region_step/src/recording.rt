@@ -1,0 +1,70 @@
+ghost use Rattle.std.specs.Prelude.{◌≡◌, ◌+◌, ◌*◌, ◌<◌, ◌≤◌, ◌^◌, ◌++◌, [], IfOk, IsTrue, if◌then◌else◌, length, vec_capacity};
+ghost use Rattle.signal_plan.specs.declared.bounds.TheConstants.{MOST_STEPS};
+ghost use Rattle.region_step.specs.Recording.{is_recorded, notes_of, recorded_after};
+
+use crate::note::Note;
+use flow_model::Row;
+use signal_plan::NoMemory;
+use std::alloc::Global;
+
+/// Whether step `t` of so many is recorded: `every` divides it, or it is the last one. Where `every` is 0 none is.
+pub fn is_recorded(steps: u64, every: u64, t: u64) -> bool
+    ensures { result ≡ is_recorded steps every t }
+{
+    every != 0 && (t % every == 0 || t == steps)
+}
+
+/// The trail of cells whose rows at their first step are these, with room for all notes to come.
+pub(crate) fn first_notes(
+    alloc: Global,
+    rows: &[Row],
+    steps: u64,
+    every: u64,
+    step: u64,
+) -> Result<Vec<Note>, NoMemory>
+    requires few { length rows.now < 2 ^ 32 }
+    requires few_steps { steps ≤ MOST_STEPS }
+    requires in_time { step ≤ steps }
+    ensures notes { IfOk result (λ trail. trail.items ≡ (if is_recorded steps every step then notes_of rows.now else [])) }
+    ensures room { IfOk result (λ trail. length trail.items + length rows.now * recorded_after steps every step ≤ vec_capacity trail) }
+{
+    let mut trail = Vec::with_capacity(alloc, room_for(rows.len(), steps, every, step))?;
+    note_step(&mut trail, rows, is_recorded(steps, every, step));
+    Ok(trail)
+}
+
+// Room for the notes of so many cells, of step `from` and of all later ones.
+fn room_for(cells: usize, steps: u64, every: u64, from: u64) -> usize
+    requires few_cells { cells < 2 ^ 32 }
+    requires few_steps { steps ≤ MOST_STEPS }
+    requires in_time { from ≤ steps }
+    ensures { cells * ((if is_recorded steps every from then 1 else 0) + recorded_after steps every from) ≤ result }
+{
+    if every == 0 {
+        return 0;
+    }
+    let blocks = (steps / every).saturating_sub(from / every) + 2;
+    cells * blocks as usize
+}
+
+/// Appends what is noted of these rows where their step is recorded. There is room for it.
+pub(crate) fn note_step(trail: &mut Vec<Note>, rows: &[Row], recorded: bool)
+    requires room { IsTrue recorded → length trail.old.items + length rows.now ≤ vec_capacity trail.old }
+    ensures notes { trail.new.items ≡ trail.old.items ++ (if recorded then notes_of rows.now else []) }
+    ensures room { vec_capacity trail.old ≤ vec_capacity trail.new }
+{
+    if recorded {
+        note_rows(trail, rows);
+    }
+}
+
+// Appends what is noted of these rows.
+fn note_rows(trail: &mut Vec<Note>, rows: &[Row])
+    requires room { length trail.old.items + length rows.now ≤ vec_capacity trail.old }
+    ensures notes { trail.new.items ≡ trail.old.items ++ notes_of rows.now }
+    ensures room { vec_capacity trail.old ≤ vec_capacity trail.new }
+{
+    for row in rows {
+        let _ = trail.push(Note::of(row));
+    }
+}

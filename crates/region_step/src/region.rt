@@ -1,0 +1,199 @@
+ghost use Rattle.std.specs.Prelude.{◌≡◌, ◌+◌, ◌<◌, ◌≤◌, ℕ, IfOk, Some, None, length, replicate, slice_index, slice_set};
+ghost use Rattle.network_file.specs.Network.{Network};
+ghost use Rattle.flow_model.specs.State.{occupancy, row_at};
+ghost use Rattle.region_cut.specs.Chart.{ChartLists, chart_of, list_at};
+ghost use Rattle.region_cut.specs.Cuttings.{region_count};
+ghost use Rattle.region_cut.specs.LawfulSteps.{AreLawful};
+
+use crate::cell_rows::CellRows;
+use crate::note::Note;
+use crate::opening::nothing_put;
+use crate::recording::{first_notes, is_recorded, note_step};
+use crate::start::Start;
+use crate::wiring::Wiring;
+use flow_model::Row;
+use network_file::Net;
+use region_cut::Chart;
+use signal_plan::NoMemory;
+use std::alloc::Global;
+use std::marker::Model;
+
+/// A region of a cut network, with the rows of its cells at its step.
+///
+/// It is opened with a network, its chart and a start, and used with that network and that chart alone. Before each
+/// step its halo is told what the cells around it hold as that step begins.
+#[derive(Debug, Drop)]
+pub struct Region {
+    number: u32,
+    started: u64,
+    every: u64,
+    step: u64,
+    wiring: Wiring,
+    cells: CellRows,
+    put: Vec<Option<u64>>,
+    trail: Vec<Note>,
+}
+
+impl Model for Region {
+    ghost use Rattle.std.specs.Prelude.{vec_capacity};
+    ghost use Rattle.region_step.specs.Region.{RegionValue};
+
+    ghost Value = { RegionValue };
+
+    ghost view = { λ region. record {
+      state = record {
+        number = region.number;
+        started = region.started;
+        every = region.every;
+        step = region.step;
+        rows = region.cells.rows;
+        before = region.cells.before;
+        trail = region.trail.items;
+        put = region.put.items;
+      };
+      layout = record { ties = region.wiring.ties.items; border = region.wiring.border.items; room = vec_capacity region.trail };
+    } };
+}
+
+impl Region {
+    ghost use Rattle.region_step.specs.Advance.{HasHaloPut, HasRowsInBounds, advanced};
+    ghost use Rattle.region_step.specs.Grid.{grid_held};
+    ghost use Rattle.region_step.specs.Laws.{AreTheRecurrences, StayInBounds, grid_state, with_halo};
+    ghost use Rattle.region_step.specs.Opened.{IsIn, IsOf};
+    ghost use Rattle.region_step.specs.Start.{Fits, IsTrueStart, StartLists};
+
+    /// Region `r` at the step at which it starts. It is recorded at each step that `every` divides and at the last one,
+    /// never where `every` is 0. All memory that it will need is taken here.
+    pub fn open(
+        alloc: Global,
+        net: &Net,
+        chart: &Chart,
+        start: &Start,
+        r: u32,
+        every: u64,
+    ) -> Result<Region, NoMemory>
+        requires chart { chart.now ≡ chart_of net.now chart.now.cut }
+        requires fits { Fits net.now chart.now.cut start.now }
+        requires there { r < region_count chart.now.cut }
+        ensures opened { IfOk result (λ region. IsIn net.now chart.now region) }
+        ensures state { IfOk result (λ region. region.state ≡
+            grid_state net.now chart.now start.now every r (slice_index start.now.steps r)) }
+
+        // The rows that this start's regions come to are in bounds at each step; from a true start with lawful steps they
+        // are those of the recurrences, taken one step of the whole network at a time.
+        ensures bounds { StayInBounds net.now chart.now.cut start.now }
+        ensures recurrences { AreLawful net.now chart.now.cut start.now.steps → IsTrueStart net.now chart.now.cut start.now →
+            AreTheRecurrences net.now chart.now.cut start.now }
+    {
+        let steps = net.steps;
+        let step = start.steps[r as usize];
+        let cells = chart.cells(r);
+        let wiring = Wiring::new(alloc, net, chart, r)?;
+        let own = CellRows::new(alloc, &start.rows, &start.earlier, cells)?;
+        let put = nothing_put(alloc, chart.halo(r).len())?;
+        let trail = first_notes(alloc, own.rows(), steps, every, step)?;
+        Ok(Region {
+            number: r,
+            started: step,
+            every,
+            step,
+            wiring,
+            cells: own,
+            put,
+            trail,
+        })
+    }
+
+    /// Its number.
+    pub fn number(&self) -> u32
+        ensures { result ≡ self.now.state.number }
+    {
+        self.number
+    }
+
+    /// Its step: so many steps are done.
+    pub fn step(&self) -> u64
+        ensures { result ≡ self.now.state.step }
+    {
+        self.step
+    }
+
+    /// The row of its `i`-th cell at its step.
+    pub fn row(&self, i: u32) -> Row
+        requires { i < length self.now.state.rows }
+        ensures { result ≡ row_at self.now.state.rows i }
+    {
+        self.cells.rows()[i as usize]
+    }
+
+    /// What its `i`-th cell held a step before, in parts.
+    pub fn before(&self, i: u32) -> u64
+        requires { i < length self.now.state.before }
+        ensures { result ≡ slice_index self.now.state.before i }
+    {
+        self.cells.before(i)
+    }
+
+    /// What is noted of it: for each recorded step from its start to its step a note for each cell, in their order.
+    pub fn trail(&self) -> &[Note]
+        ensures { result.now ≡ self.now.state.trail }
+    {
+        &self.trail
+    }
+
+    /// What its `j`-th border cell holds at its step, in parts.
+    pub fn border_now(&self, chart: &Chart, j: u32) -> u64
+        requires of { IsOf chart.now self.now }
+        requires there { j < length (list_at chart.now.border self.now.state.number) }
+        ensures { (p : ℕ) → p < length (list_at chart.now.cells self.now.state.number) →
+            slice_index (list_at chart.now.cells self.now.state.number) p ≡ slice_index (list_at chart.now.border self.now.state.number) j →
+            result ≡ occupancy self.now.state.rows p }
+    {
+        let _cells = chart.regions();
+        self.cells.rows()[self.wiring.border[j as usize] as usize].n
+    }
+
+    /// Tells what the `j`-th cell of its halo holds at its step, in parts.
+    pub fn halo_put(&mut self, j: u32, n: u64)
+        requires { j < length self.old.state.put }
+        ensures state { self.new.state ≡ record self.old.state { put = slice_set self.old.state.put j (Some n) } }
+        ensures opened { (net : Network) (chart : ChartLists) → IsIn net chart self.old → IsIn net chart self.new }
+    {
+        self.put[j as usize] = Some(n);
+    }
+
+    /// Takes the region through its step, by its own rows and by what was told of its halo; nothing is told of its halo
+    /// then. It takes no memory.
+    pub fn advance(&mut self, net: &Net, chart: &Chart)
+        requires opened { IsIn net.now chart.now self.old }
+        requires in_time { self.old.state.step < net.now.steps }
+        requires in_bounds { HasRowsInBounds net.now chart.now self.old.state }
+        requires halo { HasHaloPut net.now chart.now self.old.state }
+        ensures state { self.new.state ≡ advanced net.now chart.now self.old.state }
+        ensures opened { IsIn net.now chart.now self.new }
+        ensures bounds { HasRowsInBounds net.now chart.now self.new.state }
+
+        // From a start's region at a step, whose halo was told what each cell holds there, it comes to the next step.
+        ensures grid { (start : StartLists) (every r t : ℕ) → slice_index start.steps r ≤ t →
+            self.old.state ≡ with_halo chart.now (grid_held net.now chart.now.cut start t) (grid_state net.now chart.now start every r t) →
+            self.new.state ≡ grid_state net.now chart.now start every r (t + 1) }
+    {
+        let steps = net.steps;
+        let cells = chart.cells(self.number);
+        let halo = chart.halo(self.number);
+        self.cells.step(net, self.step, &self.wiring.ties, cells, halo, &self.put);
+        self.step += 1;
+        let recorded = is_recorded(steps, self.every, self.step);
+        note_step(&mut self.trail, self.cells.rows(), recorded);
+        clear(&mut self.put);
+    }
+}
+
+// Nothing is told any more.
+fn clear(put: &mut [Option<u64>])
+    ensures { put.new ≡ replicate (length put.old) None }
+{
+    for j in 0..put.len() {
+        put[j] = None;
+    }
+}
