@@ -1,2 +1,8 @@
+pub mod BooksLaws
+pub mod CellBooks
 pub mod CellSums
+pub mod ConnectorSums
+pub mod EvenFlights
+pub mod FlightLaws
 pub mod SignedSums
+pub mod StateRows
