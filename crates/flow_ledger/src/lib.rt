@@ -8,6 +8,8 @@ mod balance;
 mod connector_flight;
 mod network_books;
 mod sums;
+#[cfg(test)]
+mod tests;
 
 pub use balance::books;
 pub use connector_flight::flight;
