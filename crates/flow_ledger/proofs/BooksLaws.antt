@@ -1,7 +1,7 @@
 -- The law of the books.
 use Rattle.std.specs.Prelude.{map, not, option_map, sum_by, if◌then◌else◌}
 use Rattle.std.specs.List.{fold, range_with_len, sum}
-use Rattle.std.proofs.Common.{◌≡◌, false, ℕ, ℤ, pos, ◌+◌, ◌<◌, ◌+ℤ◌, ◌-ℤ◌, List, [], ◌∷◌, length, get_or, arith, refl, sym, ap, ◌∙◌}
+use Rattle.std.proofs.Common.{◌≡◌, false, ℕ, ℤ, pos, ◌+◌, ◌<◌, ◌≤◌, ◌+ℤ◌, ◌-ℤ◌, List, [], ◌∷◌, length, get_or, arith, refl, sym, ap, ◌∙◌}
 use Rattle.std.proofs.lemmas.Int.{ints}
 use Rattle.std.proofs.lemmas.List.{length-map}
 use Rattle.std.proofs.lemmas.List.Elements.{All-from_get_or}
@@ -126,7 +126,11 @@ books-law net rows sound s stand =
       cells-balance net s rows sound stand,
     )
 
--- at one step the flights together are 0
+-- at one step
+
+pub StandAt-one_step : (net : Network) (t : ℕ) (rows : List Row) → t ≤ net.steps → rows ≡ state_at net t → StandAt net (λ i. t) rows
+StandAt-one_step net t rows within is = record { in_time = λ i has. within; each = λ i has. ap (λ rows. row_at rows i) is }
+
 even-parts : (net : Network) (t : ℕ) → IsNetwork net →
     sum_by (sent_into (state_at net t)) net.connectors ≡ sum_by (received_from (state_at net t)) net.connectors
 even-parts net t sound =
@@ -134,10 +138,23 @@ even-parts net t sound =
     sum_by-same is_even (sent_into (state_at net t)) (received_from (state_at net t)) net.connectors (λ connector same. same)
     (All-from_get_or is_even net.connectors (Link 0 0) (λ k there. even net t k sound there))
 
+-- all flights together are 0
+pub no-flights : (net : Network) (t : ℕ) → IsNetwork net → flights_of net (state_at net t) ≡ pos 0
+no-flights net t sound = omega (arith, ints, flights-parts net (state_at net t), even-parts net t sound)
+
+-- and what is inside or has left was there at first or has entered
+pub state-balance : (net : Network) (t : ℕ) → IsNetwork net → t ≤ net.steps →
+    inside_of net (state_at net t) + left_of net (state_at net t) ≡ initial_of net + entered_of net (state_at net t)
+state-balance net t sound within =
+    let stand = StandAt-one_step net t (state_at net t) within refl in
+    omega (
+      arith,
+      even-parts net t sound,
+      sent-parts net (λ i. t) (state_at net t) sound stand,
+      received-parts net (λ i. t) (state_at net t) sound stand,
+      cells-balance net (λ i. t) (state_at net t) sound stand,
+    )
+
 pub books-at_one_step : (net : Network) (rows : List Row) → IsNetwork net → BooksAtOneStep net rows (books_of net rows)
 unfolding books_of
-books-at_one_step net rows sound t within is =
-    let none : flights_of net rows ≡ pos 0 =
-    omega (arith, ints, flights-parts net (state_at net t), even-parts net t sound, ap (flights_of net) is) in
-    let law = books-law net rows sound (λ i. t) (record { in_time = λ i has. within; each = λ i has. ap (λ rows. row_at rows i) is }) in
-    (none, omega (arith, ints, law, none))
+books-at_one_step net rows sound t within is = rw is (no-flights net t sound, ap pos (state-balance net t sound within))

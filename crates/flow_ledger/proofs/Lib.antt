@@ -4,5 +4,6 @@ pub mod CellSums
 pub mod ConnectorSums
 pub mod EvenFlights
 pub mod FlightLaws
+pub mod LinkFlights
 pub mod SignedSums
 pub mod StateRows

@@ -8,7 +8,7 @@ use Rattle.flow_model.specs.declared.row.Row.{Row}
 use Rattle.flow_ledger.specs.Flight.{come_of, flight_by}
 use Rattle.flow_ledger.specs.declared.network_books.Books.{Books}
 
--- the sum over the cells that pass a test
+-- the sum over those of so many cells that pass a test
 abbrev pub sum_where : (ℕ → Bool) → (ℕ → ℕ) → (cells : ℕ) → ℕ
 sum_where passes f cells = sum_by f (filter passes (range_with_len 0 cells))
 

@@ -11,7 +11,7 @@ abbrev pub BooksLaw : Network → List Row → Books → Type 0
 BooksLaw net rows books =
     (s : ℕ → ℕ) → StandAt net s rows → books.inside +ℤ books.flight ≡ books.initial +ℤ books.entered -ℤ books.left
 
--- where all cells stand at one step nothing is under way
+-- where all cells stand at one step: nothing is under way, and what is inside or has left was there at first or has entered
 abbrev pub BooksAtOneStep : Network → List Row → Books → Type 0
 BooksAtOneStep net rows books =
     (t : ℕ) → t ≤ net.steps → rows ≡ state_at net t →

@@ -13,8 +13,8 @@ pub fn books(net: &Net, rows: &[Row]) -> Books
     requires one_each { length rows.now ≡ length net.now.cells }
     ensures books { result ≡ books_of net.now rows.now }
 
-    // By rows of uneven steps of the recurrences they balance: what is inside and what is under way are what was there
-    // at first and what entered, less what left. At one step nothing is under way.
+    // By rows of the recurrences at uneven steps they balance: what is inside and what is under way are what was there at
+    // first and what entered, less what left. At one step nothing is under way.
     ensures law { BooksLaw net.now rows.now result }
     ensures at_one_step { BooksAtOneStep net.now rows.now result }
 {

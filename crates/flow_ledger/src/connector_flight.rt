@@ -2,7 +2,7 @@ ghost use Rattle.std.specs.Prelude.{◌≡◌, ◌<◌, ◌^◌, ◌≤ℤ◌, l
 ghost use Rattle.network_file.specs.Connectors.{connector_at};
 ghost use Rattle.network_file.specs.Network.{IsSoundConnector};
 ghost use Rattle.flow_ledger.specs.Flight.{come_of, flight_by, flight_of, gone_of};
-ghost use Rattle.flow_ledger.specs.FlightLaw.{FlightAtOneStep, FlightLaw};
+ghost use Rattle.flow_ledger.specs.FlightLaw.{FlightAtOneStep, FlightLaw, LinkFlightLaw};
 
 use flow_model::Row;
 use network_file::{Connector, Net};
@@ -14,9 +14,10 @@ pub fn flight(net: &Net, rows: &[Row], k: u32) -> i128
     requires has_connector { k < length net.now.connectors }
     ensures flight { result ≡ flight_of net.now rows.now k }
 
-    // By rows of uneven steps of the recurrences, it is what one step carries to or from the cells that have taken it,
-    // and 0 where all cells of the connector stand at one step.
+    // By rows of the recurrences at uneven steps: what one step carries out of and into the cells that have taken it, for
+    // a link its flow of that step or minus that, and 0 where all cells of the connector stand at one step.
     ensures law { FlightLaw net.now rows.now (connector_at net.now.connectors k) result }
+    ensures link { LinkFlightLaw net.now rows.now (connector_at net.now.connectors k) result }
     ensures at_one_step { FlightAtOneStep net.now rows.now (connector_at net.now.connectors k) result }
 {
     flight_by(net, rows, net.connectors[k as usize])

@@ -1,7 +1,9 @@
-//! What a network holds and what passes through it, by the rows of its cells, which may stand at different steps.
+//! Flights and books: what is under way between cells, and the sums of a network, by rows of cells that may stand at
+//! different steps (docs/MODEL.md).
 //!
-//! The flight of a connector is what has left its cells upstream and hasn't come into its cells downstream: 0 where
-//! these stand at one step. The books of a network are its sums, which balance. No call takes memory.
+//! The flight of a connector is what has gone out of its cells upstream and hasn't come into its cells downstream, 0
+//! where these stand at one step. With the flights the books balance at whatever steps the cells stand. No call takes
+//! memory.
 #![tactic(auto)]
 
 mod balance;
