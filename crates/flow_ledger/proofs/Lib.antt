@@ -1,0 +1,9 @@
+pub mod BooksLaws
+pub mod CellBooks
+pub mod CellSums
+pub mod ConnectorSums
+pub mod EvenFlights
+pub mod FlightLaws
+pub mod LinkFlights
+pub mod SignedSums
+pub mod StateRows

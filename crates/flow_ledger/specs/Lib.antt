@@ -1,0 +1,5 @@
+pub mod Books
+pub mod BooksLaw
+pub mod Flight
+pub mod FlightLaw
+pub mod UnevenSteps
