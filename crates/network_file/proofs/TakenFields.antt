@@ -1,11 +1,12 @@
 -- A field that is taken is plain.
-use Rattle.std.proofs.Common.{ℕ, ◌≡◌, List, Ok}
+use Rattle.std.proofs.Common.{ℕ, ◌≡◌, ◌+◌, ◌-◌, List, Ok}
 use Rattle.std.specs.Prelude.{ok_or, All, Option, is_none}
 use Rattle.fixed_flow.specs.Spelling.{amount_of, whole_of}
+use Rattle.signal_plan.specs.declared.bounds.TheConstants.{MOST_RATIO}
 use Rattle.signal_plan.specs.Records.{PlanRecords}
 use Rattle.network_file.specs.CellName.{is_name}
 use Rattle.network_file.specs.Cells.{cell_named}
-use Rattle.network_file.specs.Fields.{whole_within, amount_within, new_name, known_cell, upstream, downstream, signal_cell, demand_gate, turn_cell, region_cell}
+use Rattle.network_file.specs.Fields.{whole_within, range_within, ratio, weights, amount_within, new_name, known_cell, upstream, downstream, signal_cell, demand_gate, turn_cell, region_cell}
 use Rattle.network_file.specs.declared.cell.Cell.{Cell}
 use Rattle.network_file.specs.declared.code.Code.TheVariants.{BadName, BadNumber, Repeated, Unknown}
 use Rattle.network_file.specs.declared.connector.Connector.{Connector}
@@ -18,6 +19,27 @@ unfolding whole_within
 whole_within-plain low high text n taken =
     let (value, (read, rest)) = bind-ok (ok_or (whole_of text) BadNumber) _ n taken in
     whole_of-plain text value (ok_or-some (whole_of text) BadNumber value read)
+
+pub range_within-plain : (most : ℕ) (first last : List ℕ) (range : ℕ × ℕ) → range_within most first last ≡ Ok range → IsPlain first × IsPlain last
+unfolding range_within
+range_within-plain most first last range taken =
+    let (from, (is_from, taken1)) = bind-ok (whole_within 0 (most - 1) first) _ range taken in
+    let (to, (is_to, taken2)) = bind-ok (whole_within (from + 1) most last) _ range taken1 in
+    (whole_within-plain 0 (most - 1) first from is_from, whole_within-plain (from + 1) most last to is_to)
+
+pub ratio-plain : (first second : List ℕ) (pair : ℕ × ℕ) → ratio first second ≡ Ok pair → IsPlain first × IsPlain second
+unfolding ratio
+ratio-plain first second pair taken =
+    let (num, (is_num, taken1)) = bind-ok (whole_within 1 MOST_RATIO first) _ pair taken in
+    let (den, (is_den, taken2)) = bind-ok (whole_within num MOST_RATIO second) _ pair taken1 in
+    (whole_within-plain 1 MOST_RATIO first num is_num, whole_within-plain num MOST_RATIO second den is_den)
+
+pub weights-plain : (first second : List ℕ) (pair : ℕ × ℕ) → weights first second ≡ Ok pair → IsPlain first × IsPlain second
+unfolding weights
+weights-plain first second pair taken =
+    let (weight1, (is_weight1, taken1)) = bind-ok (whole_within 1 MOST_RATIO first) _ pair taken in
+    let (weight2, (is_weight2, taken2)) = bind-ok (whole_within 1 MOST_RATIO second) _ pair taken1 in
+    (whole_within-plain 1 MOST_RATIO first weight1 is_weight1, whole_within-plain 1 MOST_RATIO second weight2 is_weight2)
 
 pub amount_within-plain : (most : ℕ) (text : List ℕ) (n : ℕ) → amount_within most text ≡ Ok n → IsPlain text
 unfolding amount_within

@@ -1,11 +1,11 @@
 -- A record of each kind that is taken has plain fields, and is taken alike in format 2.
-use Rattle.std.proofs.Common.{ℕ, zero, suc, ◌≡◌, ◌+◌, ◌-◌, List, [], ◌∷◌, Ok, Some, None, subst, ap}
+use Rattle.std.proofs.Common.{ℕ, zero, suc, ◌≡◌, ◌-◌, List, [], ◌∷◌, Ok, Some, None, subst, ap}
 use Rattle.std.specs.Prelude.{Result, is_none}
 use Rattle.std.proofs.lemmas.List.Elements.{All-push}
 use Rattle.fixed_flow.specs.declared.amount.TheConstants.{MOST_PARTS}
-use Rattle.signal_plan.specs.declared.bounds.TheConstants.{MOST_RATIO, MOST_STEPS}
+use Rattle.signal_plan.specs.declared.bounds.TheConstants.{MOST_STEPS}
 use Rattle.network_file.specs.Draft.{Draft}
-use Rattle.network_file.specs.Fields.{field, whole_within, amount_within, new_name, known_cell, upstream, downstream, signal_cell, demand_gate, turn_cell, region_cell}
+use Rattle.network_file.specs.Fields.{field, whole_within, range_within, ratio, weights, amount_within, new_name, known_cell, upstream, downstream, signal_cell, demand_gate, turn_cell, region_cell}
 use Rattle.network_file.specs.Taking.{take_demand, take_diverge, take_exit, take_gate, take_limit, take_link, take_merge, take_region, take_road, take_signal, take_steps, take_turn, without_room}
 use Rattle.network_file.specs.declared.limits.TheConstants.{MOST_ROOM, MOST_CAPACITY, MOST_REGIONS}
 use Rattle.network_file.specs.declared.cell.Cell.{Cell}
@@ -15,7 +15,7 @@ use Rattle.network_file.specs.declared.code.Code.TheVariants.{Repeated}
 use Rattle.network_file.proofs.PlainLines.{ArePlain}
 use Rattle.network_file.proofs.PlainText.{IsPlain}
 use Rattle.network_file.proofs.CheckLemmas.{bind-as, bind-ok, must-as, must-ok}
-use Rattle.network_file.proofs.TakenFields.{ArePlainNames, whole_within-plain, amount_within-plain, new_name-plain, known_cell-plain, upstream-plain, downstream-plain, signal_cell-plain, demand_gate-plain, turn_cell-plain, region_cell-plain}
+use Rattle.network_file.proofs.TakenFields.{ArePlainNames, whole_within-plain, range_within-plain, ratio-plain, weights-plain, amount_within-plain, new_name-plain, known_cell-plain, upstream-plain, downstream-plain, signal_cell-plain, demand_gate-plain, turn_cell-plain, region_cell-plain}
 
 -- the same draft in format 2
 abbrev pub in_format_2 : Draft → Draft
@@ -61,9 +61,9 @@ take_road-alike draft more fields names taken =
     let (name, (is_name, taken1)) = bind-ok (new_name draft.cells (field fields 1)) _ more taken in
     let (room, (is_room, taken2)) = bind-ok (amount_within MOST_ROOM (field fields 2)) _ more taken1 in
     let (capacity, (is_capacity, taken3)) = bind-ok (amount_within MOST_CAPACITY (field fields 3)) _ more taken2 in
-    let (num, (is_num, taken4)) = bind-ok (whole_within 1 MOST_RATIO (field fields 4)) _ more taken3 in
-    let (den, (is_den, taken5)) = bind-ok (whole_within num MOST_RATIO (field fields 5)) _ more taken4 in
-    let (first, (is_first, taken6)) = bind-ok (amount_within room (field fields 6)) _ more taken5 in
+    let (pair, (is_pair, taken4)) = bind-ok (ratio (field fields 4) (field fields 5)) _ more taken3 in
+    let (plain_num, plain_den) = ratio-plain (field fields 4) (field fields 5) pair is_pair in
+    let (first, (is_first, taken5)) = bind-ok (amount_within room (field fields 6)) _ more taken4 in
     let (same, plain) = new_name-plain draft.cells (field fields 1) name is_name in (
       (
         plain,
@@ -72,9 +72,9 @@ take_road-alike draft more fields names taken =
           (
             amount_within-plain MOST_CAPACITY (field fields 3) capacity is_capacity,
             (
-              whole_within-plain 1 MOST_RATIO (field fields 4) num is_num,
+              plain_num,
               (
-                whole_within-plain num MOST_RATIO (field fields 5) den is_den,
+                plain_den,
                 (amount_within-plain room (field fields 6) first is_first, tt),
               ),
             ),
@@ -85,11 +85,10 @@ take_road-alike draft more fields names taken =
         (bind-as (new_name draft.cells (field fields 1)) _ name _ is_name
             (bind-as (amount_within MOST_ROOM (field fields 2)) _ room _ is_room
             (bind-as (amount_within MOST_CAPACITY (field fields 3)) _ capacity _ is_capacity
-            (bind-as (whole_within 1 MOST_RATIO (field fields 4)) _ num _ is_num
-            (bind-as (whole_within num MOST_RATIO (field fields 5)) _ den _ is_den
+            (bind-as (ratio (field fields 4) (field fields 5)) _ pair _ is_pair
             (bind-as (amount_within room (field fields 6)) _ first _ is_first
-            (same_in_format_2 _ more taken6))))))),
-        names_kept _ more taken6 (All-push (λ (cell : Cell). IsPlain cell.name) draft.cells (record { name = name; kind = kind.Road; room = room; num = num; den = den; first = first }) names (subst IsPlain same plain)),
+            (same_in_format_2 _ more taken5)))))),
+        names_kept _ more taken5 (All-push (λ (cell : Cell). IsPlain cell.name) draft.cells (record { name = name; kind = kind.Road; room = room; num = pair.0; den = pair.1; first = first }) names (subst IsPlain same plain)),
       ),
     )
 
@@ -157,8 +156,8 @@ take_merge-alike draft more fields names taken =
     let (up1, (is_up1, taken1)) = bind-ok (upstream draft.cells draft.connectors None (field fields 1)) _ more taken in
     let (up2, (is_up2, taken2)) = bind-ok (upstream draft.cells draft.connectors (Some up1) (field fields 2)) _ more taken1 in
     let (down, (is_down, taken3)) = bind-ok (downstream draft.cells draft.connectors None (field fields 3)) _ more taken2 in
-    let (p1, (is_p1, taken4)) = bind-ok (whole_within 1 MOST_RATIO (field fields 4)) _ more taken3 in
-    let (p2, (is_p2, taken5)) = bind-ok (whole_within 1 MOST_RATIO (field fields 5)) _ more taken4 in (
+    let (pair, (is_pair, taken4)) = bind-ok (weights (field fields 4) (field fields 5)) _ more taken3 in
+    let (plain_first, plain_second) = weights-plain (field fields 4) (field fields 5) pair is_pair in (
       (
         upstream-plain draft.cells draft.connectors None (field fields 1) up1 names is_up1,
         (
@@ -166,8 +165,8 @@ take_merge-alike draft more fields names taken =
           (
             downstream-plain draft.cells draft.connectors None (field fields 3) down names is_down,
             (
-              whole_within-plain 1 MOST_RATIO (field fields 4) p1 is_p1,
-              (whole_within-plain 1 MOST_RATIO (field fields 5) p2 is_p2, tt),
+              plain_first,
+              (plain_second, tt),
             ),
           ),
         ),
@@ -176,10 +175,9 @@ take_merge-alike draft more fields names taken =
         (bind-as (upstream draft.cells draft.connectors None (field fields 1)) _ up1 _ is_up1
             (bind-as (upstream draft.cells draft.connectors (Some up1) (field fields 2)) _ up2 _ is_up2
             (bind-as (downstream draft.cells draft.connectors None (field fields 3)) _ down _ is_down
-            (bind-as (whole_within 1 MOST_RATIO (field fields 4)) _ p1 _ is_p1
-            (bind-as (whole_within 1 MOST_RATIO (field fields 5)) _ p2 _ is_p2
-            (same_in_format_2 _ more taken5)))))),
-        names_kept _ more taken5 names,
+            (bind-as (weights (field fields 4) (field fields 5)) _ pair _ is_pair
+            (same_in_format_2 _ more taken4))))),
+        names_kept _ more taken4 names,
       ),
     )
 
@@ -189,8 +187,8 @@ take_diverge-alike draft more fields names taken =
     let (up, (is_up, taken1)) = bind-ok (upstream draft.cells draft.connectors None (field fields 1)) _ more taken in
     let (down1, (is_down1, taken2)) = bind-ok (downstream draft.cells draft.connectors None (field fields 2)) _ more taken1 in
     let (down2, (is_down2, taken3)) = bind-ok (downstream draft.cells draft.connectors (Some down1) (field fields 3)) _ more taken2 in
-    let (b1, (is_b1, taken4)) = bind-ok (whole_within 1 MOST_RATIO (field fields 4)) _ more taken3 in
-    let (b2, (is_b2, taken5)) = bind-ok (whole_within 1 MOST_RATIO (field fields 5)) _ more taken4 in (
+    let (pair, (is_pair, taken4)) = bind-ok (weights (field fields 4) (field fields 5)) _ more taken3 in
+    let (plain_first, plain_second) = weights-plain (field fields 4) (field fields 5) pair is_pair in (
       (
         upstream-plain draft.cells draft.connectors None (field fields 1) up names is_up,
         (
@@ -198,8 +196,8 @@ take_diverge-alike draft more fields names taken =
           (
             downstream-plain draft.cells draft.connectors (Some down1) (field fields 3) down2 names is_down2,
             (
-              whole_within-plain 1 MOST_RATIO (field fields 4) b1 is_b1,
-              (whole_within-plain 1 MOST_RATIO (field fields 5) b2 is_b2, tt),
+              plain_first,
+              (plain_second, tt),
             ),
           ),
         ),
@@ -208,10 +206,9 @@ take_diverge-alike draft more fields names taken =
         (bind-as (upstream draft.cells draft.connectors None (field fields 1)) _ up _ is_up
             (bind-as (downstream draft.cells draft.connectors None (field fields 2)) _ down1 _ is_down1
             (bind-as (downstream draft.cells draft.connectors (Some down1) (field fields 3)) _ down2 _ is_down2
-            (bind-as (whole_within 1 MOST_RATIO (field fields 4)) _ b1 _ is_b1
-            (bind-as (whole_within 1 MOST_RATIO (field fields 5)) _ b2 _ is_b2
-            (same_in_format_2 _ more taken5)))))),
-        names_kept _ more taken5 names,
+            (bind-as (weights (field fields 4) (field fields 5)) _ pair _ is_pair
+            (same_in_format_2 _ more taken4))))),
+        names_kept _ more taken4 names,
       ),
     )
 
@@ -221,8 +218,8 @@ take_signal-alike draft more fields names taken =
     let (cell, (is_cell, taken1)) = bind-ok (signal_cell draft.cells draft.plan (field fields 1)) _ more taken in
     let (cycle, (is_cycle, taken2)) = bind-ok (whole_within 1 MOST_STEPS (field fields 2)) _ more taken1 in
     let (offset, (is_offset, taken3)) = bind-ok (whole_within 0 (cycle - 1) (field fields 3)) _ more taken2 in
-    let (from, (is_from, taken4)) = bind-ok (whole_within 0 (cycle - 1) (field fields 4)) _ more taken3 in
-    let (to, (is_to, taken5)) = bind-ok (whole_within (from + 1) cycle (field fields 5)) _ more taken4 in (
+    let (range, (is_range, taken4)) = bind-ok (range_within cycle (field fields 4) (field fields 5)) _ more taken3 in
+    let (plain_from, plain_to) = range_within-plain cycle (field fields 4) (field fields 5) range is_range in (
       (
         signal_cell-plain draft.cells draft.plan (field fields 1) cell names is_cell,
         (
@@ -230,8 +227,8 @@ take_signal-alike draft more fields names taken =
           (
             whole_within-plain 0 (cycle - 1) (field fields 3) offset is_offset,
             (
-              whole_within-plain 0 (cycle - 1) (field fields 4) from is_from,
-              (whole_within-plain (from + 1) cycle (field fields 5) to is_to, tt),
+              plain_from,
+              (plain_to, tt),
             ),
           ),
         ),
@@ -240,10 +237,9 @@ take_signal-alike draft more fields names taken =
         (bind-as (signal_cell draft.cells draft.plan (field fields 1)) _ cell _ is_cell
             (bind-as (whole_within 1 MOST_STEPS (field fields 2)) _ cycle _ is_cycle
             (bind-as (whole_within 0 (cycle - 1) (field fields 3)) _ offset _ is_offset
-            (bind-as (whole_within 0 (cycle - 1) (field fields 4)) _ from _ is_from
-            (bind-as (whole_within (from + 1) cycle (field fields 5)) _ to _ is_to
-            (same_in_format_2 _ more taken5)))))),
-        names_kept _ more taken5 names,
+            (bind-as (range_within cycle (field fields 4) (field fields 5)) _ range _ is_range
+            (same_in_format_2 _ more taken4))))),
+        names_kept _ more taken4 names,
       ),
     )
 
@@ -251,26 +247,25 @@ pub take_limit-alike : (draft more : Draft) (fields : List (List ℕ)) → ArePl
 unfolding take_limit
 take_limit-alike draft more fields names taken =
     let (cell, (is_cell, taken1)) = bind-ok (known_cell draft.cells (field fields 1)) _ more taken in
-    let (from, (is_from, taken2)) = bind-ok (whole_within 0 (MOST_STEPS - 1) (field fields 2)) _ more taken1 in
-    let (to, (is_to, taken3)) = bind-ok (whole_within (from + 1) MOST_STEPS (field fields 3)) _ more taken2 in
-    let (capacity, (is_capacity, taken4)) = bind-ok (amount_within MOST_CAPACITY (field fields 4)) _ more taken3 in (
+    let (range, (is_range, taken2)) = bind-ok (range_within MOST_STEPS (field fields 2) (field fields 3)) _ more taken1 in
+    let (plain_from, plain_to) = range_within-plain MOST_STEPS (field fields 2) (field fields 3) range is_range in
+    let (capacity, (is_capacity, taken3)) = bind-ok (amount_within MOST_CAPACITY (field fields 4)) _ more taken2 in (
       (
         known_cell-plain draft.cells (field fields 1) cell names is_cell,
         (
-          whole_within-plain 0 (MOST_STEPS - 1) (field fields 2) from is_from,
+          plain_from,
           (
-            whole_within-plain (from + 1) MOST_STEPS (field fields 3) to is_to,
+            plain_to,
             (amount_within-plain MOST_CAPACITY (field fields 4) capacity is_capacity, tt),
           ),
         ),
       ),
       (
         (bind-as (known_cell draft.cells (field fields 1)) _ cell _ is_cell
-            (bind-as (whole_within 0 (MOST_STEPS - 1) (field fields 2)) _ from _ is_from
-            (bind-as (whole_within (from + 1) MOST_STEPS (field fields 3)) _ to _ is_to
+            (bind-as (range_within MOST_STEPS (field fields 2) (field fields 3)) _ range _ is_range
             (bind-as (amount_within MOST_CAPACITY (field fields 4)) _ capacity _ is_capacity
-            (same_in_format_2 _ more taken4))))),
-        names_kept _ more taken4 names,
+            (same_in_format_2 _ more taken3)))),
+        names_kept _ more taken3 names,
       ),
     )
 
@@ -278,26 +273,25 @@ pub take_demand-alike : (draft more : Draft) (fields : List (List ℕ)) → AreP
 unfolding take_demand
 take_demand-alike draft more fields names taken =
     let (gate, (is_gate, taken1)) = bind-ok (demand_gate draft.cells (field fields 1)) _ more taken in
-    let (from, (is_from, taken2)) = bind-ok (whole_within 0 (MOST_STEPS - 1) (field fields 2)) _ more taken1 in
-    let (to, (is_to, taken3)) = bind-ok (whole_within (from + 1) MOST_STEPS (field fields 3)) _ more taken2 in
-    let (amount, (is_amount, taken4)) = bind-ok (amount_within MOST_PARTS (field fields 4)) _ more taken3 in (
+    let (range, (is_range, taken2)) = bind-ok (range_within MOST_STEPS (field fields 2) (field fields 3)) _ more taken1 in
+    let (plain_from, plain_to) = range_within-plain MOST_STEPS (field fields 2) (field fields 3) range is_range in
+    let (amount, (is_amount, taken3)) = bind-ok (amount_within MOST_PARTS (field fields 4)) _ more taken2 in (
       (
         demand_gate-plain draft.cells (field fields 1) gate names is_gate,
         (
-          whole_within-plain 0 (MOST_STEPS - 1) (field fields 2) from is_from,
+          plain_from,
           (
-            whole_within-plain (from + 1) MOST_STEPS (field fields 3) to is_to,
+            plain_to,
             (amount_within-plain MOST_PARTS (field fields 4) amount is_amount, tt),
           ),
         ),
       ),
       (
         (bind-as (demand_gate draft.cells (field fields 1)) _ gate _ is_gate
-            (bind-as (whole_within 0 (MOST_STEPS - 1) (field fields 2)) _ from _ is_from
-            (bind-as (whole_within (from + 1) MOST_STEPS (field fields 3)) _ to _ is_to
+            (bind-as (range_within MOST_STEPS (field fields 2) (field fields 3)) _ range _ is_range
             (bind-as (amount_within MOST_PARTS (field fields 4)) _ amount _ is_amount
-            (same_in_format_2 _ more taken4))))),
-        names_kept _ more taken4 names,
+            (same_in_format_2 _ more taken3)))),
+        names_kept _ more taken3 names,
       ),
     )
 
@@ -305,31 +299,29 @@ pub take_turn-alike : (draft more : Draft) (fields : List (List ℕ)) → ArePla
 unfolding take_turn
 take_turn-alike draft more fields names taken =
     let (cell, (is_cell, taken1)) = bind-ok (turn_cell draft.cells draft.connectors (field fields 1)) _ more taken in
-    let (from, (is_from, taken2)) = bind-ok (whole_within 0 (MOST_STEPS - 1) (field fields 2)) _ more taken1 in
-    let (to, (is_to, taken3)) = bind-ok (whole_within (from + 1) MOST_STEPS (field fields 3)) _ more taken2 in
-    let (b1, (is_b1, taken4)) = bind-ok (whole_within 1 MOST_RATIO (field fields 4)) _ more taken3 in
-    let (b2, (is_b2, taken5)) = bind-ok (whole_within 1 MOST_RATIO (field fields 5)) _ more taken4 in (
+    let (range, (is_range, taken2)) = bind-ok (range_within MOST_STEPS (field fields 2) (field fields 3)) _ more taken1 in
+    let (plain_from, plain_to) = range_within-plain MOST_STEPS (field fields 2) (field fields 3) range is_range in
+    let (pair, (is_pair, taken3)) = bind-ok (weights (field fields 4) (field fields 5)) _ more taken2 in
+    let (plain_first, plain_second) = weights-plain (field fields 4) (field fields 5) pair is_pair in (
       (
         turn_cell-plain draft.cells draft.connectors (field fields 1) cell names is_cell,
         (
-          whole_within-plain 0 (MOST_STEPS - 1) (field fields 2) from is_from,
+          plain_from,
           (
-            whole_within-plain (from + 1) MOST_STEPS (field fields 3) to is_to,
+            plain_to,
             (
-              whole_within-plain 1 MOST_RATIO (field fields 4) b1 is_b1,
-              (whole_within-plain 1 MOST_RATIO (field fields 5) b2 is_b2, tt),
+              plain_first,
+              (plain_second, tt),
             ),
           ),
         ),
       ),
       (
         (bind-as (turn_cell draft.cells draft.connectors (field fields 1)) _ cell _ is_cell
-            (bind-as (whole_within 0 (MOST_STEPS - 1) (field fields 2)) _ from _ is_from
-            (bind-as (whole_within (from + 1) MOST_STEPS (field fields 3)) _ to _ is_to
-            (bind-as (whole_within 1 MOST_RATIO (field fields 4)) _ b1 _ is_b1
-            (bind-as (whole_within 1 MOST_RATIO (field fields 5)) _ b2 _ is_b2
-            (same_in_format_2 _ more taken5)))))),
-        names_kept _ more taken5 names,
+            (bind-as (range_within MOST_STEPS (field fields 2) (field fields 3)) _ range _ is_range
+            (bind-as (weights (field fields 4) (field fields 5)) _ pair _ is_pair
+            (same_in_format_2 _ more taken3)))),
+        names_kept _ more taken3 names,
       ),
     )
 

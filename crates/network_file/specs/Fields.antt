@@ -1,8 +1,9 @@
 -- The fields of a record, and what each sort of field says.
-use Rattle.std.specs.Prelude.{ℕ, List, [], not, ◌&&◌, ◌||◌, eqb, false, Option, Result, Ok, ok_or, get_or, is_none, nat_le}
+use Rattle.std.specs.Prelude.{ℕ, ◌+◌, ◌-◌, List, [], not, ◌&&◌, ◌||◌, eqb, false, Option, Result, Ok, ok_or, get_or, is_none, nat_le}
 use Rattle.std.specs.List.{list_any}
 use Rattle.std.specs.Option.{option_map_or}
 use Rattle.fixed_flow.specs.Spelling.{amount_of, whole_of}
+use Rattle.signal_plan.specs.declared.bounds.TheConstants.{MOST_RATIO}
 use Rattle.signal_plan.specs.Green.{is_signalled}
 use Rattle.signal_plan.specs.Records.{PlanRecords}
 use Rattle.network_file.specs.CellName.{is_name}
@@ -26,6 +27,27 @@ whole_within low high text = do
   n ← ok_or (whole_of text) BadNumber
   must (nat_le low n && nat_le n high) OutOfRange
   Ok n
+
+-- a range `[from, to)` of steps that has a step and ends by `most`, of its two fields
+unfoldable pub range_within : (most : ℕ) → (first last : List ℕ) → Result (ℕ × ℕ) Code
+range_within most first last = do
+  from ← whole_within 0 (most - 1) first
+  to ← whole_within (from + 1) most last
+  Ok (from, to)
+
+-- a road's ratio A/B of at most 1, of its two fields
+unfoldable pub ratio : (first second : List ℕ) → Result (ℕ × ℕ) Code
+ratio first second = do
+  num ← whole_within 1 MOST_RATIO first
+  den ← whole_within num MOST_RATIO second
+  Ok (num, den)
+
+-- the priorities of a merge or the shares of a diverge, of their two fields
+unfoldable pub weights : (first second : List ℕ) → Result (ℕ × ℕ) Code
+weights first second = do
+  weight1 ← whole_within 1 MOST_RATIO first
+  weight2 ← whole_within 1 MOST_RATIO second
+  Ok (weight1, weight2)
 
 -- an amount in parts, up to the greatest
 unfoldable pub amount_within : (most : ℕ) → List ℕ → Result ℕ Code

@@ -1,10 +1,10 @@
 -- What each kind of record adds to the draft, or the first fault that it has there.
-use Rattle.std.specs.Prelude.{ℕ, ◌+◌, ◌-◌, ◌==◌, ◌&&◌, List, Option, Some, None, Result, Ok, is_none, if◌then◌else◌, nat_lt, length, bytes_eq, codes, ok_or}
+use Rattle.std.specs.Prelude.{ℕ, ◌-◌, ◌==◌, ◌&&◌, List, Option, Some, None, Result, Ok, is_none, if◌then◌else◌, nat_lt, length, bytes_eq, codes, ok_or}
 use Rattle.fixed_flow.specs.declared.amount.TheConstants.{MOST_PARTS}
-use Rattle.signal_plan.specs.declared.bounds.TheConstants.{MOST_RATIO, MOST_STEPS}
+use Rattle.signal_plan.specs.declared.bounds.TheConstants.{MOST_STEPS}
 use Rattle.network_file.specs.Checks.{◌>>=◌, ◌>>◌, must}
 use Rattle.network_file.specs.Draft.{Draft, with_steps, add_cell, add_connector, add_demand, add_limit, add_region, add_signal, add_turn}
-use Rattle.network_file.specs.Fields.{field, whole_within, amount_within, new_name, known_cell, upstream, downstream, signal_cell, demand_gate, turn_cell, region_cell}
+use Rattle.network_file.specs.Fields.{field, whole_within, range_within, ratio, weights, amount_within, new_name, known_cell, upstream, downstream, signal_cell, demand_gate, turn_cell, region_cell}
 use Rattle.network_file.specs.Formats.{most_records}
 use Rattle.network_file.specs.declared.limits.TheConstants.{MOST_ROOM, MOST_CAPACITY, MOST_REGIONS}
 use Rattle.network_file.specs.declared.cell.Cell.{Cell}
@@ -74,8 +74,7 @@ take_road draft fields = do
   name ← new_name draft.cells (field fields 1)
   room ← amount_within MOST_ROOM (field fields 2)
   capacity ← amount_within MOST_CAPACITY (field fields 3)
-  num ← whole_within 1 MOST_RATIO (field fields 4)
-  den ← whole_within num MOST_RATIO (field fields 5)
+  (num, den) ← ratio (field fields 4) (field fields 5)
   first ← amount_within room (field fields 6)
   Ok (add_cell draft (record { name = name; kind = kind.Road; room = room; num = num; den = den; first = first }) capacity)
 
@@ -107,8 +106,7 @@ take_merge draft fields = do
   up1 ← upstream draft.cells draft.connectors None (field fields 1)
   up2 ← upstream draft.cells draft.connectors (Some up1) (field fields 2)
   down ← downstream draft.cells draft.connectors None (field fields 3)
-  p1 ← whole_within 1 MOST_RATIO (field fields 4)
-  p2 ← whole_within 1 MOST_RATIO (field fields 5)
+  (p1, p2) ← weights (field fields 4) (field fields 5)
   Ok (add_connector draft (connector.Merge up1 up2 down p1 p2))
 
 unfoldable pub take_diverge : Draft → List (List ℕ) → Result Draft Code
@@ -116,8 +114,7 @@ take_diverge draft fields = do
   up ← upstream draft.cells draft.connectors None (field fields 1)
   down1 ← downstream draft.cells draft.connectors None (field fields 2)
   down2 ← downstream draft.cells draft.connectors (Some down1) (field fields 3)
-  b1 ← whole_within 1 MOST_RATIO (field fields 4)
-  b2 ← whole_within 1 MOST_RATIO (field fields 5)
+  (b1, b2) ← weights (field fields 4) (field fields 5)
   Ok (add_connector draft (connector.Diverge up down1 down2 b1 b2))
 
 unfoldable pub take_signal : Draft → List (List ℕ) → Result Draft Code
@@ -125,33 +122,28 @@ take_signal draft fields = do
   cell ← signal_cell draft.cells draft.plan (field fields 1)
   cycle ← whole_within 1 MOST_STEPS (field fields 2)
   offset ← whole_within 0 (cycle - 1) (field fields 3)
-  from ← whole_within 0 (cycle - 1) (field fields 4)
-  to ← whole_within (from + 1) cycle (field fields 5)
+  (from, to) ← range_within cycle (field fields 4) (field fields 5)
   Ok (add_signal draft (record { cell = cell; cycle = cycle; offset = offset; from = from; to = to }))
 
 unfoldable pub take_limit : Draft → List (List ℕ) → Result Draft Code
 take_limit draft fields = do
   cell ← known_cell draft.cells (field fields 1)
-  from ← whole_within 0 (MOST_STEPS - 1) (field fields 2)
-  to ← whole_within (from + 1) MOST_STEPS (field fields 3)
+  (from, to) ← range_within MOST_STEPS (field fields 2) (field fields 3)
   capacity ← amount_within MOST_CAPACITY (field fields 4)
   Ok (add_limit draft (record { cell = cell; from = from; to = to; capacity = capacity }))
 
 unfoldable pub take_demand : Draft → List (List ℕ) → Result Draft Code
 take_demand draft fields = do
   gate ← demand_gate draft.cells (field fields 1)
-  from ← whole_within 0 (MOST_STEPS - 1) (field fields 2)
-  to ← whole_within (from + 1) MOST_STEPS (field fields 3)
+  (from, to) ← range_within MOST_STEPS (field fields 2) (field fields 3)
   amount ← amount_within MOST_PARTS (field fields 4)
   Ok (add_demand draft (record { cell = gate; from = from; to = to; amount = amount }))
 
 unfoldable pub take_turn : Draft → List (List ℕ) → Result Draft Code
 take_turn draft fields = do
   cell ← turn_cell draft.cells draft.connectors (field fields 1)
-  from ← whole_within 0 (MOST_STEPS - 1) (field fields 2)
-  to ← whole_within (from + 1) MOST_STEPS (field fields 3)
-  b1 ← whole_within 1 MOST_RATIO (field fields 4)
-  b2 ← whole_within 1 MOST_RATIO (field fields 5)
+  (from, to) ← range_within MOST_STEPS (field fields 2) (field fields 3)
+  (b1, b2) ← weights (field fields 4) (field fields 5)
   Ok (add_turn draft (record { cell = cell; from = from; to = to; b1 = b1; b2 = b2 }))
 
 unfoldable pub take_region : Draft → List (List ℕ) → Result Draft Code

@@ -7,9 +7,10 @@ use crate::marks::Marks;
 use signal_plan::NoMemory;
 use std::alloc::Global;
 
-/// Whether each region number below the greatest has a cell.
+/// Whether each region number below the greatest of a list is in it. It needs memory for a mark for each
+/// number up to the greatest, and fails only for want of it.
 #[tactic(auto, unfolding(crate::specs::Cutting::has_no_gap))]
-pub(crate) fn has_no_gap(alloc: Global, numbers: &[u32]) -> Result<bool, NoMemory>
+pub fn has_no_gap(alloc: Global, numbers: &[u32]) -> Result<bool, NoMemory>
     ensures { IfOk result (λ all. all ≡ has_no_gap numbers.now) }
 {
     let seen = marked(alloc, numbers)?;
@@ -27,8 +28,8 @@ fn marked(alloc: Global, numbers: &[u32]) -> Result<Marks, NoMemory>
     Ok(seen)
 }
 
-// The greatest number of a list, 0 for the empty list.
-fn greatest(numbers: &[u32]) -> u32
+/// The greatest region number of a list, 0 for the empty list.
+pub fn greatest(numbers: &[u32]) -> u32
     ensures { result ≡ greatest numbers.now }
 {
     let mut most = 0;

@@ -66,21 +66,9 @@ impl NetDraft {
         requires few { steps ≤ MOST_STEPS }
         ensures { result ≡ with_steps self steps }
     {
-        let NetDraft {
-            format,
-            cells,
-            connectors,
-            plan,
-            regions,
-            ..
-        } = self;
         NetDraft {
-            format,
             steps: Some(u64::from(steps)),
-            cells,
-            connectors,
-            plan,
-            regions,
+            ..self
         }
     }
 
@@ -97,23 +85,13 @@ impl NetDraft {
         requires capacity { capacity ≤ MOST_CAPACITY }
         ensures { IfOk result (λ more. more ≡ add_cell self cell capacity) }
     {
-        let NetDraft {
-            format,
-            steps,
-            cells,
-            connectors,
-            mut plan,
-            regions,
-        } = self;
+        let mut plan = self.plan;
         plan.put_cell(capacity)?;
-        let cells = cells.with(alloc, cell)?;
+        let cells = self.cells.with(alloc, cell)?;
         Ok(NetDraft {
-            format,
-            steps,
             cells,
-            connectors,
             plan,
-            regions,
+            ..self
         })
     }
 
@@ -125,23 +103,8 @@ impl NetDraft {
         requires down_free { All (λ down. list_any (leads_into down) self.connectors ≡ false) (downstream_of connector) }
         ensures { IfOk result (λ more. more ≡ add_connector self connector) }
     {
-        let NetDraft {
-            format,
-            steps,
-            cells,
-            connectors,
-            plan,
-            regions,
-        } = self;
-        let connectors = connectors.with(connector)?;
-        Ok(NetDraft {
-            format,
-            steps,
-            cells,
-            connectors,
-            plan,
-            regions,
-        })
+        let connectors = self.connectors.with(connector)?;
+        Ok(NetDraft { connectors, ..self })
     }
 
     /// With the signal of a cell: it sends only where its place in the cycle is in `[from, to)`.
@@ -162,14 +125,7 @@ impl NetDraft {
         requires within { to ≤ cycle }
         ensures { IfOk result (λ more. more ≡ add_signal self (record { cell = cell; cycle = cycle; offset = offset; from = from; to = to })) }
     {
-        let NetDraft {
-            format,
-            steps,
-            cells,
-            connectors,
-            mut plan,
-            regions,
-        } = self;
+        let mut plan = self.plan;
         plan.put_signal(
             cell,
             u64::from(cycle),
@@ -177,14 +133,7 @@ impl NetDraft {
             u64::from(from),
             u64::from(to),
         )?;
-        Ok(NetDraft {
-            format,
-            steps,
-            cells,
-            connectors,
-            plan,
-            regions,
-        })
+        Ok(NetDraft { plan, ..self })
     }
 
     /// With this capacity of a cell in each step of `[from, to)`.
@@ -202,23 +151,9 @@ impl NetDraft {
         requires capacity { capacity ≤ MOST_CAPACITY }
         ensures { IfOk result (λ more. more ≡ add_limit self (record { cell = cell; from = from; to = to; capacity = capacity })) }
     {
-        let NetDraft {
-            format,
-            steps,
-            cells,
-            connectors,
-            mut plan,
-            regions,
-        } = self;
+        let mut plan = self.plan;
         plan.put_limit(cell, u64::from(from), u64::from(to), capacity)?;
-        Ok(NetDraft {
-            format,
-            steps,
-            cells,
-            connectors,
-            plan,
-            regions,
-        })
+        Ok(NetDraft { plan, ..self })
     }
 
     /// With so many parts in each step of `[from, to)` that enter a gate.
@@ -237,23 +172,9 @@ impl NetDraft {
         requires amount { amount ≤ MOST_PARTS }
         ensures { IfOk result (λ more. more ≡ add_demand self (record { cell = gate; from = from; to = to; amount = amount })) }
     {
-        let NetDraft {
-            format,
-            steps,
-            cells,
-            connectors,
-            mut plan,
-            regions,
-        } = self;
+        let mut plan = self.plan;
         plan.put_demand(gate, u64::from(from), u64::from(to), amount)?;
-        Ok(NetDraft {
-            format,
-            steps,
-            cells,
-            connectors,
-            plan,
-            regions,
-        })
+        Ok(NetDraft { plan, ..self })
     }
 
     /// With these turning shares of the diverge out of a cell in each step of `[from, to)`.
@@ -275,23 +196,9 @@ impl NetDraft {
         requires second { b2 ≤ MOST_RATIO }
         ensures { IfOk result (λ more. more ≡ add_turn self (record { cell = cell; from = from; to = to; b1 = b1; b2 = b2 })) }
     {
-        let NetDraft {
-            format,
-            steps,
-            cells,
-            connectors,
-            mut plan,
-            regions,
-        } = self;
+        let mut plan = self.plan;
         plan.put_turn(cell, u64::from(from), u64::from(to), b1, b2)?;
-        Ok(NetDraft {
-            format,
-            steps,
-            cells,
-            connectors,
-            plan,
-            regions,
-        })
+        Ok(NetDraft { plan, ..self })
     }
 
     /// With the number of a cell's region.
@@ -301,23 +208,8 @@ impl NetDraft {
         requires number { number < MOST_REGIONS }
         ensures { IfOk result (λ more. more ≡ add_region self (record { cell = cell; number = number })) }
     {
-        let NetDraft {
-            format,
-            steps,
-            cells,
-            connectors,
-            plan,
-            regions,
-        } = self;
-        let regions = regions.with(cell, number)?;
-        Ok(NetDraft {
-            format,
-            steps,
-            cells,
-            connectors,
-            plan,
-            regions,
-        })
+        let regions = self.regions.with(cell, number)?;
+        Ok(NetDraft { regions, ..self })
     }
 
     /// How many records it has of those that count together with this kind, where the format limits their number.

@@ -5,7 +5,7 @@ ghost use Rattle.csv.specs.Records.{fields_of};
 ghost use Rattle.signal_plan.specs.Green.{is_signalled};
 ghost use Rattle.network_file.specs.Answers.{Answers};
 ghost use Rattle.network_file.specs.Cells.{cell_named, is_exit_at, is_gate_at};
-ghost use Rattle.network_file.specs.Fields.{amount_within, demand_gate, downstream, field, known_cell, new_name, region_cell, signal_cell, turn_cell, upstream, whole_within};
+ghost use Rattle.network_file.specs.Fields.{amount_within, demand_gate, downstream, field, known_cell, new_name, range_within, ratio, region_cell, signal_cell, turn_cell, upstream, weights, whole_within};
 ghost use Rattle.network_file.specs.Regions.{region_in};
 ghost use Rattle.network_file.specs.Connectors.{diverges_from, leads_into, leads_out_of};
 
@@ -17,7 +17,7 @@ use crate::name::Name;
 use crate::region_table::RegionTable;
 use csv::ByteRecord;
 use fixed_flow::{Amount, AmountFault, MOST_PARTS, whole};
-use signal_plan::Plan;
+use signal_plan::{MOST_RATIO, Plan};
 use std::alloc::Global;
 
 /// The field at a place, counted from 0, or nothing where the record ends before it.
@@ -41,6 +41,44 @@ pub(crate) fn whole_within(low: u32, high: u32, text: &[u8]) -> Result<u32, Code
         Some(n) if low <= n && n <= high => Ok(n),
         Some(_) => Err(Code::OutOfRange),
     }
+}
+
+/// The range `[from, to)` of steps that two fields give: it has a step, and ends by `most`.
+#[tactic(auto, unfolding(crate::specs::Fields::range_within))]
+pub(crate) fn range_within(most: u32, first: &[u8], last: &[u8]) -> Result<(u32, u32), Code>
+    requires { 1 ≤ most }
+    ensures value { result ≡ range_within most first.now last.now }
+    ensures some_step { IfOk result (λ range. range.0 < range.1) }
+    ensures within { IfOk result (λ range. range.1 ≤ most) }
+{
+    let from = whole_within(0, most - 1, first)?;
+    let to = whole_within(from + 1, most, last)?;
+    Ok((from, to))
+}
+
+/// A road's ratio of at most 1: its numerator and its denominator.
+#[tactic(auto, unfolding(crate::specs::Fields::ratio))]
+pub(crate) fn ratio(first: &[u8], second: &[u8]) -> Result<(u32, u32), Code>
+    ensures value { result ≡ ratio first.now second.now }
+    ensures some { IfOk result (λ ratio. 1 ≤ ratio.0) }
+    ensures at_most_one { IfOk result (λ ratio. ratio.0 ≤ ratio.1) }
+    ensures most { IfOk result (λ ratio. ratio.1 ≤ MOST_RATIO) }
+{
+    let num = whole_within(1, MOST_RATIO, first)?;
+    let den = whole_within(num, MOST_RATIO, second)?;
+    Ok((num, den))
+}
+
+/// The two priorities of a merge, or the two shares of a diverge.
+#[tactic(auto, unfolding(crate::specs::Fields::weights))]
+pub(crate) fn weights(first: &[u8], second: &[u8]) -> Result<(u32, u32), Code>
+    ensures value { result ≡ weights first.now second.now }
+    ensures first { IfOk result (λ weights. (1 ≤ weights.0) × (weights.0 ≤ MOST_RATIO)) }
+    ensures second { IfOk result (λ weights. (1 ≤ weights.1) × (weights.1 ≤ MOST_RATIO)) }
+{
+    let weight1 = whole_within(1, MOST_RATIO, first)?;
+    let weight2 = whole_within(1, MOST_RATIO, second)?;
+    Ok((weight1, weight2))
 }
 
 /// An amount in parts, up to the greatest.

@@ -30,6 +30,7 @@ pub use cell::{Cell, Kind};
 pub use code::Code;
 pub use connector::Connector;
 pub use conversion::convert;
+pub use cutting::{greatest, has_no_gap};
 pub use fault::{NetFault, NetRefusal};
 pub use limits::{MOST_BYTES, MOST_CAPACITY, MOST_REGIONS, MOST_ROOM};
 pub use name::Name;

@@ -10,15 +10,15 @@ use crate::connector::Connector;
 use crate::draft::NetDraft;
 use crate::fault::RecordRefusal;
 use crate::fields::{
-    amount_within, demand_gate, downstream, field, known_cell, new_name, region_cell, signal_cell,
-    turn_cell, upstream, whole_within,
+    amount_within, demand_gate, downstream, field, known_cell, new_name, range_within, ratio,
+    region_cell, signal_cell, turn_cell, upstream, weights, whole_within,
 };
 use crate::format::most_records;
 use crate::limits::{MOST_CAPACITY, MOST_REGIONS, MOST_ROOM};
 use crate::record_kind::RecordKind;
 use csv::ByteRecord;
 use fixed_flow::MOST_PARTS;
-use signal_plan::{MOST_RATIO, MOST_STEPS};
+use signal_plan::MOST_STEPS;
 use std::alloc::Global;
 
 /// The draft with one more record.
@@ -74,8 +74,7 @@ fn take_road(alloc: Global, draft: NetDraft, row: &ByteRecord) -> Result<NetDraf
     let name = new_name(alloc, &draft.cells, field(row, 1))?;
     let room = amount_within(MOST_ROOM, field(row, 2))?;
     let capacity = amount_within(MOST_CAPACITY, field(row, 3))?;
-    let num = whole_within(1, MOST_RATIO, field(row, 4))?;
-    let den = whole_within(num, MOST_RATIO, field(row, 5))?;
+    let (num, den) = ratio(field(row, 4), field(row, 5))?;
     let first = amount_within(room, field(row, 6))?;
     let cell = Cell {
         name,
@@ -129,8 +128,7 @@ fn take_merge(draft: NetDraft, row: &ByteRecord) -> Result<NetDraft, RecordRefus
     let up1 = upstream(&draft.cells, &draft.connectors, None, field(row, 1))?;
     let up2 = upstream(&draft.cells, &draft.connectors, Some(up1), field(row, 2))?;
     let down = downstream(&draft.cells, &draft.connectors, None, field(row, 3))?;
-    let p1 = whole_within(1, MOST_RATIO, field(row, 4))?;
-    let p2 = whole_within(1, MOST_RATIO, field(row, 5))?;
+    let (p1, p2) = weights(field(row, 4), field(row, 5))?;
     Ok(draft.add_connector(Connector::Merge {
         up1,
         up2,
@@ -148,8 +146,7 @@ fn take_diverge(draft: NetDraft, row: &ByteRecord) -> Result<NetDraft, RecordRef
     let up = upstream(&draft.cells, &draft.connectors, None, field(row, 1))?;
     let down1 = downstream(&draft.cells, &draft.connectors, None, field(row, 2))?;
     let down2 = downstream(&draft.cells, &draft.connectors, Some(down1), field(row, 3))?;
-    let b1 = whole_within(1, MOST_RATIO, field(row, 4))?;
-    let b2 = whole_within(1, MOST_RATIO, field(row, 5))?;
+    let (b1, b2) = weights(field(row, 4), field(row, 5))?;
     Ok(draft.add_connector(Connector::Diverge {
         up,
         down1,
@@ -166,8 +163,7 @@ fn take_signal(draft: NetDraft, row: &ByteRecord) -> Result<NetDraft, RecordRefu
     let cell = signal_cell(&draft.cells, &draft.plan, field(row, 1))?;
     let cycle = whole_within(1, MOST_STEPS, field(row, 2))?;
     let offset = whole_within(0, cycle - 1, field(row, 3))?;
-    let from = whole_within(0, cycle - 1, field(row, 4))?;
-    let to = whole_within(from + 1, cycle, field(row, 5))?;
+    let (from, to) = range_within(cycle, field(row, 4), field(row, 5))?;
     Ok(draft.add_signal(cell, cycle, offset, from, to)?)
 }
 
@@ -177,8 +173,7 @@ fn take_limit(draft: NetDraft, row: &ByteRecord) -> Result<NetDraft, RecordRefus
     ensures { Answers result (take_limit draft (fields_of row.now)) }
 {
     let cell = known_cell(&draft.cells, field(row, 1))?;
-    let from = whole_within(0, MOST_STEPS - 1, field(row, 2))?;
-    let to = whole_within(from + 1, MOST_STEPS, field(row, 3))?;
+    let (from, to) = range_within(MOST_STEPS, field(row, 2), field(row, 3))?;
     let capacity = amount_within(MOST_CAPACITY, field(row, 4))?;
     Ok(draft.add_limit(cell, from, to, capacity)?)
 }
@@ -189,8 +184,7 @@ fn take_demand(draft: NetDraft, row: &ByteRecord) -> Result<NetDraft, RecordRefu
     ensures { Answers result (take_demand draft (fields_of row.now)) }
 {
     let gate = demand_gate(&draft.cells, field(row, 1))?;
-    let from = whole_within(0, MOST_STEPS - 1, field(row, 2))?;
-    let to = whole_within(from + 1, MOST_STEPS, field(row, 3))?;
+    let (from, to) = range_within(MOST_STEPS, field(row, 2), field(row, 3))?;
     let amount = amount_within(MOST_PARTS, field(row, 4))?;
     Ok(draft.add_demand(gate, from, to, amount)?)
 }
@@ -201,10 +195,8 @@ fn take_turn(draft: NetDraft, row: &ByteRecord) -> Result<NetDraft, RecordRefusa
     ensures { Answers result (take_turn draft (fields_of row.now)) }
 {
     let cell = turn_cell(&draft.cells, &draft.connectors, field(row, 1))?;
-    let from = whole_within(0, MOST_STEPS - 1, field(row, 2))?;
-    let to = whole_within(from + 1, MOST_STEPS, field(row, 3))?;
-    let b1 = whole_within(1, MOST_RATIO, field(row, 4))?;
-    let b2 = whole_within(1, MOST_RATIO, field(row, 5))?;
+    let (from, to) = range_within(MOST_STEPS, field(row, 2), field(row, 3))?;
+    let (b1, b2) = weights(field(row, 4), field(row, 5))?;
     Ok(draft.add_turn(cell, from, to, b1, b2)?)
 }
 

@@ -1,13 +1,12 @@
-ghost use Rattle.std.specs.Prelude.{◌≡◌, ◌≤◌, Ok, IfErr, IfOk, length};
-ghost use Rattle.network_file.specs.Cutting.{greatest};
+ghost use Rattle.std.specs.Prelude.{◌≡◌, ◌≤◌, Ok, IfErr, IfOk, length, nat_lt};
+ghost use Rattle.std.specs.List.{list_all};
 ghost use Rattle.network_file.specs.declared.limits.TheConstants.{MOST_REGIONS};
 ghost use Rattle.region_cut.specs.CutFaults.{cut_of, IsCutRefusal};
 ghost use Rattle.region_cut.specs.Cuttings.{even_cutting, region_count};
 
 use crate::even::even_list;
 use crate::fault::{CutFault, CutRefusal};
-use crate::gap::{are_few, greatest, has_no_gap};
-use network_file::{MOST_REGIONS, Net};
+use network_file::{MOST_REGIONS, Net, greatest, has_no_gap};
 use signal_plan::NoMemory;
 use std::alloc::Global;
 use std::marker::Model;
@@ -76,6 +75,13 @@ impl Cut {
     {
         greatest(&self.regions) + 1
     }
+}
+
+// Whether each number is one that a region may have.
+fn are_few(list: &[u32]) -> bool
+    ensures { result ≡ list_all (λ region. nat_lt region MOST_REGIONS) list.now }
+{
+    list.iter().all(|region| *region < MOST_REGIONS)
 }
 
 // The list in a vector of its own.

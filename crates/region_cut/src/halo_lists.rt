@@ -1,10 +1,11 @@
-ghost use Rattle.std.specs.Prelude.{◌≡◌, ◌==◌, ◌<◌, ℕ, ◌^◌, All, IfOk, length, map, true};
-ghost use Rattle.std.specs.List.{list_any, position_or_len, range_with_len};
+ghost use Rattle.std.specs.Prelude.{◌≡◌, ◌<◌, ℕ, ◌^◌, All, IfOk, length, map};
+ghost use Rattle.std.specs.List.{range_with_len};
 ghost use Rattle.std.specs.List.Sorted.{IsStrictlyIncreasing};
 ghost use Rattle.region_cut.specs.Chart.{list_at};
 ghost use Rattle.region_cut.specs.Gathered.{CanPlace, outside, placed};
 
 use crate::halo::Halo;
+use crate::list_place::place;
 use crate::lists::Lists;
 use signal_plan::NoMemory;
 use std::alloc::Global;
@@ -53,17 +54,4 @@ fn halo(
         }
     }
     Ok(halo)
-}
-
-// The place of a cell in a border.
-fn place(border: &[u32], cell: u32) -> u32
-    requires few { length border.now < 2 ^ 32 }
-    requires increasing { IsStrictlyIncreasing border.now }
-    requires listed { list_any (λ j. j == cell) border.now ≡ true }
-    ensures { result ≡ position_or_len (λ j. j == cell) border.now }
-{
-    match border.binary_search(&cell) {
-        Ok(place) => place as u32,
-        Err(_) => 0,
-    }
 }

@@ -1,7 +1,7 @@
 -- What callers may know of a plan's capacities, turning shares, demands and totals.
 use Rattle.std.specs.Prelude.{All, reverse, if◌then◌else◌}
 use Rattle.std.specs.List.{range_with_len}
-use Rattle.std.proofs.Common.{◌≡◌, ℕ, suc, true, false, zero-add, ◌+◌, ◌-◌, ◌*◌, ◌<◌, ◌≤◌, length, get_or, arith, refl, ◌∙◌}
+use Rattle.std.proofs.Common.{◌≡◌, ℕ, suc, true, false, zero-add, ◌+◌, ◌-◌, ◌*◌, ◌<◌, ◌≤◌, List, length, get_or, arith, refl, ◌∙◌}
 use Rattle.std.proofs.Math.Nat.{mul-le-mul, mul-le-mul_right}
 use Rattle.std.proofs.lemmas.List.Elements.{All-weaker}
 use Rattle.std.proofs.lemmas.List.FromFn.{length-range_with_len, get_or-range_with_len}
@@ -50,6 +50,16 @@ demand_at-le plan cell t sound = omega (
       ),
 )
 
+pub demand_from-le : (plan : PlanRecords) (cell t end : ℕ) → IsSoundPlan plan → demand_from plan cell t end ≤ MOST_RECORDS * (MOST_PARTS * end)
+unfolding demand_from
+demand_from-le plan cell t end sound =
+    let steps : List ℕ = range_with_len t (end - t) in
+    omega (
+      arith,
+      length-range_with_len t (end - t),
+      sum_by-le (demand_at plan cell) (MOST_RECORDS * MOST_PARTS) steps (λ k d within. demand_at-le plan cell (get_or steps k d) sound),
+    )
+
 pub demand_from_none : (plan : PlanRecords) (cell t : ℕ) → demand_from plan cell t t ≡ 0
 unfolding demand_from
 demand_from_none plan cell t = let none : t - t ≡ 0 = omega arith in rw none refl
@@ -93,13 +103,13 @@ demand_from-le-total_demand plan cell steps has =
 
 pub total_demand-le : (plan : PlanRecords) (steps : ℕ) → IsSoundPlan plan → total_demand plan steps ≤ MOST_RECORDS * (MOST_PARTS * steps)
 total_demand-le plan steps sound =
-    let each : (d : DemandRecord) → IsSoundDemand (length plan.cells) d → brought steps d ≤ MOST_PARTS * steps =
+    let each : (d : DemandRecord) → IsSoundDemand (length plan.cells) d → brought 0 steps d ≤ MOST_PARTS * steps =
     λ d fits. mul-le-mul fits.amount (omega arith) in
     omega (
       arith,
       total_demand_is plan steps sound,
-      sum_by-le (brought steps) (MOST_PARTS * steps) plan.demands (
-          All-weaker (IsSoundDemand (length plan.cells)) (λ d. brought steps d ≤ MOST_PARTS * steps) each plan.demands sound.demands
+      sum_by-le (brought 0 steps) (MOST_PARTS * steps) plan.demands (
+          All-weaker (IsSoundDemand (length plan.cells)) (λ d. brought 0 steps d ≤ MOST_PARTS * steps) each plan.demands sound.demands
           ),
       mul-le-mul_right (MOST_PARTS * steps) sound.few_demands,
     )

@@ -1,6 +1,6 @@
 -- What a plan says of one cell.
-use Rattle.std.specs.Prelude.{ℕ, Bool, true, if◌then◌else◌, ◌==◌, List, [], Option, None, reverse, slice_index, sum_by}
-use Rattle.std.specs.List.{filter, find}
+use Rattle.std.specs.Prelude.{ℕ, ◌-◌, Bool, true, if◌then◌else◌, ◌==◌, List, [], Option, None, reverse, slice_index, sum_by}
+use Rattle.std.specs.List.{filter, find, range_with_len}
 use Rattle.std.specs.Option.{option_map_or}
 use Rattle.signal_plan.specs.Records.{DemandRecord, LimitRecord, PlanRecords, SignalRecord, TurnRecord, in_range}
 use Rattle.signal_plan.specs.Green.{shows_green, signal_of}
@@ -53,6 +53,10 @@ brings demand t = if in_range demand.from demand.to t then demand.amount else 0
 -- what all demand records bring
 abbrev pub own_demand : CellRecords → (t : ℕ) → ℕ
 own_demand own t = sum_by (λ demand. brings demand t) own.demands
+
+-- what all demand records bring in the steps of `[t, end)`
+abbrev pub own_demand_from : CellRecords → (t end : ℕ) → ℕ
+own_demand_from own t end = sum_by (own_demand own) (range_with_len t (end - t))
 
 -- the last turn record whose range contains `t`
 abbrev pub last_turn : List TurnRecord → (t : ℕ) → Option TurnRecord

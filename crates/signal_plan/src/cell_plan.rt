@@ -35,7 +35,7 @@ impl Model for CellPlan {
 }
 
 impl CellPlan {
-    ghost use Rattle.signal_plan.specs.CellRecords.{bare, own_capacity, own_demand, own_green, own_shares};
+    ghost use Rattle.signal_plan.specs.CellRecords.{bare, own_capacity, own_demand, own_demand_from, own_green, own_shares};
 
     /// A cell of this capacity, without records.
     pub(crate) fn new(capacity: u64) -> Self
@@ -180,6 +180,18 @@ impl CellPlan {
             None => 0,
         }
     }
+
+    /// What all demand records bring in the steps of `[t, end)`.
+    pub(crate) fn demand_from(&self, t: u64, end: u64) -> u128
+        requires fits { own_demand_from self.now.records t end < 2 ^ 128 }
+        ensures { result ≡ own_demand_from self.now.records t end }
+    {
+        match &self.records {
+            Some(records) => records.demand_from(t, end),
+            None => 0,
+        }
+    }
+
     /// The changes of the capacity.
     pub(crate) fn capacity_changes(&self, alloc: Global) -> Result<Vec<Change<u64>>, NoMemory>
         ensures in_force { IfOk result (λ changes. (t : ℕ) → in_force self.now.capacity changes.items t ≡

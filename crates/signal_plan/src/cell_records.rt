@@ -36,7 +36,7 @@ impl Model for CellRecords {
 }
 
 impl CellRecords {
-    ghost use Rattle.signal_plan.specs.CellRecords.{bare, last_limit, last_turn, own_capacity, own_demand, own_green, own_shares};
+    ghost use Rattle.signal_plan.specs.CellRecords.{bare, last_limit, last_turn, own_capacity, own_demand, own_demand_from, own_green, own_shares};
 
     /// No records. It takes no memory.
     pub(crate) fn new(alloc: Global) -> Self
@@ -162,6 +162,19 @@ impl CellRecords {
         }
         amount
     }
+
+    /// What all demand records bring in the steps of `[t, end)`.
+    pub(crate) fn demand_from(&self, t: u64, end: u64) -> u128
+        requires fits { own_demand_from self.now t end < 2 ^ 128 }
+        ensures { result ≡ own_demand_from self.now t end }
+    {
+        let mut amount = 0;
+        for demand in &self.demands {
+            amount += demand.within(t, end);
+        }
+        amount
+    }
+
     /// The changes of the capacity, which is `capacity` where no limit speaks.
     pub(crate) fn capacity_changes(
         &self,

@@ -1,7 +1,6 @@
-ghost use Rattle.std.specs.Prelude.{◌≡◌, ◌≤◌, ◌-◌, ◌*◌, min, if◌then◌else◌};
+ghost use Rattle.std.specs.Prelude.{◌≡◌, ◌-◌, ◌*◌, min, max, if◌then◌else◌};
 ghost use Rattle.signal_plan.specs.Records.{in_range};
 
-use crate::bounds::{MOST_PARTS, MOST_STEPS};
 use crate::range::is_in_range;
 use std::marker::Model;
 
@@ -36,12 +35,11 @@ impl Demand {
         }
     }
 
-    /// What the record brings in all steps below `steps`.
-    pub(crate) fn below(&self, steps: u64) -> u64
-        requires amount { self.now.amount ≤ MOST_PARTS }
-        requires few_steps { steps ≤ MOST_STEPS }
-        ensures { result ≡ self.now.amount * (min self.now.to steps - self.now.from) }
+    /// What the record brings in all steps of `[t, end)`.
+    pub(crate) fn within(&self, t: u64, end: u64) -> u128
+        ensures { result ≡ self.now.amount * (min self.now.to end - max self.now.from t) }
     {
-        self.amount * self.to.min(steps).saturating_sub(self.from)
+        let steps = self.to.min(end).saturating_sub(self.from.max(t));
+        u128::from(self.amount) * u128::from(steps)
     }
 }

@@ -5,7 +5,7 @@ ghost use Rattle.signal_plan.specs.Capacity.{capacity_at};
 ghost use Rattle.signal_plan.specs.Green.{green_at, is_signalled, signal_of};
 ghost use Rattle.signal_plan.specs.Changes.{in_force, IsRising};
 ghost use Rattle.signal_plan.specs.Demand.{demand_at};
-ghost use Rattle.signal_plan.specs.Total.{total_demand};
+ghost use Rattle.signal_plan.specs.Total.{demand_from, total_demand};
 ghost use Rattle.signal_plan.specs.Turning.{shares_at};
 
 use crate::bounds::{MOST_CELLS, MOST_PARTS, MOST_RATIO, MOST_RECORDS, MOST_STEPS};
@@ -223,6 +223,17 @@ impl Plan {
         self.cells[cell as usize].demand_at(t)
     }
 
+    /// What enters a gate in the steps of `[t, end)`, in parts; none where `t` isn't below `end`. The time
+    /// it takes grows with the demand records of this cell alone, not with the steps.
+    pub fn demand_from(&self, cell: u32, t: u64, end: u64) -> u128
+        requires has_cell { cell < length self.now.cells }
+        requires in_time { end ≤ MOST_STEPS }
+        ensures demand { result ≡ demand_from self.now cell t end }
+        ensures bound { result ≤ MOST_RECORDS * (MOST_PARTS * end) }
+    {
+        self.cells[cell as usize].demand_from(t, end)
+    }
+
     /// The turning shares of the diverge out of a cell at a step: by the last turn record that speaks of
     /// it, and else `own`. The time it takes grows with the turn records of this cell alone.
     pub fn shares(&self, cell: u32, t: u64, own: (u32, u32)) -> (u32, u32)
@@ -314,7 +325,7 @@ impl Plan {
     {
         let mut total = 0;
         for demand in &self.demands {
-            total += u128::from(demand.below(steps));
+            total += demand.within(0, steps);
         }
         total
     }

@@ -70,6 +70,15 @@ fn records_of_a_gate_add_up(rt: HostRuntime) -> Result<(), Fail> {
         assert_eq!(rt; plan.demand(0, t), first, "at {t}");
         assert_eq!(rt; plan.demand(1, t), second, "at {t}");
     }
+    for (t, end, first, second) in [
+        (0, 4, 1_202_000, 70_000),
+        (1, 3, 801_000, 70_000),
+        (2, 2, 0, 0),
+        (3, 2, 0, 0),
+    ] {
+        assert_eq!(rt; plan.demand_from(0, t, end), first, "from {t}");
+        assert_eq!(rt; plan.demand_from(1, t, end), second, "from {t}");
+    }
     assert_eq!(rt; plan.total(0), 0);
     assert_eq!(rt; plan.total(2), 870_000);
     assert_eq!(rt; plan.total(4), 1_272_000);

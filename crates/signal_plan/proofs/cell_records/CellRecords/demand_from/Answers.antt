@@ -1,0 +1,31 @@
+use Rattle.std.specs.Prelude.{sum_by}
+use Rattle.std.proofs.Common.{arith, sym, ap, ◌∙◌}
+use Rattle.std.proofs.lemmas.List.{take_all}
+use Rattle.std.proofs.lemmas.List.Sums.{sum_by_more_le}
+use Rattle.signal_plan.specs.CellRecords.{CellRecords}
+use Rattle.signal_plan.proofs.Totals.{brought, own_demand_from_sum}
+use Rattle.signal_plan.proofs.cell_records.CellRecords.demand_from.Goals as goal
+
+pub overflow_add-amount : goal.overflow_add-amount
+overflow_add-amount c =
+    let each = brought c.args.t c.args.end in
+    let demands = c.deref-demand-items.result.now in
+    let own = c.deref-demand-items.ensures.value ∙ ap (λ (own : CellRecords). own.demands) c.self.view_is in
+    let more = sum_by_more_le each demands c.loop-demand.demand-index c.demand-item.result c.loop-demand-test.true in
+    omega (
+      arith,
+      c.loop-demand.invariant,
+      rw (← c.demand-item.is) at more,
+      ap (sum_by each) own,
+      own_demand_from_sum c.args.self.now c.args.t c.args.end,
+      c.requires.fits,
+    )
+
+pub returns : goal.returns
+returns c =
+    let each = brought c.args.t c.args.end in
+    let whole = take_all c.loop-demand.demand-index c.deref-demand-items.result.now c.loop-demand-test.false in
+    let own = c.deref-demand-items.ensures.value ∙ ap (λ (own : CellRecords). own.demands) c.self.view_is in
+    rw whole at c.loop-demand.invariant ∙
+    ap (sum_by each) own ∙
+    sym (own_demand_from_sum c.args.self.now c.args.t c.args.end)

@@ -1,0 +1,29 @@
+use Rattle.std.proofs.Common.{arith, ◌∙◌}
+use Rattle.std.proofs.lemmas.List.{length-map}
+use Rattle.signal_plan.proofs.OwnAnswers.{own_demand_from_read}
+use Rattle.signal_plan.proofs.Laws.{demand_from-le}
+use Rattle.signal_plan.proofs.step_plan.Plan.demand_from.Goals as goal
+
+pub demand_from-requires : goal.demand_from-requires
+demand_from-requires c =
+    let has = rw (← c.self.view_is, length-map) at c.requires.has_cell in
+    let laid = c.self.invariant in
+    record {
+      fits = omega (
+        arith,
+        own_demand_from_read _ _ c.args.cell c.args.t c.args.end _ laid has c.index.ensures,
+        demand_from-le _ c.args.cell c.args.t c.args.end laid.sound,
+      );
+    }
+
+pub returns-clause-demand : goal.returns-clause-demand
+returns-clause-demand c =
+    let has = rw (← c.self.view_is, length-map) at c.requires.has_cell in
+    rw (← c.self.view_is) (
+    c.demand_from.ensures ∙ own_demand_from_read _ _ c.args.cell c.args.t c.args.end _ c.self.invariant has c.index.ensures
+    )
+
+pub returns-clause-bound : goal.returns-clause-bound
+returns-clause-bound c =
+    let sound = rw c.self.view_is at c.self.invariant.sound in
+    omega (arith, returns-clause-demand c, demand_from-le c.args.self.now c.args.cell c.args.t c.args.end sound)
