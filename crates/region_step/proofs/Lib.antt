@@ -9,3 +9,4 @@ pub mod GridStates
 pub mod StartLaws
 pub mod Room
 pub mod Advancing
+pub mod Steps

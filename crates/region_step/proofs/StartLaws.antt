@@ -11,7 +11,7 @@ use Rattle.region_cut.specs.Cuttings.{region_at, region_count}
 use Rattle.region_cut.specs.LawfulSteps.{AreLawful}
 use Rattle.region_step.specs.Start.{Fits, IsTrueStart, start_of, zero_start}
 
-zeros : (n i : ℕ) → slice_index (replicate n 0) i ≡ 0
+pub zeros : (n i : ℕ) → slice_index (replicate n 0) i ≡ 0
 zeros n i = elim (cases_lt i n) [
   | inl within ↦ get_or-replicate n i 0 0 within
   | inr past ↦ get_or_past (replicate n 0) i 0 (omega (arith, past, length-replicate {A = ℕ} n 0))

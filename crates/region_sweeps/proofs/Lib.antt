@@ -1,0 +1,3 @@
+pub mod BorderCells
+pub mod HaloTold
+pub mod Sweeping

@@ -1,0 +1,39 @@
+use Rattle.std.specs.Prelude.{slice_index, slice_index_or}
+use Rattle.std.proofs.Common.{◌≡◌, ◌≢◌, ℕ, ◌<◌, ◌+◌, inl, inr, List, [], ◌∷◌, ◌++◌, length, get_or, arith, ap, refl, subst, sym, ◌∙◌}
+use Rattle.std.proofs.lemmas.Bool.{cases_lt}
+use Rattle.std.proofs.lemmas.List.{get_or_append_left, length-append}
+use Rattle.network_file.specs.Network.{IsNetwork}
+use Rattle.region_step.specs.Laws.{grid_state}
+use Rattle.region_step.specs.Region.{RegionValue}
+use Rattle.region_step.specs.Start.{Fits, zero_start}
+use Rattle.region_step.proofs.StartLaws.{zero_start-fits}
+use Rattle.region_sweeps.specs.Standing.{Stands}
+use Rattle.region_sweeps.proofs.Sweeping.{pushed-at}
+use Rattle.region_sweeps.proofs.opening.open_regions.Goals as goal
+
+pub open-requires-clause-fits : goal.open-requires-clause-fits
+open-requires-clause-fits c =
+    subst (Fits c.args.net.now c.args.chart.now.cut) (sym c.requires.start) (zero_start-fits c.args.net.now c.args.chart.now.cut (subst IsNetwork c.net.view_is c.net.invariant))
+
+pub loop-r-preserved : goal.loop-r-preserved
+loop-r-preserved c =
+    let more : c.push.new.self.items ≡ c.loop-r.regions.items ++ c.in_ok-open.field-0 ∷ [] = c.in_ok-push.ensures.items in
+    let opened : Stands c.args.net.now c.args.chart.now c.loop-r.r (slice_index c.args.start.now.steps c.loop-r.r) c.in_ok-open.field-0 =
+    record {
+      opened = c.in_ok-open.ensures.opened;
+      state = c.in_ok-open.ensures.state ∙ ap (λ s. grid_state c.args.net.now c.args.chart.now s 0 c.loop-r.r (slice_index c.args.start.now.steps c.loop-r.r)) c.requires.start;
+    } in
+    (
+      omega (arith, ap length more, length-append c.loop-r.regions.items (c.in_ok-open.field-0 ∷ []), c.loop-r.invariant.0),
+      λ q region within. elim (cases_lt q c.loop-r.r) [
+        | inl before ↦
+            subst (Stands c.args.net.now c.args.chart.now q (slice_index c.args.start.now.steps q))
+            (sym (ap (λ items. get_or items q region) more ∙ get_or_append_left c.loop-r.regions.items (c.in_ok-open.field-0 ∷ []) region q (omega (arith, before, c.loop-r.invariant.0))))
+            (c.loop-r.invariant.1 q region before)
+        | inr last ↦
+            let here : q ≡ c.loop-r.r = omega (arith, within, last) in
+            subst (Stands c.args.net.now c.args.chart.now q (slice_index c.args.start.now.steps q))
+            (sym (ap (λ items. get_or items q region) more ∙ pushed-at c.loop-r.regions.items c.in_ok-open.field-0 region q (here ∙ sym c.loop-r.invariant.0)))
+            (subst (λ p. Stands c.args.net.now c.args.chart.now p (slice_index c.args.start.now.steps p) c.in_ok-open.field-0) (sym here) opened)
+      ],
+    )

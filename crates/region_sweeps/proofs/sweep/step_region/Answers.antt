@@ -1,0 +1,48 @@
+use Rattle.std.specs.Prelude.{slice_index, slice_index_or}
+use Rattle.std.proofs.Common.{◌≡◌, ℕ, ◌<◌, ◌≤◌, ◌+◌, length, get_or, arith, ap, refl, subst, sym, ◌∙◌}
+use Rattle.std.proofs.lemmas.List.{length-map}
+use Rattle.network_file.specs.Network.{IsNetwork}
+use Rattle.region_cut.specs.Chart.{list_at}
+use Rattle.region_step.specs.Opened.{halo_cells}
+use Rattle.region_step.specs.Region.{RegionValue}
+use Rattle.region_step.specs.Start.{zero_start}
+use Rattle.region_step.proofs.GridStates.{grid_state-step}
+use Rattle.region_step.proofs.Steps.{zero_start-at}
+use Rattle.region_sweeps.proofs.HaloTold.{can_advance, told-all}
+use Rattle.region_sweeps.proofs.Sweeping.{around-near, stand-risen}
+use Rattle.region_sweeps.proofs.sweep.step_region.Goals as goal
+
+pub tell_halo-requires-clause-around : goal.tell_halo-requires-clause-around
+tell_halo-requires-clause-around c = λ other region listed.
+    around-near c.args.net.now c.args.chart.now c.args.steps.now c.args.regions.now c.args.r other region c.requires.chart c.requires.there c.requires.lawful c.requires.stand (c.rise.ensures.exactly.0 c.if-rise.true) listed
+
+pub advance-requires-clause-in_time : goal.advance-requires-clause-in_time
+advance-requires-clause-in_time c =
+    let can = c.rise.ensures.exactly.0 c.if-rise.true in
+    let told = c.tell_halo.ensures.told c.index-regions-r.result in
+    let step = ap (λ state. state.step) told.state ∙ grid_state-step c.args.net.now c.args.chart.now (zero_start c.args.net.now c.args.chart.now.cut) 0 c.args.r (slice_index c.args.steps.now c.args.r) in
+    omega (arith, step, can.below)
+
+pub advance-requires-clause-in_bounds : goal.advance-requires-clause-in_bounds
+advance-requires-clause-in_bounds c =
+    let can = c.rise.ensures.exactly.0 c.if-rise.true in
+    (can_advance c.args.net.now c.args.chart.now c.args.r (slice_index c.args.steps.now c.args.r) (length (list_at c.args.chart.now.halo c.args.r)) (get_or c.tell_halo.new.regions c.args.r c.index-regions-r.result)
+    (subst IsNetwork c.net.view_is c.net.invariant) c.requires.chart c.requires.there can.below (c.tell_halo.ensures.told c.index-regions-r.result)
+    (omega (arith, length-map (list_at c.args.chart.now.halo c.args.r) (λ halo. halo.cell)))).0
+
+pub advance-requires-clause-halo : goal.advance-requires-clause-halo
+advance-requires-clause-halo c =
+    let can = c.rise.ensures.exactly.0 c.if-rise.true in
+    (can_advance c.args.net.now c.args.chart.now c.args.r (slice_index c.args.steps.now c.args.r) (length (list_at c.args.chart.now.halo c.args.r)) (get_or c.tell_halo.new.regions c.args.r c.index-regions-r.result)
+    (subst IsNetwork c.net.view_is c.net.invariant) c.requires.chart c.requires.there can.below (c.tell_halo.ensures.told c.index-regions-r.result)
+    (omega (arith, length-map (list_at c.args.chart.now.halo c.args.r) (λ halo. halo.cell)))).1
+
+pub returns-then-rise-clause-stand : goal.returns-then-rise-clause-stand
+returns-then-rise-clause-stand c =
+    let t : ℕ = slice_index c.args.steps.now c.args.r in
+    let told = c.tell_halo.ensures.told c.index-regions-r.result in
+    let whole = told-all c.args.net.now c.args.chart.now c.args.r t (length (list_at c.args.chart.now.halo c.args.r)) (get_or c.tell_halo.new.regions c.args.r c.index-regions-r.result) told
+    (omega (arith, length-map (list_at c.args.chart.now.halo c.args.r) (λ halo. halo.cell))) in
+    let next = c.advance.ensures.grid (zero_start c.args.net.now c.args.chart.now.cut) 0 c.args.r t (omega (arith, zero_start-at c.args.net.now c.args.chart.now.cut c.args.r)) whole in
+    stand-risen c.args.net.now c.args.chart.now c.args.steps.now c.rise.new.steps c.args.regions.now c.tell_halo.new.regions c.args.r c.advance.new.self c.requires.stand c.requires.lawful.one_each c.requires.there
+    (c.rise.ensures.risen c.if-rise.true) c.tell_halo.ensures.one_each c.tell_halo.ensures.others (record { opened = c.advance.ensures.opened; state = next })

@@ -1,0 +1,25 @@
+ghost use Rattle.std.specs.Prelude.{◌≡◌, ◌≤◌, IfOk, length};
+ghost use Rattle.network_file.specs.declared.limits.TheConstants.{MOST_REGIONS};
+
+use network_file::Net;
+use region_cut::{Cut, CutRefusal};
+use signal_plan::NoMemory;
+use std::alloc::Global;
+
+/// The cutting of a run: the file's where it has one, and else the even one into so many regions, or as many as there
+/// are cells.
+pub(crate) fn cutting(alloc: Global, net: &Net, regions: u32) -> Result<Cut, NoMemory>
+    requires some { 1 ≤ regions }
+    requires few { regions ≤ MOST_REGIONS }
+    ensures { IfOk result (λ cut. length cut ≡ length net.now.cells) }
+{
+    let cells = net.cells.len() as u32;
+    if net.regions.is_empty() {
+        return Cut::even(alloc, net, regions.min(cells));
+    }
+    match Cut::of(alloc, net, &net.regions) {
+        Ok(cut) => Ok(cut),
+        // The file's regions are a cutting, so that they have no fault.
+        Err(CutRefusal::Fault(_) | CutRefusal::NoMemory) => Err(NoMemory),
+    }
+}

@@ -1,0 +1,46 @@
+ghost use Rattle.std.specs.Prelude.{◌≡◌, ◌+◌, ◌<◌, length, replicate, slice_index, slice_set};
+ghost use Rattle.region_cut.specs.Chart.{chart_of};
+ghost use Rattle.region_cut.specs.Cuttings.{region_count};
+ghost use Rattle.region_cut.specs.LawfulSteps.{AreLawful};
+ghost use Rattle.step_words.specs.Rising.{CanRise};
+ghost use Rattle.region_sweeps.specs.Standing.{StandAt};
+
+use crate::halo::tell_halo;
+use network_file::Net;
+use region_cut::Chart;
+use region_step::Region;
+use step_words::rise;
+
+/// Takes all regions, which stand at step `t`, through that step, one after the other.
+pub(crate) fn sweep(net: &Net, chart: &Chart, steps: &mut [u64], regions: &mut [Region], t: u64)
+    requires chart { chart.now ≡ chart_of net.now chart.now.cut }
+    requires in_time { t < net.now.steps }
+    requires steps { steps.old ≡ replicate (region_count chart.now.cut) t }
+    requires lawful { AreLawful net.now chart.now.cut steps.old }
+    requires stand { StandAt net.now chart.now steps.old regions.old }
+    ensures steps { steps.new ≡ replicate (region_count chart.now.cut) (t + 1) }
+    ensures lawful { AreLawful net.now chart.now.cut steps.new }
+    ensures stand { StandAt net.now chart.now steps.new regions.new }
+{
+    for r in 0..chart.regions() {
+        step_region(net, chart, steps, regions, r);
+    }
+}
+
+// Region `r` rises by a step where it may, and is taken through it.
+fn step_region(net: &Net, chart: &Chart, steps: &mut [u64], regions: &mut [Region], r: u32)
+    requires chart { chart.now ≡ chart_of net.now chart.now.cut }
+    requires there { r < region_count chart.now.cut }
+    requires lawful { AreLawful net.now chart.now.cut steps.old }
+    requires stand { StandAt net.now chart.now steps.old regions.old }
+    ensures risen { CanRise net.now chart.now.cut steps.old r → steps.new ≡ slice_set steps.old r (slice_index steps.old r + 1) }
+    ensures lawful { AreLawful net.now chart.now.cut steps.new }
+    ensures stand { StandAt net.now chart.now steps.new regions.new }
+{
+    let _steps = net.steps;
+    let t = steps[r as usize];
+    if rise(steps, net, chart, r) {
+        tell_halo(net, chart, regions, r, t);
+        regions[r as usize].advance(net, chart);
+    }
+}
