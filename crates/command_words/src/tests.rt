@@ -40,11 +40,12 @@ fn words_give_a_request_or_are_refused(rt: HostRuntime) -> Result<(), Fail> {
         ("help", None, "help is no mode"),
         ("run check", None, "there is one mode"),
         ("run run", None, "even where it is the same"),
-        ("run --regions 2", None, "a run has no option yet"),
-        ("run --regions 0", None, "whatever its value"),
-        ("--every 1 check", None, "nor has a check"),
-        ("check --every 1", None, "wherever it stands"),
-        ("convert --seed=1", None, "nor has a conversion"),
+        ("run --every 0", None, "a run has few options"),
+        ("run --workers 17", None, "whatever the value of others"),
+        ("check --regions 3", None, "a check has none"),
+        ("--every 1 check", None, "wherever it stands"),
+        ("convert --regions=1", None, "nor has a conversion"),
+        ("convert --seed=1", None, "of any sort"),
         ("run --workers", None, "an option has a value"),
         ("run --size 1 --size 1", None, "an option stands once"),
         ("run --reg 1", None, "an option has its whole name"),
@@ -59,6 +60,57 @@ fn words_give_a_request_or_are_refused(rt: HostRuntime) -> Result<(), Fail> {
         ("-V", None, "by one letter too"),
     ] {
         let want = mode.map(plain).ok_or(WordsRefusal::Refused);
+        assert!(rt; read(rt.alloc(), words)? == want, "{shows}: {words}");
+    }
+    Ok(())
+}
+
+#[test]
+fn a_run_has_regions(rt: HostRuntime) -> Result<(), Fail> {
+    for (words, regions, shows) in [
+        ("run --regions 3", Some(3), "a run has regions"),
+        ("run --regions=3", Some(3), "also with an equals sign"),
+        ("--regions 3 run", Some(3), "wherever they stand"),
+        ("run --regions 3 --", Some(3), "with dashes behind"),
+        ("--regions 3 -- run", Some(3), "or between"),
+        ("-- run --regions 3", None, "but not behind dashes"),
+        ("run --regions 1", Some(1), "one at least"),
+        ("run --regions 512", Some(512), "512 at most"),
+        ("run --regions 0", None, "none are too few"),
+        ("run --regions 513", None, "and 513 too many"),
+        ("run --regions 03", Some(3), "a number may begin with zeros"),
+        ("run --regions 000000512", Some(512), "up to nine digits"),
+        ("run --regions 0000000003", None, "but no more"),
+        ("run --regions +3", None, "it has no sign"),
+        ("run --regions -3", None, "of either sort"),
+        ("run --regions 3.0", None, "it is whole"),
+        ("run --regions three", None, "and in digits"),
+        ("run --regions", None, "the option has a value"),
+        ("run --regions=", None, "which isn't empty"),
+        ("--regions run", None, "and isn't the mode"),
+        ("run --regions 3 4", None, "it has one value"),
+        ("run --regions 3 --regions 4", None, "and stands once"),
+        (
+            "run --regions 3 --regions 3",
+            None,
+            "even with the same value",
+        ),
+        ("run --region 3", None, "it has its whole name"),
+        ("run --Regions 3", None, "in lower case"),
+        ("run -regions 3", None, "behind two dashes"),
+        ("run regions 3", None, "and not without"),
+        ("--regions 3", None, "there is a mode beside it"),
+        ("run --regions 3 check", None, "and one only"),
+        (
+            "run --regions 3 --workers 1",
+            None,
+            "with no option that a run hasn't",
+        ),
+    ] {
+        let run = plain(Mode::Run);
+        let want = regions
+            .map(|regions| Request { regions, ..run })
+            .ok_or(WordsRefusal::Refused);
         assert!(rt; read(rt.alloc(), words)? == want, "{shows}: {words}");
     }
     Ok(())
