@@ -1,6 +1,9 @@
 ghost use Rattle.std.specs.Prelude.{◌≡◌, ◌≢◌, ◌+◌, ◌≤◌, ℕ, List, None, Ok, IfOk, IfErr, OnOk, length};
 ghost use Rattle.ctm_ports.specs.Count.{Rose};
 ghost use Rattle.ctm_ports.specs.ReadEnd.{LosesAtMost};
+ghost use Rattle.command_words.specs.Settings.{IsAllowed};
+ghost use Rattle.command_words.specs.Words.{IsInRange};
+ghost use Rattle.command_words.specs.declared.setting.Setting.TheVariants.{Regions};
 ghost use Rattle.network_file.specs.Reading.{network_of};
 ghost use Rattle.ctm_program.specs.Answer.{IsTextOf, answer_of, answer_with, requested};
 ghost use Rattle.ctm_program.specs.Ending.{IsInputOf, IsOfWords, IsReadWhole, status_in};
@@ -11,12 +14,12 @@ ghost use Rattle.ctm_program.specs.Refusing.{IsNetRefusal, IsRefusalOf, status_a
 use crate::counts::counts;
 use crate::refusal::Refusal;
 use crate::report::report;
-use crate::run::final_rows;
 use crate::status::Status;
 use command_words::{Mode, Request, read_words};
 use ctm_ports::{ReadEnd, Source, read_up_to};
 use itoa::Buffer;
 use network_file::{MOST_BYTES, Net, NetFault, NetRefusal, convert};
+use region_sweeps::last_rows;
 use signal_plan::NoMemory;
 use std::alloc::Global;
 
@@ -52,7 +55,8 @@ pub(crate) fn answer<S: Source>(
 
 // The text that answers a request over an input, or why there is none.
 fn text_of(alloc: Global, request: Request, input: &[u8]) -> Result<Vec<u8>, Refusal>
-    requires { length input.now ≤ MOST_BYTES }
+    requires few_bytes { length input.now ≤ MOST_BYTES }
+    requires in_range { IsInRange request }
     ensures text { IfOk result (λ text. IsTextOf (answer_with request input.now (network_of input.now)) text.items
         × (status_in (answer_with request input.now (network_of input.now)) ≡ Status.Done)) }
     ensures refusal { IfErr result (IsRefusalOf (answer_with request input.now (network_of input.now))) }
@@ -61,7 +65,7 @@ fn text_of(alloc: Global, request: Request, input: &[u8]) -> Result<Vec<u8>, Ref
 {
     match request.mode {
         Mode::Run => match Net::read(alloc, input) {
-            Ok(net) => Ok(reported(alloc, &net)?),
+            Ok(net) => Ok(reported(alloc, &net, request.regions)?),
             Err(refusal) => Err(refused(alloc, refusal)),
         },
         Mode::Check => match Net::read(alloc, input) {
@@ -75,11 +79,12 @@ fn text_of(alloc: Global, request: Request, input: &[u8]) -> Result<Vec<u8>, Ref
     }
 }
 
-// The report of a network, taken through all its steps.
-fn reported(alloc: Global, net: &Net) -> Result<Vec<u8>, NoMemory>
+// The report of a network, taken through all its steps in so many regions.
+fn reported(alloc: Global, net: &Net, regions: u32) -> Result<Vec<u8>, NoMemory>
+    requires { IsAllowed Regions regions }
     ensures { IfOk result (λ text. text.items ≡ report_of net.now) }
 {
-    let rows = final_rows(alloc, net)?;
+    let rows = last_rows(alloc, net, regions)?;
     report(alloc, net, &rows)
 }
 

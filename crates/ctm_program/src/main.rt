@@ -5,8 +5,8 @@
 //! - `top_call` has the call that the program makes, over any source and sinks; its contract is the theorem from the
 //!   words and the bytes of the input to the bytes on standard output.
 //! - `answer` finds the text or the refusal: it has the words read, reads the input, and does what the mode asks. For
-//!   `run` it has `run` take the network through its steps and `report` print what came of it, with the sums of
-//!   `total`; for `check` it has `counts`.
+//!   `run` it has `region_sweeps` take the network through its steps, in regions, and `report` print what came of it,
+//!   with the sums of `total`; for `check` it has `counts`.
 //! - `status` has the exit status of each ending, `refusal` the line that goes with it.
 //! - `main` stands at the edge: the real streams, the words of `command_line`, and the `ending`.
 #![tactic(auto)]
@@ -17,7 +17,6 @@ mod counts;
 mod ending;
 mod refusal;
 mod report;
-mod run;
 mod status;
 #[cfg(test)]
 mod tests;

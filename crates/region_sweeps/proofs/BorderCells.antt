@@ -1,7 +1,7 @@
 -- What a region tells its neighbours of a border cell.
-use Rattle.std.specs.Prelude.{◌==◌, eqb, slice_index, slice_index_or}
+use Rattle.std.specs.Prelude.{◌==◌, slice_index}
 use Rattle.std.specs.List.{Contains, list_any, position_or_len}
-use Rattle.std.proofs.Common.{◌≡◌, ◌≢◌, inl, inr, ℕ, ◌<◌, ◌≤◌, ◌+◌, true, List, length, get_or, refl, sym, ap, subst, ◌∙◌, arith}
+use Rattle.std.proofs.Common.{◌≡◌, ◌≢◌, inl, inr, ℕ, ◌<◌, ◌+◌, true, List, length, refl, sym, ap, ◌∙◌, arith}
 use Rattle.std.proofs.lemmas.Bool.{eq-eqb}
 use Rattle.std.proofs.lemmas.List.{get_or_default}
 use Rattle.network_file.specs.Network.{IsNetwork, Network}
@@ -69,8 +69,7 @@ before-held net chart other t place result cells region sound cell stands own at
     let here : place ≡ position_or_len (λ j. j == other.cell) (list_at chart.cells q) = at ∙ ap (position_or_len (λ j. j == other.cell)) own in
     let within : place < length (list_at chart.cells q) = rw here listed.0 in
     let is : slice_index (list_at chart.cells q) place ≡ other.cell = rw here listed.1 in
-    let long : length region.state.before ≡ length (list_at chart.cells q) = stands.opened.one_of.before ∙ ap (λ r. length (list_at chart.cells r)) (number-is net chart q (t + 1) region stands) in
-    (
+    let long : length region.state.before ≡ length (list_at chart.cells q) = stands.opened.one_of.before ∙ ap (λ r. length (list_at chart.cells r)) (number-is net chart q (t + 1) region stands) in (
       omega (arith, within, long),
       λ read. read ∙ ap (λ state. slice_index state.before place) stands.state ∙ before-grid net chart (zero_start net chart.cut) 0 q t place within ∙ ap (held net chart t) is,
     )

@@ -1,13 +1,12 @@
 -- A region whose halo is told, cell after cell, and then its step.
 use Rattle.std.specs.Prelude.{Option, Some, None, map, slice_index, slice_index_or, slice_set}
-use Rattle.std.proofs.Common.{◌≡◌, ◌≢◌, ℕ, ◌<◌, ◌≤◌, ◌+◌, inl, inr, List, length, get_or, set, refl, sym, ap, subst, ◌∙◌, arith}
+use Rattle.std.proofs.Common.{◌≡◌, ◌≢◌, ℕ, ◌<◌, ◌≤◌, ◌+◌, inl, inr, List, length, sym, ap, subst, ◌∙◌, arith}
 use Rattle.std.proofs.lemmas.Bool.{cases_eq, cases_lt}
 use Rattle.std.proofs.lemmas.List.{ext_get_or, get_or-map, get_or-set_other, get_or-set_same, length-map, length-set, length-replicate}
 use Rattle.network_file.specs.Network.{IsNetwork, Network}
 use Rattle.region_cut.specs.Chart.{ChartLists, chart_of, list_at}
 use Rattle.region_cut.specs.Cuttings.{region_at, region_count}
 use Rattle.region_step.specs.Advance.{HasHaloPut, HasRowsInBounds}
-use Rattle.region_step.specs.Grid.{grid_held}
 use Rattle.region_step.specs.Laws.{grid_state, with_halo}
 use Rattle.region_step.specs.Opened.{IsIn, halo_cells}
 use Rattle.region_step.specs.Region.{RegionState, RegionValue}
@@ -16,7 +15,6 @@ use Rattle.region_step.proofs.GridStates.{grid_state-number, grid_state-put}
 use Rattle.region_step.proofs.StartLaws.{zero_start-fits}
 use Rattle.region_step.proofs.Steps.{grid_state-in_bounds, halo-in_bounds, zero_start-at}
 use Rattle.region_sweeps.specs.Standing.{IsTold, Stands, held}
-use Rattle.region_sweeps.proofs.BorderCells.{number-is}
 
 -- nothing is told yet
 pub told-none : (net : Network) (chart : ChartLists) (r t : ℕ) (region : RegionValue) → Stands net chart r t region → IsTold net chart r t 0 region

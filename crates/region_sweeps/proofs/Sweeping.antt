@@ -1,13 +1,11 @@
 -- A region that may rise is taken through a step, and the others stay where they stand; after a sweep all stand a step on.
-use Rattle.std.specs.Prelude.{◌==◌, map, replicate, slice_index, slice_index_or, slice_set}
+use Rattle.std.specs.Prelude.{◌==◌, replicate, slice_index, slice_set}
 use Rattle.std.specs.List.{Contains, position_or_len}
 use Rattle.std.proofs.Common.{◌≡◌, ◌≢◌, ℕ, ◌<◌, ◌≤◌, ◌+◌, true, inl, inr, List, [], ◌∷◌, ◌++◌, length, get_or, set, refl, sym, ap, subst, ◌∙◌, arith}
 use Rattle.std.proofs.lemmas.Bool.{cases_eq, cases_lt}
 use Rattle.std.proofs.lemmas.List.{ext_get_or, get_or-replicate, get_or-set_other, get_or-set_same, length-map, length-replicate, length-set}
 use Rattle.network_file.specs.Network.{IsNetwork, Network}
-use Rattle.flow_model.specs.Rows.{empty_row}
 use Rattle.flow_model.specs.State.{row_at, state_at}
-use Rattle.flow_model.specs.declared.row.Row.{Row}
 use Rattle.region_cut.specs.Chart.{ChartLists, chart_of, list_at}
 use Rattle.region_cut.specs.Cuttings.{region_at, region_count}
 use Rattle.region_cut.specs.Joins.{are_neighbours}
@@ -17,17 +15,15 @@ use Rattle.region_cut.proofs.ChartParts.{chart-halo}
 use Rattle.region_cut.proofs.Meetings.{halo-neighbours, neighbours-sym}
 use Rattle.region_cut.proofs.Membership.{Contains-halo_of, place-in, region_at-there}
 use Rattle.region_step.specs.Grid.{grid_row}
-use Rattle.region_step.specs.Laws.{grid_state, with_halo}
-use Rattle.region_step.specs.Opened.{IsIn, halo_cells}
 use Rattle.region_step.specs.Region.{RegionValue}
 use Rattle.region_step.specs.Start.{zero_start}
 use Rattle.region_step.proofs.Grids.{are_the_recurrences}
-use Rattle.region_step.proofs.GridStates.{grid_state-number, grid_state-rows, grid_state-step}
+use Rattle.region_step.proofs.GridStates.{grid_state-rows}
 use Rattle.region_step.proofs.Ground.{ground}
 use Rattle.region_step.proofs.StartLaws.{zero_start-lawful, zero_start-true}
 use Rattle.region_step.proofs.Steps.{row-grid, zero_start-at}
 use Rattle.step_words.specs.Rising.{CanRise}
-use Rattle.region_sweeps.specs.Standing.{IsTold, StandAt, Stands, StandsNear, held}
+use Rattle.region_sweeps.specs.Standing.{StandAt, Stands, StandsNear}
 
 -- the regions around one that may rise stand at its step or one step ahead
 pub around-near : (net : Network) (chart : ChartLists) (steps : List ℕ) (regions : List RegionValue) (r : ℕ) (other : Halo) (region : RegionValue) → chart ≡ chart_of net chart.cut → r < region_count chart.cut →
@@ -91,8 +87,7 @@ row-from_region net chart regions i q place cells region sound is stand there at
     let inside : place < length (list_at chart.cells q) = rw is_place listed.0 in
     let cell : slice_index (list_at chart.cells q) place ≡ i = rw is_place listed.1 in
     let long : length region.state.rows ≡ length (list_at chart.cells q) =
-    ap (λ state. length state.rows) here.state ∙ ap length (grid_state-rows net chart (zero_start net chart.cut) 0 q net.steps) ∙ length-map (list_at chart.cells q) (grid_row net chart.cut (zero_start net chart.cut) net.steps) in
-    (
+    ap (λ state. length state.rows) here.state ∙ ap length (grid_state-rows net chart (zero_start net chart.cut) 0 q net.steps) ∙ length-map (list_at chart.cells q) (grid_row net chart.cut (zero_start net chart.cut) net.steps) in (
       omega (arith, inside, long),
       ap (λ state. row_at state.rows place) here.state ∙ row-grid net chart (zero_start net chart.cut) 0 q net.steps place inside ∙
           ap (grid_row net chart.cut (zero_start net chart.cut) net.steps) cell ∙

@@ -1,5 +1,5 @@
 -- Regions of a network that stand at steps of their own, as the start at step 0 brought them there.
-use Rattle.std.specs.Prelude.{◌≡◌, ◌⊎◌, ℕ, ◌+◌, ◌<◌, ◌≤◌, List, Some, None, length, slice_index, slice_index_or}
+use Rattle.std.specs.Prelude.{◌≡◌, ◌⊎◌, ℕ, ◌+◌, ◌<◌, List, Some, None, length, slice_index, slice_index_or}
 use Rattle.std.specs.List.{Contains}
 use Rattle.network_file.specs.Network.{Network}
 use Rattle.region_cut.specs.Chart.{ChartLists, list_at}

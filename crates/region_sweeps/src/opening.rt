@@ -10,7 +10,12 @@ use signal_plan::NoMemory;
 use std::alloc::Global;
 
 /// All regions at step 0.
-pub(crate) fn open_regions(alloc: Global, net: &Net, chart: &Chart, start: &Start) -> Result<Vec<Region>, NoMemory>
+pub(crate) fn open_regions(
+    alloc: Global,
+    net: &Net,
+    chart: &Chart,
+    start: &Start,
+) -> Result<Vec<Region>, NoMemory>
     requires chart { chart.now ≡ chart_of net.now chart.now.cut }
     requires start { start.now ≡ zero_start net.now chart.now.cut }
     ensures { IfOk result (λ regions. StandAt net.now chart.now start.now.steps regions.items) }

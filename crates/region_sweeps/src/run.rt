@@ -44,7 +44,12 @@ fn stepped(alloc: Global, net: &Net, chart: &Chart) -> Result<Vec<Region>, NoMem
 }
 
 // The row of each cell, from its region.
-fn rows_of(alloc: Global, net: &Net, chart: &Chart, regions: &[Region]) -> Result<Vec<Row>, NoMemory>
+fn rows_of(
+    alloc: Global,
+    net: &Net,
+    chart: &Chart,
+    regions: &[Region],
+) -> Result<Vec<Row>, NoMemory>
     requires chart { chart.now ≡ chart_of net.now chart.now.cut }
     requires one_each { length chart.now.cut ≡ length net.now.cells }
     requires stand { StandAt net.now chart.now (replicate (region_count chart.now.cut) net.now.steps) regions.now }

@@ -1,5 +1,5 @@
 use Rattle.std.proofs.Common.{Err, ap, ◌∙◌}
-use Rattle.ctm_program.proofs.AnswerFacts.{answer_of-too_large, some_input, long_input, refused_words, status_of-words}
+use Rattle.ctm_program.proofs.AnswerFacts.{answer_of-too_large, some_input, long_input, refused_words}
 use Rattle.ctm_program.proofs.answer.answer.Goals as goal
 
 pub returns-in-Err-clause-refusal : goal.returns-in-Err-clause-refusal

@@ -1,4 +1,4 @@
-use Rattle.std.proofs.Common.{◌≡◌, ◌<◌, ℕ, length, ap, arith, refl, subst, sym, ◌∙◌}
+use Rattle.std.proofs.Common.{◌<◌, length, ap, arith, subst, sym, ◌∙◌}
 use Rattle.network_file.specs.Network.{IsNetwork}
 use Rattle.region_cut.specs.Chart.{list_at}
 use Rattle.region_step.proofs.Ground.{ground}

@@ -1,6 +1,6 @@
-use Rattle.std.specs.Prelude.{map, slice_index, slice_index_or}
+use Rattle.std.specs.Prelude.{map, slice_index}
 use Rattle.std.specs.List.{Contains}
-use Rattle.std.proofs.Common.{◌≡◌, ◌≢◌, ℕ, ◌<◌, List, length, get_or, arith, ap, refl, subst, sym, ◌∙◌}
+use Rattle.std.proofs.Common.{◌≡◌, ◌≢◌, ◌<◌, length, get_or, arith, ap, refl, subst, sym, ◌∙◌}
 use Rattle.std.proofs.lemmas.List.{get_or-map, get_or-set_other, get_or-set_same, length-map, length-set}
 use Rattle.std.proofs.lemmas.List.Elements.{Contains-get_or}
 use Rattle.network_file.specs.Network.{IsNetwork}
@@ -21,11 +21,13 @@ loop-j-init c =
 
 pub held_at-n-requires-clause-met : goal.held_at-n-requires-clause-met
 unfolding blank
-held_at-n-requires-clause-met c =
-    (c.args.r, record {
-      there = c.requires.there;
-      listed = subst (λ list. Contains list (get_or c.halo-halo.result.now c.loop-j.j blank)) c.halo-halo.ensures.list (Contains-get_or c.halo-halo.result.now c.loop-j.j blank c.loop-j-test.true);
-    })
+held_at-n-requires-clause-met c = (
+  c.args.r,
+  record {
+    there = c.requires.there;
+    listed = subst (λ list. Contains list (get_or c.halo-halo.result.now c.loop-j.j blank)) c.halo-halo.ensures.list (Contains-get_or c.halo-halo.result.now c.loop-j.j blank c.loop-j-test.true);
+  },
+)
 
 pub held_at-n-requires-clause-near : goal.held_at-n-requires-clause-near
 unfolding blank
@@ -54,8 +56,7 @@ loop-j-preserved c =
     let after = told-more c.args.net.now c.args.chart.now c.args.r c.args.t c.loop-j.j c.held_at-n.result (get_or c.loop-j.regions c.args.r c.index-regions-r.result) c.halo_put.new.self told within
     (c.held_at-n.ensures ∙ ap (held c.args.net.now c.args.chart.now c.args.t) cell) c.halo_put.ensures.state (c.halo_put.ensures.opened c.args.net.now c.args.chart.now told.opened) in
     let long : length c.loop-j.regions ≡ length c.args.regions.now = c.loop-j.invariant.0 in
-    let there : c.args.r < length c.loop-j.regions = omega (arith, long, c.requires.one_each, c.requires.there) in
-    (
+    let there : c.args.r < length c.loop-j.regions = omega (arith, long, c.requires.one_each, c.requires.there) in (
       length-set c.loop-j.regions c.args.r c.halo_put.new.self ∙ long,
       λ region. rw (get_or-set_same c.loop-j.regions c.args.r c.halo_put.new.self region there) after,
       λ q region other. get_or-set_other c.loop-j.regions c.args.r q c.halo_put.new.self region other ∙ c.loop-j.invariant.2 q region other,

@@ -1,11 +1,10 @@
-use Rattle.std.specs.Prelude.{slice_index, slice_index_or}
-use Rattle.std.proofs.Common.{◌≡◌, ◌≢◌, ℕ, ◌<◌, ◌+◌, inl, inr, List, [], ◌∷◌, ◌++◌, length, get_or, arith, ap, refl, subst, sym, ◌∙◌}
+use Rattle.std.specs.Prelude.{slice_index}
+use Rattle.std.proofs.Common.{◌≡◌, inl, inr, [], ◌∷◌, ◌++◌, length, get_or, arith, ap, subst, sym, ◌∙◌}
 use Rattle.std.proofs.lemmas.Bool.{cases_lt}
 use Rattle.std.proofs.lemmas.List.{get_or_append_left, length-append}
 use Rattle.network_file.specs.Network.{IsNetwork}
 use Rattle.region_step.specs.Laws.{grid_state}
-use Rattle.region_step.specs.Region.{RegionValue}
-use Rattle.region_step.specs.Start.{Fits, zero_start}
+use Rattle.region_step.specs.Start.{Fits}
 use Rattle.region_step.proofs.StartLaws.{zero_start-fits}
 use Rattle.region_sweeps.specs.Standing.{Stands}
 use Rattle.region_sweeps.proofs.Sweeping.{pushed-at}
@@ -22,8 +21,7 @@ loop-r-preserved c =
     record {
       opened = c.in_ok-open.ensures.opened;
       state = c.in_ok-open.ensures.state ∙ ap (λ s. grid_state c.args.net.now c.args.chart.now s 0 c.loop-r.r (slice_index c.args.start.now.steps c.loop-r.r)) c.requires.start;
-    } in
-    (
+    } in (
       omega (arith, ap length more, length-append c.loop-r.regions.items (c.in_ok-open.field-0 ∷ []), c.loop-r.invariant.0),
       λ q region within. elim (cases_lt q c.loop-r.r) [
         | inl before ↦

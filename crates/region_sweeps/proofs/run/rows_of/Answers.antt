@@ -1,5 +1,4 @@
-use Rattle.std.specs.Prelude.{replicate}
-use Rattle.std.proofs.Common.{◌≡◌, ℕ, ◌<◌, ◌+◌, inl, inr, List, [], ◌∷◌, ◌++◌, length, get_or, arith, ap, refl, subst, sym, ◌∙◌}
+use Rattle.std.proofs.Common.{◌≡◌, ◌<◌, inl, inr, [], ◌∷◌, ◌++◌, length, arith, ap, subst, sym, ◌∙◌}
 use Rattle.std.proofs.lemmas.Bool.{cases_lt}
 use Rattle.std.proofs.lemmas.List.{ext_get_or, get_or_append_left, length-append}
 use Rattle.network_file.specs.Network.{IsNetwork}
@@ -7,7 +6,7 @@ use Rattle.flow_model.specs.Rows.{empty_row}
 use Rattle.flow_model.specs.State.{row_at, state_at}
 use Rattle.flow_model.proofs.States.{length-state_at}
 use Rattle.region_cut.specs.Chart.{list_at}
-use Rattle.region_cut.specs.Cuttings.{region_at, region_count}
+use Rattle.region_cut.specs.Cuttings.{region_count}
 use Rattle.region_cut.proofs.Membership.{region_at-there}
 use Rattle.region_step.proofs.Ground.{ground}
 use Rattle.region_sweeps.proofs.BorderCells.{listed-test}
@@ -55,8 +54,7 @@ loop-i-preserved c =
     let there : c.loop-i.i < length c.args.net.now.cells = omega (arith, c.loop-i-test.true, c.len-i-end.ensures, c.net.inside.cells.ok.0, cells) in
     let row = (row-from_region c.args.net.now c.args.chart.now c.args.regions.now c.loop-i.i c.region_of-q.result c.place.result c.cells-cells.result.now c.index-regions-q.result (subst IsNetwork c.net.view_is c.net.invariant)
     c.requires.chart c.requires.stand there c.region_of-q.ensures c.index-regions-q.is c.cells-cells.ensures.list c.place.ensures).1 in
-    let more : c.push.new.self.items ≡ c.loop-i.rows.items ++ c.row.result ∷ [] = c.in_ok-push.ensures.items in
-    (
+    let more : c.push.new.self.items ≡ c.loop-i.rows.items ++ c.row.result ∷ [] = c.in_ok-push.ensures.items in (
       omega (arith, ap length more, length-append c.loop-i.rows.items (c.row.result ∷ []), c.loop-i.invariant.0),
       λ k within. elim (cases_lt k c.loop-i.i) [
         | inl before ↦ ap (λ items. row_at items k) more ∙ get_or_append_left c.loop-i.rows.items (c.row.result ∷ []) empty_row k (omega (arith, before, c.loop-i.invariant.0)) ∙ c.loop-i.invariant.1 k before

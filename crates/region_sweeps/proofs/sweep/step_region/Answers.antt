@@ -1,10 +1,8 @@
-use Rattle.std.specs.Prelude.{slice_index, slice_index_or}
-use Rattle.std.proofs.Common.{◌≡◌, ℕ, ◌<◌, ◌≤◌, ◌+◌, length, get_or, arith, ap, refl, subst, sym, ◌∙◌}
+use Rattle.std.specs.Prelude.{slice_index}
+use Rattle.std.proofs.Common.{ℕ, length, get_or, arith, ap, subst, ◌∙◌}
 use Rattle.std.proofs.lemmas.List.{length-map}
 use Rattle.network_file.specs.Network.{IsNetwork}
 use Rattle.region_cut.specs.Chart.{list_at}
-use Rattle.region_step.specs.Opened.{halo_cells}
-use Rattle.region_step.specs.Region.{RegionValue}
 use Rattle.region_step.specs.Start.{zero_start}
 use Rattle.region_step.proofs.GridStates.{grid_state-step}
 use Rattle.region_step.proofs.Steps.{zero_start-at}

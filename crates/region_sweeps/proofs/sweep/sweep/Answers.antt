@@ -1,9 +1,8 @@
-use Rattle.std.specs.Prelude.{replicate, slice_index, slice_set}
-use Rattle.std.proofs.Common.{◌≡◌, ◌≢◌, ℕ, ◌<◌, ◌≤◌, ◌+◌, true, inl, inr, length, get_or, arith, ap, refl, subst, sym, ◌∙◌}
+use Rattle.std.specs.Prelude.{slice_index, slice_set}
+use Rattle.std.proofs.Common.{◌≡◌, ◌≢◌, ℕ, ◌<◌, ◌+◌, inl, inr, arith, ap, ◌∙◌}
 use Rattle.std.proofs.lemmas.Bool.{cases_eq, cases_lt}
-use Rattle.std.proofs.lemmas.List.{get_or-replicate, get_or-set_other, get_or-set_same}
+use Rattle.std.proofs.lemmas.List.{get_or-set_other, get_or-set_same}
 use Rattle.region_cut.specs.Cuttings.{region_count}
-use Rattle.region_cut.specs.Joins.{are_neighbours}
 use Rattle.step_words.specs.Rising.{CanRise}
 use Rattle.step_words.proofs.Neighbours.{neighbour-there}
 use Rattle.region_sweeps.proofs.Sweeping.{steps-are}
@@ -24,18 +23,17 @@ loop-r-preserved c =
         | inr behind ↦ omega (arith, own, c.loop-r.invariant.3 q (omega (arith, behind)) (neighbour-there c.args.net.now c.args.chart.now.cut r q near).1)
       ];
     } in
-    let risen = c.step_region.ensures.risen can in
-    (
+    let risen = c.step_region.ensures.risen can in (
       c.step_region.ensures.lawful,
       c.step_region.ensures.stand,
       (λ q before. elim (cases_eq q r) [
         | inl same ↦ ap (λ list. slice_index list q) risen ∙ ap (slice_index (slice_set c.loop-r.steps r (slice_index c.loop-r.steps r + 1))) same ∙
-          get_or-set_same c.loop-r.steps r (slice_index c.loop-r.steps r + 1) 0 (omega (arith, c.loop-r.invariant.0.one_each, c.loop-r-test.true, c.regions-r-end.ensures.count)) ∙ ap (λ n. n + 1) own
+            get_or-set_same c.loop-r.steps r (slice_index c.loop-r.steps r + 1) 0 (omega (arith, c.loop-r.invariant.0.one_each, c.loop-r-test.true, c.regions-r-end.ensures.count)) ∙ ap (λ n. n + 1) own
         | inr other ↦ ap (λ list. slice_index list q) risen ∙ get_or-set_other c.loop-r.steps r q (slice_index c.loop-r.steps r + 1) 0 other ∙ c.loop-r.invariant.2 q (below q r before other)
       ]),
       (λ q behind within.
-      let other : q ≢ r = λ same. omega (arith, behind, same) in
-      ap (λ list. slice_index list q) risen ∙ get_or-set_other c.loop-r.steps r q (slice_index c.loop-r.steps r + 1) 0 other ∙ c.loop-r.invariant.3 q (omega (arith, behind)) within),
+          let other : q ≢ r = λ same. omega (arith, behind, same) in
+          ap (λ list. slice_index list q) risen ∙ get_or-set_other c.loop-r.steps r q (slice_index c.loop-r.steps r + 1) 0 other ∙ c.loop-r.invariant.3 q (omega (arith, behind)) within),
     )
 
 pub returns-clause-steps : goal.returns-clause-steps
