@@ -75,7 +75,7 @@ stay_in_bounds net cut start sound fits = λ t i there started within. at t i th
     at : (t i : ℕ) → i < length net.cells → start_of start cut i ≤ t → t ≤ net.steps → IsRowInBounds net t i (grid_row net cut start t i)
     at zero i there started within =
         let here : start_of start cut i ≡ 0 = omega (arith, started) in
-        let first = fits.row_bounds i there in
+        let first = (fits.bounds i there).row in
         rw (grid_row-start net cut start 0 i (omega arith)) (subst (λ s. IsRowInBounds net s i (row_at start.rows i)) here first)
     at (suc t) i there started within = elim (past_or_before (start_of start cut i) t) [
       | inl by_then ↦
@@ -84,7 +84,7 @@ stay_in_bounds net cut start sound fits = λ t i there started within. at t i th
           rw (← grid_row-next net cut start t i by_then, add-one) at next
       | inr not_yet ↦
           let here : start_of start cut i ≡ suc t = omega (arith, started, not_yet) in
-          rw (grid_row-start net cut start (suc t) i (omega (arith, here))) (subst (λ s. IsRowInBounds net s i (row_at start.rows i)) here (fits.row_bounds i there))
+          rw (grid_row-start net cut start (suc t) i (omega (arith, here))) (subst (λ s. IsRowInBounds net s i (row_at start.rows i)) here ((fits.bounds i there).row))
     ]
 
 -- what a cell holds is in bounds, from a step before its region's start on
@@ -94,7 +94,7 @@ held_in_bounds net cut start t i sound fits there near within = elim (past_or_be
   | inl by_then ↦ rw (grid_held-started net cut start t i by_then) ((stay_in_bounds net cut start sound fits t i there by_then within).held)
   | inr not_yet ↦
       let here : start_of start cut i ≡ t + 1 = omega (arith, near, not_yet) in
-      rw (grid_held-earlier net cut start t i (omega (arith, here))) ((fits.earlier_bounds i there).later t here)
+      rw (grid_held-earlier net cut start t i (omega (arith, here))) ((fits.bounds i there).earlier.later t here)
 ]
 
 -- from a true start with lawful steps the rows are those of the recurrences

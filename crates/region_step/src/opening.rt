@@ -4,9 +4,8 @@ ghost use Rattle.std.specs.List.Sorted.{IsStrictlyIncreasing};
 ghost use Rattle.flow_model.specs.State.{row_at};
 ghost use Rattle.region_step.specs.Opening.{ArePlaces, earlier_row};
 
-use crate::tie::place;
 use flow_model::Row;
-use region_cut::Halo;
+use region_cut::{Halo, place};
 use signal_plan::NoMemory;
 use std::alloc::Global;
 
