@@ -13,6 +13,7 @@ pub(crate) fn is_row_in_bounds(net: &Net, t: u64, i: u32, row: &Row) -> bool
     requires in_time { t ≤ net.now.steps }
     ensures { IsTrue result ↔ IsRowInBounds net.now t i row.now }
 {
+    let _steps = net.steps;
     is_held_in_bounds(net, t, i, row.n)
         && is_come_in_bounds(net, t, i, row)
         && is_balanced(net, i, row)

@@ -1,6 +1,6 @@
-ghost use Rattle.std.specs.Prelude.{◌≡◌, ◌<◌, ◌≤◌, ◌↔◌, ℕ, All, IfOk, IsTrue, length};
+ghost use Rattle.std.specs.Prelude.{◌≡◌, ◌<◌, ◌≤◌, ◌↔◌, ℕ, All, IfOk, IsTrue, length, slice_index};
 ghost use Rattle.flow_model.specs.State.{state_at};
-ghost use Rattle.region_cut.specs.Cuttings.{region_count};
+ghost use Rattle.region_cut.specs.Cuttings.{region_at, region_count};
 ghost use Rattle.region_cut.specs.LawfulSteps.{AreLawful};
 ghost use Rattle.region_step.specs.Start.{IsCellInBounds};
 
@@ -69,7 +69,12 @@ impl Start {
 fn rows_at_first(alloc: Global, net: &Net) -> Result<Vec<Row>, NoMemory>
     ensures { IfOk result (λ rows. rows.items ≡ state_at net.now 0) }
 {
-    let mut rows = vec![in alloc; Row { n: 0, come: 0, gone: 0, wait: 0 }; net.cells.len()]?;
+    let mut rows = vec![in alloc; Row {
+        n: 0,
+        come: 0,
+        gone: 0,
+        wait: 0
+    }; net.cells.len()]?;
     first_rows(net, &mut rows);
     Ok(rows)
 }
@@ -96,13 +101,35 @@ fn are_in_bounds(start: &Start, net: &Net, chart: &Chart) -> bool
     ensures { IsTrue result ↔ ((i : ℕ) → i < length net.now.cells → IsCellInBounds net.now chart.now.cut start.now i) }
 {
     for i in 0..net.cells.len() as u32 {
-        let step = start.steps[chart.region_of(i) as usize];
-        let row = &start.rows[i as usize];
-        if !is_row_in_bounds(net, step, i, row)
-            || !is_earlier_in_bounds(net, step, i, start.earlier[i as usize])
-        {
+        if !is_cell_in_bounds(start, net, chart, i) {
             return false;
         }
     }
     true
+}
+
+// Whether the row and the earlier occupancy of cell `i` are in bounds at its region's step.
+fn is_cell_in_bounds(start: &Start, net: &Net, chart: &Chart, i: u32) -> bool
+    requires there { i < length net.now.cells }
+    requires chart { length chart.now.cut ≡ length net.now.cells }
+    requires steps { length start.now.steps ≡ region_count chart.now.cut }
+    requires rows { length start.now.rows ≡ length net.now.cells }
+    requires earlier { length start.now.earlier ≡ length net.now.cells }
+    requires in_time { All (λ s. s ≤ net.now.steps) start.now.steps }
+    ensures { IsTrue result ↔ IsCellInBounds net.now chart.now.cut start.now i }
+{
+    let step = step_of(&start.steps, chart, i);
+    let row = start.rows[i as usize];
+    let earlier = start.earlier[i as usize];
+    is_row_in_bounds(net, step, i, &row) && is_earlier_in_bounds(net, step, i, earlier)
+}
+
+// The step of a cell's region.
+fn step_of(steps: &[u64], chart: &Chart, i: u32) -> u64
+    requires there { i < length chart.now.cut }
+    requires one_each { length steps.now ≡ region_count chart.now.cut }
+    ensures step { result ≡ slice_index steps.now (region_at chart.now.cut i) }
+    ensures one { (last : ℕ) → All (λ s. s ≤ last) steps.now → result ≤ last }
+{
+    steps[chart.region_of(i) as usize]
 }
