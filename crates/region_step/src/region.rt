@@ -181,7 +181,8 @@ impl Region {
         let steps = net.steps;
         let cells = chart.cells(self.number);
         let halo = chart.halo(self.number);
-        self.cells.step(net, self.step, &self.wiring.ties, cells, halo, &self.put);
+        self.cells
+            .step(net, self.step, &self.wiring.ties, cells, halo, &self.put);
         self.step += 1;
         let recorded = is_recorded(steps, self.every, self.step);
         note_step(&mut self.trail, self.cells.rows(), recorded);

@@ -1,9 +1,7 @@
 use Rattle.std.specs.Prelude.{slice_index}
-use Rattle.std.proofs.Common.{◌≡◌, ℕ, ◌<◌, List, get_or, refl, arith, ap, sym, subst, ◌∙◌}
+use Rattle.std.proofs.Common.{◌≡◌, ℕ, List, get_or, arith, ap, sym, ◌∙◌}
 use Rattle.std.proofs.lemmas.List.{get_or_default}
-use Rattle.flow_model.specs.Rows.{empty_row}
-use Rattle.flow_model.specs.State.{occupancy, row_at}
-use Rattle.flow_model.specs.declared.row.Row.{Row}
+use Rattle.flow_model.specs.State.{occupancy}
 use Rattle.region_cut.specs.Chart.{list_at}
 use Rattle.region_step.proofs.Places.{one_place}
 use Rattle.region_step.proofs.region.Region.border_now.Goals as goal
