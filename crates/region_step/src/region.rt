@@ -150,7 +150,7 @@ impl Region {
             result ≡ occupancy self.now.state.rows p }
     {
         let _cells = chart.regions();
-        self.cells.rows()[self.wiring.border[j as usize] as usize].n
+        self.cells.held(self.wiring.border[j as usize])
     }
 
     /// Tells what the `j`-th cell of its halo holds at its step, in parts.

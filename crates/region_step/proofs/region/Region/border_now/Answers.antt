@@ -17,5 +17,5 @@ returns c = λ p within same.
     let read : c.index.result.now ≡ q =
     c.index.ensures ∙ ap (λ region. get_or region.layout.border c.args.j c.index.result.now) c.self.view_is ∙
     get_or_default c.args.self.now.layout.border c.args.j c.index.result.now 0 (omega (arith, c.requires.of.border.one_each, c.requires.there)) in
-    let rows : c.rows.result.now ≡ c.args.self.now.state.rows = c.rows.ensures ∙ ap (λ region. region.state.rows) c.self.view_is in
-    ap (λ rows. occupancy rows c.index.result.now) rows ∙ ap (occupancy c.args.self.now.state.rows) (read ∙ is_place)
+    c.held.ensures ∙ ap (λ region. occupancy region.state.rows c.index.result.now) c.self.view_is ∙
+    ap (occupancy c.args.self.now.state.rows) (read ∙ is_place)
