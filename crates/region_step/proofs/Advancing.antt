@@ -1,19 +1,17 @@
 -- One step of a region: it can be made, and it is that of the recurrences.
-use Rattle.std.specs.Prelude.{All, Option, Some, None, map, replicate, slice_index, slice_index_or, unwrap_or, ◌^◌, if◌then◌else◌}
-use Rattle.std.specs.List.{Contains, filter, range_with_len}
-use Rattle.std.proofs.Common.{◌≡◌, ℕ, zero, suc, zero-add, ◌<◌, ◌≤◌, ◌+◌, ◌-◌, ◌*◌, inl, inr, Bool, true, false, List, [], ◌∷◌, ◌++◌, length, get_or, refl, sym, ap, subst, ◌∙◌, arith}
+use Rattle.std.specs.Prelude.{Option, None, map, replicate, slice_index, slice_index_or, unwrap_or, if◌then◌else◌}
+use Rattle.std.specs.List.{Contains}
+use Rattle.std.proofs.Common.{◌≡◌, ℕ, suc, zero-add, ◌<◌, ◌≤◌, ◌+◌, ◌*◌, inl, inr, Bool, true, false, List, [], ◌++◌, length, get_or, refl, sym, ap, subst, ◌∙◌, arith}
 use Rattle.std.proofs.lemmas.Bool.{cases_Bool}
-use Rattle.std.proofs.lemmas.List.{get_or-map, get_or_default, length-append, length-map, length-replicate}
+use Rattle.std.proofs.lemmas.List.{length-append, length-map, length-replicate}
 use Rattle.std.proofs.lemmas.List.Elements.{Contains-get_or}
-use Rattle.std.proofs.lemmas.List.FromFn.{get_or-map-range_with_len, get_or-range_with_len, length-map-range_with_len, length-range_with_len}
+use Rattle.std.proofs.lemmas.List.FromFn.{get_or-map-range_with_len, length-map-range_with_len}
 use Rattle.std.proofs.Math.Nat.{mul-suc}
-use Rattle.signal_plan.specs.Demand.{demand_at}
 use Rattle.network_file.specs.Cells.{is_gate_at}
 use Rattle.network_file.specs.Network.{IsNetwork, Network}
-use Rattle.flow_model.specs.Bounds.{IsHeldInBounds, IsRowInBounds}
-use Rattle.flow_model.specs.Flows.{entered_by, inflow, left_by, outflow}
+use Rattle.flow_model.specs.Flows.{inflow, outflow}
 use Rattle.flow_model.specs.Rows.{empty_row, moved_row, next_row, row_by}
-use Rattle.flow_model.specs.State.{occupancy, row_at}
+use Rattle.flow_model.specs.State.{row_at}
 use Rattle.flow_model.specs.declared.row.Row.{Row}
 use Rattle.flow_model.proofs.Bounds.{changes, moved_row-in_bounds, small}
 use Rattle.flow_model.proofs.Flows.{entered_by-gate}
@@ -21,8 +19,8 @@ use Rattle.flow_model.proofs.States.{next_row-in_bounds}
 use Rattle.region_cut.specs.Chart.{ChartLists, chart_of, list_at}
 use Rattle.region_cut.specs.Cuttings.{region_count}
 use Rattle.region_step.specs.Advance.{HasHaloPut, HasRowsInBounds, advanced, known, next_rows_of, rows_after}
-use Rattle.region_step.specs.Carrying.{CanChange, CanChangeAt, IsChangeOf, IsScene, change_at, enters_in_all, rows_changed}
-use Rattle.region_step.specs.Opened.{IsIn, IsOf, halo_cells}
+use Rattle.region_step.specs.Carrying.{CanChangeAt, IsChangeOf, IsScene, change_at, enters_in_all, rows_changed}
+use Rattle.region_step.specs.Opened.{IsIn, halo_cells}
 use Rattle.region_step.specs.Recording.{is_recorded, note_of, notes_of, recorded_after}
 use Rattle.region_step.specs.Region.{RegionState, RegionValue}
 use Rattle.region_step.specs.declared.change.Change.{Change}

@@ -1,31 +1,29 @@
 -- After all its connectors each of a region's cells has the change of the recurrences.
-use Rattle.std.specs.Prelude.{All, eqb, ◌==◌, ◌⊎◌, ◌&&◌, ◌||◌, Bool, Option, None, Some, map, slice_index, slice_index_or, unwrap_or, if◌then◌else◌}
+use Rattle.std.specs.Prelude.{All, eqb, ◌⊎◌, ◌||◌, Bool, Option, map, slice_index, if◌then◌else◌}
 use Rattle.std.specs.List.{Contains, list_any}
-use Rattle.std.proofs.Common.{◌≡◌, ◌≢◌, ℕ, zero, suc, ◌<◌, ◌≤◌, ◌+◌, inl, inr, true, false, List, [], ◌∷◌, length, get_or, refl, sym, ap, subst, ◌∙◌, arith}
+use Rattle.std.proofs.Common.{◌≡◌, ℕ, zero, suc, ◌<◌, ◌+◌, inl, inr, true, false, List, [], ◌∷◌, length, get_or, refl, sym, ap, ◌∙◌, arith}
 use Rattle.std.proofs.lemmas.Bool.{cases_Bool, cases_lt}
-use Rattle.std.proofs.lemmas.List.{get_or-map, get_or_default, length-map, length-append}
+use Rattle.std.proofs.lemmas.List.{get_or-map, get_or_default, length-map}
 use Rattle.std.proofs.lemmas.List.Elements.{Contains-get_or}
 use Rattle.std.proofs.lemmas.List.Folds.{Any-from_list_any, list_any-append}
-use Rattle.network_file.specs.Cells.{is_gate_at}
 use Rattle.network_file.specs.Connectors.{cells_of, connector_at, downstream_of, leads_into, leads_out_of, touches, upstream_of}
-use Rattle.network_file.specs.Network.{IsNetwork, Network}
+use Rattle.network_file.specs.Network.{Network}
 use Rattle.network_file.specs.declared.connector.Connector.{Connector}
 use Rattle.network_file.specs.declared.connector.Connector.TheVariants.{Link, Merge, Diverge}
 use Rattle.flow_model.specs.Bounds.{AreHeldInBounds, IsHeldInBounds}
-use Rattle.flow_model.specs.Flows.{entering, flow_between, flow_of, inflow, leaving, outflow}
-use Rattle.flow_model.specs.State.{occupancy}
+use Rattle.flow_model.specs.Flows.{entering, flow_between, flow_of, leaving}
 use Rattle.flow_model.specs.declared.carried.Flow.{Flow}
 use Rattle.flow_model.specs.declared.row.Row.{Row}
 use Rattle.flow_model.proofs.CellFlows.{inflow-by, inflow-none, outflow-by, outflow-none}
 use Rattle.flow_model.proofs.CellKinds.{sound_connector}
 use Rattle.region_step.specs.Advance.{known}
-use Rattle.region_step.specs.Carrying.{AreApart, CanCarry, IsChangeOf, IsScene, IsThere, carried_of, change_at, held_at, moved_by, three_held}
+use Rattle.region_step.specs.Carrying.{AreApart, CanCarry, IsChangeOf, IsScene, IsThere, carried_of, change_at, held_at, moved_by}
 use Rattle.region_step.specs.Layout.{IsPlaceOf, IsTie, place_at, three_cells}
 use Rattle.region_step.specs.declared.change.Change.{Change}
 use Rattle.region_step.specs.declared.place.Place.{Place}
 use Rattle.region_step.specs.declared.place.Place.TheVariants.{Own, Halo}
 use Rattle.region_step.specs.declared.tie.Tie.{Tie}
-use Rattle.region_step.proofs.Changes.{ChangesBy, length-moved_by, moved_by-at}
+use Rattle.region_step.proofs.Changes.{length-moved_by, moved_by-at}
 use Rattle.region_step.proofs.Places.{held_at-known}
 
 -- what the connector of a tie carries
@@ -117,10 +115,13 @@ by-more net t n numbers leads moves j before after by is = elim (cases_Bool (lea
       let same : after ≡ before = is ∙ ap (λ b. if b then moves (connector_at net.connectors (slice_index numbers j)) (flow_of net t n (connector_at net.connectors (slice_index numbers j))) else before) other in
       elim by [
         | inl (m, earlier, led, amount) ↦ inl (m, omega (arith, earlier), led, same ∙ amount)
-        | inr (none, zero_before) ↦ inr ((λ m earlier. elim (cases_lt m j) [
-          | inl lower ↦ none m lower
-          | inr last ↦ let here : m ≡ j = omega (arith, earlier, last) in rw here other
-        ]), same ∙ zero_before)
+        | inr (none, zero_before) ↦ inr (
+          (λ m earlier. elim (cases_lt m j) [
+            | inl lower ↦ none m lower
+            | inr last ↦ let here : m ≡ j = omega (arith, earlier, last) in rw here other
+          ]),
+          same ∙ zero_before,
+        )
       ]
 ]
 
@@ -173,9 +174,10 @@ AreChanged net t n cells numbers j changes = (p : ℕ) → p < length cells →
 pub changed-none : (net : Network) (t : ℕ) (n : ℕ → ℕ) (cells numbers : List ℕ) (changes : List Change) →
     ((p : ℕ) → p < length cells → ((change_at changes p).leaves ≡ 0) × ((change_at changes p).enters ≡ 0)) → AreChanged net t n cells numbers 0 changes
 unfolding AreChanged
-changed-none net t n cells numbers changes zeros = λ p within.
-    (rw ((zeros p within).0) (by-none net t n numbers (leads_out_of (slice_index cells p)) (leaving (slice_index cells p))),
-    rw ((zeros p within).1) (by-none net t n numbers (leads_into (slice_index cells p)) (entering (slice_index cells p))))
+changed-none net t n cells numbers changes zeros = λ p within. (
+  rw ((zeros p within).0) (by-none net t n numbers (leads_out_of (slice_index cells p)) (leaving (slice_index cells p))),
+  rw ((zeros p within).1) (by-none net t n numbers (leads_into (slice_index cells p)) (entering (slice_index cells p))),
+)
 
 pub changed-more : (net : Network) (t : ℕ) (cells halo : List ℕ) (ties : List Tie) (rows : List Row) (put : List (Option ℕ)) (j : ℕ) (tie : Tie) (changes : List Change) →
     IsScene net t cells halo ties rows put → j < length ties → get_or ties j tie ≡ tie → length changes ≡ length cells →

@@ -1,7 +1,7 @@
 -- What one connector moves: the change of each of the region's own cells.
-use Rattle.std.specs.Prelude.{eqb, ◌==◌, ◌||◌, map, slice_index, if◌then◌else◌}
-use Rattle.std.specs.List.{IsDistinct, list_any}
-use Rattle.std.proofs.Common.{◌≡◌, ◌≢◌, ℕ, ◌<◌, ◌+◌, inl, inr, true, false, List, length, get_or, set, refl, sym, ap, subst, ◌∙◌, arith}
+use Rattle.std.specs.Prelude.{eqb, ◌==◌, ◌||◌, slice_index, if◌then◌else◌}
+use Rattle.std.specs.List.{IsDistinct}
+use Rattle.std.proofs.Common.{◌≡◌, ℕ, ◌<◌, ◌+◌, inl, inr, true, false, List, length, get_or, set, refl, sym, ap, ◌∙◌, arith}
 use Rattle.std.proofs.lemmas.Bool.{cases_Bool, cases_eq, eq-eqb, eqb-true, ne_eqb}
 use Rattle.std.proofs.lemmas.List.{get_or-set_other, get_or-set_same, length-set}
 use Rattle.network_file.specs.Connectors.{downstream_of, leads_into, leads_out_of, upstream_of}

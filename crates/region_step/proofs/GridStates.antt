@@ -1,24 +1,24 @@
 -- A region of a start at its first step, and a step on.
-use Rattle.std.specs.Prelude.{All, eqb, Option, Some, None, ◌==◌, flat_map, map, replicate, slice_index, slice_index_or, unwrap_or, if◌then◌else◌}
+use Rattle.std.specs.Prelude.{Option, Some, None, flat_map, map, replicate, slice_index, slice_index_or, unwrap_or, if◌then◌else◌}
 use Rattle.std.specs.List.{Contains, filter, range_with_len}
-use Rattle.std.proofs.Common.{◌≡◌, ◌≢◌, ℕ, zero, suc, add-one, add-zero, ◌<◌, ◌≤◌, ◌+◌, ◌-◌, inl, inr, Bool, true, false, List, [], ◌∷◌, ◌++◌, length, get_or, refl, sym, ap, subst, ◌∙◌, arith}
+use Rattle.std.proofs.Common.{◌≡◌, ◌≢◌, ℕ, zero, suc, add-zero, ◌<◌, ◌≤◌, ◌+◌, ◌-◌, inl, inr, Bool, true, false, List, [], ◌∷◌, ◌++◌, length, refl, sym, ap, ◌∙◌, arith}
 use Rattle.std.proofs.lemmas.Bool.{cases_Bool, cases_eq}
 use Rattle.std.proofs.lemmas.Grind.{flat_map-append}
 use Rattle.std.proofs.lemmas.Simd.{map-map}
-use Rattle.std.proofs.lemmas.List.{ext_get_or, get_or-map, get_or_default, length-map, append_assoc, append-nil}
+use Rattle.std.proofs.lemmas.List.{ext_get_or, get_or-map, get_or_default, length-map, append-nil}
 use Rattle.std.proofs.lemmas.List.Elements.{Contains-get_or, filter-append}
 use Rattle.std.proofs.lemmas.List.FromFn.{get_or-map-range_with_len, length-map-range_with_len}
 use Rattle.std.proofs.Common.{zero-add}
 use Rattle.network_file.specs.Connectors.{are_joined}
 use Rattle.network_file.specs.Network.{IsNetwork, Network}
 use Rattle.flow_model.specs.Rows.{empty_row, next_row}
-use Rattle.flow_model.specs.State.{occupancy, row_at}
+use Rattle.flow_model.specs.State.{row_at}
 use Rattle.flow_model.specs.declared.row.Row.{Row}
 use Rattle.flow_model.proofs.Locality.{next_row-local}
 use Rattle.region_cut.specs.Chart.{ChartLists, chart_of, list_at}
 use Rattle.region_cut.specs.Cuttings.{region_at, region_count}
 use Rattle.region_cut.proofs.Meetings.{joined-halo, joined-there}
-use Rattle.region_step.specs.Advance.{advanced, known, next_rows_of, rows_after}
+use Rattle.region_step.specs.Advance.{advanced, known, rows_after}
 use Rattle.region_step.specs.Grid.{grid_before, grid_held, grid_row}
 use Rattle.region_step.specs.Laws.{grid_rows, grid_state, grid_trail, with_halo}
 use Rattle.region_step.specs.Opened.{halo_cells}
@@ -27,7 +27,7 @@ use Rattle.region_step.specs.Region.{RegionState}
 use Rattle.region_step.specs.Start.{StartLists, start_of}
 use Rattle.region_step.specs.declared.note.Note.{Note}
 use Rattle.region_step.proofs.Grids.{grid_before-next, grid_before-start, grid_held-started, grid_row-next, grid_row-start}
-use Rattle.region_step.proofs.Ground.{IsGround, ground}
+use Rattle.region_step.proofs.Ground.{ground}
 use Rattle.region_step.proofs.Lists.{map_same}
 use Rattle.region_step.proofs.Places.{known-halo, known-own}
 

@@ -1,5 +1,5 @@
 -- The rows of a start's regions: the two equations, and the two laws.
-use Rattle.std.specs.Prelude.{◌⊎◌, nat_le, slice_index, if◌then◌else◌}
+use Rattle.std.specs.Prelude.{◌⊎◌, nat_le, slice_index}
 use Rattle.std.proofs.Common.{◌≡◌, ◌≢◌, ℕ, zero, suc, add-one, ◌<◌, ◌≤◌, ◌+◌, inl, inr, true, false, List, length, refl, sym, ap, subst, ◌∙◌, arith}
 use Rattle.std.proofs.lemmas.Bool.{cases_lt, le-leb, lt-leb}
 use Rattle.network_file.specs.Connectors.{are_joined}
@@ -7,14 +7,12 @@ use Rattle.network_file.specs.Network.{IsNetwork, Network}
 use Rattle.flow_model.specs.Bounds.{IsHeldInBounds, IsRowInBounds}
 use Rattle.flow_model.specs.Rows.{next_row}
 use Rattle.flow_model.specs.State.{occupancy, row_at, state_at}
-use Rattle.flow_model.specs.declared.row.Row.{Row}
 use Rattle.flow_model.proofs.Locality.{next_row-local}
 use Rattle.flow_model.proofs.States.{next_row-in_bounds, row_at-state_at-next}
-use Rattle.region_cut.specs.Cuttings.{region_at, region_count}
-use Rattle.region_cut.specs.Joins.{is_border}
+use Rattle.region_cut.specs.Cuttings.{region_at}
 use Rattle.region_cut.specs.LawfulSteps.{AreLawful}
 use Rattle.region_cut.proofs.Meetings.{halo-border, joined-halo, joined-neighbours, joined-there, neighbours-sym}
-use Rattle.region_step.specs.Grid.{grid_before, grid_held, grid_row, held_by}
+use Rattle.region_step.specs.Grid.{grid_before, grid_held, grid_row}
 use Rattle.region_step.specs.Laws.{AreTheRecurrences, StayInBounds}
 use Rattle.region_step.specs.Start.{Fits, IsTrueStart, StartLists, start_of}
 
@@ -75,7 +73,7 @@ stay_in_bounds net cut start sound fits = λ t i there started within. at t i th
     at : (t i : ℕ) → i < length net.cells → start_of start cut i ≤ t → t ≤ net.steps → IsRowInBounds net t i (grid_row net cut start t i)
     at zero i there started within =
         let here : start_of start cut i ≡ 0 = omega (arith, started) in
-        let first = fits.row_bounds i there in
+        let first = (fits.bounds i there).row in
         rw (grid_row-start net cut start 0 i (omega arith)) (subst (λ s. IsRowInBounds net s i (row_at start.rows i)) here first)
     at (suc t) i there started within = elim (past_or_before (start_of start cut i) t) [
       | inl by_then ↦
@@ -84,7 +82,7 @@ stay_in_bounds net cut start sound fits = λ t i there started within. at t i th
           rw (← grid_row-next net cut start t i by_then, add-one) at next
       | inr not_yet ↦
           let here : start_of start cut i ≡ suc t = omega (arith, started, not_yet) in
-          rw (grid_row-start net cut start (suc t) i (omega (arith, here))) (subst (λ s. IsRowInBounds net s i (row_at start.rows i)) here (fits.row_bounds i there))
+          rw (grid_row-start net cut start (suc t) i (omega (arith, here))) (subst (λ s. IsRowInBounds net s i (row_at start.rows i)) here ((fits.bounds i there).row))
     ]
 
 -- what a cell holds is in bounds, from a step before its region's start on
@@ -94,7 +92,7 @@ held_in_bounds net cut start t i sound fits there near within = elim (past_or_be
   | inl by_then ↦ rw (grid_held-started net cut start t i by_then) ((stay_in_bounds net cut start sound fits t i there by_then within).held)
   | inr not_yet ↦
       let here : start_of start cut i ≡ t + 1 = omega (arith, near, not_yet) in
-      rw (grid_held-earlier net cut start t i (omega (arith, here))) ((fits.earlier_bounds i there).later t here)
+      rw (grid_held-earlier net cut start t i (omega (arith, here))) ((fits.bounds i there).earlier.later t here)
 ]
 
 -- from a true start with lawful steps the rows are those of the recurrences
@@ -114,6 +112,7 @@ are_the_recurrences net cut start sound lawful true_start = at
           let border = halo-border net.connectors cut (region_at cut i) j (joined-halo net.connectors cut i j joined differ) in
           grid_held-earlier net cut start t j (omega (arith, here)) ∙ true_start.earlier j t (joined-there net i j sound joined).1 border here
     ]
+
     at : (t i : ℕ) → i < length net.cells → start_of start cut i ≤ t → grid_row net cut start t i ≡ row_at (state_at net t) i
     at zero i there started =
         let here : start_of start cut i ≡ 0 = omega (arith, started) in

@@ -1,10 +1,9 @@
 -- The lists of a region in a network's chart: its cells, its halo, its connectors, its border.
 use Rattle.std.specs.Prelude.{All, eqb, not, map, slice_index, ◌^◌, ◌==◌}
 use Rattle.std.specs.List.{Contains, filter, list_any, range_with_len}
-use Rattle.std.specs.List.Sorted.{IsStrictlyIncreasing}
-use Rattle.std.proofs.Common.{◌≡◌, ◌≢◌, ℕ, zero, suc, ◌<◌, ◌≤◌, inl, inr, Bool, true, false, List, [], ◌∷◌, length, get_or, refl, sym, ap, subst, ◌∙◌, arith}
-use Rattle.std.proofs.lemmas.Bool.{cases_Bool, cases_eq, eq-eqb}
-use Rattle.std.proofs.lemmas.List.{get_or-map, get_or_default, length-map}
+use Rattle.std.proofs.Common.{◌≡◌, ℕ, zero, suc, ◌<◌, ◌≤◌, inl, inr, Bool, true, List, length, get_or, refl, sym, ap, subst, ◌∙◌, arith}
+use Rattle.std.proofs.lemmas.Bool.{cases_Bool, cases_eq}
+use Rattle.std.proofs.lemmas.List.{get_or-map, length-map}
 use Rattle.std.proofs.lemmas.List.Elements.{Contains-get_or}
 use Rattle.std.proofs.lemmas.List.Filters.{length-filter_both}
 use Rattle.std.proofs.lemmas.List.FromFn.{length-range_with_len}
@@ -20,7 +19,7 @@ use Rattle.region_cut.proofs.Anys.{Contains-from_test, test_from_Contains}
 use Rattle.region_cut.proofs.ChartParts.{chart-border, chart-cells, chart-connectors, chart-halo}
 use Rattle.region_cut.proofs.ConnectorCells.{few_cells, touches-there}
 use Rattle.region_cut.proofs.Meetings.{halo-by, halo-from, touches-touches_region}
-use Rattle.region_cut.proofs.Membership.{Contains-border_of, Contains-cells_in, Contains-connectors_of, Contains-halo_of, border_of-Contains, cells_in-Contains, cells_in-increasing, connectors_of-Contains, halo_of-Contains, halo_of-increasing}
+use Rattle.region_cut.proofs.Membership.{Contains-border_of, Contains-cells_in, Contains-connectors_of, Contains-halo_of, cells_in-Contains, cells_in-increasing, connectors_of-Contains, halo_of-Contains, halo_of-increasing}
 use Rattle.region_step.specs.Carrying.{AreApart}
 use Rattle.region_step.specs.Layout.{three_cells}
 use Rattle.region_step.specs.Opened.{halo_cells}
@@ -99,8 +98,14 @@ few-of-halo : (net : Network) (cut : List ℕ) (r : ℕ) → IsNetwork net → l
 unfolding halo_of
 few-of-halo net cut r sound =
     let met : List ℕ = filter (is_halo net.connectors cut r) (range_with_len 0 (length net.cells)) in
-    omega (arith, few_cells net sound, length-map (map (halo_at net cut) met) (λ other. other.cell), length-map met (halo_at net cut),
-    length-filter-le (is_halo net.connectors cut r) (range_with_len 0 (length net.cells)), length-range_with_len 0 (length net.cells))
+    omega (
+      arith,
+      few_cells net sound,
+      length-map (map (halo_at net cut) met) (λ other. other.cell),
+      length-map met (halo_at net cut),
+      length-filter-le (is_halo net.connectors cut r) (range_with_len 0 (length net.cells)),
+      length-range_with_len 0 (length net.cells),
+    )
 
 lists-ground : (net : Network) (cut : List ℕ) (r : ℕ) → IsNetwork net →
     IsGround net cut r (cells_in net cut r) (map (λ other. other.cell) (halo_of net cut r)) (connectors_of net cut r) (border_of net cut r)

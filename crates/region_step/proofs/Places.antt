@@ -1,8 +1,8 @@
 -- What the cell at a place holds: each cell that a region knows has one place.
-use Rattle.std.specs.Prelude.{eqb, ◌==◌, Option, None, unwrap_or, slice_index, slice_index_or, if◌then◌else◌}
-use Rattle.std.specs.List.{Contains, list_any, position_or_len}
+use Rattle.std.specs.Prelude.{eqb, ◌==◌, Option, None, unwrap_or, slice_index, slice_index_or}
+use Rattle.std.specs.List.{list_any, position_or_len}
 use Rattle.std.specs.List.Sorted.{IsStrictlyIncreasing}
-use Rattle.std.proofs.Common.{◌≡◌, ◌≢◌, ℕ, ◌<◌, inl, inr, true, false, List, length, get_or, refl, sym, ap, subst, ◌∙◌, arith}
+use Rattle.std.proofs.Common.{◌≡◌, ◌≢◌, ℕ, ◌<◌, inl, inr, false, List, length, refl, sym, ap, ◌∙◌}
 use Rattle.std.proofs.lemmas.Bool.{cases_Bool}
 use Rattle.std.proofs.lemmas.List.Elements.{Contains-get_or}
 use Rattle.flow_model.specs.State.{occupancy}

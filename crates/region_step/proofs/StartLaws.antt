@@ -1,6 +1,6 @@
 -- The start at step 0.
-use Rattle.std.specs.Prelude.{All, replicate, slice_index}
-use Rattle.std.proofs.Common.{◌≡◌, ℕ, ◌<◌, ◌≤◌, ◌+◌, inl, inr, List, length, get_or, refl, sym, ap, subst, ◌∙◌, arith}
+use Rattle.std.specs.Prelude.{replicate, slice_index}
+use Rattle.std.proofs.Common.{◌≡◌, ℕ, inl, inr, List, length, sym, ap, subst, arith}
 use Rattle.std.proofs.lemmas.Bool.{cases_lt}
 use Rattle.std.proofs.lemmas.List.{get_or-replicate, get_or_past, length-replicate, get_or_default}
 use Rattle.network_file.specs.Network.{IsNetwork, Network}
@@ -23,12 +23,12 @@ zero_start-fits net cut sound = record {
   in_time = λ r d within. omega (arith, get_or_default (replicate (region_count cut) 0) r d 0 within, zeros (region_count cut) r);
   rows = length-state_at net 0;
   earlier = length-replicate {A = ℕ} (length net.cells) 0;
-  row_bounds = λ i there.
+  bounds = λ i there.
       let here : start_of (zero_start net cut) cut i ≡ 0 = zeros (region_count cut) (region_at cut i) in
-      subst (λ s. IsRowInBounds net s i (row_at (state_at net 0) i)) (sym here) ((first_rows-in_bounds net sound).each i there);
-  earlier_bounds = λ i there.
-      let here : start_of (zero_start net cut) cut i ≡ 0 = zeros (region_count cut) (region_at cut i) in
-      record { later = λ t later. absurd (omega (arith, here, later)); none = λ none. zeros (length net.cells) i };
+      record {
+        row = subst (λ s. IsRowInBounds net s i (row_at (state_at net 0) i)) (sym here) ((first_rows-in_bounds net sound).each i there);
+        earlier = record { later = λ t later. absurd (omega (arith, here, later)); none = λ none. zeros (length net.cells) i };
+      };
 }
 
 pub zero_start-lawful : (net : Network) (cut : List ℕ) → AreLawful net cut (zero_start net cut).steps

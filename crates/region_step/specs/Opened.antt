@@ -6,7 +6,7 @@ use Rattle.region_cut.specs.Cuttings.{region_count}
 use Rattle.region_step.specs.Layout.{AreTies}
 use Rattle.region_step.specs.Opening.{ArePlaces}
 use Rattle.region_step.specs.Recording.{recorded_after}
-use Rattle.region_step.specs.Region.{RegionState, RegionValue}
+use Rattle.region_step.specs.Region.{RegionValue}
 
 -- the cells of a region's halo
 abbrev pub halo_cells : ChartLists → (r : ℕ) → List ℕ

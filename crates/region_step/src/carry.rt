@@ -4,8 +4,8 @@ ghost use Rattle.region_step.specs.Advance.{known};
 ghost use Rattle.region_step.specs.Carrying.{CanCarry, IsAmong, IsChangeOf, IsScene, carried_of, change_at, moved_by, with_entering, with_leaving};
 
 use crate::change::Change;
-use crate::sight::Sight;
 use crate::place::Place;
+use crate::sight::Sight;
 use crate::tie::Tie;
 use flow_model::{Flow, flow};
 use network_file::{Connector, Net};

@@ -1,5 +1,5 @@
 ghost use Rattle.std.specs.Prelude.{◌≡◌, ◌<◌, All, IfOk, length, map, slice_index};
-ghost use Rattle.flow_model.specs.State.{row_at};
+ghost use Rattle.flow_model.specs.State.{occupancy, row_at};
 
 use crate::carry::carry_all;
 use crate::change::Change;
@@ -66,6 +66,14 @@ impl CellRows {
         ensures { result.now ≡ self.now.rows }
     {
         &self.rows
+    }
+
+    /// What the `i`-th cell holds.
+    pub(crate) fn held(&self, i: u32) -> u64
+        requires { i < length self.now.rows }
+        ensures { result ≡ occupancy self.now.rows i }
+    {
+        self.rows[i as usize].n
     }
 
     /// What the `i`-th cell held a step before.

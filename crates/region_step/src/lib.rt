@@ -1,6 +1,7 @@
 //! The regions of a cut network, each advanced one step at a time by itself.
 #![tactic(auto)]
 
+mod bounds;
 mod carry;
 mod cell_rows;
 mod change;

@@ -4,9 +4,8 @@ ghost use Rattle.std.specs.List.Sorted.{IsStrictlyIncreasing};
 ghost use Rattle.flow_model.specs.State.{row_at};
 ghost use Rattle.region_step.specs.Opening.{ArePlaces, earlier_row};
 
-use crate::tie::place;
 use flow_model::Row;
-use region_cut::Halo;
+use region_cut::{Halo, place};
 use signal_plan::NoMemory;
 use std::alloc::Global;
 
@@ -23,7 +22,11 @@ pub(crate) fn rows_of(alloc: Global, rows: &[Row], cells: &[u32]) -> Result<Vec<
 }
 
 /// Rows that hold what these cells held earlier.
-pub(crate) fn earlier_rows(alloc: Global, earlier: &[u64], cells: &[u32]) -> Result<Vec<Row>, NoMemory>
+pub(crate) fn earlier_rows(
+    alloc: Global,
+    earlier: &[u64],
+    cells: &[u32],
+) -> Result<Vec<Row>, NoMemory>
     requires { All (λ i. i < length earlier.now) cells.now }
     ensures { IfOk result (λ own. own.items ≡ map (λ i. earlier_row (slice_index earlier.now i)) cells.now) }
 {
@@ -51,7 +54,11 @@ pub(crate) fn halo_cells(alloc: Global, halo: &[Halo]) -> Result<Vec<u32>, NoMem
 }
 
 /// The place of each border cell among the region's cells.
-pub(crate) fn border_places(alloc: Global, border: &[u32], cells: &[u32]) -> Result<Vec<u32>, NoMemory>
+pub(crate) fn border_places(
+    alloc: Global,
+    border: &[u32],
+    cells: &[u32],
+) -> Result<Vec<u32>, NoMemory>
     requires inside { All (Contains cells.now) border.now }
     requires increasing { IsStrictlyIncreasing cells.now }
     requires few { length cells.now < 2 ^ 32 }

@@ -150,7 +150,7 @@ impl Region {
             result ≡ occupancy self.now.state.rows p }
     {
         let _cells = chart.regions();
-        self.cells.rows()[self.wiring.border[j as usize] as usize].n
+        self.cells.held(self.wiring.border[j as usize])
     }
 
     /// Tells what the `j`-th cell of its halo holds at its step, in parts.
@@ -181,7 +181,8 @@ impl Region {
         let steps = net.steps;
         let cells = chart.cells(self.number);
         let halo = chart.halo(self.number);
-        self.cells.step(net, self.step, &self.wiring.ties, cells, halo, &self.put);
+        self.cells
+            .step(net, self.step, &self.wiring.ties, cells, halo, &self.put);
         self.step += 1;
         let recorded = is_recorded(steps, self.every, self.step);
         note_step(&mut self.trail, self.cells.rows(), recorded);

@@ -1,7 +1,10 @@
-ghost use Rattle.std.specs.Prelude.{◌≡◌, IfOk};
+ghost use Rattle.std.specs.Prelude.{◌≡◌, ◌<◌, ◌≤◌, ◌↔◌, ℕ, All, IfOk, IsTrue, length, slice_index};
 ghost use Rattle.flow_model.specs.State.{state_at};
+ghost use Rattle.region_cut.specs.Cuttings.{region_at, region_count};
 ghost use Rattle.region_cut.specs.LawfulSteps.{AreLawful};
+ghost use Rattle.region_step.specs.Start.{IsCellInBounds};
 
+use crate::bounds::{is_earlier_in_bounds, is_row_in_bounds};
 use flow_model::{Row, first_rows};
 use network_file::Net;
 use region_cut::Chart;
@@ -47,13 +50,86 @@ impl Start {
             earlier,
         })
     }
+
+    /// Whether the regions can be advanced from here: there is one step for each region, none past the last, and a row
+    /// and an earlier occupancy in bounds for each cell. It takes no memory.
+    pub fn fits(&self, net: &Net, chart: &Chart) -> bool
+        requires chart { length chart.now.cut ≡ length net.now.cells }
+        ensures { IsTrue result ↔ Fits net.now chart.now.cut self.now }
+    {
+        self.steps.len() == chart.regions() as usize
+            && self.rows.len() == net.cells.len()
+            && self.earlier.len() == net.cells.len()
+            && are_in_time(&self.steps, net.steps)
+            && are_in_bounds(self, net, chart)
+    }
 }
 
 // The rows at step 0.
 fn rows_at_first(alloc: Global, net: &Net) -> Result<Vec<Row>, NoMemory>
     ensures { IfOk result (λ rows. rows.items ≡ state_at net.now 0) }
 {
-    let mut rows = vec![in alloc; Row { n: 0, come: 0, gone: 0, wait: 0 }; net.cells.len()]?;
+    let mut rows = vec![in alloc; Row {
+        n: 0,
+        come: 0,
+        gone: 0,
+        wait: 0
+    }; net.cells.len()]?;
     first_rows(net, &mut rows);
     Ok(rows)
+}
+
+// Whether no step is past the last.
+fn are_in_time(steps: &[u64], last: u64) -> bool
+    ensures { IsTrue result ↔ All (λ s. s ≤ last) steps.now }
+{
+    for step in steps {
+        if *step > last {
+            return false;
+        }
+    }
+    true
+}
+
+// Whether the row and the earlier occupancy of each cell are in bounds at its region's step.
+fn are_in_bounds(start: &Start, net: &Net, chart: &Chart) -> bool
+    requires chart { length chart.now.cut ≡ length net.now.cells }
+    requires steps { length start.now.steps ≡ region_count chart.now.cut }
+    requires rows { length start.now.rows ≡ length net.now.cells }
+    requires earlier { length start.now.earlier ≡ length net.now.cells }
+    requires in_time { All (λ s. s ≤ net.now.steps) start.now.steps }
+    ensures { IsTrue result ↔ ((i : ℕ) → i < length net.now.cells → IsCellInBounds net.now chart.now.cut start.now i) }
+{
+    for i in 0..net.cells.len() as u32 {
+        if !is_cell_in_bounds(start, net, chart, i) {
+            return false;
+        }
+    }
+    true
+}
+
+// Whether the row and the earlier occupancy of cell `i` are in bounds at its region's step.
+fn is_cell_in_bounds(start: &Start, net: &Net, chart: &Chart, i: u32) -> bool
+    requires there { i < length net.now.cells }
+    requires chart { length chart.now.cut ≡ length net.now.cells }
+    requires steps { length start.now.steps ≡ region_count chart.now.cut }
+    requires rows { length start.now.rows ≡ length net.now.cells }
+    requires earlier { length start.now.earlier ≡ length net.now.cells }
+    requires in_time { All (λ s. s ≤ net.now.steps) start.now.steps }
+    ensures { IsTrue result ↔ IsCellInBounds net.now chart.now.cut start.now i }
+{
+    let step = step_of(&start.steps, chart, i);
+    let row = start.rows[i as usize];
+    let earlier = start.earlier[i as usize];
+    is_row_in_bounds(net, step, i, &row) && is_earlier_in_bounds(net, step, i, earlier)
+}
+
+// The step of a cell's region.
+fn step_of(steps: &[u64], chart: &Chart, i: u32) -> u64
+    requires there { i < length chart.now.cut }
+    requires one_each { length steps.now ≡ region_count chart.now.cut }
+    ensures step { result ≡ slice_index steps.now (region_at chart.now.cut i) }
+    ensures one { (last : ℕ) → All (λ s. s ≤ last) steps.now → result ≤ last }
+{
+    steps[chart.region_of(i) as usize]
 }

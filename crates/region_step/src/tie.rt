@@ -1,5 +1,4 @@
-ghost use Rattle.std.specs.Prelude.{◌≡◌, ◌<◌, ◌⊎◌, ◌==◌, ℕ, ◌^◌, All, IfOk, length, true};
-ghost use Rattle.std.specs.List.{list_any, position_or_len};
+ghost use Rattle.std.specs.Prelude.{◌≡◌, ◌<◌, ◌^◌, All, IfOk, length};
 ghost use Rattle.std.specs.List.Sorted.{IsStrictlyIncreasing};
 ghost use Rattle.network_file.specs.Connectors.{connector_at};
 ghost use Rattle.region_step.specs.Layout.{AreTies, IsPlaceOf, IsTie, three_cells};
@@ -7,6 +6,7 @@ ghost use Rattle.region_step.specs.Ties.{AreKnown, IsKnown};
 
 use crate::place::Place;
 use network_file::{Connector, Net};
+use region_cut::place;
 use signal_plan::NoMemory;
 use std::alloc::Global;
 
@@ -91,18 +91,5 @@ fn place_of(cell: u32, cells: &[u32], halo: &[u32]) -> Place
     match cells.binary_search(&cell) {
         Ok(own) => Place::Own(own as u32),
         Err(_) => Place::Halo(place(halo, cell)),
-    }
-}
-
-/// The place of a number in a list that has it.
-pub(crate) fn place(list: &[u32], number: u32) -> u32
-    requires few { length list.now < 2 ^ 32 }
-    requires increasing { IsStrictlyIncreasing list.now }
-    requires listed { list_any (λ j. j == number) list.now ≡ true }
-    ensures { result ≡ position_or_len (λ j. j == number) list.now }
-{
-    match list.binary_search(&number) {
-        Ok(place) => place as u32,
-        Err(_) => 0,
     }
 }

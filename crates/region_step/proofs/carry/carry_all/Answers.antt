@@ -1,5 +1,5 @@
 use Rattle.std.specs.Prelude.{map, replicate}
-use Rattle.std.proofs.Common.{◌≡◌, ℕ, ◌<◌, List, [], length, get_or, arith, ap, refl, subst, sym, ◌∙◌}
+use Rattle.std.proofs.Common.{◌≡◌, [], length, get_or, arith, ap, subst, ◌∙◌}
 use Rattle.std.proofs.lemmas.List.{get_or_default, get_or-replicate}
 use Rattle.region_step.specs.Advance.{known}
 use Rattle.region_step.specs.Carrying.{no_change}
@@ -13,8 +13,7 @@ blank = record { connector = 0; cells = [] }
 pub loop-tie-init : goal.loop-tie-init
 loop-tie-init c =
     let cleared : c.fill.new.self ≡ replicate (length c.args.changes.now) no_change = c.fill.ensures.after (λ y same. same) in
-    let long : length c.fill.new.self ≡ length c.args.cells.now = omega (arith, c.fill.ensures.len, c.requires.one_each) in
-    (
+    let long : length c.fill.new.self ≡ length c.args.cells.now = omega (arith, c.fill.ensures.len, c.requires.one_each) in (
       long,
       changed-none c.args.net.now c.args.t (known c.args.cells.now (map (λ halo. halo.cell) c.args.halo.now) c.args.sight.now.rows.now c.args.sight.now.put.now) c.args.cells.now
           (map (λ tie. tie.connector) c.args.ties.now) c.fill.new.self

@@ -1,9 +1,8 @@
 use Rattle.std.specs.Prelude.{map, slice_index, ◌==◌}
-use Rattle.std.specs.List.{Contains, position_or_len}
-use Rattle.std.proofs.Common.{◌≡◌, ℕ, ◌<◌, List, [], ◌∷◌, ◌++◌, length, get_or, take, arith, ap, subst, sym, ◌∙◌}
-use Rattle.std.proofs.lemmas.List.{get_or-map, get_or_default, length-map, map-append, take_all, take_more}
+use Rattle.std.specs.List.{position_or_len}
+use Rattle.std.proofs.Common.{◌≡◌, ℕ, [], ◌∷◌, ◌++◌, length, get_or, take, arith, ap, sym, ◌∙◌}
+use Rattle.std.proofs.lemmas.List.{get_or-map, length-map, map-append, take_all, take_more}
 use Rattle.region_cut.proofs.Membership.{place-in}
-use Rattle.region_step.specs.Opening.{ArePlaces}
 use Rattle.region_step.proofs.Known.{listed}
 use Rattle.region_step.proofs.opening.border_places.Goals as goal
 

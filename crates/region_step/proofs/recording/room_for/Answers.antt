@@ -1,7 +1,5 @@
-use Rattle.std.specs.Prelude.{if◌then◌else◌}
 use Rattle.std.specs.List.{range_with_len}
-use Rattle.std.proofs.Common.{◌≡◌, ◌≤◌, ◌+◌, ◌-◌, ◌*◌, arith, ap, subst, sym}
-use Rattle.region_step.specs.Recording.{is_recorded, recorded_after}
+use Rattle.std.proofs.Common.{◌+◌, ◌-◌, arith}
 use Rattle.region_step.proofs.Room.{recorded-never, room-enough}
 use Rattle.region_step.proofs.recording.room_for.Goals as goal
 

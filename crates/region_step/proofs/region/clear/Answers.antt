@@ -1,5 +1,5 @@
 use Rattle.std.specs.Prelude.{None, replicate}
-use Rattle.std.proofs.Common.{◌≡◌, ◌<◌, length, arith, sym, ◌∙◌}
+use Rattle.std.proofs.Common.{length, arith, sym, ◌∙◌}
 use Rattle.std.proofs.lemmas.List.{ext_get_or, get_or-replicate, length-replicate}
 use Rattle.region_step.proofs.region.clear.Goals as goal
 

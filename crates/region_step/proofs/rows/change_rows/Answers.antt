@@ -1,5 +1,5 @@
 use Rattle.std.specs.Prelude.{slice_index}
-use Rattle.std.proofs.Common.{◌≡◌, ℕ, length, arith, sym, zero-add, ◌∙◌}
+use Rattle.std.proofs.Common.{ℕ, length, arith, sym, zero-add, ◌∙◌}
 use Rattle.std.proofs.lemmas.List.{ext_get_or}
 use Rattle.std.proofs.lemmas.List.FromFn.{get_or-map-range_with_len, length-map-range_with_len}
 use Rattle.flow_model.specs.Rows.{empty_row, moved_row}

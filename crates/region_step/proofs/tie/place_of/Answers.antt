@@ -1,6 +1,4 @@
-use Rattle.std.specs.Prelude.{eqb, ◌==◌, Ok, Err}
-use Rattle.std.specs.List.{list_any}
-use Rattle.std.proofs.Common.{◌≡◌, inl, inr, true}
+use Rattle.std.specs.Prelude.{Ok, Err}
 use Rattle.std.proofs.lemmas.List.Sorted.{searched}
 use Rattle.region_cut.proofs.HaloPlaces.{not_past}
 use Rattle.region_cut.proofs.Increasing.{rising}

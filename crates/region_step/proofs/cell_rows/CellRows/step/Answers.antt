@@ -1,10 +1,8 @@
 use Rattle.std.specs.Prelude.{map, slice_index}
-use Rattle.std.proofs.Common.{◌≡◌, ℕ, ◌<◌, List, length, ap, arith, refl, subst, sym, ◌∙◌}
+use Rattle.std.proofs.Common.{◌≡◌, ℕ, ◌<◌, List, length, ap, arith, subst, sym, ◌∙◌}
 use Rattle.std.proofs.lemmas.List.{with_items_is}
-use Rattle.flow_model.specs.declared.row.Row.{Row}
 use Rattle.region_step.specs.Advance.{known, rows_after}
 use Rattle.region_step.specs.Carrying.{CanChangeAt, IsChangeOf, change_at, rows_changed}
-use Rattle.region_step.specs.declared.change.Change.{Change}
 use Rattle.region_step.proofs.Advancing.{can_change, length-rows_after, rows_changed-is}
 use Rattle.region_step.proofs.cell_rows.CellRows.step.Goals as goal
 

@@ -1,9 +1,7 @@
 use Rattle.std.specs.Prelude.{slice_index}
-use Rattle.std.proofs.Common.{◌≡◌, ℕ, ◌<◌, List, get_or, refl, arith, ap, sym, subst, ◌∙◌}
+use Rattle.std.proofs.Common.{◌≡◌, ℕ, List, get_or, arith, ap, sym, ◌∙◌}
 use Rattle.std.proofs.lemmas.List.{get_or_default}
-use Rattle.flow_model.specs.Rows.{empty_row}
-use Rattle.flow_model.specs.State.{occupancy, row_at}
-use Rattle.flow_model.specs.declared.row.Row.{Row}
+use Rattle.flow_model.specs.State.{occupancy}
 use Rattle.region_cut.specs.Chart.{list_at}
 use Rattle.region_step.proofs.Places.{one_place}
 use Rattle.region_step.proofs.region.Region.border_now.Goals as goal
@@ -19,5 +17,5 @@ returns c = λ p within same.
     let read : c.index.result.now ≡ q =
     c.index.ensures ∙ ap (λ region. get_or region.layout.border c.args.j c.index.result.now) c.self.view_is ∙
     get_or_default c.args.self.now.layout.border c.args.j c.index.result.now 0 (omega (arith, c.requires.of.border.one_each, c.requires.there)) in
-    let rows : c.rows.result.now ≡ c.args.self.now.state.rows = c.rows.ensures ∙ ap (λ region. region.state.rows) c.self.view_is in
-    ap (λ rows. occupancy rows c.index.result.now) rows ∙ ap (occupancy c.args.self.now.state.rows) (read ∙ is_place)
+    c.held.ensures ∙ ap (λ region. occupancy region.state.rows c.index.result.now) c.self.view_is ∙
+    ap (occupancy c.args.self.now.state.rows) (read ∙ is_place)

@@ -1,12 +1,9 @@
-use Rattle.std.specs.Prelude.{map, replicate, slice_index, Option, Some, None, if◌then◌else◌}
-use Rattle.std.proofs.Common.{◌≡◌, ◌<◌, ◌≤◌, ℕ, List, [], length, get_or, arith, ap, refl, subst, sym, ◌∙◌}
+use Rattle.std.specs.Prelude.{map, replicate, slice_index, None, if◌then◌else◌}
+use Rattle.std.proofs.Common.{◌≡◌, ◌≤◌, ℕ, List, [], length, get_or, arith, ap, refl, subst, ◌∙◌}
 use Rattle.std.proofs.lemmas.List.{get_or_default, length-map, length-replicate}
-use Rattle.std.proofs.lemmas.Simd.{map-map}
 use Rattle.network_file.specs.Network.{IsNetwork}
 use Rattle.flow_model.specs.State.{row_at}
-use Rattle.flow_model.specs.declared.row.Row.{Row}
 use Rattle.region_cut.specs.Chart.{list_at}
-use Rattle.region_step.specs.Opening.{earlier_row}
 use Rattle.region_step.specs.Recording.{is_recorded, notes_of}
 use Rattle.region_step.proofs.Ground.{cells-within, ground}
 use Rattle.region_step.proofs.Grids.{are_the_recurrences, stay_in_bounds}
