@@ -63,27 +63,21 @@ impl Ended {
     }
 }
 
-// A call with this one word, over ports that never fail.
+// A call with these words, which spaces part, over ports that never fail.
 fn call<R: Threads + Sync>(
     rt: &R,
     alloc: Global,
-    word: &str,
+    words: &str,
     input: Vec<u8>,
 ) -> Result<Ended, AllocError> {
-    let words = [String::from_str(alloc, word)?];
+    let mut all = Vec::new(alloc);
+    for word in words.split(' ') {
+        all.push(String::from_str(alloc, word)?)?;
+    }
     let mut source = SureSource::new(input);
     let mut out = SureSink::new(alloc);
     let mut err = SureSink::new(alloc);
-    let status = ctm(
-        rt,
-        alloc,
-        &words,
-        &mut source,
-        &mut out,
-        &mut err,
-        &OpenGate,
-    )
-    .number();
+    let status = ctm(rt, alloc, &all, &mut source, &mut out, &mut err, &OpenGate).number();
     Ok(Ended { status, out, err })
 }
 
@@ -107,15 +101,15 @@ fn failing_call<R: Threads + Sync>(
     Ok((status, out, err))
 }
 
-// Whether the mode gives this text of this file.
+// Whether the words give this text of this file.
 fn gives<R: Threads + Sync>(
     rt: &R,
     alloc: Global,
-    mode: &str,
+    words: &str,
     file: &str,
     text: &str,
 ) -> Result<bool, AllocError> {
-    let ended = call(rt, alloc, mode, lines(alloc, file)?)?;
+    let ended = call(rt, alloc, words, lines(alloc, file)?)?;
     Ok(ended.gave(&lines(alloc, text)?))
 }
 
@@ -181,6 +175,34 @@ cell,y,5.000000,5.000000,0.000000,0.000000; total,0.000000,0.000000,9.000000,9.0
         ),
     ] {
         assert!(rt; gives(&rt, rt.alloc(), "run", file, report)?, "{file}");
+    }
+    Ok(())
+}
+
+// The corridor in three regions, or as many as it has cells; four cells, each a region of its own; and regions of the
+// file, whose cells aren't side by side.
+#[test]
+fn a_cut_network_ends_in_the_report_of_the_whole(rt: HostRuntime) -> Result<(), Fail> {
+    let roads =
+        "ctm,1; steps,4; gate,g,2,8; road,a,6,2,1,1,0; road,b,6,2,1,1,0; exit,x,2; link,g,a; link,a,b; link,b,x";
+    let cut =
+        "ctm,2; steps,4; gate,g,2,8; road,a,6,2,1,1,0; road,b,6,2,1,1,0; exit,x,2; link,g,a; link,a,b; link,b,x; \
+region,g,1; region,a,0; region,b,1; region,x,0";
+    let report =
+        "report,4,4; cell,g,0.000000,0.000000,8.000000,12.000000; cell,a,2.000000,8.000000,6.000000,0.000000; \
+cell,b,2.000000,6.000000,4.000000,0.000000; cell,x,4.000000,4.000000,0.000000,0.000000; \
+total,4.000000,0.000000,4.000000,12.000000";
+    for (words, file, wanted) in [
+        ("run --regions 3", CORRIDOR, CORRIDOR_REPORT),
+        ("run --regions=256", CORRIDOR, CORRIDOR_REPORT),
+        ("run --regions 4", roads, report),
+        ("run", cut, report),
+        ("run --regions 3", cut, report),
+    ] {
+        assert!(rt;
+            gives(&rt, rt.alloc(), words, file, wanted)?,
+            "{words} {file}"
+        );
     }
     Ok(())
 }
