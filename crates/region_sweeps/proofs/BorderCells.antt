@@ -1,15 +1,13 @@
 -- What a region tells its neighbours of a border cell.
 use Rattle.std.specs.Prelude.{◌==◌, slice_index}
-use Rattle.std.specs.List.{Contains, list_any, position_or_len}
-use Rattle.std.proofs.Common.{◌≡◌, ◌≢◌, inl, inr, ℕ, ◌<◌, ◌+◌, true, List, length, refl, sym, ap, ◌∙◌, arith}
-use Rattle.std.proofs.lemmas.Bool.{eq-eqb}
+use Rattle.std.specs.List.{Contains, position_or_len}
+use Rattle.std.proofs.Common.{◌≡◌, ◌≢◌, inl, inr, ℕ, ◌<◌, ◌+◌, List, length, sym, ap, ◌∙◌, arith}
 use Rattle.std.proofs.lemmas.List.{get_or_default}
 use Rattle.network_file.specs.Network.{IsNetwork, Network}
 use Rattle.flow_model.specs.State.{occupancy}
 use Rattle.region_cut.specs.Chart.{ChartLists, IsChart, chart_of, list_at}
 use Rattle.region_cut.specs.Cuttings.{region_count}
 use Rattle.region_cut.specs.declared.halo.Halo.{Halo}
-use Rattle.region_cut.proofs.Anys.{finds}
 use Rattle.region_cut.proofs.Membership.{place-in}
 use Rattle.region_step.specs.Region.{RegionValue}
 use Rattle.region_step.specs.Start.{zero_start}
@@ -36,9 +34,6 @@ border_cell chart r other sound met =
       stands = facts.3;
       listed = (sound.regions other.region region).inside other.cell border;
     }
-
-pub listed-test : (xs : List ℕ) (i : ℕ) → Contains xs i → list_any (λ j. j == i) xs ≡ true
-listed-test xs i has = finds (λ j. j == i) xs i has (eq-eqb i i refl)
 
 -- its number
 pub number-is : (net : Network) (chart : ChartLists) (q t : ℕ) (region : RegionValue) → Stands net chart q t region → region.state.number ≡ q

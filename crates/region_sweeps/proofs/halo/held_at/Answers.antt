@@ -2,7 +2,8 @@ use Rattle.std.proofs.Common.{◌<◌, length, ap, arith, subst, sym, ◌∙◌}
 use Rattle.network_file.specs.Network.{IsNetwork}
 use Rattle.region_cut.specs.Chart.{list_at}
 use Rattle.region_step.proofs.Ground.{ground}
-use Rattle.region_sweeps.proofs.BorderCells.{before-held, border-held, border_cell, listed-test, near-ahead, near-here, number-is}
+use Rattle.region_step.proofs.Known.{listed}
+use Rattle.region_sweeps.proofs.BorderCells.{before-held, border-held, border_cell, near-ahead, near-here, number-is}
 use Rattle.region_sweeps.proofs.halo.held_at.Goals as goal
 
 pub border_now-requires-clause-there : goal.border_now-requires-clause-there
@@ -34,7 +35,7 @@ place-requires-clause-increasing c =
 pub place-requires-clause-listed : goal.place-requires-clause-listed
 place-requires-clause-listed c =
     let cell = border_cell c.args.chart.now c.requires.met.0 c.args.other c.regions-regions.ensures.sound c.requires.met.1 in
-    rw c.cells-cells.ensures.list (listed-test (list_at c.args.chart.now.cells c.args.other.region) c.args.other.cell cell.listed)
+    rw c.cells-cells.ensures.list (listed (list_at c.args.chart.now.cells c.args.other.region) c.args.other.cell cell.listed)
 
 pub before-requires : goal.before-requires
 before-requires c =

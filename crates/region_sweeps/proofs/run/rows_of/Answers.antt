@@ -9,7 +9,7 @@ use Rattle.region_cut.specs.Chart.{list_at}
 use Rattle.region_cut.specs.Cuttings.{region_count}
 use Rattle.region_cut.proofs.Membership.{region_at-there}
 use Rattle.region_step.proofs.Ground.{ground}
-use Rattle.region_sweeps.proofs.BorderCells.{listed-test}
+use Rattle.region_step.proofs.Known.{listed}
 use Rattle.region_sweeps.proofs.Sweeping.{pushed-at, row-from_region}
 use Rattle.region_sweeps.proofs.run.rows_of.Goals as goal
 
@@ -39,7 +39,7 @@ place-requires-clause-listed c =
     let lists = ground c.args.net.now c.args.chart.now.cut c.args.chart.now c.region_of-q.result (subst IsNetwork c.net.view_is c.net.invariant) c.requires.chart within in
     let cells : length c.net.inside.cells.items ≡ length c.args.net.now.cells = ap (λ net. length net.cells) c.net.view_is in
     let there : c.loop-i.i < length c.args.net.now.cells = omega (arith, c.loop-i-test.true, c.len-i-end.ensures, c.net.inside.cells.ok.0, cells) in
-    rw c.cells-cells.ensures.list (listed-test (list_at c.args.chart.now.cells c.region_of-q.result) c.loop-i.i (lists.has c.loop-i.i there (sym c.region_of-q.ensures)))
+    rw c.cells-cells.ensures.list (listed (list_at c.args.chart.now.cells c.region_of-q.result) c.loop-i.i (lists.has c.loop-i.i there (sym c.region_of-q.ensures)))
 
 pub row-requires : goal.row-requires
 row-requires c =
