@@ -9,5 +9,7 @@ mod halo;
 mod opening;
 mod run;
 mod sweep;
+#[cfg(test)]
+mod tests;
 
 pub use run::last_rows;

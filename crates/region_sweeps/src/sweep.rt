@@ -27,8 +27,14 @@ pub(crate) fn sweep(net: &Net, chart: &Chart, steps: &mut [u64], regions: &mut [
     }
 }
 
-// Region `r` rises by a step where it may, and is taken through it.
-fn step_region(net: &Net, chart: &Chart, steps: &mut [u64], regions: &mut [Region], r: u32)
+/// Region `r` rises by a step where it may, and is taken through it.
+pub(crate) fn step_region(
+    net: &Net,
+    chart: &Chart,
+    steps: &mut [u64],
+    regions: &mut [Region],
+    r: u32,
+)
     requires chart { chart.now ≡ chart_of net.now chart.now.cut }
     requires there { r < region_count chart.now.cut }
     requires lawful { AreLawful net.now chart.now.cut steps.old }
