@@ -1,15 +1,13 @@
 -- What the step of a start's region asks, and what the region tells others.
-use Rattle.std.specs.Prelude.{Option, Some, None, map, slice_index, slice_index_or}
-use Rattle.std.specs.List.{Contains}
-use Rattle.std.proofs.Common.{◌≡◌, ℕ, ◌<◌, ◌≤◌, ◌+◌, List, length, get_or, refl, sym, ap, subst, ◌∙◌, arith}
-use Rattle.std.proofs.lemmas.List.{get_or-map, length-map}
+use Rattle.std.specs.Prelude.{Option, Some, None, map, slice_index}
+use Rattle.std.proofs.Common.{◌≡◌, ℕ, ◌<◌, ◌≤◌, ◌+◌, List, length, sym, ap, ◌∙◌, arith}
+use Rattle.std.proofs.lemmas.List.{get_or-map}
 use Rattle.std.proofs.lemmas.List.Elements.{Contains-get_or}
 use Rattle.network_file.specs.Network.{IsNetwork, Network}
-use Rattle.flow_model.specs.Bounds.{IsRowInBounds}
 use Rattle.flow_model.specs.Rows.{empty_row}
 use Rattle.flow_model.specs.State.{occupancy, row_at}
 use Rattle.region_cut.specs.Chart.{ChartLists, chart_of, list_at}
-use Rattle.region_cut.specs.Cuttings.{region_at, region_count}
+use Rattle.region_cut.specs.Cuttings.{region_count}
 use Rattle.region_step.specs.Advance.{HasHaloPut, HasRowsInBounds}
 use Rattle.region_step.specs.Grid.{grid_before, grid_held, grid_row}
 use Rattle.region_step.specs.Laws.{grid_rows, grid_state, with_halo}

@@ -11,7 +11,7 @@ use Rattle.region_step.specs.Start.{StartLists, start_of}
 abbrev pub held_by : StartLists → (cut : List ℕ) → (t : ℕ) → (rows : ℕ → Row) → (i : ℕ) → ℕ
 held_by start cut t rows i = if nat_le (start_of start cut i) t then (rows i).n else slice_index start.earlier i
 
--- Grid(start, r, t): the row of cell i of region r at step t. Up to the region's start it is the start's row; from then on
+-- the row of cell i at step t, as its region comes to it. Up to the region's start it is the start's row; from then on
 -- each step changes it by what the cells around it hold as that step begins.
 unfoldable pub grid_row : Network → (cut : List ℕ) → StartLists → (t i : ℕ) → Row
 grid_row net cut start zero i = row_at start.rows i
@@ -24,7 +24,7 @@ grid_row net cut start (suc t) i =
 unfoldable pub grid_held : Network → (cut : List ℕ) → StartLists → (t i : ℕ) → ℕ
 grid_held net cut start t i = held_by start cut t (grid_row net cut start t) i
 
--- Before(start, r, t): what cell i of region r held a step before step t
+-- what cell i held a step before step t
 unfoldable pub grid_before : Network → (cut : List ℕ) → StartLists → (t i : ℕ) → ℕ
 grid_before net cut start zero i = slice_index start.earlier i
 grid_before net cut start (suc t) i = grid_held net cut start t i

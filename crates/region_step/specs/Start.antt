@@ -24,12 +24,12 @@ pub record IsEarlierInBounds (net : Network) (s i n : ℕ) : Type 0 where
   pub later : (t : ℕ) → s ≡ t + 1 → IsHeldInBounds net t i n
   pub none : s ≡ 0 → n ≡ 0
 
--- the row of cell i and what it held earlier are in bounds at its region's step
+-- the row of cell i is in bounds at its region's step, and what it held earlier a step before
 pub record IsCellInBounds (net : Network) (cut : List ℕ) (start : StartLists) (i : ℕ) : Type 0 where
   pub row : IsRowInBounds net (start_of start cut i) i (row_at start.rows i)
   pub earlier : IsEarlierInBounds net (start_of start cut i) i (slice_index start.earlier i)
 
--- a start from which the regions can be advanced
+-- a start from which regions can be opened
 pub record Fits (net : Network) (cut : List ℕ) (start : StartLists) : Type 0 where
   pub one_each : length start.steps ≡ region_count cut
   pub in_time : All (λ s. s ≤ net.steps) start.steps

@@ -78,6 +78,7 @@ impl Region {
         ensures opened { IfOk result (λ region. IsIn net.now chart.now region) }
         ensures state { IfOk result (λ region. region.state ≡
             grid_state net.now chart.now start.now every r (slice_index start.now.steps r)) }
+        ensures in_bounds { IfOk result (λ region. HasRowsInBounds net.now chart.now region.state) }
 
         // The rows that this start's regions come to are in bounds at each step; from a true start with lawful steps they
         // are those of the recurrences, taken one step of the whole network at a time.

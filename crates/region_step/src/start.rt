@@ -51,8 +51,9 @@ impl Start {
         })
     }
 
-    /// Whether the regions can be advanced from here: there is one step for each region, none past the last, and a row
-    /// and an earlier occupancy in bounds for each cell. It takes no memory.
+    /// Whether regions can be opened from here: there is one step for each region, none past the last, and for each cell
+    /// a row in bounds at its region's step and an earlier occupancy in bounds a step before, 0 before step 0. It takes
+    /// no memory, and doesn't ask whether the steps are lawful.
     pub fn fits(&self, net: &Net, chart: &Chart) -> bool
         requires chart { length chart.now.cut ≡ length net.now.cells }
         ensures { IsTrue result ↔ Fits net.now chart.now.cut self.now }
@@ -91,7 +92,7 @@ fn are_in_time(steps: &[u64], last: u64) -> bool
     true
 }
 
-// Whether the row and the earlier occupancy of each cell are in bounds at its region's step.
+// Whether the row of each cell is in bounds at its region's step, and what it held earlier a step before.
 fn are_in_bounds(start: &Start, net: &Net, chart: &Chart) -> bool
     requires chart { length chart.now.cut ≡ length net.now.cells }
     requires steps { length start.now.steps ≡ region_count chart.now.cut }
@@ -108,7 +109,7 @@ fn are_in_bounds(start: &Start, net: &Net, chart: &Chart) -> bool
     true
 }
 
-// Whether the row and the earlier occupancy of cell `i` are in bounds at its region's step.
+// Whether the row of cell `i` is in bounds at its region's step, and what it held earlier a step before.
 fn is_cell_in_bounds(start: &Start, net: &Net, chart: &Chart, i: u32) -> bool
     requires there { i < length net.now.cells }
     requires chart { length chart.now.cut ≡ length net.now.cells }

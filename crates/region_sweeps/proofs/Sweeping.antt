@@ -23,11 +23,11 @@ use Rattle.region_step.proofs.Ground.{ground}
 use Rattle.region_step.proofs.StartLaws.{zero_start-lawful, zero_start-true}
 use Rattle.region_step.proofs.Steps.{row-grid, zero_start-at}
 use Rattle.step_words.specs.Rising.{CanRise}
-use Rattle.region_sweeps.specs.Standing.{StandAt, Stands, StandsNear}
+use Rattle.region_sweeps.specs.Standing.{AllStand, Stands, StandsNear}
 
 -- the regions around one that may rise stand at its step or one step ahead
 pub around-near : (net : Network) (chart : ChartLists) (steps : List ℕ) (regions : List RegionValue) (r : ℕ) (other : Halo) (region : RegionValue) → chart ≡ chart_of net chart.cut → r < region_count chart.cut →
-    AreLawful net chart.cut steps → StandAt net chart steps regions → CanRise net chart.cut steps r → Contains (list_at chart.halo r) other →
+    AreLawful net chart.cut steps → AllStand net chart steps regions → CanRise net chart.cut steps r → Contains (list_at chart.halo r) other →
     StandsNear net chart other.region (slice_index steps r) (get_or regions other.region region)
 around-near net chart steps regions r other region is within lawful stand can listed =
     let t : ℕ = slice_index steps r in
@@ -49,10 +49,10 @@ around-near net chart steps regions r other region is within lawful stand can li
     ahead s t low high other = elim (cases_lt t s) [ inl before ↦ omega (arith, before, high) | inr not_before ↦ absurd (other (omega (arith, low, not_before))) ]
 
 -- all regions once one has come to its next step
-pub stand-risen : (net : Network) (chart : ChartLists) (steps after : List ℕ) (regions told : List RegionValue) (r : ℕ) (region : RegionValue) → StandAt net chart steps regions → length steps ≡ region_count chart.cut →
+pub stand-risen : (net : Network) (chart : ChartLists) (steps after : List ℕ) (regions told : List RegionValue) (r : ℕ) (region : RegionValue) → AllStand net chart steps regions → length steps ≡ region_count chart.cut →
     r < region_count chart.cut → after ≡ slice_set steps r (slice_index steps r + 1) → length told ≡ length regions →
     ((q : ℕ) (d : RegionValue) → q ≢ r → get_or told q d ≡ get_or regions q d) → Stands net chart r (slice_index steps r + 1) region →
-    StandAt net chart after (set told r region)
+    AllStand net chart after (set told r region)
 stand-risen net chart steps after regions told r region stand one_each within risen long others here =
     let there : r < length told = omega (arith, long, stand.one_each, within) in
     record {
@@ -72,7 +72,7 @@ stand-risen net chart steps after regions told r region stand one_each within ri
 
 -- the row of a cell, from its region
 pub row-from_region : (net : Network) (chart : ChartLists) (regions : List RegionValue) (i q place : ℕ) (cells : List ℕ) (region : RegionValue) → IsNetwork net → chart ≡ chart_of net chart.cut →
-    StandAt net chart (replicate (region_count chart.cut) net.steps) regions → i < length net.cells → q ≡ region_at chart.cut i → region ≡ get_or regions q region →
+    AllStand net chart (replicate (region_count chart.cut) net.steps) regions → i < length net.cells → q ≡ region_at chart.cut i → region ≡ get_or regions q region →
     cells ≡ list_at chart.cells q → place ≡ position_or_len (λ j. j == i) cells →
     (place < length region.state.rows) × (row_at region.state.rows place ≡ row_at (state_at net net.steps) i)
 row-from_region net chart regions i q place cells region sound is stand there at read own found =

@@ -17,7 +17,7 @@ pub record Stands (net : Network) (chart : ChartLists) (q t : ℕ) (region : Reg
   pub state : region.state ≡ grid_state net chart (zero_start net chart.cut) 0 q t
 
 -- each region stands at its step
-pub record StandAt (net : Network) (chart : ChartLists) (steps : List ℕ) (regions : List RegionValue) : Type 0 where
+pub record AllStand (net : Network) (chart : ChartLists) (steps : List ℕ) (regions : List RegionValue) : Type 0 where
   pub one_each : length regions ≡ region_count chart.cut
   pub each : (q : ℕ) (region : RegionValue) → q < length regions → Stands net chart q (slice_index steps q) (slice_index_or regions q region)
 

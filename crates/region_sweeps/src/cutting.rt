@@ -1,4 +1,5 @@
-ghost use Rattle.std.specs.Prelude.{◌≡◌, ◌≤◌, IfOk, length};
+ghost use Rattle.std.specs.Prelude.{◌≡◌, ◌≢◌, ◌≤◌, IfOk, length, min};
+ghost use Rattle.region_cut.specs.Cuttings.{even_cutting};
 ghost use Rattle.network_file.specs.declared.limits.TheConstants.{MOST_REGIONS};
 
 use network_file::Net;
@@ -11,7 +12,9 @@ use std::alloc::Global;
 pub(crate) fn cutting(alloc: Global, net: &Net, regions: u32) -> Result<Cut, NoMemory>
     requires some { 1 ≤ regions }
     requires few { regions ≤ MOST_REGIONS }
-    ensures { IfOk result (λ cut. length cut ≡ length net.now.cells) }
+    ensures one_each { IfOk result (λ cut. length cut ≡ length net.now.cells) }
+    ensures own { length net.now.regions ≢ 0 → IfOk result (λ cut. cut ≡ net.now.regions) }
+    ensures even { length net.now.regions ≡ 0 → IfOk result (λ cut. cut ≡ even_cutting (length net.now.cells) (min regions (length net.now.cells))) }
 {
     let cells = net.cells.len() as u32;
     if net.regions.is_empty() {

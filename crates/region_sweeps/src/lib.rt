@@ -1,7 +1,7 @@
 //! A run of a network in regions, on one thread.
 //!
 //! The cells are cut into regions, and each region is taken through its steps by itself: in each sweep every region
-//! rises by one step, is told what its halo holds, and is advanced. It takes no memory once it has begun.
+//! rises by one step, is told what its halo holds, and is advanced. The sweeps take no memory.
 #![tactic(auto)]
 
 mod cutting;

@@ -1,7 +1,7 @@
 ghost use Rattle.std.specs.Prelude.{◌≡◌, IfOk};
 ghost use Rattle.region_cut.specs.Chart.{chart_of};
 ghost use Rattle.region_step.specs.Start.{zero_start};
-ghost use Rattle.region_sweeps.specs.Standing.{StandAt};
+ghost use Rattle.region_sweeps.specs.Standing.{AllStand};
 
 use network_file::Net;
 use region_cut::Chart;
@@ -18,7 +18,7 @@ pub(crate) fn open_regions(
 ) -> Result<Vec<Region>, NoMemory>
     requires chart { chart.now ≡ chart_of net.now chart.now.cut }
     requires start { start.now ≡ zero_start net.now chart.now.cut }
-    ensures { IfOk result (λ regions. StandAt net.now chart.now start.now.steps regions.items) }
+    ensures { IfOk result (λ regions. AllStand net.now chart.now start.now.steps regions.items) }
 {
     let _cells = &net.cells;
     let mut regions = Vec::new(alloc);

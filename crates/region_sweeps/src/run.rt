@@ -3,7 +3,7 @@ ghost use Rattle.network_file.specs.declared.limits.TheConstants.{MOST_REGIONS};
 ghost use Rattle.flow_model.specs.State.{state_at};
 ghost use Rattle.region_cut.specs.Chart.{chart_of};
 ghost use Rattle.region_cut.specs.Cuttings.{region_count};
-ghost use Rattle.region_sweeps.specs.Standing.{StandAt};
+ghost use Rattle.region_sweeps.specs.Standing.{AllStand};
 
 use crate::cutting::cutting;
 use crate::opening::open_regions;
@@ -32,7 +32,7 @@ pub fn last_rows(alloc: Global, net: &Net, regions: u32) -> Result<Vec<Row>, NoM
 // The regions of a chart at the last step.
 fn stepped(alloc: Global, net: &Net, chart: &Chart) -> Result<Vec<Region>, NoMemory>
     requires chart { chart.now ≡ chart_of net.now chart.now.cut }
-    ensures { IfOk result (λ regions. StandAt net.now chart.now (replicate (region_count chart.now.cut) net.now.steps) regions.items) }
+    ensures { IfOk result (λ regions. AllStand net.now chart.now (replicate (region_count chart.now.cut) net.now.steps) regions.items) }
 {
     let start = Start::zero(alloc, net, chart)?;
     let mut regions = open_regions(alloc, net, chart, &start)?;
@@ -52,7 +52,7 @@ fn rows_of(
 ) -> Result<Vec<Row>, NoMemory>
     requires chart { chart.now ≡ chart_of net.now chart.now.cut }
     requires one_each { length chart.now.cut ≡ length net.now.cells }
-    requires stand { StandAt net.now chart.now (replicate (region_count chart.now.cut) net.now.steps) regions.now }
+    requires stand { AllStand net.now chart.now (replicate (region_count chart.now.cut) net.now.steps) regions.now }
     ensures one_each { IfOk result (λ rows. length rows.items ≡ length net.now.cells) }
     ensures state { IfOk result (λ rows. rows.items ≡ state_at net.now net.now.steps) }
 {

@@ -3,7 +3,7 @@ ghost use Rattle.region_cut.specs.Chart.{chart_of};
 ghost use Rattle.region_cut.specs.Cuttings.{region_count};
 ghost use Rattle.region_cut.specs.LawfulSteps.{AreLawful};
 ghost use Rattle.step_words.specs.Rising.{CanRise};
-ghost use Rattle.region_sweeps.specs.Standing.{StandAt};
+ghost use Rattle.region_sweeps.specs.Standing.{AllStand};
 
 use crate::halo::tell_halo;
 use network_file::Net;
@@ -17,31 +17,25 @@ pub(crate) fn sweep(net: &Net, chart: &Chart, steps: &mut [u64], regions: &mut [
     requires in_time { t < net.now.steps }
     requires steps { steps.old ≡ replicate (region_count chart.now.cut) t }
     requires lawful { AreLawful net.now chart.now.cut steps.old }
-    requires stand { StandAt net.now chart.now steps.old regions.old }
+    requires stand { AllStand net.now chart.now steps.old regions.old }
     ensures steps { steps.new ≡ replicate (region_count chart.now.cut) (t + 1) }
     ensures lawful { AreLawful net.now chart.now.cut steps.new }
-    ensures stand { StandAt net.now chart.now steps.new regions.new }
+    ensures stand { AllStand net.now chart.now steps.new regions.new }
 {
     for r in 0..chart.regions() {
         step_region(net, chart, steps, regions, r);
     }
 }
 
-/// Region `r` rises by a step where it may, and is taken through it.
-pub(crate) fn step_region(
-    net: &Net,
-    chart: &Chart,
-    steps: &mut [u64],
-    regions: &mut [Region],
-    r: u32,
-)
+// Region `r` rises by a step where it may, and is taken through it.
+fn step_region(net: &Net, chart: &Chart, steps: &mut [u64], regions: &mut [Region], r: u32)
     requires chart { chart.now ≡ chart_of net.now chart.now.cut }
     requires there { r < region_count chart.now.cut }
     requires lawful { AreLawful net.now chart.now.cut steps.old }
-    requires stand { StandAt net.now chart.now steps.old regions.old }
+    requires stand { AllStand net.now chart.now steps.old regions.old }
     ensures risen { CanRise net.now chart.now.cut steps.old r → steps.new ≡ slice_set steps.old r (slice_index steps.old r + 1) }
     ensures lawful { AreLawful net.now chart.now.cut steps.new }
-    ensures stand { StandAt net.now chart.now steps.new regions.new }
+    ensures stand { AllStand net.now chart.now steps.new regions.new }
 {
     let _steps = net.steps;
     let t = steps[r as usize];

@@ -1,20 +1,11 @@
 use crate::last_rows;
-use crate::opening::open_regions;
-use crate::sweep::step_region;
 use flow_model::{Row, first_rows, plain_step};
 use network_file::{MOST_BYTES, MOST_REGIONS, Net};
-use region_cut::{Chart, Cut, CutFault, CutRefusal};
-use region_step::{Note, Region, Start};
 use signal_plan::NoMemory;
 use std::alloc::{AllocError, Global};
 use std::mem;
 use std::process::Abort;
 use std::test::Fail;
-use step_words::rise;
-
-// A gate, a road and an exit, one after the other, through three steps.
-const CORRIDOR: &[u8] =
-    b"ctm,1\nsteps,3\ngate,in,2,0\nroad,a,6,2,1,2,0\nexit,out,2\nlink,in,a\nlink,a,out\ndemand,in,0,1,4\n";
 
 // Networks of the cells a, b, c and d. In the texts below `; ` stands for a line end.
 const NETWORKS: [&str; 5] = [
@@ -104,90 +95,5 @@ fn every_even_cutting_gives_the_rows_of_whole_steps(rt: HostRuntime) -> Result<(
             assert_eq!(rt; rows, plain_rows(rt.alloc(), &net)?, "{text}");
         }
     }
-    Ok(())
-}
-
-#[test]
-fn a_region_tells_what_it_held_a_step_before(rt: HostRuntime) -> Result<(), Fail> {
-    let net = Net::read(rt.alloc(), CORRIDOR)?;
-    let cut = Cut::of(rt.alloc(), &net, &[0, 1, 1])?;
-    let chart = Chart::new(rt.alloc(), &net, cut)?;
-    assert_eq!(rt; chart.regions(), 2);
-    assert_eq!(rt; chart.cells(0).len(), 1);
-    assert_eq!(rt; chart.cells(1).len(), 2);
-    let start = Start::zero(rt.alloc(), &net, &chart)?;
-    let mut regions = open_regions(rt.alloc(), &net, &chart, &start)?;
-    let mut steps = start.steps;
-    step_region(&net, &chart, &mut steps, &mut regions, 0);
-    step_region(&net, &chart, &mut steps, &mut regions, 1);
-    step_region(&net, &chart, &mut steps, &mut regions, 0);
-    assert_eq!(rt; steps.as_slice(), [2, 1].as_slice());
-    assert_eq!(rt; regions.len(), 2);
-    assert_eq!(rt; regions[0].before(0), 4_000_000);
-    assert_eq!(rt; regions[1].before(0), 0);
-    assert_eq!(rt; regions[1].before(1), 0);
-    assert!(rt;
-        !rise(&mut steps, &net, &chart, 0),
-        "past a lower neighbour"
-    );
-    Ok(())
-}
-
-// The notes of the corridor in one region, recorded so.
-fn corridor_trail<R: Abort>(rt: &R, alloc: Global, every: u64) -> Result<Vec<Note>, Fail> {
-    let net = Net::read(alloc, CORRIDOR)?;
-    let cut = Cut::even(alloc, &net, 1)?;
-    let chart = Chart::new(alloc, &net, cut)?;
-    assert_eq!(rt; chart.regions(), 1);
-    assert_eq!(rt; chart.halo(0).len(), 0);
-    let start = Start::zero(alloc, &net, &chart)?;
-    let mut region = Region::open(alloc, &net, &chart, &start, 0, every)?;
-    for _ in 0..net.steps {
-        region.advance(&net, &chart);
-    }
-    Ok(region.trail().to_vec(alloc)?)
-}
-
-#[test]
-fn recorded_steps_are_noted(rt: HostRuntime) -> Result<(), Fail> {
-    let mut notes = Vec::new(rt.alloc());
-    for note in corridor_trail(&rt, rt.alloc(), 2)? {
-        notes.push((note.n, note.gone))?;
-    }
-    let wanted = [
-        // step 0
-        (0, 0),
-        (0, 0),
-        (0, 0),
-        // step 2
-        (2_000_000, 2_000_000),
-        (2_000_000, 0),
-        (0, 0),
-        // step 3
-        (0, 4_000_000),
-        (2_000_000, 2_000_000),
-        (2_000_000, 0),
-    ];
-    assert_eq!(rt; notes.as_slice(), wanted.as_slice());
-    assert!(rt; corridor_trail(&rt, rt.alloc(), 0)?.is_empty());
-    Ok(())
-}
-
-#[test]
-fn lists_that_are_no_cutting(rt: HostRuntime) -> Result<(), Fail> {
-    let net = Net::read(rt.alloc(), CORRIDOR)?;
-    for (list, fault) in [
-        ([0, 1].as_slice(), CutFault::Length),
-        ([0, 512, 1].as_slice(), CutFault::Many),
-        ([0, 2, 2].as_slice(), CutFault::Gap),
-    ] {
-        let refusal = Cut::of(rt.alloc(), &net, list).err();
-        assert_eq!(rt; refusal, Some(CutRefusal::Fault(fault)));
-    }
-    let cut = Cut::of(rt.alloc(), &net, &[1, 0, 1])?;
-    let chart = Chart::new(rt.alloc(), &net, cut)?;
-    assert_eq!(rt; chart.regions(), 2);
-    assert_eq!(rt; chart.neighbours(0), [1].as_slice());
-    assert_eq!(rt; chart.neighbours(1), [0].as_slice());
     Ok(())
 }

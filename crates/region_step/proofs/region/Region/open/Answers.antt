@@ -1,5 +1,5 @@
 use Rattle.std.specs.Prelude.{map, replicate, slice_index, None, if◌then◌else◌}
-use Rattle.std.proofs.Common.{◌≡◌, ◌≤◌, ℕ, List, [], length, get_or, arith, ap, refl, subst, ◌∙◌}
+use Rattle.std.proofs.Common.{◌≡◌, ◌≤◌, ℕ, List, [], length, get_or, arith, ap, refl, subst, sym, ◌∙◌}
 use Rattle.std.proofs.lemmas.List.{get_or_default, length-map, length-replicate}
 use Rattle.network_file.specs.Network.{IsNetwork}
 use Rattle.flow_model.specs.State.{row_at}
@@ -7,7 +7,10 @@ use Rattle.region_cut.specs.Chart.{list_at}
 use Rattle.region_step.specs.Recording.{is_recorded, notes_of}
 use Rattle.region_step.proofs.Ground.{cells-within, ground}
 use Rattle.region_step.proofs.Grids.{are_the_recurrences, stay_in_bounds}
-use Rattle.region_step.proofs.GridStates.{grid_state-start}
+use Rattle.region_step.proofs.GridStates.{grid_state-put, grid_state-start}
+use Rattle.region_step.specs.Advance.{HasRowsInBounds}
+use Rattle.region_step.specs.Laws.{grid_state}
+use Rattle.region_step.proofs.Steps.{grid_state-in_bounds}
 use Rattle.region_step.proofs.region.Region.open.Goals as goal
 
 pub new-requires-2-clause-there : goal.new-requires-2-clause-there
@@ -81,6 +84,17 @@ returns-clause-state c =
     refl (step-is c) refl (step-is c) (rows-are c) (before-are c)
     (notes-are c)
     (put-is c)
+
+pub returns-clause-in_bounds : goal.returns-clause-in_bounds
+unfolding grid_state
+returns-clause-in_bounds c =
+    let sound = subst IsNetwork c.net.view_is c.net.invariant in
+    let read = returns-clause-state c in
+    subst (HasRowsInBounds c.args.net.now c.args.chart.now) (sym read)
+    (subst (λ put. HasRowsInBounds c.args.net.now c.args.chart.now (record (grid_state c.args.net.now c.args.chart.now c.args.start.now c.args.every c.args.r (slice_index c.args.start.now.steps c.args.r)) { put = put }))
+    (grid_state-put c.args.net.now c.args.chart.now c.args.start.now c.args.every c.args.r (slice_index c.args.start.now.steps c.args.r))
+    (grid_state-in_bounds c.args.net.now c.args.chart.now c.args.start.now c.args.every c.args.r (slice_index c.args.start.now.steps c.args.r) _ sound c.requires.chart c.requires.there c.requires.fits
+    (omega arith) (omega (arith, c.requires.fits.in_time c.args.r 0 (omega (arith, c.requires.fits.one_each, c.requires.there))))))
 
 pub returns-clause-bounds : goal.returns-clause-bounds
 returns-clause-bounds c = stay_in_bounds c.args.net.now c.args.chart.now.cut c.args.start.now (subst IsNetwork c.net.view_is c.net.invariant) c.requires.fits
