@@ -2,8 +2,9 @@ ghost use Rattle.std.specs.Prelude.{◌≡◌, length};
 ghost use Rattle.flow_ledger.specs.Books.{books_of};
 ghost use Rattle.flow_ledger.specs.BooksLaw.{BooksAtOneStep, BooksLaw};
 
+use crate::cell_sums::CellSums;
 use crate::network_books::Books;
-use crate::sums::{entered, flights, initial, inside, left};
+use crate::sums::{flights, initial};
 use flow_model::Row;
 use network_file::Net;
 
@@ -19,11 +20,12 @@ pub fn books(net: &Net, rows: &[Row]) -> Books
     ensures at_one_step { BooksAtOneStep net.now rows.now result }
 {
     let _steps = net.steps;
+    let cells = CellSums::of(net, rows);
     Books {
-        inside: inside(net, rows) as i128,
+        inside: cells.inside as i128,
         flight: flights(net, rows),
         initial: initial(net) as i128,
-        entered: entered(net, rows) as i128,
-        left: left(net, rows) as i128,
+        entered: cells.entered as i128,
+        left: cells.left as i128,
     }
 }

@@ -7,6 +7,7 @@
 #![tactic(auto)]
 
 mod balance;
+mod cell_sums;
 mod connector_flight;
 mod network_books;
 mod sums;
