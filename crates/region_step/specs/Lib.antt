@@ -11,3 +11,4 @@ pub mod Opened
 pub mod Advance
 pub mod Carrying
 pub mod Laws
+pub mod Standing
