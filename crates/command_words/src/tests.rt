@@ -40,7 +40,7 @@ fn words_give_a_request_or_are_refused(rt: HostRuntime) -> Result<(), Fail> {
         ("help", None, "help is no mode"),
         ("run check", None, "there is one mode"),
         ("run run", None, "even where it is the same"),
-        ("run --every 0", None, "a run has few options"),
+        ("run --shots 2", None, "a run has few options"),
         ("run --workers 17", None, "whatever the value of others"),
         ("check --regions 3", None, "a check has none"),
         ("--every 1 check", None, "wherever it stands"),
@@ -113,6 +113,38 @@ fn a_run_has_regions(rt: HostRuntime) -> Result<(), Fail> {
             .ok_or(WordsRefusal::Refused);
         assert!(rt; read(rt.alloc(), words)? == want, "{shows}: {words}");
     }
+    Ok(())
+}
+
+#[test]
+fn a_run_is_recorded_every_so_many_steps(rt: HostRuntime) -> Result<(), Fail> {
+    for (words, every, shows) in [
+        ("run --every 60", Some(60), "a run can be recorded"),
+        ("--every=60 run", Some(60), "wherever that stands"),
+        ("run --every 0", Some(0), "0 is never"),
+        ("run --every 100000", Some(100_000), "and this the most"),
+        ("run --every 100001", None, "more is refused"),
+        ("run --every 1 --every 1", None, "it stands once"),
+        ("convert --every 1", None, "a conversion isn't recorded"),
+    ] {
+        let run = plain(Mode::Run);
+        let want = every
+            .map(|every| Request { every, ..run })
+            .ok_or(WordsRefusal::Refused);
+        assert!(rt; read(rt.alloc(), words)? == want, "{shows}: {words}");
+    }
+    Ok(())
+}
+
+#[test]
+fn the_options_of_a_run_stand_beside_each_other(rt: HostRuntime) -> Result<(), Fail> {
+    let request = read(rt.alloc(), "run --every 5 --regions 3")?;
+    let want = Request {
+        regions: 3,
+        every: 5,
+        ..plain(Mode::Run)
+    };
+    assert!(rt; request == Ok(want));
     Ok(())
 }
 

@@ -6,7 +6,7 @@ use Rattle.network_file.specs.Reading.{network_of}
 use Rattle.network_file.specs.declared.limits.TheConstants.{MOST_BYTES}
 use Rattle.ctm_program.specs.Answer.{Answer, IsTextBy, IsTextOf, Task, answer_of, answer_with, refused, requested}
 use Rattle.ctm_program.specs.Counts.{counts_line}
-use Rattle.ctm_program.specs.Report.{report_of}
+use Rattle.delay_report.specs.Report.{report_of}
 use Rattle.network_file.specs.Converted.{converted}
 use Rattle.command_words.specs.declared.mode.Mode.{Mode}
 use Rattle.command_words.specs.declared.mode.Mode.TheVariants.{Run, Check, Convert}
@@ -17,7 +17,7 @@ use Rattle.ctm_program.specs.Ending.{IsComplete, IsOfWords, IsStatusOf, line_aft
 use Rattle.ctm_program.specs.Refusing.{IsRefusalOf, line_of, refusal_of_words, status_of}
 use Rattle.ctm_program.specs.declared.refusal.Refusal.{Refusal}
 use Rattle.ctm_program.specs.declared.refusal.Refusal.TheVariants as refusal
-use Rattle.ctm_program.specs.Lines.{words_line, too_large_line}
+use Rattle.ctm_program.specs.Lines.{words_line, large_input_line}
 use Rattle.ctm_program.specs.declared.status.Status.{Status}
 use Rattle.ctm_program.specs.declared.status.Status.TheVariants as status
 use Rattle.ctm_program.specs.declared.status.Status.TheVariants.{Done, Words, Network, TooLarge, ReadFault, WriteFault, NoMemory}
@@ -28,7 +28,7 @@ unfolding answer_of
 answer_of-words words input refuses = rw refuses refl
 
 pub answer_of-too_large : (words : List (String Global)) (input : List ℕ) (request : Request) → requested words ≡ Some request →
-    MOST_BYTES < length input → answer_of words input ≡ refused status.TooLarge too_large_line
+    MOST_BYTES < length input → answer_of words input ≡ refused status.TooLarge large_input_line
 unfolding answer_of
 answer_of-too_large words input request accepts large = rw accepts (search rules)
 
@@ -61,7 +61,7 @@ long_input most (Some bytes) long = (bytes, refl, long)
 
 -- some text of a task
 some_text_by : (mode : Mode) (task : Task) → (text : List ℕ) × IsTextBy mode task text
-some_text_by Run task = (report_of task.net, refl)
+some_text_by Run task = (report_of task.net task.request.every, refl)
 some_text_by Check task = (counts_line task.net, refl)
 some_text_by Convert task = (converted task.input, refl)
 
@@ -94,7 +94,8 @@ pub record IsUnwritten (answer : Answer) (refusal : Refusal) : Type 0 where
 pub unwritten : (answer : Answer) (refusal : Refusal) → IsRefusalOf answer refusal → IsUnwritten answer refusal
 unwritten answer refusal.Words is = rw is (record { text = []; of_answer = refl; status = refl; line = refl; not_done = λ done. cc })
 unwritten answer (refusal.Network line) is = rw is (record { text = []; of_answer = refl; status = refl; line = refl; not_done = λ done. cc })
-unwritten answer refusal.TooLarge is = rw is (record { text = []; of_answer = refl; status = refl; line = refl; not_done = λ done. cc })
+unwritten answer refusal.LargeInput is = rw is (record { text = []; of_answer = refl; status = refl; line = refl; not_done = λ done. cc })
+unwritten answer refusal.LargeRecord is = rw is (record { text = []; of_answer = refl; status = refl; line = refl; not_done = λ done. cc })
 unwritten answer refusal.ReadFault is =
     let some = some_text answer in
     record { text = some.0; of_answer = some.1; status = tt; line = refl; not_done = λ done. cc }

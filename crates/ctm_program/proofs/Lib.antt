@@ -1,3 +1,2 @@
 pub mod AnswerFacts
-pub mod LineFacts
-pub mod SumFacts
+

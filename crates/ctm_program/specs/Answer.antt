@@ -1,5 +1,5 @@
 -- The answer to the words and the input.
-use Rattle.std.specs.Prelude.{◌≡◌, ℕ, List, [], Option, Some, None, String, map, nat_lt, if◌then◌else◌, length, string_bytes, Result, Ok, Err}
+use Rattle.std.specs.Prelude.{◌≡◌, ℕ, ◌*◌, List, [], Option, Some, None, String, map, nat_lt, if◌then◌else◌, length, string_bytes, Result, Ok, Err}
 use Rattle.std.specs.declared.alloc.Global.{Global}
 use Rattle.command_words.specs.Words.{request_of}
 use Rattle.command_words.specs.declared.mode.Mode.{Mode}
@@ -11,8 +11,10 @@ use Rattle.network_file.specs.Reading.{network_of}
 use Rattle.network_file.specs.declared.fault.NetFault.{NetFault}
 use Rattle.network_file.specs.declared.limits.TheConstants.{MOST_BYTES}
 use Rattle.ctm_program.specs.Counts.{counts_line}
-use Rattle.ctm_program.specs.Lines.{words_line, too_large_line, network_line}
-use Rattle.ctm_program.specs.Report.{report_of}
+use Rattle.delay_report.specs.Recorded.{recorded_count}
+use Rattle.delay_report.specs.Report.{report_of}
+use Rattle.ctm_program.specs.Lines.{large_input_line, large_record_line, network_line, words_line}
+use Rattle.ctm_program.specs.declared.record_limit.TheConstants.{MOST_RECORDED}
 use Rattle.ctm_program.specs.declared.status.Status.{Status}
 use Rattle.ctm_program.specs.declared.status.Status.TheVariants as status
 
@@ -36,7 +38,7 @@ refused status line = Err (record { status = status; line = line })
 
 -- which texts answer a task, by its mode
 abbrev pub IsTextBy : Mode → Task → List ℕ → Type 0
-IsTextBy Run task text = text ≡ report_of task.net
+IsTextBy Run task text = text ≡ report_of task.net task.request.every
 IsTextBy Check task text = text ≡ counts_line task.net
 IsTextBy Convert task text = text ≡ converted task.input
 
@@ -45,15 +47,23 @@ abbrev pub IsTextOf : Answer → List ℕ → Type 0
 IsTextOf (Ok task) text = IsTextBy task.request.mode task text
 IsTextOf (Err why) text = text ≡ []
 
+-- how many values are recorded: of a run, cells times recorded steps
+abbrev pub recorded_values : Mode → Network → (every : ℕ) → ℕ
+recorded_values Run net every = length net.cells * recorded_count net.steps every
+recorded_values Check net every = 0
+recorded_values Convert net every = 0
+
 -- the answer to a request, by the network of the input
 abbrev pub answer_with : Request → (input : List ℕ) → Result Network NetFault → Answer
-answer_with request input (Ok net) = Ok (record { request = request; input = input; net = net })
+answer_with request input (Ok net) =
+    if nat_lt MOST_RECORDED (recorded_values request.mode net request.every) then refused status.TooLarge large_record_line
+    else Ok (record { request = request; input = input; net = net })
 answer_with request input (Err fault) = refused status.Network (network_line fault)
 
 -- the answer to a request that reads this input
 abbrev pub answer_to : Request → (input : List ℕ) → Answer
 answer_to request input =
-    if nat_lt MOST_BYTES (length input) then refused status.TooLarge too_large_line
+    if nat_lt MOST_BYTES (length input) then refused status.TooLarge large_input_line
     else answer_with request input (network_of input)
 
 -- the answer where the words give this request, or none

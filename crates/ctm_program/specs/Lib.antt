@@ -3,5 +3,3 @@ pub mod Counts
 pub mod Ending
 pub mod Lines
 pub mod Refusing
-pub mod Report
-pub mod Totals

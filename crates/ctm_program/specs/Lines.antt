@@ -24,8 +24,11 @@ network_line fault =
     ++ codes " code " ++ decimal (code_number fault.code)
     ++ codes " " ++ code_name fault.code ++ codes "\n"
 
-abbrev pub too_large_line : List ℕ
-too_large_line = codes "ctm: too large: input\n"
+abbrev pub large_input_line : List ℕ
+large_input_line = codes "ctm: too large: input\n"
+
+abbrev pub large_record_line : List ℕ
+large_record_line = codes "ctm: too large: record\n"
 
 abbrev pub read_fault_line : List ℕ
 read_fault_line = codes "ctm: read fault\n"

@@ -5,21 +5,24 @@ ghost use Rattle.command_words.specs.Settings.{IsAllowed};
 ghost use Rattle.command_words.specs.Words.{IsInRange};
 ghost use Rattle.command_words.specs.declared.setting.Setting.TheVariants.{Regions};
 ghost use Rattle.network_file.specs.Reading.{network_of};
-ghost use Rattle.ctm_program.specs.Answer.{IsTextOf, answer_of, answer_with, requested};
+ghost use Rattle.ctm_program.specs.Answer.{IsTextOf, answer_of, answer_with, recorded_values, requested};
 ghost use Rattle.ctm_program.specs.Ending.{IsInputOf, IsOfWords, IsReadWhole, status_in};
 ghost use Rattle.ctm_program.specs.Lines.{network_line};
-ghost use Rattle.ctm_program.specs.Report.{report_of};
+ghost use Rattle.delay_report.specs.Report.{report_of};
+ghost use Rattle.ctm_program.specs.declared.record_limit.TheConstants.{MOST_RECORDED};
 ghost use Rattle.ctm_program.specs.Refusing.{IsNetRefusal, IsRefusalOf, status_at_end};
 
 use crate::counts::counts;
+use crate::record_limit::records_too_much;
 use crate::refusal::Refusal;
-use crate::report::report;
 use crate::status::Status;
 use command_words::{Mode, Request, read_words};
 use ctm_ports::{ReadEnd, Source, read_up_to};
+use delay_report::report;
 use itoa::Buffer;
 use network_file::{MOST_BYTES, Net, NetFault, NetRefusal, convert};
-use region_sweeps::last_rows;
+use region_cut::Chart;
+use region_sweeps::{cutting, last_regions};
 use signal_plan::NoMemory;
 use std::alloc::Global;
 
@@ -47,7 +50,7 @@ pub(crate) fn answer<S: Source>(
     };
     match read_up_to(alloc, source, MOST_BYTES) {
         ReadEnd::Whole(input) => text_of(alloc, request, &input),
-        ReadEnd::TooLong => Err(Refusal::TooLarge),
+        ReadEnd::TooLong => Err(Refusal::LargeInput),
         ReadEnd::Failed => Err(Refusal::ReadFault),
         ReadEnd::NoMemory => Err(Refusal::NoMemory),
     }
@@ -65,7 +68,7 @@ fn text_of(alloc: Global, request: Request, input: &[u8]) -> Result<Vec<u8>, Ref
 {
     match request.mode {
         Mode::Run => match Net::read(alloc, input) {
-            Ok(net) => Ok(reported(alloc, &net, request.regions)?),
+            Ok(net) => reported(alloc, &net, request),
             Err(refusal) => Err(refused(alloc, refusal)),
         },
         Mode::Check => match Net::read(alloc, input) {
@@ -79,13 +82,37 @@ fn text_of(alloc: Global, request: Request, input: &[u8]) -> Result<Vec<u8>, Ref
     }
 }
 
-// The report of a network, taken through all its steps in so many regions.
-fn reported(alloc: Global, net: &Net, regions: u32) -> Result<Vec<u8>, NoMemory>
-    requires { IsAllowed Regions regions }
-    ensures { IfOk result (λ text. text.items ≡ report_of net.now) }
+// The report of a network that is taken through all its steps, unless too much would be recorded.
+fn reported(alloc: Global, net: &Net, request: Request) -> Result<Vec<u8>, Refusal>
+    requires in_range { IsInRange request }
+    requires runs { request.mode ≡ Mode.Run }
+    ensures text { IfOk result (λ text. (text.items ≡ report_of net.now request.every)
+        × (recorded_values Mode.Run net.now request.every ≤ MOST_RECORDED)) }
+    ensures refusal { IfErr result (λ refusal. (refusal ≡ Refusal.NoMemory)
+        ⊎ ((refusal ≡ Refusal.LargeRecord) × (MOST_RECORDED < recorded_values Mode.Run net.now request.every))) }
 {
-    let rows = last_rows(alloc, net, regions)?;
-    report(alloc, net, &rows)
+    let every = u64::from(request.every);
+    if records_too_much(net, every) {
+        return Err(Refusal::LargeRecord);
+    }
+    Ok(run_report(alloc, net, request.regions, every)?)
+}
+
+// The report of a network that is taken through all its steps in so many regions.
+fn run_report(
+    alloc: Global,
+    net: &Net,
+    regions: u32,
+    every: u64,
+) -> Result<Vec<u8>, NoMemory>
+    requires { IsAllowed Regions regions }
+    ensures { IfOk result (λ text. text.items ≡ report_of net.now every) }
+{
+    let _steps = net.steps;
+    let cut = cutting(alloc, net, regions)?;
+    let chart = Chart::new(alloc, net, cut)?;
+    let regions = last_regions(alloc, net, &chart, every)?;
+    report(alloc, net, &chart, &regions, every)
 }
 
 // The refusal of a file, with the line that tells its fault.

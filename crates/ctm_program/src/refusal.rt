@@ -11,7 +11,10 @@ pub(crate) enum Refusal {
     Words,
     /// With the line that tells the fault.
     Network(Vec<u8>),
-    TooLarge,
+    /// The input has more bytes than a network file may have.
+    LargeInput,
+    /// A run would record more values than it may.
+    LargeRecord,
     ReadFault,
     WriteFault,
     NoMemory,
@@ -24,7 +27,7 @@ impl Refusal {
         match self {
             Refusal::Words => Status::Words,
             Refusal::Network(_) => Status::Network,
-            Refusal::TooLarge => Status::TooLarge,
+            Refusal::LargeInput | Refusal::LargeRecord => Status::TooLarge,
             Refusal::ReadFault => Status::ReadFault,
             Refusal::WriteFault => Status::WriteFault,
             Refusal::NoMemory => Status::NoMemory,
@@ -38,7 +41,8 @@ impl Refusal {
         match self {
             Refusal::Words => b"ctm: words refused\n",
             Refusal::Network(line) => line,
-            Refusal::TooLarge => b"ctm: too large: input\n",
+            Refusal::LargeInput => b"ctm: too large: input\n",
+            Refusal::LargeRecord => b"ctm: too large: record\n",
             Refusal::ReadFault => b"ctm: read fault\n",
             Refusal::WriteFault => b"ctm: write fault\n",
             Refusal::NoMemory => b"ctm: no memory\n",

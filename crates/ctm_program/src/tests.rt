@@ -208,6 +208,46 @@ total,4.000000,0.000000,4.000000,12.000000";
 }
 
 #[test]
+fn a_recorded_run_tells_its_course(rt: HostRuntime) -> Result<(), Fail> {
+    for (words, course) in [
+        (
+            "run --every 2",
+            "at,0,in,0.000000,0.000000; at,0,a,0.000000,0.000000; at,0,out,0.000000,0.000000; \
+at,2,in,2.000000,2.000000; at,2,a,2.000000,0.000000; at,2,out,0.000000,0.000000; \
+at,3,in,0.000000,4.000000; at,3,a,2.000000,2.000000; at,3,out,2.000000,0.000000",
+        ),
+        // 3 is the last step, and it is recorded once
+        (
+            "run --every 3 --regions 2",
+            "at,0,in,0.000000,0.000000; at,0,a,0.000000,0.000000; at,0,out,0.000000,0.000000; \
+at,3,in,0.000000,4.000000; at,3,a,2.000000,2.000000; at,3,out,2.000000,0.000000",
+        ),
+    ] {
+        let report = CORRIDOR_REPORT.replace(
+            rt.alloc(),
+            "report,3,3; ",
+            &format!(in rt.alloc(); "report,3,3; {course}; ")?,
+        )?;
+        assert!(rt; gives(&rt, rt.alloc(), words, CORRIDOR, &report)?, "{words}");
+    }
+    Ok(())
+}
+
+// tests/program has runs that record as many values as they may.
+#[test]
+fn a_run_that_would_record_too_much_is_refused(rt: HostRuntime) -> Result<(), Fail> {
+    for (steps, exits) in [(100_000, 40), (999, 4_001)] {
+        let mut file = format!(in rt.alloc(); "ctm,1\nsteps,{steps}\n")?;
+        for i in 0..exits {
+            write!(file, "exit,x{i},1\n")?;
+        }
+        let ended = call(&rt, rt.alloc(), "run --every 1", file.into_bytes())?;
+        assert!(rt; ended.is_refused(4, b"ctm: too large: record\n"), "{exits} exits");
+    }
+    Ok(())
+}
+
+#[test]
 fn a_signal_and_limits_end_in_their_report(rt: HostRuntime) -> Result<(), Fail> {
     for (file, report) in [
         // a signal that is red, green twice, and red

@@ -1,0 +1,5 @@
+pub mod ByRegion
+pub mod Lines
+pub mod RecordedSteps
+pub mod RunLaws
+pub mod Standing

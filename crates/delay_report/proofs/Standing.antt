@@ -1,0 +1,161 @@
+-- What regions that stand where a start brought them have of their cells.
+use Rattle.std.specs.Prelude.{flat_map, replicate, slice_index, slice_index_or, sum_by}
+use Rattle.std.specs.List.{Contains, range_with_len}
+use Rattle.std.proofs.Common.{◌≡◌, ◌≢◌, ℕ, ◌<◌, ◌≤◌, ◌+◌, ◌*◌, inl, inr, List, [], ◌∷◌, ◌++◌, length, get_or, map, refl, sym, ap, subst, ◌∙◌, arith}
+use Rattle.std.proofs.Math.Nat.{add-mul}
+use Rattle.std.proofs.lemmas.Bool.{cases_eq}
+use Rattle.std.proofs.lemmas.List.{get_or-replicate, length-map}
+use Rattle.std.proofs.lemmas.List.Concat.{length-flat_map}
+use Rattle.std.proofs.lemmas.List.Elements.{All-contains, Contains-get_or}
+use Rattle.std.proofs.lemmas.List.FromFn.{get_or-map-range_with_len, length-map-range_with_len}
+use Rattle.std.proofs.lemmas.List.Sums.{sum_by-cons}
+use Rattle.std.proofs.lemmas.Simd.{map-map}
+use Rattle.network_file.specs.Network.{IsNetwork, Network}
+use Rattle.flow_model.specs.Rows.{empty_row}
+use Rattle.flow_model.specs.State.{row_at, state_at}
+use Rattle.flow_model.specs.declared.row.Row.{Row}
+use Rattle.flow_model.proofs.States.{length-state_at}
+use Rattle.region_cut.specs.Chart.{ChartLists, chart_of, list_at}
+use Rattle.region_cut.specs.Cuttings.{region_at, region_count}
+use Rattle.region_cut.specs.LawfulSteps.{AreLawful}
+use Rattle.region_step.specs.Grid.{grid_row}
+use Rattle.region_step.specs.Laws.{grid_rows, grid_state, grid_trail}
+use Rattle.region_step.specs.Recording.{note_of, notes_of, recorded}
+use Rattle.region_step.specs.Region.{RegionValue}
+use Rattle.region_step.specs.Standing.{AllStand, Stands}
+use Rattle.region_step.specs.Start.{StartLists, start_of}
+use Rattle.region_step.specs.declared.note.Note.{Note}
+use Rattle.region_step.proofs.Grids.{are_the_recurrences}
+use Rattle.region_step.proofs.GridStates.{grid_state-rows}
+use Rattle.region_step.proofs.Ground.{ground}
+use Rattle.region_step.proofs.Lists.{map_same}
+use Rattle.delay_report.specs.Recorded.{recorded_count}
+use Rattle.delay_report.specs.Regions.{AreNotesOf, AreRowsOf, HaveNotes, HaveRows}
+use Rattle.delay_report.specs.Report.{state_note}
+use Rattle.delay_report.specs.RunLaws.{AreAtTheEnd, step_of}
+use Rattle.delay_report.proofs.RecordedSteps.{recorded-none}
+
+-- the trail of a region of a start
+grid_state-trail : (net : Network) (chart : ChartLists) (start : StartLists) (every r t : ℕ) →
+    (grid_state net chart start every r t).trail ≡ flat_map (λ s. notes_of (map (grid_row net chart.cut start s) (list_at chart.cells r))) (recorded net.steps every (slice_index start.steps r) t)
+unfolding grid_state grid_trail grid_rows
+grid_state-trail net chart start every r t = refl
+
+-- the same list for each item
+flat_map_same : {X Y : Type 0} (f g : X → List Y) (xs : List X) → ((x : X) → f x ≡ g x) → flat_map f xs ≡ flat_map g xs
+flat_map_same f g [] same = refl
+flat_map_same f g (x ∷ xs) same = ap (λ first. first ++ flat_map f xs) (same x) ∙ ap (λ rest. g x ++ rest) (flat_map_same f g xs same)
+
+same_lengths : {X : Type 0} (f : X → ℕ) (n : ℕ) (xs : List X) → ((x : X) → f x ≡ n) → sum_by f xs ≡ length xs * n
+same_lengths f n [] same = omega arith
+same_lengths f n (x ∷ xs) same =
+    let one_more : length (x ∷ xs) ≡ length xs + 1 = omega arith in
+    let product : length (x ∷ xs) * n ≡ (length xs + 1) * n = ap (λ k. k * n) one_more in
+    let first : f x ≡ n = same x in
+    let rest : sum_by f xs ≡ length xs * n = same_lengths f n xs same in
+    let sum : sum_by f (x ∷ xs) ≡ f x + sum_by f xs = sum_by-cons f x xs in
+    omega (arith, first, rest, sum, product, add-mul (length xs) 1 n)
+
+-- as many notes as steps and cells
+pub length-notes : {X : Type 0} (f : ℕ → ℕ → X) (cells steps : List ℕ) → length (flat_map (λ t. map (f t) cells) steps) ≡ length steps * length cells
+length-notes f cells steps =
+    length-flat_map (λ t. map (f t) cells) steps ∙ same_lengths (λ t. length (map (f t) cells)) (length cells) steps (λ t. length-map cells (f t))
+
+-- each region has a row for each of its cells
+pub stand-rows : (net : Network) (chart : ChartLists) (start : StartLists) (every : ℕ) (steps : List ℕ) (regions : List RegionValue) →
+    AllStand net chart start every steps regions → HaveRows chart regions
+stand-rows net chart start every steps regions stand = record {
+  one_each = stand.one_each;
+  rows = λ r region within.
+      let here = stand.each r region (omega (arith, within, stand.one_each)) in
+      ap (λ state. length state.rows) here.state ∙ ap length (grid_state-rows net chart start every r (slice_index steps r)) ∙
+      length-map (list_at chart.cells r) (grid_row net chart.cut start (slice_index steps r));
+}
+
+-- the rows of all cells, if these are their regions' rows
+pub stand-rows_of : (net : Network) (chart : ChartLists) (start : StartLists) (every : ℕ) (steps : List ℕ) (regions : List RegionValue) (rows : List Row) → IsNetwork net → chart ≡ chart_of net chart.cut →
+    AllStand net chart start every steps regions → length rows ≡ length chart.cut →
+    ((i : ℕ) → i < length net.cells → grid_row net chart.cut start (step_of chart.cut steps i) i ≡ row_at rows i) → AreRowsOf chart regions rows
+stand-rows_of net chart start every steps regions rows sound is stand one_each are = record {
+  one_each = one_each;
+  each = λ r region within.
+      let here = stand.each r region (omega (arith, within, stand.one_each)) in
+      let lists = ground net chart.cut chart r sound is within in
+      ap (λ state. state.rows) here.state ∙ grid_state-rows net chart start every r (slice_index steps r) ∙
+      map_same (grid_row net chart.cut start (slice_index steps r)) (row_at rows) (list_at chart.cells r)
+      (λ i has.
+      let own = lists.own i has in
+      ap (λ q. grid_row net chart.cut start (slice_index steps q) i) (sym own.1) ∙ are i own.0);
+}
+
+-- the row of each cell where its region stands
+abbrev pub rows_at : Network → (cut : List ℕ) → StartLists → (steps : List ℕ) → List Row
+rows_at net cut start steps = map (λ i. grid_row net cut start (step_of cut steps i) i) (range_with_len 0 (length net.cells))
+
+pub stand-rows_at : (net : Network) (chart : ChartLists) (start : StartLists) (every : ℕ) (steps : List ℕ) (regions : List RegionValue) → IsNetwork net → chart ≡ chart_of net chart.cut →
+    length chart.cut ≡ length net.cells → AllStand net chart start every steps regions → AreRowsOf chart regions (rows_at net chart.cut start steps)
+stand-rows_at net chart start every steps regions sound is one_each stand =
+    let row : ℕ → Row = λ i. grid_row net chart.cut start (step_of chart.cut steps i) i in
+    stand-rows_of net chart start every steps regions (rows_at net chart.cut start steps) sound is stand (length-map-range_with_len row 0 (length net.cells) ∙ sym one_each)
+    (λ i there. sym (get_or-map-range_with_len row 0 (length net.cells) i i empty_row there (omega arith)))
+
+-- at the last step, with notes of it and of all recorded steps
+
+at_last : (net : Network) (chart : ChartLists) (start : StartLists) (every r : ℕ) (regions : List RegionValue) (region : RegionValue) → AllStand net chart start every (replicate (region_count chart.cut) net.steps) regions →
+    r < region_count chart.cut → Stands net chart start every r net.steps (slice_index_or regions r region)
+at_last net chart start every r regions region stand within =
+    subst (λ s. Stands net chart start every r s (slice_index_or regions r region)) (get_or-replicate (region_count chart.cut) r net.steps 0 within)
+    (stand.each r region (omega (arith, within, stand.one_each)))
+
+-- no region starts past the last step
+starts-in_time : (net : Network) (cut : List ℕ) (start : StartLists) (i : ℕ) → AreLawful net cut start.steps → region_at cut i < region_count cut → start_of start cut i ≤ net.steps
+starts-in_time net cut start i lawful within = lawful.in_time (region_at cut i) 0 (omega (arith, within, lawful.one_each))
+
+pub end-rows_of : (net : Network) (chart : ChartLists) (start : StartLists) (every : ℕ) (regions : List RegionValue) → IsNetwork net → chart ≡ chart_of net chart.cut →
+    length chart.cut ≡ length net.cells → AreAtTheEnd net chart start every regions → AreRowsOf chart regions (state_at net net.steps)
+end-rows_of net chart start every regions sound is one_each end = record {
+  one_each = length-state_at net net.steps ∙ sym one_each;
+  each = λ r region within.
+      let here = at_last net chart start every r regions region end.stand within in
+      let lists = ground net chart.cut chart r sound is within in
+      ap (λ state. state.rows) here.state ∙ grid_state-rows net chart start every r net.steps ∙
+      map_same (grid_row net chart.cut start net.steps) (row_at (state_at net net.steps)) (list_at chart.cells r)
+      (λ i has.
+      let own = lists.own i has in
+      are_the_recurrences net chart.cut start sound end.lawful end.true_start net.steps i own.0
+      (starts-in_time net chart.cut start i end.lawful (subst (λ q. q < region_count chart.cut) (sym own.1) within)));
+}
+
+pub end-notes_of : (net : Network) (chart : ChartLists) (start : StartLists) (every : ℕ) (regions : List RegionValue) → IsNetwork net → chart ≡ chart_of net chart.cut →
+    AreAtTheEnd net chart start every regions → AreNotesOf chart regions (recorded net.steps every 0 net.steps) (state_note net)
+end-notes_of net chart start every regions sound is end = record {
+  each = λ r region within.
+      let here = at_last net chart start every r regions region end.stand within in
+      let cells : List ℕ = list_at chart.cells r in
+      ap (λ state. state.trail) here.state ∙ grid_state-trail net chart start every r net.steps ∙
+      elim (cases_eq every 0) [
+        | inl never ↦
+            let none : (from : ℕ) → recorded net.steps every from net.steps ≡ [] = λ from. ap (λ e. recorded net.steps e from net.steps) never ∙ recorded-none net.steps from net.steps in
+            ap (flat_map (λ s. notes_of (map (grid_row net chart.cut start s) cells))) (none (slice_index start.steps r)) ∙
+            sym (ap (flat_map (λ t. map (state_note net t) cells)) (none 0))
+        | inr some ↦
+            let zero_first = end.from_zero some in
+            ap (λ from. flat_map (λ s. notes_of (map (grid_row net chart.cut start s) cells)) (recorded net.steps every from net.steps)) (zero_first r) ∙
+            flat_map_same (λ s. notes_of (map (grid_row net chart.cut start s) cells)) (λ t. map (state_note net t) cells) (recorded net.steps every 0 net.steps)
+            (λ t.
+            map-map note_of (grid_row net chart.cut start t) cells ∙
+            map_same (λ i. note_of (grid_row net chart.cut start t i)) (state_note net t) cells
+            (λ i has.
+            let own = (ground net chart.cut chart r sound is within).own i has in
+            ap note_of (are_the_recurrences net chart.cut start sound end.lawful end.true_start t i own.0 (omega (arith, zero_first (region_at chart.cut i))))))
+      ];
+}
+
+-- a note for each cell at each recorded step
+pub end-notes : (net : Network) (chart : ChartLists) (start : StartLists) (every : ℕ) (regions : List RegionValue) → IsNetwork net → chart ≡ chart_of net chart.cut →
+    AreAtTheEnd net chart start every regions → HaveNotes chart regions (recorded_count net.steps every)
+end-notes net chart start every regions sound is end =
+    let notes = end-notes_of net chart start every regions sound is end in
+    record {
+      notes = λ r region within. ap length (notes.each r region within) ∙ length-notes (state_note net) (list_at chart.cells r) (recorded net.steps every 0 net.steps);
+    }

@@ -1,0 +1,18 @@
+use Rattle.std.proofs.Common.{◌≡◌, ◌<◌, length, rules, append_assoc, arith, refl}
+use Rattle.delay_report.specs.Report.{cell_lines}
+use Rattle.delay_report.proofs.Lines.{lines_of-more, lines_of-none, name_at-read}
+use Rattle.delay_report.proofs.cell_lines.put_cell_lines.Goals as goal
+
+pub loop-i-init : goal.loop-i-init
+loop-i-init c = rw lines_of-none (search rules)
+
+pub loop-i-preserved : goal.loop-i-preserved
+loop-i-preserved c =
+    let name = name_at-read c.args.cells.now c.loop-i.i _ c.loop-i-test.true c.index-cells-i.is in
+    rw (c.in_ok-put_cell_line.ensures, c.loop-i.invariant, lines_of-more, name) (simp append_assoc)
+
+pub returns : goal.returns
+unfolding cell_lines
+returns c =
+    let all : c.loop-i.i ≡ length c.args.cells.now = omega arith in
+    rw (c.loop-i.invariant, all) refl

@@ -1,0 +1,8 @@
+use Rattle.std.proofs.Common.{◌≡◌, ◌++◌}
+use Rattle.flow_model.specs.State.{row_at}
+use Rattle.delay_report.specs.Report.{cell_line, lines_of, name_at}
+use Rattle.delay_report.proofs.cell_lines.put_cell_lines.Given as goal
+
+-- the lines of the cells before i
+abbrev pub invariant-loop-i : goal.invariant-loop-i
+invariant-loop-i l = l.text.items ≡ l.initial.text.items ++ lines_of (λ i. cell_line (name_at l.cells i) (row_at l.rows i)) l.i

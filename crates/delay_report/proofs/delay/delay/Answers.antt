@@ -1,0 +1,10 @@
+use Rattle.std.proofs.Common.{ap, ◌∙◌}
+use Rattle.std.proofs.lemmas.List.{take_all}
+use Rattle.delay_report.specs.Report.{delay_of}
+use Rattle.delay_report.proofs.delay.delay.Goals as goal
+
+pub returns-clause-sum : goal.returns-clause-sum
+unfolding delay_of
+returns-clause-sum c =
+    let whole = take_all c.loop-row.row-index c.args.rows.now c.loop-row-test.false in
+    rw whole at c.loop-row.invariant.0

@@ -1,0 +1,22 @@
+use Rattle.std.proofs.Common.{subst, arith, rules}
+use Rattle.network_file.specs.Network.{IsNetwork}
+use Rattle.flow_model.specs.State.{state_at}
+use Rattle.flow_ledger.proofs.BooksLaws.{state-balance}
+use Rattle.delay_report.specs.Report.{report_of, report_with, state_note}
+use Rattle.delay_report.proofs.Standing.{end-notes_of, end-rows_of}
+use Rattle.delay_report.proofs.whole_report.report.Goals as goal
+
+pub returns-clause-balance : goal.returns-clause-balance
+returns-clause-balance c = state-balance c.args.net.now c.args.net.now.steps (subst IsNetwork c.net.view_is c.net.invariant) (omega arith)
+
+pub returns-clause-text : goal.returns-clause-text
+unfolding report_with
+returns-clause-text c = search rules
+
+pub returns-clause-recurrences : goal.returns-clause-recurrences
+unfolding report_of
+returns-clause-recurrences c = λ start end.
+    let sound = subst IsNetwork c.net.view_is c.net.invariant in
+    let notes = end-notes_of c.args.net.now c.args.chart.now start c.args.every c.args.regions.now sound c.requires.chart end in
+    let rows = end-rows_of c.args.net.now c.args.chart.now start c.args.every c.args.regions.now sound c.requires.chart c.requires.one_each end in
+    returns-clause-text c (state_note c.args.net.now) (state_at c.args.net.now c.args.net.now.steps) notes rows

@@ -1,0 +1,73 @@
+ghost use Rattle.std.specs.Prelude.{◌≡◌, ◌+◌, ◌*◌, ◌<◌, ℕ, List, IfOk, length, slice_index};
+ghost use Rattle.flow_model.specs.State.{row_at};
+ghost use Rattle.flow_model.specs.declared.row.Row.{Row as RowValue};
+ghost use Rattle.delay_report.specs.Places.{ArePlaced};
+ghost use Rattle.delay_report.specs.Regions.{AreNotesOf, AreRowsOf, HaveNotes, HaveRows, note_at};
+ghost use Rattle.region_step.specs.declared.note.Note.{Note as NoteValue};
+
+use flow_model::Row;
+use network_file::Net;
+use region_cut::Chart;
+use region_step::{Note, Region};
+use signal_plan::NoMemory;
+use std::alloc::Global;
+
+/// Regions, seen cell by cell.
+#[derive(Clone, Copy)]
+pub(crate) struct ByCell<'a> {
+    pub(crate) chart: &'a Chart,
+    pub(crate) regions: &'a [Region],
+    /// The place of each cell among the cells of its region.
+    pub(crate) places: &'a [u32],
+}
+
+impl ByCell<'_> {
+    /// The row of cell `i` at its region's step.
+    pub(crate) fn row(&self, i: u32) -> Row
+        requires there { i < length self.now.chart.now.cut }
+        requires placed { ArePlaced self.now.chart.now (length self.now.chart.now.cut) self.now.places.now }
+        requires rows { HaveRows self.now.chart.now self.now.regions.now }
+        ensures { (rows : List RowValue) → AreRowsOf self.now.chart.now self.now.regions.now rows → result ≡ row_at rows i }
+    {
+        let q = self.chart.region_of(i);
+        self.regions[q as usize].row(self.places[i as usize])
+    }
+
+    /// What was noted of cell `i` at the `k`-th recorded step.
+    pub(crate) fn note(&self, k: usize, i: u32) -> Note
+        requires there { i < length self.now.chart.now.cut }
+        requires placed { ArePlaced self.now.chart.now (length self.now.chart.now.cut) self.now.places.now }
+        requires rows { HaveRows self.now.chart.now self.now.regions.now }
+        requires notes { (steps : ℕ) × (k < steps) × HaveNotes self.now.chart.now self.now.regions.now steps }
+        ensures { (recorded : List ℕ) (note : ℕ → ℕ → NoteValue) → k < length recorded → AreNotesOf self.now.chart.now self.now.regions.now recorded note →
+            result ≡ note (slice_index recorded k) i }
+    {
+        let q = self.chart.region_of(i);
+        let cells = self.chart.cells(q);
+        let trail = self.regions[q as usize].trail();
+        note_in(trail, cells.len(), k, self.places[i as usize])
+    }
+
+    /// The rows of all cells.
+    pub(crate) fn rows(&self, alloc: Global, net: &Net) -> Result<Vec<Row>, NoMemory>
+        requires one_each { length self.now.chart.now.cut ≡ length net.now.cells }
+        requires placed { ArePlaced self.now.chart.now (length self.now.chart.now.cut) self.now.places.now }
+        requires rows { HaveRows self.now.chart.now self.now.regions.now }
+        ensures one_each { IfOk result (λ own. length own.items ≡ length net.now.cells) }
+        ensures rows { IfOk result (λ own. (rows : List RowValue) → AreRowsOf self.now.chart.now self.now.regions.now rows → own.items ≡ rows) }
+    {
+        let mut rows = Vec::new(alloc);
+        for i in 0..net.cells.len() as u32 {
+            rows.push(self.row(i))?;
+        }
+        Ok(rows)
+    }
+}
+
+// The note of the cell at a place, of the `k`-th recorded step, in the trail of a region of so many cells.
+fn note_in(trail: &[Note], cells: usize, k: usize, place: u32) -> Note
+    requires { k * cells + place < length trail.now }
+    ensures { result ≡ note_at trail.now (k * cells + place) }
+{
+    trail[k * cells + place as usize]
+}

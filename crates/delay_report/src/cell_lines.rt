@@ -1,0 +1,36 @@
+ghost use Rattle.std.specs.Prelude.{◌≡◌, ◌++◌, length, codes, OnOk};
+ghost use Rattle.delay_report.specs.Report.{amount_field, cell_line, cell_lines};
+
+use crate::amounts::put_amount;
+use flow_model::Row;
+use network_file::Cell;
+use signal_plan::NoMemory;
+
+/// Appends the line of each cell, by its row at the last step.
+pub(crate) fn put_cell_lines(
+    text: &mut Vec<u8>,
+    cells: &[Cell],
+    rows: &[Row],
+) -> Result<(), NoMemory>
+    requires { length rows.now ≡ length cells.now }
+    ensures { OnOk result (text.new.items ≡ text.old.items ++ cell_lines cells.now rows.now) }
+{
+    for (i, cell) in cells.iter().enumerate() {
+        put_cell_line(text, cell, &rows[i])?;
+    }
+    Ok(())
+}
+
+#[tactic(auto, unfolding(crate::specs::Report::cell_line))]
+fn put_cell_line(text: &mut Vec<u8>, cell: &Cell, row: &Row) -> Result<(), NoMemory>
+    ensures { OnOk result (text.new.items ≡ text.old.items ++ cell_line cell.now.name row.now) }
+{
+    text.extend_from_slice(b"cell,")?;
+    text.extend_from_slice(cell.name.bytes())?;
+    put_amount(text, row.n)?;
+    put_amount(text, row.come)?;
+    put_amount(text, row.gone)?;
+    put_amount(text, row.wait)?;
+    text.extend_from_slice(b"\n")?;
+    Ok(())
+}

@@ -1,0 +1,16 @@
+ghost use Rattle.std.specs.Prelude.{◌≡◌, ◌*◌, ◌≤◌, ◌^◌, length};
+ghost use Rattle.delay_report.specs.Report.{delay_of};
+
+use flow_model::Row;
+
+/// The waits of all cells, parts times steps.
+pub(crate) fn delay(rows: &[Row]) -> u128
+    ensures sum { result ≡ delay_of rows.now }
+    ensures most { result ≤ length rows.now * 2 ^ 64 }
+{
+    let mut sum = 0u128;
+    for row in rows {
+        sum += u128::from(row.wait);
+    }
+    sum
+}

@@ -1,0 +1,76 @@
+ghost use Rattle.std.specs.Prelude.{◌≡◌, ◌++◌, ◌<◌, ◌^◌, ℕ, List, codes, decimal, length, slice_index, OnOk};
+ghost use Rattle.delay_report.specs.Places.{ArePlaced};
+ghost use Rattle.delay_report.specs.Recorded.{recorded_count};
+ghost use Rattle.delay_report.specs.Regions.{AreNotesOf, HaveNotes, HaveRows};
+ghost use Rattle.delay_report.specs.Report.{amount_field, note_line, note_lines, step_lines};
+ghost use Rattle.region_step.specs.Recording.{recorded};
+ghost use Rattle.region_step.specs.declared.note.Note.{Note as NoteValue};
+
+use crate::amounts::put_amount;
+use crate::by_cell::ByCell;
+use itoa::Buffer;
+use network_file::{Cell, Net};
+use region_step::{Note, is_recorded};
+use signal_plan::NoMemory;
+
+/// Appends a line for each recorded step and each cell.
+pub(crate) fn put_note_lines(
+    text: &mut Vec<u8>,
+    net: &Net,
+    by_cell: &ByCell,
+    every: u64,
+) -> Result<(), NoMemory>
+    requires one_each { length by_cell.now.chart.now.cut ≡ length net.now.cells }
+    requires placed { ArePlaced by_cell.now.chart.now (length by_cell.now.chart.now.cut) by_cell.now.places.now }
+    requires rows { HaveRows by_cell.now.chart.now by_cell.now.regions.now }
+    requires notes { HaveNotes by_cell.now.chart.now by_cell.now.regions.now (recorded_count net.now.steps every) }
+    ensures { OnOk result ((note : ℕ → ℕ → NoteValue) → AreNotesOf by_cell.now.chart.now by_cell.now.regions.now (recorded net.now.steps every 0 net.now.steps) note →
+        text.new.items ≡ text.old.items ++ note_lines net.now.cells note (recorded net.now.steps every 0 net.now.steps)) }
+{
+    let mut k = 0;
+    for t in 0..net.steps + 1 {
+        if is_recorded(net.steps, every, t) {
+            put_step_lines(text, &net.cells, by_cell, k, t)?;
+            k += 1;
+        }
+    }
+    Ok(())
+}
+
+// Appends the lines of step `t`, the `k`-th recorded one.
+fn put_step_lines(
+    text: &mut Vec<u8>,
+    cells: &[Cell],
+    by_cell: &ByCell,
+    k: usize,
+    t: u64,
+) -> Result<(), NoMemory>
+    requires few { length cells.now < 2 ^ 32 }
+    requires one_each { length by_cell.now.chart.now.cut ≡ length cells.now }
+    requires placed { ArePlaced by_cell.now.chart.now (length by_cell.now.chart.now.cut) by_cell.now.places.now }
+    requires rows { HaveRows by_cell.now.chart.now by_cell.now.regions.now }
+    requires notes { (steps : ℕ) × (k < steps) × HaveNotes by_cell.now.chart.now by_cell.now.regions.now steps }
+    ensures { OnOk result ((recorded : List ℕ) (note : ℕ → ℕ → NoteValue) → k < length recorded → slice_index recorded k ≡ t →
+        AreNotesOf by_cell.now.chart.now by_cell.now.regions.now recorded note →
+        text.new.items ≡ text.old.items ++ step_lines cells.now (note t) t) }
+{
+    for (i, cell) in cells.iter().enumerate() {
+        put_note_line(text, t, cell, by_cell.note(k, i as u32))?;
+    }
+    Ok(())
+}
+
+#[tactic(auto, unfolding(crate::specs::Report::note_line))]
+fn put_note_line(text: &mut Vec<u8>, t: u64, cell: &Cell, note: Note) -> Result<(), NoMemory>
+    ensures { OnOk result (text.new.items ≡ text.old.items ++ note_line t cell.now.name note) }
+{
+    let mut digits = Buffer::new();
+    text.extend_from_slice(b"at,")?;
+    text.extend_from_slice(digits.format(t).as_bytes())?;
+    text.extend_from_slice(b",")?;
+    text.extend_from_slice(cell.name.bytes())?;
+    put_amount(text, note.n)?;
+    put_amount(text, note.gone)?;
+    text.extend_from_slice(b"\n")?;
+    Ok(())
+}

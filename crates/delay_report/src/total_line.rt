@@ -1,0 +1,34 @@
+ghost use Rattle.std.specs.Prelude.{◌≡◌, ◌++◌, length, codes, OnOk};
+ghost use Rattle.delay_report.specs.Report.{total_line, totals};
+
+use crate::amounts::put_sum;
+use crate::delay::delay;
+use flow_ledger::books;
+use flow_model::Row;
+use network_file::Net;
+use signal_plan::NoMemory;
+
+/// Appends the line of the totals: what is inside, what has entered and left, and the delay.
+#[tactic(auto, unfolding(crate::specs::Report::total_line))]
+pub(crate) fn put_total_line(text: &mut Vec<u8>, net: &Net, rows: &[Row]) -> Result<(), NoMemory>
+    requires { length rows.now ≡ length net.now.cells }
+    ensures { OnOk result (text.new.items ≡ text.old.items ++ total_line net.now rows.now) }
+{
+    text.extend_from_slice(b"total")?;
+    put_totals(text, net, rows)?;
+    text.extend_from_slice(b"\n")?;
+    Ok(())
+}
+
+fn put_totals(text: &mut Vec<u8>, net: &Net, rows: &[Row]) -> Result<(), NoMemory>
+    requires { length rows.now ≡ length net.now.cells }
+    ensures { OnOk result (text.new.items ≡ text.old.items ++ totals net.now rows.now) }
+{
+    let _steps = net.steps;
+    let books = books(net, rows);
+    put_sum(text, books.inside)?;
+    put_sum(text, books.entered)?;
+    put_sum(text, books.left)?;
+    put_sum(text, delay(rows) as i128)?;
+    Ok(())
+}
