@@ -16,9 +16,10 @@ use Rattle.flow_model.specs.declared.carried.Flow.{Flow}
 use Rattle.flow_model.specs.declared.row.Row.{Row}
 use Rattle.flow_model.proofs.CellFlows.{inflow-by, inflow-none, outflow-by, outflow-none}
 use Rattle.flow_model.proofs.CellKinds.{sound_connector}
+use Rattle.region_cut.specs.ConnectorCells.{three_cells}
 use Rattle.region_step.specs.Advance.{known}
 use Rattle.region_step.specs.Carrying.{AreApart, CanCarry, IsChangeOf, IsScene, IsThere, carried_of, change_at, held_at, moved_by}
-use Rattle.region_step.specs.Layout.{IsPlaceOf, IsTie, place_at, three_cells}
+use Rattle.region_step.specs.Layout.{IsPlaceOf, IsTie, place_at}
 use Rattle.region_step.specs.declared.change.Change.{Change}
 use Rattle.region_step.specs.declared.place.Place.{Place}
 use Rattle.region_step.specs.declared.place.Place.TheVariants.{Own, Halo}
