@@ -65,10 +65,6 @@ entered_by-take-le net t n i k = elim (cases_Bool (is_gate_at net.cells i)) [
 
 -- one cell more of a connector
 
-amount_for-none : (i : ℕ) (cells : List ℕ) → amount_for i cells [] ≡ 0
-amount_for-none i [] = refl
-amount_for-none i (cell ∷ cells) = refl
-
 amount_for-more : (i : ℕ) (cells amounts : List ℕ) (j : ℕ) → j < length cells → j < length amounts →
     amount_for i (take (j + 1) cells) amounts ≡
     amount_for i (take j cells) amounts + (if i == get_or cells j 0 then get_or amounts j 0 else 0)

@@ -3,7 +3,7 @@ use Rattle.std.specs.Prelude.{slice_get, All, Option, Some, None}
 use Rattle.std.specs.Option.{option_map_or}
 use Rattle.std.proofs.Common.{◌≡◌, ℕ, ◌<◌, ◌⊎◌, inl, inr, true, false, List, length, get_or, arith, refl, sym, subst, ap, ◌∙◌}
 use Rattle.std.proofs.lemmas.List.{get_or_default}
-use Rattle.std.proofs.lemmas.Option.{slice_get_cases, slice_get_read, slice_get_within, get_or_from_slice_get}
+use Rattle.std.proofs.lemmas.Option.{slice_get_cases, slice_get_within, get_or_from_slice_get}
 use Rattle.network_file.specs.Cells.{is_road, is_gate, is_exit, is_gate_at, is_exit_at}
 use Rattle.network_file.specs.Connectors.{connector_at}
 use Rattle.network_file.specs.Network.{Network, IsNetwork, IsSoundConnector}
@@ -18,12 +18,6 @@ use Rattle.flow_model.specs.Bounds.{is_road_at}
 pub cell_at : (cells : List Cell) (i : ℕ) → i < length cells → (cell : Cell) × (slice_get cells i ≡ Some cell)
 cell_at cells i has =
     elim ((slice_get_cases cells i).1) [ inl here ↦ (here.0, here.2) | inr past ↦ absurd (omega arith) ]
-
--- the cell that was read from these items
-pub read_cell : (items cells : List Cell) (i : ℕ) (cell : Cell) → items ≡ cells → i < length cells → cell ≡ get_or items i cell →
-    slice_get cells i ≡ Some cell
-read_cell items cells i cell same has read =
-    slice_get_read cells (length cells) i cell refl has (read ∙ ap (λ cs. get_or cs i cell) same)
 
 -- what holds of all holds of the one of this number
 pub All-at : {X : Type 0} (P : X → Type 0) (xs : List X) (i : ℕ) (x : X) → slice_get xs i ≡ Some x → All P xs → P x

@@ -15,23 +15,6 @@ use Rattle.flow_model.specs.declared.row.Row.{Row}
 use Rattle.signal_plan.proofs.Sums.{sum_by-same}
 use Rattle.flow_model.proofs.Connectors.{leaving-other, entering-other}
 
--- occupancies that agree at these cells
-map_agree : (n m : ℕ → ℕ) (cells : List ℕ) → ((j : ℕ) → list_any (eqb j) cells ≡ true → n j ≡ m j) → map n cells ≡ map m cells
-map_agree n m [] agree = refl
-map_agree n m (cell ∷ cells) agree =
-    let own : list_any (eqb cell) (cell ∷ cells) ≡ true = rw (eq-eqb cell cell refl) refl in
-    let here = agree cell own in
-    let rest = map_agree n m cells (λ j listed. agree j (or_true (eqb j cell) (list_any (eqb j) cells) listed)) in
-    cc
-  where
-    or_true : (a b : Bool) → b ≡ true → (a || b) ≡ true
-    or_true true b right = refl
-    or_true false b right = right
-
-flow_of-agree : (net : Network) (t : ℕ) (n m : ℕ → ℕ) (connector : Connector) → ((j : ℕ) → touches j connector ≡ true → n j ≡ m j) →
-    flow_of net t n connector ≡ flow_of net t m connector
-flow_of-agree net t n m connector agree = ap (flow_between net t connector) (map_agree n m (cells_of connector) agree)
-
 or_left : (a b : Bool) → a ≡ true → (a || b) ≡ true
 or_left true b left = refl
 or_left false b left = cc
@@ -40,13 +23,26 @@ or_right : (a b : Bool) → b ≡ true → (a || b) ≡ true
 or_right true b right = refl
 or_right false b right = right
 
+-- occupancies that agree at these cells
+map_agree : (n m : ℕ → ℕ) (cells : List ℕ) → ((j : ℕ) → list_any (eqb j) cells ≡ true → n j ≡ m j) → map n cells ≡ map m cells
+map_agree n m [] agree = refl
+map_agree n m (cell ∷ cells) agree =
+    let own : list_any (eqb cell) (cell ∷ cells) ≡ true = rw (eq-eqb cell cell refl) refl in
+    let here = agree cell own in
+    let rest = map_agree n m cells (λ j listed. agree j (or_right (eqb j cell) (list_any (eqb j) cells) listed)) in
+    cc
+
+flow_of-agree : (net : Network) (t : ℕ) (n m : ℕ → ℕ) (connector : Connector) → ((j : ℕ) → touches j connector ≡ true → n j ≡ m j) →
+    flow_of net t n connector ≡ flow_of net t m connector
+flow_of-agree net t n m connector agree = ap (flow_between net t connector) (map_agree n m (cells_of connector) agree)
+
 -- a cell that a connector leads out of or into is one of its own
-leads_out_of-touches : (i : ℕ) (connector : Connector) → leads_out_of i connector ≡ true → touches i connector ≡ true
+pub leads_out_of-touches : (i : ℕ) (connector : Connector) → leads_out_of i connector ≡ true → touches i connector ≡ true
 leads_out_of-touches i connector out =
     list_any-append (eqb i) (upstream_of connector) (downstream_of connector) ∙
     or_left (leads_out_of i connector) (leads_into i connector) out
 
-leads_into-touches : (i : ℕ) (connector : Connector) → leads_into i connector ≡ true → touches i connector ≡ true
+pub leads_into-touches : (i : ℕ) (connector : Connector) → leads_into i connector ≡ true → touches i connector ≡ true
 leads_into-touches i connector into =
     list_any-append (eqb i) (upstream_of connector) (downstream_of connector) ∙
     or_right (leads_out_of i connector) (leads_into i connector) into

@@ -43,10 +43,6 @@ pub rows_by-done : (net : Network) (t k : ℕ) (rows now : List Row) → length 
 rows_by-done net t k rows now past is =
     is ∙ ap (λ connectors. rows_by connectors net t rows) (take_all k net.connectors past)
 
-pub state_at-zero : (net : Network) → state_at net 0 ≡ map first_row net.cells
-unfolding state_at
-state_at-zero net = refl
-
 -- the recurrence
 pub state_at-next : (net : Network) (t : ℕ) → state_at net (t + 1) ≡ next_rows net t (state_at net t)
 unfolding state_at

@@ -2,11 +2,11 @@
 use Rattle.std.specs.Prelude.{◌==◌, ◌&&◌, slice_index}
 use Rattle.std.specs.List.{Contains, filter, position_or_len, range_with_len}
 use Rattle.std.specs.List.Sorted.{IsStrictlyIncreasing}
-use Rattle.std.proofs.Common.{◌≡◌, ◌≢◌, ℕ, ◌<◌, true, List, [], ◌∷◌, length, map, get_or, refl, sym, ap, subst, ◌∙◌, arith}
+use Rattle.std.proofs.Common.{◌≡◌, ℕ, ◌<◌, true, List, [], ◌∷◌, length, map, get_or, refl, sym, ap, subst, ◌∙◌, arith}
 use Rattle.std.proofs.lemmas.Bool.{eq-eqb, eqb-true}
 use Rattle.std.proofs.lemmas.List.{get_or-map, get_or_default, length-map}
-use Rattle.network_file.specs.Connectors.{are_joined, connector_at}
-use Rattle.network_file.specs.Network.{IsNetwork, Network}
+use Rattle.network_file.specs.Connectors.{connector_at}
+use Rattle.network_file.specs.Network.{Network}
 use Rattle.region_cut.specs.Chart.{border_of, cells_in, connectors_of, halo_at, halo_of, neighbours_of}
 use Rattle.region_cut.specs.Cuttings.{region_at, region_count}
 use Rattle.region_cut.specs.Joins.{are_neighbours, is_border, is_halo, touches_region}
@@ -14,7 +14,6 @@ use Rattle.region_cut.specs.declared.halo.Halo.{Halo}
 use Rattle.region_cut.proofs.Anys.{both, first_of_both, second_of_both}
 use Rattle.region_cut.proofs.Cuttings.{at-le-greatest}
 use Rattle.region_cut.proofs.Increasing.{position_is}
-use Rattle.region_cut.proofs.Meetings.{joined-halo, joined-neighbours, joined-there}
 use Rattle.region_cut.proofs.Ranges.{Contains-filter_range, filter_range-Contains, filter_range-increasing}
 
 -- the region of a cell is one of the regions
@@ -32,10 +31,6 @@ unfolding cells_in
 Contains-cells_in net cut r i has =
     let here = Contains-filter_range (λ j. region_at cut j == r) (length net.cells) i has in
     (here.0, eqb-true (region_at cut i) r here.1)
-
--- each cell is in the list of its region
-pub cells_in-own : (net : Network) (cut : List ℕ) (i : ℕ) → i < length net.cells → Contains (cells_in net cut (region_at cut i)) i
-cells_in-own net cut i there = cells_in-Contains net cut (region_at cut i) i there refl
 
 pub cells_in-increasing : (net : Network) (cut : List ℕ) (r : ℕ) → IsStrictlyIncreasing (cells_in net cut r)
 unfolding cells_in
@@ -135,15 +130,3 @@ place-in xs i up has =
     let stands : get_or xs has.0 0 ≡ i = get_or_default xs has.0 0 i has.1 ∙ has.2 in
     let place : position_or_len (λ j. j == i) xs ≡ has.0 = position_is xs has.0 i up has.1 stands in
     (rw place has.1, rw place stands)
-
--- cells that share a connector and are of different regions: the regions are neighbours, and each cell is in the other's halo
-
-pub joined-neighbour : (net : Network) (cut : List ℕ) (i j : ℕ) → are_joined net.connectors i j ≡ true → region_at cut j ≢ region_at cut i →
-    Contains (neighbours_of net cut (region_at cut i)) (region_at cut j)
-joined-neighbour net cut i j joined differ =
-    neighbours_of-Contains net cut (region_at cut i) (region_at cut j) (region_at-there cut j) (joined-neighbours net.connectors cut i j joined differ)
-
-pub joined-in_halo : (net : Network) (cut : List ℕ) (i j : ℕ) → IsNetwork net → are_joined net.connectors i j ≡ true → region_at cut j ≢ region_at cut i →
-    Contains (halo_of net cut (region_at cut i)) (halo_at net cut j)
-joined-in_halo net cut i j sound joined differ =
-    halo_of-Contains net cut (region_at cut i) j (joined-there net i j sound joined).1 (joined-halo net.connectors cut i j joined differ)

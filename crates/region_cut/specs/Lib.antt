@@ -1,4 +1,5 @@
 pub mod Cuttings
+pub mod ConnectorCells
 pub mod CutFaults
 pub mod Joins
 pub mod Chart

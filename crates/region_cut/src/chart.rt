@@ -67,13 +67,6 @@ impl Chart {
         })
     }
 
-    /// The region of each cell.
-    pub fn cut(&self) -> &[u32]
-        ensures { result.now ≡ self.now.cut }
-    {
-        self.cut.regions()
-    }
-
     /// How many regions there are.
     pub fn regions(&self) -> u32
         ensures count { result ≡ region_count self.now.cut }

@@ -1,12 +1,14 @@
 ghost use Rattle.std.specs.Prelude.{◌≡◌, ℕ, Bool};
 ghost use Rattle.std.specs.List.{list_any};
 ghost use Rattle.network_file.specs.Connectors.{cells_of};
+ghost use Rattle.region_cut.specs.ConnectorCells.{three_cells};
 
 use network_file::Connector;
 
-/// The cells of a connector; that of a link downstream stands twice.
-pub(crate) fn three_cells(connector: Connector) -> [u32; 3]
-    ensures { (test : ℕ → Bool) → list_any test result ≡ list_any test (cells_of connector) }
+/// The cells of a connector, in the order of its fields; that of a link downstream stands twice.
+pub fn three_cells(connector: Connector) -> [u32; 3]
+    ensures cells { result ≡ three_cells connector }
+    ensures same { (test : ℕ → Bool) → list_any test result ≡ list_any test (cells_of connector) }
 {
     match connector {
         Connector::Link { up, down } => [up, down, down],

@@ -22,6 +22,7 @@ mod neighbours;
 mod ordered;
 
 pub use chart::Chart;
+pub use connector_cells::three_cells;
 pub use cut::Cut;
 pub use fault::{CutFault, CutRefusal};
 pub use halo::Halo;

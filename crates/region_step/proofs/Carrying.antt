@@ -1,12 +1,12 @@
 -- After all its connectors each of a region's cells has the change of the recurrences.
-use Rattle.std.specs.Prelude.{All, eqb, ◌⊎◌, ◌||◌, Bool, Option, map, slice_index, if◌then◌else◌}
+use Rattle.std.specs.Prelude.{All, ◌⊎◌, Bool, Option, map, slice_index, if◌then◌else◌}
 use Rattle.std.specs.List.{Contains, list_any}
 use Rattle.std.proofs.Common.{◌≡◌, ℕ, zero, suc, ◌<◌, ◌+◌, inl, inr, true, false, List, [], ◌∷◌, length, get_or, refl, sym, ap, ◌∙◌, arith}
 use Rattle.std.proofs.lemmas.Bool.{cases_Bool, cases_lt}
 use Rattle.std.proofs.lemmas.List.{get_or-map, get_or_default, length-map}
 use Rattle.std.proofs.lemmas.List.Elements.{Contains-get_or}
-use Rattle.std.proofs.lemmas.List.Folds.{Any-from_list_any, list_any-append}
-use Rattle.network_file.specs.Connectors.{cells_of, connector_at, downstream_of, leads_into, leads_out_of, touches, upstream_of}
+use Rattle.std.proofs.lemmas.List.Folds.{Any-from_list_any}
+use Rattle.network_file.specs.Connectors.{cells_of, connector_at, leads_into, leads_out_of, touches}
 use Rattle.network_file.specs.Network.{Network}
 use Rattle.network_file.specs.declared.connector.Connector.{Connector}
 use Rattle.network_file.specs.declared.connector.Connector.TheVariants.{Link, Merge, Diverge}
@@ -16,9 +16,11 @@ use Rattle.flow_model.specs.declared.carried.Flow.{Flow}
 use Rattle.flow_model.specs.declared.row.Row.{Row}
 use Rattle.flow_model.proofs.CellFlows.{inflow-by, inflow-none, outflow-by, outflow-none}
 use Rattle.flow_model.proofs.CellKinds.{sound_connector}
+use Rattle.flow_model.proofs.Locality.{leads_into-touches, leads_out_of-touches}
+use Rattle.region_cut.specs.ConnectorCells.{three_cells}
 use Rattle.region_step.specs.Advance.{known}
 use Rattle.region_step.specs.Carrying.{AreApart, CanCarry, IsChangeOf, IsScene, IsThere, carried_of, change_at, held_at, moved_by}
-use Rattle.region_step.specs.Layout.{IsPlaceOf, IsTie, place_at, three_cells}
+use Rattle.region_step.specs.Layout.{IsPlaceOf, IsTie, place_at}
 use Rattle.region_step.specs.declared.change.Change.{Change}
 use Rattle.region_step.specs.declared.place.Place.{Place}
 use Rattle.region_step.specs.declared.place.Place.TheVariants.{Own, Halo}
@@ -125,22 +127,6 @@ by-more net t n numbers leads moves j before after by is = elim (cases_Bool (lea
       ]
 ]
 
-or_left : (a b : Bool) → a ≡ true → (a || b) ≡ true
-or_left true b left = refl
-or_left false b left = cc
-
-or_right : (a b : Bool) → b ≡ true → (a || b) ≡ true
-or_right true b right = refl
-or_right false b right = right
-
-out-touches : (i : ℕ) (connector : Connector) → leads_out_of i connector ≡ true → touches i connector ≡ true
-out-touches i connector out =
-    list_any-append (eqb i) (upstream_of connector) (downstream_of connector) ∙ or_left (leads_out_of i connector) (leads_into i connector) out
-
-into-touches : (i : ℕ) (connector : Connector) → leads_into i connector ≡ true → touches i connector ≡ true
-into-touches i connector into =
-    list_any-append (eqb i) (upstream_of connector) (downstream_of connector) ∙ or_right (leads_out_of i connector) (leads_into i connector) into
-
 -- where none of the region's connectors leads to an own cell, none of the network does
 none-leads : (net : Network) (t : ℕ) (cells halo : List ℕ) (ties : List Tie) (rows : List Row) (put : List (Option ℕ)) (i : ℕ) (leads : Connector → Bool) →
     IsScene net t cells halo ties rows put → Contains cells i → ((c : Connector) → leads c ≡ true → touches i c ≡ true) →
@@ -216,10 +202,10 @@ changed-all net t cells halo ties rows put p changes scene within all =
     record {
       leaves = elim (all p within).0 [
         | inl (m, before, out, is) ↦ is ∙ sym (outflow-by net t (slice_index numbers m) i n scene.sound (numbers-there net cells halo ties m scene.tied before) out)
-        | inr (none, is) ↦ is ∙ sym (outflow-none net t i n (none-leads net t cells halo ties rows put i (leads_out_of i) scene own (out-touches i) none))
+        | inr (none, is) ↦ is ∙ sym (outflow-none net t i n (none-leads net t cells halo ties rows put i (leads_out_of i) scene own (leads_out_of-touches i) none))
       ];
       enters = λ no_gate. elim (all p within).1 [
         | inl (m, before, into, is) ↦ is ∙ sym (inflow-by net t (slice_index numbers m) i n scene.sound (numbers-there net cells halo ties m scene.tied before) into no_gate)
-        | inr (none, is) ↦ is ∙ sym (inflow-none net t i n (none-leads net t cells halo ties rows put i (leads_into i) scene own (into-touches i) none) no_gate)
+        | inr (none, is) ↦ is ∙ sym (inflow-none net t i n (none-leads net t cells halo ties rows put i (leads_into i) scene own (leads_into-touches i) none) no_gate)
       ];
     }

@@ -9,8 +9,9 @@ use Rattle.network_file.specs.declared.connector.Connector.{Connector}
 use Rattle.network_file.specs.declared.connector.Connector.TheVariants.{Link, Merge, Diverge}
 use Rattle.flow_model.specs.Flows.{entering, leaving}
 use Rattle.flow_model.specs.declared.carried.Flow.{Flow}
+use Rattle.region_cut.specs.ConnectorCells.{three_cells}
 use Rattle.region_step.specs.Carrying.{AreApart, change_at, moved_by, no_change, with_entering, with_leaving}
-use Rattle.region_step.specs.Layout.{IsPlaceOf, place_at, three_cells}
+use Rattle.region_step.specs.Layout.{IsPlaceOf, place_at}
 use Rattle.region_step.specs.declared.change.Change.{Change}
 use Rattle.region_step.specs.declared.place.Place.{Place}
 use Rattle.region_step.specs.declared.place.Place.TheVariants.{Own, Halo}

@@ -213,10 +213,6 @@ pub grid_state-rows : (net : Network) (chart : ChartLists) (start : StartLists) 
 unfolding grid_state grid_rows
 grid_state-rows net chart start every r t = refl
 
-pub grid_state-before : (net : Network) (chart : ChartLists) (start : StartLists) (every r t : ℕ) → (grid_state net chart start every r t).before ≡ map (grid_before net chart.cut start t) (list_at chart.cells r)
-unfolding grid_state
-grid_state-before net chart start every r t = refl
-
 pub grid_state-put : (net : Network) (chart : ChartLists) (start : StartLists) (every r t : ℕ) → (grid_state net chart start every r t).put ≡ replicate (length (list_at chart.halo r)) None
 unfolding grid_state
 grid_state-put net chart start every r t = refl

@@ -12,6 +12,7 @@ use Rattle.network_file.specs.Network.{IsNetwork, Network}
 use Rattle.network_file.specs.declared.connector.Connector.{Connector}
 use Rattle.network_file.specs.declared.connector.Connector.TheVariants.{Link, Merge, Diverge}
 use Rattle.region_cut.specs.Chart.{ChartLists, border_of, cells_in, chart_of, connectors_of, halo_at, halo_of, list_at}
+use Rattle.region_cut.specs.ConnectorCells.{three_cells}
 use Rattle.region_cut.specs.Cuttings.{region_at, region_count}
 use Rattle.region_cut.specs.Joins.{is_halo}
 use Rattle.region_cut.specs.declared.halo.Halo.{Halo}
@@ -21,7 +22,6 @@ use Rattle.region_cut.proofs.ConnectorCells.{few_cells, touches-there}
 use Rattle.region_cut.proofs.Meetings.{halo-by, halo-from, touches-touches_region}
 use Rattle.region_cut.proofs.Membership.{Contains-border_of, Contains-cells_in, Contains-connectors_of, Contains-halo_of, cells_in-Contains, cells_in-increasing, connectors_of-Contains, halo_of-Contains, halo_of-increasing}
 use Rattle.region_step.specs.Carrying.{AreApart}
-use Rattle.region_step.specs.Layout.{three_cells}
 use Rattle.region_step.specs.Opened.{halo_cells}
 use Rattle.region_step.specs.Ties.{AreKnown, IsKnown}
 

@@ -1,9 +1,8 @@
 -- What a region's body finds out about its network when it is opened, and what holds of it.
-use Rattle.std.specs.Prelude.{◌≡◌, ℕ, ◌<◌, All, List, [], ◌∷◌, length, map, slice_index, slice_index_or}
+use Rattle.std.specs.Prelude.{◌≡◌, ℕ, ◌<◌, All, List, length, map, slice_index, slice_index_or}
 use Rattle.network_file.specs.Connectors.{connector_at}
 use Rattle.network_file.specs.Network.{Network}
-use Rattle.network_file.specs.declared.connector.Connector.{Connector}
-use Rattle.network_file.specs.declared.connector.Connector.TheVariants.{Link, Merge, Diverge}
+use Rattle.region_cut.specs.ConnectorCells.{three_cells}
 use Rattle.region_step.specs.declared.place.Place.{Place}
 use Rattle.region_step.specs.declared.place.Place.TheVariants.{Own, Halo}
 use Rattle.region_step.specs.declared.tie.Tie.{Tie}
@@ -20,12 +19,6 @@ pub record Layout : Type 0 where
 abbrev pub IsPlaceOf : (cells halo : List ℕ) → (i : ℕ) → Place → Type 0
 IsPlaceOf cells halo i (Own p) = (p < length cells) × (slice_index cells p ≡ i)
 IsPlaceOf cells halo i (Halo p) = (p < length halo) × (slice_index halo p ≡ i)
-
--- three cells of a connector, in the order of its fields; that of a link downstream stands twice
-abbrev pub three_cells : Connector → List ℕ
-three_cells (Link up down) = up ∷ down ∷ down ∷ []
-three_cells (Merge up1 up2 down p1 p2) = up1 ∷ up2 ∷ down ∷ []
-three_cells (Diverge up down1 down2 b1 b2) = up ∷ down1 ∷ down2 ∷ []
 
 -- the place of the m-th of a tie's cells
 abbrev pub place_at : Tie → (m : ℕ) → Place

@@ -2,7 +2,7 @@
 use Rattle.std.specs.Prelude.{ℕ, ◌<◌, ◌⊎◌, List, slice_index}
 use Rattle.std.specs.List.{Contains}
 use Rattle.network_file.specs.declared.connector.Connector.{Connector}
-use Rattle.region_step.specs.Layout.{three_cells}
+use Rattle.region_cut.specs.ConnectorCells.{three_cells}
 
 abbrev pub IsKnown : (cells halo : List ℕ) → (i : ℕ) → Type 0
 IsKnown cells halo i = Contains cells i ⊎ Contains halo i

@@ -1,12 +1,12 @@
 ghost use Rattle.std.specs.Prelude.{◌≡◌, ◌<◌, ◌^◌, All, IfOk, length};
 ghost use Rattle.std.specs.List.Sorted.{IsStrictlyIncreasing};
 ghost use Rattle.network_file.specs.Connectors.{connector_at};
-ghost use Rattle.region_step.specs.Layout.{AreTies, IsPlaceOf, IsTie, three_cells};
+ghost use Rattle.region_step.specs.Layout.{AreTies, IsPlaceOf, IsTie};
 ghost use Rattle.region_step.specs.Ties.{AreKnown, IsKnown};
 
 use crate::place::Place;
-use network_file::{Connector, Net};
-use region_cut::place;
+use network_file::Net;
+use region_cut::{place, three_cells};
 use signal_plan::NoMemory;
 use std::alloc::Global;
 
@@ -60,22 +60,6 @@ fn tied(net: &Net, k: u32, cells: &[u32], halo: &[u32]) -> Tie
             place_of(b, cells, halo),
             place_of(c, cells, halo),
         ],
-    }
-}
-
-// Three cells of a connector, in the order of its fields; that of a link downstream stands twice.
-fn three_cells(connector: Connector) -> [u32; 3]
-    ensures { result ≡ three_cells connector }
-{
-    match connector {
-        Connector::Link { up, down } => [up, down, down],
-        Connector::Merge { up1, up2, down, .. } => [up1, up2, down],
-        Connector::Diverge {
-            up,
-            down1,
-            down2,
-            ..
-        } => [up, down1, down2],
     }
 }
 

@@ -1,11 +1,10 @@
 -- A region that may rise is taken through a step, and the others stay where they stand; after a sweep all stand a step on.
-use Rattle.std.specs.Prelude.{◌==◌, replicate, slice_index, slice_set}
-use Rattle.std.specs.List.{Contains, position_or_len}
+use Rattle.std.specs.Prelude.{replicate, slice_index, slice_set}
+use Rattle.std.specs.List.{Contains}
 use Rattle.std.proofs.Common.{◌≡◌, ◌≢◌, ℕ, ◌<◌, ◌≤◌, ◌+◌, true, inl, inr, List, [], ◌∷◌, ◌++◌, length, get_or, set, refl, sym, ap, subst, ◌∙◌, arith}
 use Rattle.std.proofs.lemmas.Bool.{cases_eq, cases_lt}
-use Rattle.std.proofs.lemmas.List.{ext_get_or, get_or-replicate, get_or-set_other, get_or-set_same, length-map, length-replicate, length-set}
-use Rattle.network_file.specs.Network.{IsNetwork, Network}
-use Rattle.flow_model.specs.State.{row_at, state_at}
+use Rattle.std.proofs.lemmas.List.{ext_get_or, get_or-replicate, get_or-set_other, get_or-set_same, length-replicate, length-set}
+use Rattle.network_file.specs.Network.{Network}
 use Rattle.region_cut.specs.Chart.{ChartLists, chart_of, list_at}
 use Rattle.region_cut.specs.Cuttings.{region_at, region_count}
 use Rattle.region_cut.specs.Joins.{are_neighbours}
@@ -13,47 +12,46 @@ use Rattle.region_cut.specs.LawfulSteps.{AreLawful}
 use Rattle.region_cut.specs.declared.halo.Halo.{Halo}
 use Rattle.region_cut.proofs.ChartParts.{chart-halo}
 use Rattle.region_cut.proofs.Meetings.{halo-neighbours, neighbours-sym}
-use Rattle.region_cut.proofs.Membership.{Contains-halo_of, place-in, region_at-there}
-use Rattle.region_step.specs.Grid.{grid_row}
+use Rattle.region_cut.proofs.Membership.{Contains-halo_of, region_at-there}
 use Rattle.region_step.specs.Region.{RegionValue}
+use Rattle.region_step.specs.Standing.{AllStand, Stands}
 use Rattle.region_step.specs.Start.{zero_start}
-use Rattle.region_step.proofs.Grids.{are_the_recurrences}
-use Rattle.region_step.proofs.GridStates.{grid_state-rows}
-use Rattle.region_step.proofs.Ground.{ground}
-use Rattle.region_step.proofs.StartLaws.{zero_start-lawful, zero_start-true}
-use Rattle.region_step.proofs.Steps.{row-grid, zero_start-at}
 use Rattle.step_words.specs.Rising.{CanRise}
-use Rattle.region_sweeps.specs.Standing.{AllStand, Stands, StandsNear}
+use Rattle.region_sweeps.specs.Standing.{StandsNear}
+
+-- region r at its step
+pub stands-at : (net : Network) (chart : ChartLists) (every : ℕ) (steps : List ℕ) (regions : List RegionValue) (r : ℕ) (region : RegionValue) → r < region_count chart.cut →
+    AllStand net chart (zero_start net chart.cut) every steps regions → Stands net chart (zero_start net chart.cut) every r (slice_index steps r) (get_or regions r region)
+stands-at net chart every steps regions r region within stand = stand.each r region (omega (arith, stand.one_each, within))
 
 -- the regions around one that may rise stand at its step or one step ahead
-pub around-near : (net : Network) (chart : ChartLists) (steps : List ℕ) (regions : List RegionValue) (r : ℕ) (other : Halo) (region : RegionValue) → chart ≡ chart_of net chart.cut → r < region_count chart.cut →
-    AreLawful net chart.cut steps → AllStand net chart steps regions → CanRise net chart.cut steps r → Contains (list_at chart.halo r) other →
-    StandsNear net chart other.region (slice_index steps r) (get_or regions other.region region)
-around-near net chart steps regions r other region is within lawful stand can listed =
+pub around-near : (net : Network) (chart : ChartLists) (every : ℕ) (steps : List ℕ) (regions : List RegionValue) (r : ℕ) (other : Halo) (region : RegionValue) → chart ≡ chart_of net chart.cut → r < region_count chart.cut →
+    AreLawful net chart.cut steps → AllStand net chart (zero_start net chart.cut) every steps regions → CanRise net chart.cut steps r → Contains (list_at chart.halo r) other →
+    StandsNear net chart every other.region (slice_index steps r) (get_or regions other.region region)
+around-near net chart every steps regions r other region is within lawful stand can listed =
     let t : ℕ = slice_index steps r in
     let q : ℕ = other.region in
     let met = Contains-halo_of net chart.cut r other (subst (λ list. Contains list other) (chart-halo net chart.cut chart r is within) listed) in
     let at : q ≡ region_at chart.cut other.cell = ap (λ halo. halo.region) met.2 in
     let near : are_neighbours net.connectors chart.cut r q ≡ true = rw at (halo-neighbours net.connectors chart.cut r other.cell met.1) in
     let region_there : q < region_count chart.cut = rw at (region_at-there chart.cut other.cell) in
-    let there : q < length regions = omega (arith, stand.one_each, region_there) in
     let lowest : t ≤ slice_index steps q = can.lowest q near in
     let close : slice_index steps q ≤ t + 1 = lawful.close q r (neighbours-sym net.connectors chart.cut r q near) in
-    let stands = stand.each q region there in
+    let stands = stands-at net chart every steps regions q region region_there stand in
     elim (cases_eq (slice_index steps q) t) [
-      | inl same ↦ inl (subst (λ s. Stands net chart q s (get_or regions q region)) same stands)
-      | inr other_step ↦ inr (subst (λ s. Stands net chart q s (get_or regions q region)) (ahead (slice_index steps q) t lowest close other_step) stands)
+      | inl same ↦ inl (subst (λ s. Stands net chart (zero_start net chart.cut) every q s (get_or regions q region)) same stands)
+      | inr other_step ↦ inr (subst (λ s. Stands net chart (zero_start net chart.cut) every q s (get_or regions q region)) (ahead (slice_index steps q) t lowest close other_step) stands)
     ]
   where
     ahead : (s t : ℕ) → t ≤ s → s ≤ t + 1 → s ≢ t → s ≡ t + 1
     ahead s t low high other = elim (cases_lt t s) [ inl before ↦ omega (arith, before, high) | inr not_before ↦ absurd (other (omega (arith, low, not_before))) ]
 
 -- all regions once one has come to its next step
-pub stand-risen : (net : Network) (chart : ChartLists) (steps after : List ℕ) (regions told : List RegionValue) (r : ℕ) (region : RegionValue) → AllStand net chart steps regions → length steps ≡ region_count chart.cut →
+pub stand-risen : (net : Network) (chart : ChartLists) (every : ℕ) (steps after : List ℕ) (regions told : List RegionValue) (r : ℕ) (region : RegionValue) → AllStand net chart (zero_start net chart.cut) every steps regions → length steps ≡ region_count chart.cut →
     r < region_count chart.cut → after ≡ slice_set steps r (slice_index steps r + 1) → length told ≡ length regions →
-    ((q : ℕ) (d : RegionValue) → q ≢ r → get_or told q d ≡ get_or regions q d) → Stands net chart r (slice_index steps r + 1) region →
-    AllStand net chart after (set told r region)
-stand-risen net chart steps after regions told r region stand one_each within risen long others here =
+    ((q : ℕ) (d : RegionValue) → q ≢ r → get_or told q d ≡ get_or regions q d) → Stands net chart (zero_start net chart.cut) every r (slice_index steps r + 1) region →
+    AllStand net chart (zero_start net chart.cut) every after (set told r region)
+stand-risen net chart every steps after regions told r region stand one_each within risen long others here =
     let there : r < length told = omega (arith, long, stand.one_each, within) in
     record {
       one_each = length-set told r region ∙ long ∙ stand.one_each;
@@ -62,37 +60,13 @@ stand-risen net chart steps after regions told r region stand one_each within ri
             let step : slice_index after q ≡ slice_index steps r + 1 =
             ap (λ list. slice_index list q) risen ∙ ap (slice_index (slice_set steps r (slice_index steps r + 1))) own ∙ get_or-set_same steps r (slice_index steps r + 1) 0 (omega (arith, one_each, within)) in
             let row : get_or (set told r region) q d ≡ region = ap (λ p. get_or (set told r region) p d) own ∙ get_or-set_same told r region d there in
-            rw (step, row) (subst (λ p. Stands net chart p (slice_index steps r + 1) region) (sym own) here)
+            rw (step, row) (subst (λ p. Stands net chart (zero_start net chart.cut) every p (slice_index steps r + 1) region) (sym own) here)
         | inr other ↦
             let step : slice_index after q ≡ slice_index steps q = ap (λ list. slice_index list q) risen ∙ get_or-set_other steps r q (slice_index steps r + 1) 0 other in
             let row : get_or (set told r region) q d ≡ get_or regions q d = get_or-set_other told r q region d other ∙ others q d other in
             rw (step, row) (stand.each q d (omega (arith, inside, length-set told r region, long)))
       ];
     }
-
--- the row of a cell, from its region
-pub row-from_region : (net : Network) (chart : ChartLists) (regions : List RegionValue) (i q place : ℕ) (cells : List ℕ) (region : RegionValue) → IsNetwork net → chart ≡ chart_of net chart.cut →
-    AllStand net chart (replicate (region_count chart.cut) net.steps) regions → i < length net.cells → q ≡ region_at chart.cut i → region ≡ get_or regions q region →
-    cells ≡ list_at chart.cells q → place ≡ position_or_len (λ j. j == i) cells →
-    (place < length region.state.rows) × (row_at region.state.rows place ≡ row_at (state_at net net.steps) i)
-row-from_region net chart regions i q place cells region sound is stand there at read own found =
-    let within : q < region_count chart.cut = rw at (region_at-there chart.cut i) in
-    let stands = stand.each q region (omega (arith, stand.one_each, within)) in
-    let step : slice_index (replicate (region_count chart.cut) net.steps) q ≡ net.steps = get_or-replicate (region_count chart.cut) q net.steps 0 within in
-    let here : Stands net chart q net.steps region = rw (step, ← read) at stands in
-    let lists = ground net chart.cut chart q sound is within in
-    let has = lists.has i there (sym at) in
-    let listed = place-in (list_at chart.cells q) i lists.apart.rising has in
-    let is_place : place ≡ position_or_len (λ j. j == i) (list_at chart.cells q) = found ∙ ap (position_or_len (λ j. j == i)) own in
-    let inside : place < length (list_at chart.cells q) = rw is_place listed.0 in
-    let cell : slice_index (list_at chart.cells q) place ≡ i = rw is_place listed.1 in
-    let long : length region.state.rows ≡ length (list_at chart.cells q) =
-    ap (λ state. length state.rows) here.state ∙ ap length (grid_state-rows net chart (zero_start net chart.cut) 0 q net.steps) ∙ length-map (list_at chart.cells q) (grid_row net chart.cut (zero_start net chart.cut) net.steps) in (
-      omega (arith, inside, long),
-      ap (λ state. row_at state.rows place) here.state ∙ row-grid net chart (zero_start net chart.cut) 0 q net.steps place inside ∙
-          ap (grid_row net chart.cut (zero_start net chart.cut) net.steps) cell ∙
-          are_the_recurrences net chart.cut (zero_start net chart.cut) sound (zero_start-lawful net chart.cut) (zero_start-true net chart.cut) net.steps i there (omega (arith, zero_start-at net chart.cut (region_at chart.cut i))),
-    )
 
 -- what was pushed last
 pub pushed-at : {X : Type 0} (xs : List X) (x d : X) (k : ℕ) → k ≡ length xs → get_or (xs ++ x ∷ []) k d ≡ x

@@ -2,7 +2,9 @@ ghost use Rattle.std.specs.Prelude.{◌≡◌, ◌≢◌, ◌<◌, ◌≤◌, �
 ghost use Rattle.region_cut.specs.Chart.{chart_of, list_at};
 ghost use Rattle.region_cut.specs.Cuttings.{region_count};
 ghost use Rattle.region_step.specs.Region.{RegionValue};
-ghost use Rattle.region_sweeps.specs.Standing.{IsMet, IsTold, Stands, StandsNear, held};
+ghost use Rattle.region_step.specs.Standing.{Stands};
+ghost use Rattle.region_step.specs.Start.{zero_start};
+ghost use Rattle.region_sweeps.specs.Standing.{IsMet, IsTold, StandsNear, held};
 ghost use Rattle.std.specs.List.{Contains};
 ghost use Rattle.region_cut.specs.declared.halo.Halo.{Halo};
 
@@ -17,11 +19,13 @@ pub(crate) fn tell_halo(net: &Net, chart: &Chart, regions: &mut [Region], r: u32
     requires there { r < region_count chart.now.cut }
     requires one_each { length regions.old ≡ region_count chart.now.cut }
     requires in_time { t ≤ net.now.steps }
-    requires own { (region : RegionValue) → Stands net.now chart.now r t (slice_index_or regions.old r region) }
+    requires own { (region : RegionValue) → (every : ℕ) × Stands net.now chart.now (zero_start net.now chart.now.cut) every r t (slice_index_or regions.old r region) }
     requires around { (other : Halo) (region : RegionValue) → Contains (list_at chart.now.halo r) other →
-        StandsNear net.now chart.now other.region t (slice_index_or regions.old other.region region) }
+        (every : ℕ) × StandsNear net.now chart.now every other.region t (slice_index_or regions.old other.region region) }
     ensures one_each { length regions.new ≡ length regions.old }
-    ensures told { (region : RegionValue) → IsTold net.now chart.now r t (length (list_at chart.now.halo r)) (slice_index_or regions.new r region) }
+    ensures told { (every : ℕ) (region : RegionValue) →
+        Stands net.now chart.now (zero_start net.now chart.now.cut) every r t (slice_index_or regions.old r region) →
+        IsTold net.now chart.now every r t (length (list_at chart.now.halo r)) (slice_index_or regions.new r region) }
     ensures others { (q : ℕ) (region : RegionValue) → q ≢ r → slice_index_or regions.new q region ≡ slice_index_or regions.old q region }
 {
     let _steps = net.steps;
@@ -39,7 +43,7 @@ fn held_at(net: &Net, chart: &Chart, region: &Region, other: Halo, t: u64) -> u6
     requires chart { chart.now ≡ chart_of net.now chart.now.cut }
     requires met { (r : ℕ) × IsMet chart.now r other }
     requires in_time { t ≤ net.now.steps }
-    requires near { StandsNear net.now chart.now other.region t region.now }
+    requires near { (every : ℕ) × StandsNear net.now chart.now every other.region t region.now }
     ensures { result ≡ held net.now chart.now t other.cell }
 {
     let _steps = net.steps;

@@ -4,7 +4,7 @@
 //! rises by one step, is told what its halo holds, and is advanced. The sweeps take no memory.
 #![tactic(auto)]
 
-mod cutting;
+mod cut;
 mod halo;
 mod opening;
 mod run;
@@ -12,4 +12,5 @@ mod sweep;
 #[cfg(test)]
 mod tests;
 
-pub use run::last_rows;
+pub use cut::cutting;
+pub use run::last_regions;

@@ -1,7 +1,7 @@
 ghost use Rattle.std.specs.Prelude.{◌≡◌, IfOk};
 ghost use Rattle.region_cut.specs.Chart.{chart_of};
+ghost use Rattle.region_step.specs.Standing.{AllStand};
 ghost use Rattle.region_step.specs.Start.{zero_start};
-ghost use Rattle.region_sweeps.specs.Standing.{AllStand};
 
 use network_file::Net;
 use region_cut::Chart;
@@ -9,21 +9,22 @@ use region_step::{Region, Start};
 use signal_plan::NoMemory;
 use std::alloc::Global;
 
-/// All regions at step 0.
+/// All regions at step 0, recorded at each step that `every` divides.
 pub(crate) fn open_regions(
     alloc: Global,
     net: &Net,
     chart: &Chart,
     start: &Start,
+    every: u64,
 ) -> Result<Vec<Region>, NoMemory>
     requires chart { chart.now ≡ chart_of net.now chart.now.cut }
     requires start { start.now ≡ zero_start net.now chart.now.cut }
-    ensures { IfOk result (λ regions. AllStand net.now chart.now start.now.steps regions.items) }
+    ensures { IfOk result (λ regions. AllStand net.now chart.now start.now every start.now.steps regions.items) }
 {
     let _cells = &net.cells;
     let mut regions = Vec::new(alloc);
     for r in 0..chart.regions() {
-        regions.push(Region::open(alloc, net, chart, start, r, 0)?)?;
+        regions.push(Region::open(alloc, net, chart, start, r, every)?)?;
     }
     Ok(regions)
 }

@@ -1,9 +1,10 @@
-ghost use Rattle.std.specs.Prelude.{◌≡◌, ◌+◌, ◌<◌, length, replicate, slice_index, slice_set};
+ghost use Rattle.std.specs.Prelude.{◌≡◌, ℕ, ◌+◌, ◌<◌, replicate, slice_index, slice_set};
 ghost use Rattle.region_cut.specs.Chart.{chart_of};
 ghost use Rattle.region_cut.specs.Cuttings.{region_count};
 ghost use Rattle.region_cut.specs.LawfulSteps.{AreLawful};
 ghost use Rattle.step_words.specs.Rising.{CanRise};
-ghost use Rattle.region_sweeps.specs.Standing.{AllStand};
+ghost use Rattle.region_step.specs.Standing.{AllStand};
+ghost use Rattle.region_step.specs.Start.{zero_start};
 
 use crate::halo::tell_halo;
 use network_file::Net;
@@ -17,10 +18,11 @@ pub(crate) fn sweep(net: &Net, chart: &Chart, steps: &mut [u64], regions: &mut [
     requires in_time { t < net.now.steps }
     requires steps { steps.old ≡ replicate (region_count chart.now.cut) t }
     requires lawful { AreLawful net.now chart.now.cut steps.old }
-    requires stand { AllStand net.now chart.now steps.old regions.old }
+    requires stand { (every : ℕ) × AllStand net.now chart.now (zero_start net.now chart.now.cut) every steps.old regions.old }
     ensures steps { steps.new ≡ replicate (region_count chart.now.cut) (t + 1) }
     ensures lawful { AreLawful net.now chart.now.cut steps.new }
-    ensures stand { AllStand net.now chart.now steps.new regions.new }
+    ensures stand { (every : ℕ) → AllStand net.now chart.now (zero_start net.now chart.now.cut) every steps.old regions.old →
+        AllStand net.now chart.now (zero_start net.now chart.now.cut) every steps.new regions.new }
 {
     for r in 0..chart.regions() {
         step_region(net, chart, steps, regions, r);
@@ -32,10 +34,11 @@ fn step_region(net: &Net, chart: &Chart, steps: &mut [u64], regions: &mut [Regio
     requires chart { chart.now ≡ chart_of net.now chart.now.cut }
     requires there { r < region_count chart.now.cut }
     requires lawful { AreLawful net.now chart.now.cut steps.old }
-    requires stand { AllStand net.now chart.now steps.old regions.old }
+    requires stand { (every : ℕ) × AllStand net.now chart.now (zero_start net.now chart.now.cut) every steps.old regions.old }
     ensures risen { CanRise net.now chart.now.cut steps.old r → steps.new ≡ slice_set steps.old r (slice_index steps.old r + 1) }
     ensures lawful { AreLawful net.now chart.now.cut steps.new }
-    ensures stand { AllStand net.now chart.now steps.new regions.new }
+    ensures stand { (every : ℕ) → AllStand net.now chart.now (zero_start net.now chart.now.cut) every steps.old regions.old →
+        AllStand net.now chart.now (zero_start net.now chart.now.cut) every steps.new regions.new }
 {
     let _steps = net.steps;
     let t = steps[r as usize];

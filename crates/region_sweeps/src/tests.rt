@@ -1,9 +1,15 @@
-use crate::last_rows;
+ghost use Rattle.std.specs.Prelude.{◌≡◌, ◌≤◌, All, IfOk, length};
+ghost use Rattle.network_file.specs.declared.limits.TheConstants.{MOST_REGIONS};
+ghost use Rattle.region_cut.specs.Chart.{chart_of};
+ghost use Rattle.region_step.specs.Opened.{IsOf};
+
+use crate::{cutting, last_regions};
 use flow_model::{Row, first_rows, plain_step};
 use network_file::{MOST_BYTES, MOST_REGIONS, Net};
+use region_cut::Chart;
+use region_step::{Note, Region};
 use signal_plan::NoMemory;
 use std::alloc::{AllocError, Global};
-use std::mem;
 use std::process::Abort;
 use std::test::Fail;
 
@@ -45,41 +51,129 @@ fn network<R: Abort>(rt: &R, alloc: Global, text: &str) -> Result<Net, Fail> {
     Ok(Net::read(alloc, file.as_bytes())?)
 }
 
-// The rows at the last step, one step of the whole network after the other.
-fn plain_rows(alloc: Global, net: &Net) -> Result<Vec<Row>, NoMemory> {
-    let mut now = vec![in alloc; Row {
-        n: 0,
-        come: 0,
-        gone: 0,
-        wait: 0
-    }; net.cells.len()]?;
-    let mut next = vec![in alloc; Row {
-        n: 0,
-        come: 0,
-        gone: 0,
-        wait: 0
-    }; net.cells.len()]?;
-    first_rows(net, &mut now);
-    for t in 0..net.steps {
-        plain_step(net, t, &now, &mut next);
-        mem::swap(&mut now, &mut next);
-    }
-    Ok(now)
+// The text of a network with the regions of its cells.
+fn cut_text(alloc: Global, text: &str, regions: [u32; 4]) -> Result<String, AllocError> {
+    let [a, b, c, d] = regions;
+    format!(in alloc; "{text}; region,a,{a}; region,b,{b}; region,c,{c}; region,d,{d}")
 }
 
-// The text of a network with the regions of its cells.
-fn cut_text(alloc: Global, text: &str, cutting: [u32; 4]) -> Result<String, AllocError> {
-    let [a, b, c, d] = cutting;
-    format!(in alloc; "{text}; region,a,{a}; region,b,{b}; region,c,{c}; region,d,{d}")
+// A row for each cell.
+fn blank_rows(alloc: Global, net: &Net) -> Result<Vec<Row>, NoMemory>
+    ensures { IfOk result (λ rows. length rows.items ≡ length net.now.cells) }
+{
+    Ok(vec![in alloc; Row {
+        n: 0,
+        come: 0,
+        gone: 0,
+        wait: 0
+    }; net.cells.len()]?)
+}
+
+// The rows at each step, one step of the whole network after the other.
+fn whole_steps(alloc: Global, net: &Net) -> Result<Vec<Vec<Row>>, NoMemory> {
+    let mut steps = Vec::new(alloc);
+    let mut now = blank_rows(alloc, net)?;
+    first_rows(net, &mut now);
+    for t in 0..net.steps {
+        let mut next = blank_rows(alloc, net)?;
+        plain_step(net, t, &now, &mut next);
+        steps.push(now)?;
+        now = next;
+    }
+    steps.push(now)?;
+    Ok(steps)
+}
+
+// The rows of regions, in the order of the file.
+fn rows_of<R: Abort>(
+    rt: &R,
+    alloc: Global,
+    net: &Net,
+    chart: &Chart,
+    regions: &[Region],
+) -> Result<Vec<Row>, Fail>
+    requires { All (IsOf chart.now) regions.now }
+{
+    let mut rows = blank_rows(alloc, net)?;
+    for region in regions {
+        let cells = chart.cells(region.number());
+        assert!(rt; cells.len() <= 4);
+        for p in 0..cells.len() {
+            let i = cells[p] as usize;
+            assert!(rt; i < rows.len());
+            rows[i] = region.row(p as u32);
+        }
+    }
+    Ok(rows)
+}
+
+// What is noted of these cells at step 0, at each step that `every` divides and at the last one.
+fn notes<R: Abort>(
+    rt: &R,
+    alloc: Global,
+    steps: &[Vec<Row>],
+    cells: &[u32],
+    every: u64,
+) -> Result<Vec<Note>, Fail> {
+    assert!(rt; 1 <= every);
+    let mut notes = Vec::new(alloc);
+    for t in 0..steps.len() {
+        if t % every as usize == 0 || t == steps.len() - 1 {
+            for i in cells {
+                assert!(rt; (*i as usize) < steps[t].len());
+                let row = steps[t][*i as usize];
+                notes.push(Note {
+                    n: row.n,
+                    gone: row.gone,
+                })?;
+            }
+        }
+    }
+    Ok(notes)
+}
+
+// The chart of a run in so many regions.
+fn charted(alloc: Global, net: &Net, regions: u32) -> Result<Chart, NoMemory>
+    requires some { 1 ≤ regions }
+    requires few { regions ≤ MOST_REGIONS }
+    ensures { IfOk result (λ chart. chart ≡ chart_of net.now chart.cut) }
+{
+    let cut = cutting(alloc, net, regions)?;
+    Chart::new(alloc, net, cut)
+}
+
+// The last rows of a run in so many regions.
+fn last_rows<R: Abort>(rt: &R, alloc: Global, net: &Net, regions: u32) -> Result<Vec<Row>, Fail> {
+    assert!(rt; 1 <= regions && regions <= MOST_REGIONS);
+    let chart = charted(alloc, net, regions)?;
+    let regions = last_regions(alloc, net, &chart, 0)?;
+    rows_of(rt, alloc, net, &chart, &regions)
+}
+
+// Compares the trail of each region with the notes of whole steps.
+fn compare_trails<R: Abort>(rt: &R, alloc: Global, net: &Net, every: u64) -> Result<(), Fail> {
+    let steps = whole_steps(alloc, net)?;
+    let chart = charted(alloc, net, 1)?;
+    let regions = last_regions(alloc, net, &chart, every)?;
+    for region in &regions {
+        assert!(rt; region.number() < chart.regions());
+        let wanted = notes(rt, alloc, &steps, chart.cells(region.number()), every)?;
+        assert_eq!(rt; region.trail(), wanted.as_slice());
+    }
+    Ok(())
 }
 
 #[test]
 fn every_cutting_of_a_file_gives_the_rows_of_whole_steps(rt: HostRuntime) -> Result<(), Fail> {
     for text in NETWORKS {
-        for cutting in CUTTINGS {
-            let net = network(&rt, rt.alloc(), &cut_text(rt.alloc(), text, cutting)?)?;
-            let rows = last_rows(rt.alloc(), &net, 1)?;
-            assert_eq!(rt; rows, plain_rows(rt.alloc(), &net)?, "{text}");
+        for regions in CUTTINGS {
+            let net = network(&rt, rt.alloc(), &cut_text(rt.alloc(), text, regions)?)?;
+            let rows = last_rows(&rt, rt.alloc(), &net, 1)?;
+            assert_eq!(rt;
+                Some(&rows),
+                whole_steps(rt.alloc(), &net)?.last(),
+                "{text}"
+            );
         }
     }
     Ok(())
@@ -90,9 +184,24 @@ fn every_even_cutting_gives_the_rows_of_whole_steps(rt: HostRuntime) -> Result<(
     for text in NETWORKS {
         let net = network(&rt, rt.alloc(), text)?;
         for regions in [1, 2, 3, 512] {
-            assert!(rt; 1 <= regions && regions <= MOST_REGIONS);
-            let rows = last_rows(rt.alloc(), &net, regions)?;
-            assert_eq!(rt; rows, plain_rows(rt.alloc(), &net)?, "{text}");
+            let rows = last_rows(&rt, rt.alloc(), &net, regions)?;
+            assert_eq!(rt;
+                Some(&rows),
+                whole_steps(rt.alloc(), &net)?.last(),
+                "{text}"
+            );
+        }
+    }
+    Ok(())
+}
+
+#[test]
+fn trails_are_the_notes_of_whole_steps(rt: HostRuntime) -> Result<(), Fail> {
+    for text in NETWORKS {
+        for regions in [[0, 0, 1, 1], [1, 0, 0, 1], [3, 1, 2, 0]] {
+            let net = network(&rt, rt.alloc(), &cut_text(rt.alloc(), text, regions)?)?;
+            compare_trails(&rt, rt.alloc(), &net, 2)?;
+            compare_trails(&rt, rt.alloc(), &net, 3)?;
         }
     }
     Ok(())

@@ -22,7 +22,7 @@ regions_at-requires c =
     let connector : connector_at c.args.net.now.connectors k ≡ c.index.result.now =
     read_connector c.net.inside.connectors.items c.args.net.now.connectors k c.index.result.now (ap (λ net. net.connectors) c.net.view_is) there c.index.ensures in
     let same : (test : ℕ → Bool) → list_any test c.three_cells-cells.result ≡ list_any test (cells_of (connector_at c.args.net.now.connectors k)) =
-    λ test. c.three_cells-cells.ensures test ∙ ap (λ cs. list_any test (cells_of cs)) (sym connector) in
+    λ test. c.three_cells-cells.ensures.same test ∙ ap (λ cs. list_any test (cells_of cs)) (sym connector) in
     subst (λ n. All (λ i. i < n) c.three_cells-cells.result) (sym c.requires.one_each) (same_cells-there c.args.net.now k c.three_cells-cells.result sound there same)
 
 pub push_at_each-requires : goal.push_at_each-requires
@@ -34,7 +34,7 @@ push_at_each-requires c =
     let connector : connector_at c.args.net.now.connectors k ≡ c.index.result.now =
     read_connector c.net.inside.connectors.items c.args.net.now.connectors k c.index.result.now (ap (λ net. net.connectors) c.net.view_is) there c.index.ensures in
     let same : (test : ℕ → Bool) → list_any test c.three_cells-cells.result ≡ list_any test (cells_of (connector_at c.args.net.now.connectors k)) =
-    λ test. c.three_cells-cells.ensures test ∙ ap (λ cs. list_any test (cells_of cs)) (sym connector) in
+    λ test. c.three_cells-cells.ensures.same test ∙ ap (λ cs. list_any test (cells_of cs)) (sym connector) in
     let cells : All (λ i. i < length c.args.cut.now) c.three_cells-cells.result =
     subst (λ n. All (λ i. i < n) c.three_cells-cells.result) (sym c.requires.one_each) (same_cells-there c.args.net.now k c.three_cells-cells.result sound there same) in
     subst (λ n. All (λ r. r < n) c.regions_at.result) (sym c.loop-k.invariant.count)
@@ -51,7 +51,7 @@ loop-k-preserved c =
     let connector : connector_at c.args.net.now.connectors k ≡ c.index.result.now =
     read_connector c.net.inside.connectors.items c.args.net.now.connectors k c.index.result.now (ap (λ net. net.connectors) c.net.view_is) there c.index.ensures in
     let same : (test : ℕ → Bool) → list_any test c.three_cells-cells.result ≡ list_any test (cells_of (connector_at c.args.net.now.connectors k)) =
-    λ test. c.three_cells-cells.ensures test ∙ ap (λ cs. list_any test (cells_of cs)) (sym connector) in
+    λ test. c.three_cells-cells.ensures.same test ∙ ap (λ cs. list_any test (cells_of cs)) (sym connector) in
     record {
       count = c.in_ok-push_at_each.ensures.count ∙ c.loop-k.invariant.count;
       lists = λ r within.

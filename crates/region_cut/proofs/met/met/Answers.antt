@@ -26,7 +26,7 @@ leaves-requires c =
     let connector : connector_at c.args.net.now.connectors k ≡ c.index.result.now =
     read_connector c.net.inside.connectors.items c.args.net.now.connectors k c.index.result.now (ap (λ net. net.connectors) c.net.view_is) there c.index.ensures in
     let same : (test : ℕ → Bool) → list_any test c.three_cells-three.result ≡ list_any test (cells_of (connector_at c.args.net.now.connectors k)) =
-    λ test. c.three_cells-three.ensures test ∙ ap (λ cs. list_any test (cells_of cs)) (sym connector) in
+    λ test. c.three_cells-three.ensures.same test ∙ ap (λ cs. list_any test (cells_of cs)) (sym connector) in
     subst (λ n. All (λ i. i < n) c.three_cells-three.result) (sym c.requires.one_each)
     (same_cells-there c.args.net.now k c.three_cells-three.result sound there same)
 
@@ -39,7 +39,7 @@ loop-k-preserved c =
     let connector : connector_at c.args.net.now.connectors k ≡ c.index.result.now =
     read_connector c.net.inside.connectors.items c.args.net.now.connectors k c.index.result.now (ap (λ net. net.connectors) c.net.view_is) there c.index.ensures in
     let same : (test : ℕ → Bool) → list_any test c.three_cells-three.result ≡ list_any test (cells_of (connector_at c.args.net.now.connectors k)) =
-    λ test. c.three_cells-three.ensures test ∙ ap (λ cs. list_any test (cells_of cs)) (sym connector) in
+    λ test. c.three_cells-three.ensures.same test ∙ ap (λ cs. list_any test (cells_of cs)) (sym connector) in
     let leaves : leaves_region c.args.cut.now c.args.r (connector_at c.args.net.now.connectors k) ≡ c.leaves.result =
     sym (c.leaves.ensures ∙ same (λ i. not (region_at c.args.cut.now i == c.args.r))) in
     elim c.if-leaves.branch [

@@ -3,7 +3,8 @@ use Rattle.std.proofs.Common.{◌≡◌, ℕ, zero, suc, ◌<◌, List, [], ◌�
 use Rattle.network_file.specs.Connectors.{connector_at}
 use Rattle.network_file.specs.declared.connector.Connector.{Connector}
 use Rattle.region_cut.proofs.ConnectorCells.{read_connector}
-use Rattle.region_step.specs.Layout.{IsPlaceOf, place_at, three_cells}
+use Rattle.region_cut.specs.ConnectorCells.{three_cells}
+use Rattle.region_step.specs.Layout.{IsPlaceOf, place_at}
 use Rattle.region_step.specs.Ties.{AreKnown, IsKnown}
 use Rattle.region_step.proofs.tie.tied.Goals as goal
 
@@ -15,22 +16,22 @@ known_cell cells halo three connector read m known same is few =
 pub place_of-requires-clause-known : goal.place_of-requires-clause-known
 place_of-requires-clause-known c =
     let read = read_connector c.net.inside.connectors.items c.args.net.now.connectors c.args.k c.index.result.now (ap (λ net. net.connectors) c.net.view_is) c.requires.there c.index.ensures in
-    known_cell c.args.cells.now c.args.halo.now c.three_cells.result (connector_at c.args.net.now.connectors c.args.k) c.index.result.now 0 c.requires.known read c.three_cells.ensures (omega arith)
+    known_cell c.args.cells.now c.args.halo.now c.three_cells.result (connector_at c.args.net.now.connectors c.args.k) c.index.result.now 0 c.requires.known read c.three_cells.ensures.cells (omega arith)
 
 pub place_of-requires-2-clause-known : goal.place_of-requires-2-clause-known
 place_of-requires-2-clause-known c =
     let read = read_connector c.net.inside.connectors.items c.args.net.now.connectors c.args.k c.index.result.now (ap (λ net. net.connectors) c.net.view_is) c.requires.there c.index.ensures in
-    known_cell c.args.cells.now c.args.halo.now c.three_cells.result (connector_at c.args.net.now.connectors c.args.k) c.index.result.now 1 c.requires.known read c.three_cells.ensures (omega arith)
+    known_cell c.args.cells.now c.args.halo.now c.three_cells.result (connector_at c.args.net.now.connectors c.args.k) c.index.result.now 1 c.requires.known read c.three_cells.ensures.cells (omega arith)
 
 pub place_of-requires-3-clause-known : goal.place_of-requires-3-clause-known
 place_of-requires-3-clause-known c =
     let read = read_connector c.net.inside.connectors.items c.args.net.now.connectors c.args.k c.index.result.now (ap (λ net. net.connectors) c.net.view_is) c.requires.there c.index.ensures in
-    known_cell c.args.cells.now c.args.halo.now c.three_cells.result (connector_at c.args.net.now.connectors c.args.k) c.index.result.now 2 c.requires.known read c.three_cells.ensures (omega arith)
+    known_cell c.args.cells.now c.args.halo.now c.three_cells.result (connector_at c.args.net.now.connectors c.args.k) c.index.result.now 2 c.requires.known read c.three_cells.ensures.cells (omega arith)
 
 pub returns-clause-tie : goal.returns-clause-tie
 returns-clause-tie c =
     let read = read_connector c.net.inside.connectors.items c.args.net.now.connectors c.args.k c.index.result.now (ap (λ net. net.connectors) c.net.view_is) c.requires.there c.index.ensures in
-    let three = c.three_cells.ensures ∙ ap three_cells (sym read) in
+    let three = c.three_cells.ensures.cells ∙ ap three_cells (sym read) in
     record { there = c.requires.there; places = at three }
   where
     at : c.three_cells.result ≡ three_cells (connector_at c.args.net.now.connectors c.args.k) → (m : ℕ) → m < 3 →

@@ -9,14 +9,14 @@ use Rattle.region_sweeps.proofs.halo.held_at.Goals as goal
 pub border_now-requires-clause-there : goal.border_now-requires-clause-there
 border_now-requires-clause-there c =
     let cell = border_cell c.args.chart.now c.requires.met.0 c.args.other c.regions-regions.ensures.sound c.requires.met.1 in
-    let here = near-here c.args.net.now c.args.chart.now c.args.other.region c.args.t c.args.region.now c.requires.near (sym c.step.ensures ∙ c.if-step-t.true) in
-    subst (λ q. c.args.other.place < length (list_at c.args.chart.now.border q)) (sym (number-is c.args.net.now c.args.chart.now c.args.other.region c.args.t c.args.region.now here)) cell.place
+    let here = near-here c.args.net.now c.args.chart.now c.requires.near.0 c.args.other.region c.args.t c.args.region.now c.requires.near.1 (sym c.step.ensures ∙ c.if-step-t.true) in
+    subst (λ q. c.args.other.place < length (list_at c.args.chart.now.border q)) (sym (number-is c.args.net.now c.args.chart.now c.requires.near.0 c.args.other.region c.args.t c.args.region.now here)) cell.place
 
 pub returns-then-step-t : goal.returns-then-step-t
 returns-then-step-t c =
     let cell = border_cell c.args.chart.now c.requires.met.0 c.args.other c.regions-regions.ensures.sound c.requires.met.1 in
-    let here = near-here c.args.net.now c.args.chart.now c.args.other.region c.args.t c.args.region.now c.requires.near (sym c.step.ensures ∙ c.if-step-t.true) in
-    border-held c.args.net.now c.args.chart.now c.args.other c.args.t c.border_now.result c.args.region.now (subst IsNetwork c.net.view_is c.net.invariant) c.requires.chart cell here c.border_now.ensures
+    let here = near-here c.args.net.now c.args.chart.now c.requires.near.0 c.args.other.region c.args.t c.args.region.now c.requires.near.1 (sym c.step.ensures ∙ c.if-step-t.true) in
+    border-held c.args.net.now c.args.chart.now c.requires.near.0 c.args.other c.args.t c.border_now.result c.args.region.now (subst IsNetwork c.net.view_is c.net.invariant) c.requires.chart cell here c.border_now.ensures
 
 pub cells-cells-requires : goal.cells-cells-requires
 cells-cells-requires c = (border_cell c.args.chart.now c.requires.met.0 c.args.other c.regions-regions.ensures.sound c.requires.met.1).region
@@ -40,11 +40,11 @@ place-requires-clause-listed c =
 pub before-requires : goal.before-requires
 before-requires c =
     let cell = border_cell c.args.chart.now c.requires.met.0 c.args.other c.regions-regions.ensures.sound c.requires.met.1 in
-    let ahead = near-ahead c.args.net.now c.args.chart.now c.args.other.region c.args.t c.args.region.now c.requires.near (λ here. c.if-step-t.false (c.step.ensures ∙ here)) in
-    (before-held c.args.net.now c.args.chart.now c.args.other c.args.t c.place.result 0 c.cells-cells.result.now c.args.region.now c.regions-regions.ensures.sound cell ahead c.cells-cells.ensures.list c.place.ensures).0
+    let ahead = near-ahead c.args.net.now c.args.chart.now c.requires.near.0 c.args.other.region c.args.t c.args.region.now c.requires.near.1 (λ here. c.if-step-t.false (c.step.ensures ∙ here)) in
+    (before-held c.args.net.now c.args.chart.now c.requires.near.0 c.args.other c.args.t c.place.result 0 c.cells-cells.result.now c.args.region.now c.regions-regions.ensures.sound cell ahead c.cells-cells.ensures.list c.place.ensures).0
 
 pub returns : goal.returns
 returns c =
     let cell = border_cell c.args.chart.now c.requires.met.0 c.args.other c.regions-regions.ensures.sound c.requires.met.1 in
-    let ahead = near-ahead c.args.net.now c.args.chart.now c.args.other.region c.args.t c.args.region.now c.requires.near (λ here. c.if-step-t.false (c.step.ensures ∙ here)) in
-    (before-held c.args.net.now c.args.chart.now c.args.other c.args.t c.place.result c.before-2.result c.cells-cells.result.now c.args.region.now c.regions-regions.ensures.sound cell ahead c.cells-cells.ensures.list c.place.ensures).1 c.before-2.ensures
+    let ahead = near-ahead c.args.net.now c.args.chart.now c.requires.near.0 c.args.other.region c.args.t c.args.region.now c.requires.near.1 (λ here. c.if-step-t.false (c.step.ensures ∙ here)) in
+    (before-held c.args.net.now c.args.chart.now c.requires.near.0 c.args.other c.args.t c.place.result c.before-2.result c.cells-cells.result.now c.args.region.now c.regions-regions.ensures.sound cell ahead c.cells-cells.ensures.list c.place.ensures).1 c.before-2.ensures

@@ -3,10 +3,9 @@ use Rattle.std.proofs.Common.{◌≡◌, inl, inr, [], ◌∷◌, ◌++◌, leng
 use Rattle.std.proofs.lemmas.Bool.{cases_lt}
 use Rattle.std.proofs.lemmas.List.{get_or_append_left, length-append}
 use Rattle.network_file.specs.Network.{IsNetwork}
-use Rattle.region_step.specs.Laws.{grid_state}
+use Rattle.region_step.specs.Standing.{Stands}
 use Rattle.region_step.specs.Start.{Fits}
 use Rattle.region_step.proofs.StartLaws.{zero_start-fits}
-use Rattle.region_sweeps.specs.Standing.{Stands}
 use Rattle.region_sweeps.proofs.Sweeping.{pushed-at}
 use Rattle.region_sweeps.proofs.opening.open_regions.Goals as goal
 
@@ -17,21 +16,21 @@ open-requires-clause-fits c =
 pub loop-r-preserved : goal.loop-r-preserved
 loop-r-preserved c =
     let more : c.push.new.self.items ≡ c.loop-r.regions.items ++ c.in_ok-open.field-0 ∷ [] = c.in_ok-push.ensures.items in
-    let opened : Stands c.args.net.now c.args.chart.now c.loop-r.r (slice_index c.args.start.now.steps c.loop-r.r) c.in_ok-open.field-0 =
+    let opened : Stands c.args.net.now c.args.chart.now c.args.start.now c.args.every c.loop-r.r (slice_index c.args.start.now.steps c.loop-r.r) c.in_ok-open.field-0 =
     record {
       opened = c.in_ok-open.ensures.opened;
-      state = c.in_ok-open.ensures.state ∙ ap (λ s. grid_state c.args.net.now c.args.chart.now s 0 c.loop-r.r (slice_index c.args.start.now.steps c.loop-r.r)) c.requires.start;
+      state = c.in_ok-open.ensures.state;
     } in (
       omega (arith, ap length more, length-append c.loop-r.regions.items (c.in_ok-open.field-0 ∷ []), c.loop-r.invariant.0),
       λ q region within. elim (cases_lt q c.loop-r.r) [
         | inl before ↦
-            subst (Stands c.args.net.now c.args.chart.now q (slice_index c.args.start.now.steps q))
+            subst (Stands c.args.net.now c.args.chart.now c.args.start.now c.args.every q (slice_index c.args.start.now.steps q))
             (sym (ap (λ items. get_or items q region) more ∙ get_or_append_left c.loop-r.regions.items (c.in_ok-open.field-0 ∷ []) region q (omega (arith, before, c.loop-r.invariant.0))))
             (c.loop-r.invariant.1 q region before)
         | inr last ↦
             let here : q ≡ c.loop-r.r = omega (arith, within, last) in
-            subst (Stands c.args.net.now c.args.chart.now q (slice_index c.args.start.now.steps q))
+            subst (Stands c.args.net.now c.args.chart.now c.args.start.now c.args.every q (slice_index c.args.start.now.steps q))
             (sym (ap (λ items. get_or items q region) more ∙ pushed-at c.loop-r.regions.items c.in_ok-open.field-0 region q (here ∙ sym c.loop-r.invariant.0)))
-            (subst (λ p. Stands c.args.net.now c.args.chart.now p (slice_index c.args.start.now.steps p) c.in_ok-open.field-0) (sym here) opened)
+            (subst (λ p. Stands c.args.net.now c.args.chart.now c.args.start.now c.args.every p (slice_index c.args.start.now.steps p) c.in_ok-open.field-0) (sym here) opened)
       ],
     )

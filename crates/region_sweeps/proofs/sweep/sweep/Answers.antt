@@ -11,6 +11,9 @@ use Rattle.region_sweeps.proofs.sweep.sweep.Goals as goal
 below : (q r : ℕ) → q < r + 1 → q ≢ r → q < r
 below q r before other = elim (cases_lt q r) [ inl lower ↦ lower | inr not_lower ↦ absurd (other (omega (arith, before, not_lower))) ]
 
+pub step_region-requires-clause-stand : goal.step_region-requires-clause-stand
+step_region-requires-clause-stand c = (c.requires.stand.0, c.loop-r.invariant.1 c.requires.stand.0 c.requires.stand.1)
+
 pub loop-r-preserved : goal.loop-r-preserved
 loop-r-preserved c =
     let r : ℕ = c.loop-r.r in
@@ -25,7 +28,7 @@ loop-r-preserved c =
     } in
     let risen = c.step_region.ensures.risen can in (
       c.step_region.ensures.lawful,
-      c.step_region.ensures.stand,
+      (λ every stand. c.step_region.ensures.stand every (c.loop-r.invariant.1 every stand)),
       (λ q before. elim (cases_eq q r) [
         | inl same ↦ ap (λ list. slice_index list q) risen ∙ ap (slice_index (slice_set c.loop-r.steps r (slice_index c.loop-r.steps r + 1))) same ∙
             get_or-set_same c.loop-r.steps r (slice_index c.loop-r.steps r + 1) 0 (omega (arith, c.loop-r.invariant.0.one_each, c.loop-r-test.true, c.regions-r-end.ensures.count)) ∙ ap (λ n. n + 1) own

@@ -9,7 +9,7 @@ use std::alloc::Global;
 
 /// The cutting of a run: the file's where it has one, and else the even one into so many regions, or as many as there
 /// are cells.
-pub(crate) fn cutting(alloc: Global, net: &Net, regions: u32) -> Result<Cut, NoMemory>
+pub fn cutting(alloc: Global, net: &Net, regions: u32) -> Result<Cut, NoMemory>
     requires some { 1 ≤ regions }
     requires few { regions ≤ MOST_REGIONS }
     ensures one_each { IfOk result (λ cut. length cut ≡ length net.now.cells) }
