@@ -1,4 +1,4 @@
-ghost use Rattle.std.specs.Prelude.{◌≡◌, ◌≢◌, ◌+◌, ◌≤◌, ℕ, List, None, Ok, IfOk, IfErr, OnOk, length};
+ghost use Rattle.std.specs.Prelude.{◌≡◌, ◌≢◌, ◌+◌, ◌<◌, ◌≤◌, ◌⊎◌, ℕ, List, None, Ok, IfOk, IfErr, OnOk, length};
 ghost use Rattle.ctm_ports.specs.Count.{Rose};
 ghost use Rattle.ctm_ports.specs.ReadEnd.{LosesAtMost};
 ghost use Rattle.command_words.specs.Settings.{IsAllowed};
@@ -99,12 +99,7 @@ fn reported(alloc: Global, net: &Net, request: Request) -> Result<Vec<u8>, Refus
 }
 
 // The report of a network that is taken through all its steps in so many regions.
-fn run_report(
-    alloc: Global,
-    net: &Net,
-    regions: u32,
-    every: u64,
-) -> Result<Vec<u8>, NoMemory>
+fn run_report(alloc: Global, net: &Net, regions: u32, every: u64) -> Result<Vec<u8>, NoMemory>
     requires { IsAllowed Regions regions }
     ensures { IfOk result (λ text. text.items ≡ report_of net.now every) }
 {
@@ -112,7 +107,8 @@ fn run_report(
     let cut = cutting(alloc, net, regions)?;
     let chart = Chart::new(alloc, net, cut)?;
     let regions = last_regions(alloc, net, &chart, every)?;
-    report(alloc, net, &chart, &regions, every)
+    let text = report(alloc, net, &chart, &regions, every)?;
+    Ok(text)
 }
 
 // The refusal of a file, with the line that tells its fault.

@@ -228,7 +228,10 @@ at,3,in,0.000000,4.000000; at,3,a,2.000000,2.000000; at,3,out,2.000000,0.000000"
             "report,3,3; ",
             &format!(in rt.alloc(); "report,3,3; {course}; ")?,
         )?;
-        assert!(rt; gives(&rt, rt.alloc(), words, CORRIDOR, &report)?, "{words}");
+        assert!(rt;
+            gives(&rt, rt.alloc(), words, CORRIDOR, &report)?,
+            "{words}"
+        );
     }
     Ok(())
 }
@@ -242,7 +245,10 @@ fn a_run_that_would_record_too_much_is_refused(rt: HostRuntime) -> Result<(), Fa
             write!(file, "exit,x{i},1\n")?;
         }
         let ended = call(&rt, rt.alloc(), "run --every 1", file.into_bytes())?;
-        assert!(rt; ended.is_refused(4, b"ctm: too large: record\n"), "{exits} exits");
+        assert!(rt;
+            ended.is_refused(4, b"ctm: too large: record\n"),
+            "{exits} exits"
+        );
     }
     Ok(())
 }

@@ -8,6 +8,8 @@ use Rattle.std.proofs.lemmas.Bool.{cases_Bool, cases_lt, eq-eqb, eqb-true, ne_eq
 use Rattle.std.proofs.lemmas.Grind.{div_ceil_times}
 use Rattle.std.proofs.lemmas.List.{append-nil, get_or_append_left, length-append}
 use Rattle.std.proofs.lemmas.List.Elements.{filter-append}
+use Rattle.std.proofs.lemmas.List.Filters.{length-filter_both}
+use Rattle.std.proofs.lemmas.List.FromFn.{length-range_with_len}
 use Rattle.region_step.specs.Recording.{is_recorded, recorded}
 use Rattle.delay_report.specs.Recorded.{recorded_count}
 use Rattle.delay_report.proofs.Lines.{range_more}
@@ -124,3 +126,9 @@ recorded-none steps from t = none (range_with_len from (t + 1 - from))
 
 pub recorded_count-never : (steps every : ℕ) → every ≡ 0 → recorded_count steps every ≡ 0
 recorded_count-never steps every never = ap (λ e. length (recorded steps e 0 steps)) never ∙ ap length (recorded-none steps 0 steps)
+
+-- at most all
+pub recorded_count-most : (steps every : ℕ) → recorded_count steps every ≤ steps + 1
+recorded_count-most steps every =
+    let all : List ℕ = range_with_len 0 (steps + 1 - 0) in
+    omega (arith, length-filter_both (is_recorded steps every) (λ t. not (is_recorded steps every t)) (λ t. refl) all, length-range_with_len 0 (steps + 1 - 0))

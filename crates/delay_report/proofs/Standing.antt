@@ -23,12 +23,14 @@ use Rattle.region_step.specs.Laws.{grid_rows, grid_state, grid_trail}
 use Rattle.region_step.specs.Recording.{note_of, notes_of, recorded}
 use Rattle.region_step.specs.Region.{RegionValue}
 use Rattle.region_step.specs.Standing.{AllStand, Stands}
-use Rattle.region_step.specs.Start.{StartLists, start_of}
+use Rattle.region_step.specs.Start.{StartLists, start_of, zero_start}
 use Rattle.region_step.specs.declared.note.Note.{Note}
 use Rattle.region_step.proofs.Grids.{are_the_recurrences}
 use Rattle.region_step.proofs.GridStates.{grid_state-rows}
 use Rattle.region_step.proofs.Ground.{ground}
 use Rattle.region_step.proofs.Lists.{map_same}
+use Rattle.region_step.proofs.StartLaws.{zero_start-lawful, zero_start-true}
+use Rattle.region_step.proofs.Steps.{zero_start-at}
 use Rattle.delay_report.specs.Recorded.{recorded_count}
 use Rattle.delay_report.specs.Regions.{AreNotesOf, AreRowsOf, HaveNotes, HaveRows}
 use Rattle.delay_report.specs.Report.{state_note}
@@ -159,3 +161,13 @@ end-notes net chart start every regions sound is end =
     record {
       notes = λ r region within. ap length (notes.each r region within) ∙ length-notes (state_note net) (list_at chart.cells r) (recorded net.steps every 0 net.steps);
     }
+
+-- from step 0
+pub end-zero : (net : Network) (chart : ChartLists) (every : ℕ) (regions : List RegionValue) → AllStand net chart (zero_start net chart.cut) every (replicate (region_count chart.cut) net.steps) regions →
+    AreAtTheEnd net chart (zero_start net chart.cut) every regions
+end-zero net chart every regions stand = record {
+  true_start = zero_start-true net chart.cut;
+  lawful = zero_start-lawful net chart.cut;
+  from_zero = λ some q. zero_start-at net chart.cut q;
+  stand = stand;
+}
