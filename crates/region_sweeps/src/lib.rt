@@ -13,4 +13,6 @@ mod sweep;
 mod tests;
 
 pub use cut::cutting;
+pub use opening::open_regions;
 pub use run::last_regions;
+pub use sweep::step_region;

@@ -9,8 +9,8 @@ use region_step::{Region, Start};
 use signal_plan::NoMemory;
 use std::alloc::Global;
 
-/// All regions at step 0, recorded at each step that `every` divides.
-pub(crate) fn open_regions(
+/// All regions at step 0, recorded at each step that `every` divides and at the last one, never where `every` is 0.
+pub fn open_regions(
     alloc: Global,
     net: &Net,
     chart: &Chart,

@@ -26,4 +26,4 @@ returns c =
     let begun = left ∙ ap (λ text. text ++ amount_field (left_of c.args.net.now c.args.rows.now)) (entered ∙ ap (λ text. text ++ amount_field (entered_of c.args.net.now c.args.rows.now)) inside) in
     delay ∙ ap (λ text. text ++ amount_field (delay_of c.args.rows.now)) begun ∙
     four c.args.text.now.items (amount_field (inside_of c.args.net.now c.args.rows.now)) (amount_field (entered_of c.args.net.now c.args.rows.now))
-        (amount_field (left_of c.args.net.now c.args.rows.now)) (amount_field (delay_of c.args.rows.now))
+    (amount_field (left_of c.args.net.now c.args.rows.now)) (amount_field (delay_of c.args.rows.now))
