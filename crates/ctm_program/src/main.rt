@@ -15,6 +15,8 @@ mod answer;
 mod command_line;
 mod counts;
 mod ending;
+#[cfg(test)]
+mod ledger_tests;
 mod record_limit;
 mod refusal;
 mod status;

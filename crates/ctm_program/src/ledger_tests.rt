@@ -1,0 +1,82 @@
+ghost use Rattle.std.specs.Prelude.{◌≡◌, IfOk, length};
+ghost use Rattle.region_cut.specs.Chart.{chart_of};
+ghost use Rattle.region_cut.specs.LawfulSteps.{AreLawful};
+ghost use Rattle.region_step.specs.Standing.{AllStand};
+ghost use Rattle.region_step.specs.Start.{zero_start};
+
+use delay_report::Ledger;
+use fixed_flow::{Text48, put_wide};
+use flow_ledger::Books;
+use network_file::Net;
+use region_cut::Chart;
+use region_step::{Region, Start};
+use region_sweeps::{cutting, open_regions, step_region};
+use signal_plan::NoMemory;
+use std::alloc::Global;
+use std::test::Fail;
+
+const VEHICLES: i128 = 1_000_000;
+
+// A gate, a road and an exit, of which the road and the exit are one region.
+const FILE: &[u8] =
+    b"ctm,2\nsteps,3\ngate,in,2,0\nroad,a,6,2,1,2,0\nexit,out,2\nlink,in,a\nlink,a,out\n\
+demand,in,0,1,4\nregion,in,0\nregion,a,1\nregion,out,1\n";
+
+// Regions, and the step of each.
+#[derive(Drop)]
+struct Standing {
+    steps: Vec<u64>,
+    regions: Vec<Region>,
+}
+
+// The regions of a network from step 0 on, after these rises.
+fn raised(alloc: Global, net: &Net, chart: &Chart, order: &[u32]) -> Result<Standing, NoMemory>
+    requires { chart.now ≡ chart_of net.now chart.now.cut }
+    ensures { IfOk result (λ raised. AllStand net.now chart.now (zero_start net.now chart.now.cut) 0 raised.steps.items raised.regions.items) }
+{
+    let start = Start::zero(alloc, net, chart)?;
+    let mut regions = open_regions(alloc, net, chart, &start, 0)?;
+    let mut steps = start.steps;
+    for r in order {
+        step_region(net, chart, &mut steps, &mut regions, *r % chart.regions());
+    }
+    Ok(Standing { steps, regions })
+}
+
+// The ledger after these rises.
+fn ledger_after(alloc: Global, net: &Net, chart: &Chart, order: &[u32]) -> Result<Ledger, NoMemory>
+    requires chart { chart.now ≡ chart_of net.now chart.now.cut }
+    requires one_each { length chart.now.cut ≡ length net.now.cells }
+    ensures { IfOk result (λ ledger. length ledger ≡ length net.now.cells) }
+{
+    let raised = raised(alloc, net, chart, order)?;
+    let ledger = Ledger::new(alloc, net, chart, &raised.regions)?;
+    Ok(ledger)
+}
+
+// The steps 2 and 1, and then 1 and 2.
+#[test]
+fn what_is_under_way_has_the_sign_of_the_region_ahead(rt: HostRuntime) -> Result<(), Fail> {
+    let net = Net::read(rt.alloc(), FILE)?;
+    let cut = cutting(rt.alloc(), &net, 1)?;
+    let chart = Chart::new(rt.alloc(), &net, cut)?;
+    assert!(rt; net.connectors.len() == 2);
+    for (order, inside, flight, text) in [
+        ([0, 1, 0], 2, 2, b"2.000000".as_slice()),
+        ([0, 1, 1], 6, -2, b"-2.000000".as_slice()),
+    ] {
+        let ledger = ledger_after(rt.alloc(), &net, &chart, &order)?;
+        let want = Books {
+            inside: inside * VEHICLES,
+            flight: flight * VEHICLES,
+            initial: 0,
+            entered: 4 * VEHICLES,
+            left: 0,
+        };
+        assert_eq!(rt; ledger.books(&net), want);
+        let mut amount = Text48::new();
+        put_wide(ledger.flight(&net, 0), &mut amount);
+        assert_eq!(rt; amount.bytes(), text);
+    }
+    Ok(())
+}
