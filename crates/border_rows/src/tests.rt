@@ -1,3 +1,6 @@
+ghost use Rattle.std.specs.Prelude.{◌<◌, length};
+ghost use Rattle.border_rows.specs.Places.{width_at};
+
 use crate::Places;
 use network_file::Net;
 use region_cut::{Chart, Cut};
@@ -7,8 +10,21 @@ use std::test::Fail;
 const FILE: &[u8] =
     b"ctm,1\nsteps,3\ngate,in,2,0\nroad,a,6,2,1,2,0\nexit,out,2\nlink,in,a\nlink,a,out\n";
 
+// The claim word of a region, its step word, and the two words of its `j`-th border cell.
+fn words(places: &Places, r: u32, j: u32) -> [u32; 4]
+    requires region { r < length places.now }
+    requires cell { j < width_at places.now r }
+{
+    [
+        places.claim(r),
+        places.step(r),
+        places.row(r, 0, j),
+        places.row(r, 1, j),
+    ]
+}
+
 #[test]
-fn words_of_a_region_stand_behind_those_of_the_last(rt: HostRuntime) -> Result<(), Fail> {
+fn regions_stand_one_behind_the_other(rt: HostRuntime) -> Result<(), Fail> {
     let net = Net::read(rt.alloc(), FILE)?;
     let cut = Cut::of(rt.alloc(), &net, &[0, 1, 1])?;
     let chart = Chart::new(rt.alloc(), &net, cut)?;
@@ -16,11 +32,9 @@ fn words_of_a_region_stand_behind_those_of_the_last(rt: HostRuntime) -> Result<(
     assert_eq!(rt; chart.regions(), 2);
     assert_eq!(rt; chart.border(0), [0].as_slice());
     assert_eq!(rt; chart.border(1), [1].as_slice());
+    assert_eq!(rt; words(&places, 0, 0), [0, 1, 2, 3]);
+    assert_eq!(rt; words(&places, 1, 0), [4, 5, 6, 7]);
     assert_eq!(rt; places.words(), 8);
-    assert_eq!(rt; [places.claim(0), places.step(0)], [0, 1]);
-    assert_eq!(rt; [places.row(0, 0, 0), places.row(0, 1, 0)], [2, 3]);
-    assert_eq!(rt; [places.claim(1), places.step(1)], [4, 5]);
-    assert_eq!(rt; [places.row(1, 0, 0), places.row(1, 1, 0)], [6, 7]);
     Ok(())
 }
 
@@ -32,18 +46,7 @@ fn row_has_a_word_for_each_border_cell(rt: HostRuntime) -> Result<(), Fail> {
     let places = Places::new(rt.alloc(), &chart)?;
     assert_eq!(rt; chart.regions(), 2);
     assert_eq!(rt; chart.border(1), [0, 2].as_slice());
-    assert_eq!(rt; places.words(), 10);
-    assert_eq!(rt; [places.row(1, 0, 0), places.row(1, 0, 1)], [6, 7]);
-    assert_eq!(rt; [places.row(1, 1, 0), places.row(1, 1, 1)], [8, 9]);
-    Ok(())
-}
-
-#[test]
-fn region_alone_has_no_rows(rt: HostRuntime) -> Result<(), Fail> {
-    let net = Net::read(rt.alloc(), FILE)?;
-    let cut = Cut::of(rt.alloc(), &net, &[0, 0, 0])?;
-    let chart = Chart::new(rt.alloc(), &net, cut)?;
-    let places = Places::new(rt.alloc(), &chart)?;
-    assert_eq!(rt; places.words(), 2);
+    assert_eq!(rt; words(&places, 1, 0), [4, 5, 6, 8]);
+    assert_eq!(rt; words(&places, 1, 1), [4, 5, 7, 9]);
     Ok(())
 }
