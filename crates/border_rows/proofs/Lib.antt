@@ -1,0 +1,3 @@
+pub mod ChartWidths
+pub mod PlaceLaws
+pub mod Spans
