@@ -1,0 +1,71 @@
+"""One run of a sweep: the study built with some keys changed, run, and measured."""
+
+import hashlib
+from dataclasses import dataclass
+from pathlib import Path
+
+from ..problem import Problem, one_line
+from ..report.queues import queues_of
+from ..running import run
+from ..study.network_text import build
+from ..study.reading import study_of
+from .variations import changed
+
+MEASURES = ("delay_vehicle_hours", "longest_queue_km", "served_vehicles", "inside_vehicles")
+
+
+@dataclass(frozen=True)
+class Task:
+    """A run to be made: the study's values and path, what is changed, the program, and the steps between records."""
+
+    values: dict
+    path: str
+    changes: dict
+    program: str
+    every: int = None
+
+
+def measure(task):
+    """The measures of a task's run, by name, and what went wrong, which is an empty text where nothing did.
+
+    Delay is in vehicle-hours, the longest queue in km of whole cells, the rest in vehicles.
+    """
+    try:
+        if not Path(task.program).exists():
+            raise Problem(f"there is no program {task.program} on this machine")
+        built = build(study(task))
+        _, report = run(built.text.encode(), "the built network", built.units, task.every, 1, task.program)
+        longest = max((queue.reach for queue in queues_of(report)), default=0.0) if report.recorded else float("nan")
+        values = (report.units.hours(report.total.delay), longest, report.total.left, report.total.inside)
+        return {**dict(zip(MEASURES, map(float, values))), "error": ""}
+    except Problem as problem:
+        return {**dict.fromkeys(MEASURES, float("nan")), "error": one_line(problem)}
+
+
+def study(task):
+    """The study of a task, its keys changed and its demands multiplied."""
+    values, factors = changed(task.values, task.changes)
+    made = study_of(values, Path(task.path))
+    for name, factor in factors.items():
+        if name and name not in made.gates:
+            raise Problem(f"--vary demand.{name}: the study has no gate {name}")
+        for gate in made.gates.values():
+            if name in ("", gate.name):
+                for flow in gate.demand:
+                    flow.flow *= factor
+    return made
+
+
+def fingerprint(task):
+    """A short text that another study, other counts or another change would change."""
+    digest = hashlib.sha256(repr((task.values, sorted(task.changes.items()), task.every)).encode())
+    for name in _counts(task.values):
+        path = Path(task.path).parent / name
+        digest.update(path.read_bytes() if path.exists() else b"none")
+    return digest.hexdigest()[:16]
+
+
+def _counts(values):
+    """The files of counts that a study names."""
+    demands = [gate.get("demand") for gate in values.get("gates", {}).values() if isinstance(gate, dict)]
+    return [str(demand["counts"]) for demand in demands if isinstance(demand, dict) and "counts" in demand]
