@@ -6,7 +6,7 @@ import click
 
 from ..problem import Problem
 from ..program import program_path, takes
-from ..report.page import table, told
+from ..report.page import kilometre, table, told
 from ..study.reading import read_values
 from ..sweep.results import Results
 from ..sweep.task import Task, fingerprint, study
@@ -106,12 +106,13 @@ def _do(tasks, marks, results, jobs, address):
 def _tell(frame, keys, rows, folder, drawn, task):
     """Prints the best rows, and writes the table and the plot."""
     title = study(Task(task.values, task.path, {}, task.program)).title
-    lines = [(*keys, "delay (vehicle-hours)", "longest queue (km)", "served", "inside", "")]
+    lines = [(*keys, "delay (vehicle-hours)", "longest queue (km)", "most waiting", "served", "inside", "")]
     for _, row in frame.head(rows).iterrows():
-        figures = ("", "", "", "") if row.error else (told(row.delay_vehicle_hours), told(row.longest_queue_km),
-                                                      told(row.served_vehicles), told(row.inside_vehicles))
+        figures = ("",) * 5 if row.error else (told(row.delay_vehicle_hours), kilometre(row.longest_queue_km),
+                                               f"{row.most_waiting_vehicles:,.0f}", told(row.served_vehicles),
+                                               told(row.inside_vehicles))
         lines.append((*(shown(row[key]) for key in keys), *figures, f"failed: {row.error}" if row.error else ""))
-    click.echo("\n".join(table(lines, right=range(len(keys) + 4))))
+    click.echo("\n".join(table(lines, right=range(len(keys) + 5))))
     if len(frame) > rows:
         click.echo(f"  and {len(frame) - rows} more rows")
     path = folder / "table.csv"

@@ -5,6 +5,9 @@ import pandas
 
 from .figure import DENSITY, drawing, figure, save, style
 
+UNITS = {"offset": "s", "first_green": "s", "cycle": "s", "green": "s", "step": "s", "length": "km", "from": "km",
+         "to": "km", "at": "km", "free_flow_speed": "km/h", "wave_speed": "km/h", "jam_density": "vehicles/km in a lane",
+         "saturation_flow": "vehicles/h in a lane", "capacity": "vehicles/h", "lanes": "lanes"}
 NAMES = {"delay_vehicle_hours": "Delay (vehicle-hours)", "longest_queue_km": "Longest queue (km)"}
 
 
@@ -64,4 +67,5 @@ def _short(value):
 
 def _axis(key):
     """A key as its axis says it."""
-    return f"{key} (factor)" if key.split(".")[0] == "demand" else f"{key} (in the study's unit)"
+    unit = "factor" if key.split(".")[0] == "demand" else UNITS.get(key.split(".")[-1])
+    return f"{key} ({unit})" if unit else key

@@ -11,7 +11,7 @@ from ..study.network_text import build
 from ..study.reading import study_of
 from .variations import changed
 
-MEASURES = ("delay_vehicle_hours", "longest_queue_km", "served_vehicles", "inside_vehicles")
+MEASURES = ("delay_vehicle_hours", "longest_queue_km", "most_waiting_vehicles", "served_vehicles", "inside_vehicles")
 
 
 @dataclass(frozen=True)
@@ -28,18 +28,24 @@ class Task:
 def measure(task):
     """The measures of a task's run, by name, and what went wrong, which is an empty text where nothing did.
 
-    Delay is in vehicle-hours, the longest queue in km of whole cells, the rest in vehicles.
+    Delay is in vehicle-hours, the longest queue in km of whole cells, most waiting are the vehicles that waited at once
+    in one queue, on roads and in gates, and the rest is in vehicles at the end.
     """
     try:
         if not Path(task.program).exists():
             raise Problem(f"there is no program {task.program} on this machine")
         built = build(study(task))
         _, report = run(built.text.encode(), "the built network", built.units, task.every, 1, task.program)
-        longest = max((queue.reach for queue in queues_of(report)), default=0.0) if report.recorded else float("nan")
-        values = (report.units.hours(report.total.delay), longest, report.total.left, report.total.inside)
+        values = (report.units.hours(report.total.delay), *_greatest(report), report.total.left, report.total.inside)
         return {**dict(zip(MEASURES, map(float, values))), "error": ""}
     except Problem as problem:
         return {**dict.fromkeys(MEASURES, float("nan")), "error": one_line(problem)}
+
+
+def _greatest(report):
+    """The way that the longest queue reached back, in km, and the most vehicles that waited in one queue."""
+    queues = queues_of(report)
+    return max((queue.reach for queue in queues), default=0.0), max((queue.most for queue in queues), default=0.0)
 
 
 def study(task):
