@@ -43,17 +43,21 @@ def on_time(command):
 @command.command("time-space", epilog="""\b
 Examples:
   ctm-tools plot time-space bottleneck.report
-  ctm-tools plot time-space interchange.report --first m20 --last r2""")
+  ctm-tools plot time-space interchange.report --first m20 --last r2
+  ctm-tools plot time-space workzone.report --line "tail, by theory: 10:00:10 5, 14:13:20 1" """)
 @on_picture
 @on_time
 @click.option("--road", metavar="ROAD", help="The road to draw; else the longest route from a gate.")
 @click.option("--first", metavar="CELL", help="The first cell of the chain.")
 @click.option("--last", metavar="CELL", help="The last cell of the chain.")
-def time_space(report, output, units, network, begin, until, road, first, last):
+@click.option("--line", "lines", metavar="TEXT", multiple=True, help="Draw a line as theory or observation has it, "
+              "`LABEL: TIME KM, TIME KM, ..`; may be given again.")
+def time_space(report, output, units, network, begin, until, road, first, last, lines):
     """Density over time and place along a chain of cells, in vehicles per km, with queues outlined."""
     from ..plots import time_space as plot
 
-    click.echo(plot.draw(read_report(report, units, network), output, road, first, last, begin, until))
+    click.echo(plot.draw(read_report(report, units, network), output, road, first, last, begin, until,
+                         lines))
 
 
 @command.command("n-curves", epilog="""\b

@@ -46,7 +46,7 @@ def draw(first, second, output, road=None):
     bar.set_label("Rise of density (vehicles/km)" if known else "Rise of density (vehicles in a cell)")
     bar.outline.set_visible(False)
     if handles:
-        legend_below(axes, handles)
+        legend_below(drawn, handles)
     save(drawn, path)
     return path
 

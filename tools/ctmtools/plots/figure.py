@@ -21,6 +21,7 @@ DENSITY = "magma_r"  # darker is denser, in grey too
 # A rise is dark and a fall light, so that they differ in grey too.
 RISE = LinearSegmentedColormap.from_list("rise", ["#3f8fc9", "#9cc9e8", "#ffffff", "#e58a3a", "#4d1400"])
 DOTS = 120  # an inch
+LETTERS = 115  # of a legend in a row
 SPANS = (10, 20, 30, 60, 120, 300, 600, 900, 1200, 1800, 3600, 7200, 10800, 14400, 21600, 43200, 86400)  # seconds
 ENDINGS = (".png", ".svg", ".pdf")
 
@@ -93,9 +94,14 @@ def moment(report, text):
     return (seconds if seconds >= 0 else seconds + 24 * 3600) / report.units.step
 
 
-def legend_below(axes, handles):
-    """Puts a legend of one row below the axis of time."""
-    axes.legend(handles=handles, loc="upper center", bbox_to_anchor=(0.5, -0.13), ncol=len(handles))
+def legend_below(drawn, handles):
+    """Puts a legend below the axes, in as many rows as its texts need."""
+    letters = sum(len(handle.get_label()) + 8 for handle in handles)
+    rows = -(-letters // LETTERS)
+    height = (0.1 + 0.2 * rows) / drawn.get_size_inches()[1]
+    drawn.set_layout_engine("constrained", rect=(0, height, 1, 1 - height))
+    legend = drawn.legend(handles=handles, loc="lower center", ncol=-(-len(handles) // rows), borderaxespad=0.1)
+    legend.set_in_layout(False)
 
 
 def style(i):

@@ -7,11 +7,12 @@ from matplotlib.patches import Patch
 from ..report.queues import SLOW, standing
 from ..report.routes import kilometres, route_of
 from .figure import DENSITY, drawing, figure, legend_below, moments, save, span_of, target, time_axis
+from .lines import draw_lines
 from .roadside import draw_junctions, draw_limits, draw_signals
 
 
 @drawing
-def draw(report, output=None, road=None, start=None, end=None, begin=None, until=None):
+def draw(report, output=None, road=None, start=None, end=None, begin=None, until=None, lines=()):
     """Draws density over time and place along a route, and gives the path of the picture."""
     report.need_records()
     path = target(report, "time-space", output)
@@ -29,12 +30,13 @@ def draw(report, output=None, road=None, start=None, end=None, begin=None, until
         handles.append(Patch(fill=False, edgecolor="#333333", hatch="////", label="capacity reduced"))
     if draw_signals(axes, report, cells, bounds, first, last):
         handles.append(Line2D([], [], color="#c00000", linewidth=2.2, label="red light"))
+    handles += draw_lines(axes, report, lines)
     draw_junctions(axes, report, cells, bounds)
     finish(axes, report, cells, bounds, known, first, last)
     bar = drawn.colorbar(mesh, ax=axes, pad=0.02)
     bar.set_label("Density (vehicles/km, all lanes)" if known else "Density (vehicles in a cell)")
     bar.outline.set_visible(False)
-    legend_below(axes, handles)
+    legend_below(drawn, handles)
     save(drawn, path)
     return path
 
