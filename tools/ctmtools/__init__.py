@@ -6,13 +6,21 @@ its records, in vehicles and steps, and the units that stand beside it; `states(
 (vehicle-hours) by cell, `queues_of(report)` its queues. `read_study(path)` and `build(study)` make a network of a study.
 """
 
-from .network_file.network import Network, read_network
-from .problem import Problem
-from .report.queues import queues_of
-from .report.reading import Report, read_report
-from .report.states import states, totals
-from .study.network_text import build
-from .study.reading import read_study
+from importlib import import_module
 
-__all__ = ["Network", "Problem", "Report", "build", "queues_of", "read_network", "read_report", "read_study", "states",
-           "totals"]
+# Where each public name is at home; it is loaded when it is first asked for.
+HOMES = {"Network": "network_file.network", "Problem": "problem", "Report": "report.reading",
+         "build": "study.network_text", "compare": "report.comparing", "queues_of": "report.queues",
+         "read_network": "network_file.network", "read_report": "report.reading", "read_study": "study.reading",
+         "states": "report.states", "totals": "report.states"}
+__all__ = sorted(HOMES)
+
+
+def __getattr__(name):
+    if name not in HOMES:
+        raise AttributeError(f"module {__name__} has no attribute {name}")
+    return getattr(import_module(f".{HOMES[name]}", __name__), name)
+
+
+def __dir__():
+    return __all__

@@ -46,13 +46,16 @@ def ask(words, content, program=None, news=None):
                                    stderr=subprocess.PIPE)
     except OSError as error:
         raise Problem(f"{program}: {error.strerror.lower()}") from None
-    kept = []
+    kept, told = [], []
 
     def read_errors():
         for line in process.stderr:
-            if news and line.startswith(BUILD_NEWS):
-                news(line.decode("utf-8", "replace").rstrip())
-            kept.append(line)
+            if line.startswith(BUILD_NEWS):
+                told.append(line.decode("utf-8", "replace").rstrip())
+                if news:
+                    news(told[-1])
+            else:
+                kept.append(line)
 
     reader = threading.Thread(target=read_errors)
     writer = threading.Thread(target=_write, args=(process.stdin, content))
@@ -62,12 +65,11 @@ def ask(words, content, program=None, news=None):
     status = process.wait()
     writer.join()
     reader.join()
-    err = b"".join(kept)
-    if status == NOT_BUILT and kept and kept[-1].startswith(BUILD_NEWS):
-        raise Problem(one_line(kept[-1].decode("utf-8", "replace")))
+    if status == NOT_BUILT and told:
+        raise Problem(one_line(told[-1]))
     if status < 0:
         raise Problem(f"{program} was ended by signal {-status}")
-    return Answer(status, out, err)
+    return Answer(status, out, b"".join(kept))
 
 
 def _write(stream, content):
@@ -78,9 +80,13 @@ def _write(stream, content):
         pass
 
 
-@lru_cache(maxsize=None)
 def takes(option, program=None):
     """Whether `run` takes an option with the value 1, asked of the program itself over the smallest network."""
+    return _takes(option, str(program or program_path()))
+
+
+@lru_cache(maxsize=None)
+def _takes(option, program):
     return ask(("run", option, "1"), SMALLEST, program).status == 0
 
 

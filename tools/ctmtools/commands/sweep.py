@@ -111,7 +111,7 @@ def _tell(frame, keys, rows, folder, drawn, task):
         figures = ("",) * 5 if row.error else (told(row.delay_vehicle_hours), kilometre(row.longest_queue_km),
                                                f"{row.most_waiting_vehicles:,.0f}", told(row.served_vehicles),
                                                told(row.inside_vehicles))
-        lines.append((*(shown(row[key]) for key in keys), *figures, f"failed: {row.error}" if row.error else ""))
+        lines.append((*(shown(row[key]) for key in keys), *figures, _remark(row)))
     click.echo("\n".join(table(lines, right=range(len(keys) + 5))))
     if len(frame) > rows:
         click.echo(f"  and {len(frame) - rows} more rows")
@@ -126,3 +126,8 @@ def _tell(frame, keys, rows, folder, drawn, task):
 
         draw(frame, drawn, title, picture)
         click.echo(f"\n{path}, {picture}")
+
+
+def _remark(row):
+    """What stands behind the figures of a row: why it failed, or what was rounded."""
+    return f"failed: {row.error}" if row.error else f"rounded: {row.rounded}" if row.rounded else ""

@@ -40,7 +40,7 @@ def command(report, output, ends, cells, separator, decimal, units, network):
     if len(separator) != 1 or len(decimal) != 1 or separator == decimal:
         raise click.UsageError("the separator and the decimal sign are one character each, and differ")
     try:
-        frame.to_csv(output or sys.stdout, sep=separator, decimal=decimal, index=False, float_format="%.6g",
+        frame.to_csv(output or sys.stdout, sep=separator, decimal=decimal, index=False, float_format="%.9g",
                      lineterminator="\n")
     except BrokenPipeError:
         raise

@@ -11,7 +11,7 @@ from .roadside import draw_junctions
 from .time_space import outline
 
 MOST_OUTLINED = 12  # queues; more of them are no longer told apart
-LOOKS = ({"linestyle": (0, (2, 1.5)), "color": "#555555"}, {"linestyle": "-", "color": "#111111"})
+LOOKS = (((0, (2, 1.5)), "#555555"), ("-", "#111111"))
 
 
 @drawing
@@ -54,11 +54,11 @@ def draw(first, second, output, road=None):
 def _outlines(axes, first, second, cells, bounds):
     """Outlines the queues of both reports, where they are few, and gives what the legend says of them."""
     handles = []
-    for report, look in zip((first, second), LOOKS):
+    for report, (dashes, shade) in zip((first, second), LOOKS):
         if report.network is None or len(queues_of(report)) > MOST_OUTLINED:
             continue
         if not standing(report)[cells].to_numpy().any():
             continue
-        outline(axes, report, cells, bounds, linewidth=1.0, **look)
-        handles.append(Line2D([], [], linewidth=1.0, label=f"queue, {report.title}", **look))
+        outline(axes, report, cells, bounds, linewidths=1.0, linestyles=[dashes], colors=shade)
+        handles.append(Line2D([], [], linewidth=1.0, linestyle=dashes, color=shade, label=f"queue, {report.title}"))
     return handles

@@ -1,6 +1,7 @@
 """The time-space diagram of a chain of cells: density by shade, in vehicles per km."""
 
 import numpy
+from matplotlib.collections import LineCollection
 from matplotlib.lines import Line2D
 from matplotlib.patches import Patch
 
@@ -43,15 +44,14 @@ def draw(report, output=None, road=None, start=None, end=None, begin=None, until
 
 def outline(axes, report, cells, bounds, **look):
     """Outlines the cells that stand in a queue."""
-    look = {"color": "#111111", "linewidth": 0.9, **look}
+    look = {"colors": "#111111", "linewidths": 0.9, **look}
     stands = standing(report)[cells].to_numpy().T
     times = moments(report, report.times)
-    rising = numpy.diff(numpy.pad(stands, ((1, 1), (0, 0))).astype(int), axis=0)
-    for row, column in zip(*numpy.nonzero(rising)):
-        axes.plot(times[column:column + 2], [bounds[row]] * 2, **look)
-    ending = numpy.diff(numpy.pad(stands, ((0, 0), (1, 1))).astype(int), axis=1)
-    for row, column in zip(*numpy.nonzero(ending)):
-        axes.plot([times[column]] * 2, bounds[row:row + 2], **look)
+    level = numpy.diff(numpy.pad(stands, ((1, 1), (0, 0))).astype(int), axis=0)
+    lines = [[(times[column], bounds[row]), (times[column + 1], bounds[row])] for row, column in zip(*level.nonzero())]
+    upright = numpy.diff(numpy.pad(stands, ((0, 0), (1, 1))).astype(int), axis=1)
+    lines += [[(times[column], bounds[row]), (times[column], bounds[row + 1])] for row, column in zip(*upright.nonzero())]
+    axes.add_collection(LineCollection(lines, **look))
 
 
 def finish(axes, report, cells, bounds, known, first, last):

@@ -8,7 +8,7 @@ from ..problem import Problem
 from .task import MEASURES
 from .variations import shown
 
-BEHIND = (*MEASURES, "error", "fingerprint")
+BEHIND = (*MEASURES, "rounded", "error", "fingerprint")
 
 
 class Results:

@@ -2,6 +2,7 @@
 
 import hashlib
 from dataclasses import dataclass
+from fractions import Fraction
 from pathlib import Path
 
 from ..problem import Problem, one_line
@@ -37,9 +38,23 @@ def measure(task):
         built = build(study(task))
         _, report = run(built.text.encode(), "the built network", built.units, task.every, 1, task.program)
         values = (report.units.hours(report.total.delay), *_greatest(report), report.total.left, report.total.inside)
-        return {**dict(zip(MEASURES, map(float, values))), "error": ""}
+        return {**dict(zip(MEASURES, map(float, values))), "rounded": rounded(built.rounding), "error": ""}
     except Problem as problem:
-        return {**dict.fromkeys(MEASURES, float("nan")), "error": one_line(problem)}
+        return failed(problem)
+    except Exception as error:  # whatever it is, it is this run's, and the other runs go on
+        return failed(f"{type(error).__name__}: {error}")
+
+
+def failed(why):
+    """What is measured of a run that failed."""
+    return {**dict.fromkeys(MEASURES, float("nan")), "rounded": "", "error": one_line(why)}
+
+
+def rounded(rounding):
+    """What was rounded by more than a thousandth, in one line: the first of it, and how much more there is."""
+    notes = [note for note in rounding.differing if abs(note.modelled - note.asked) > abs(note.asked) / 1000]
+    more = f" and {len(notes) - 1} more" if len(notes) > 1 else ""
+    return f"{notes[0]}{more}" if notes else ""
 
 
 def _greatest(report):
@@ -53,6 +68,8 @@ def study(task):
     values, factors = changed(task.values, task.changes)
     made = study_of(values, Path(task.path))
     for name, factor in factors.items():
+        if not isinstance(factor, Fraction) or factor < 0:
+            raise Problem(f"--vary demand: expected factors, 0 or more, found {factor}")
         if name and name not in made.gates:
             raise Problem(f"--vary demand.{name}: the study has no gate {name}")
         for gate in made.gates.values():

@@ -11,7 +11,7 @@ from contextlib import contextmanager
 from pathlib import Path
 
 from ..problem import Problem, one_line
-from .task import MEASURES, measure
+from .task import failed, measure
 
 PACKAGE = Path(__file__).resolve().parents[1]
 TRIES = 3  # so often processes are begun anew where one was ended from outside
@@ -47,11 +47,6 @@ def beside(tasks, count):
 def _leave_interrupts():
     """An interrupt from the keyboard is the first process's alone to answer."""
     signal.signal(signal.SIGINT, signal.SIG_IGN)
-
-
-def failed(why):
-    """What is measured of a run that failed."""
-    return {**dict.fromkeys(MEASURES, float("nan")), "error": one_line(why)}
 
 
 def cluster(tasks, address):
