@@ -67,7 +67,7 @@ def test_a_run_is_measured(plain):
     measured = measure(task(plain, **{"signals.offset": Fraction(40)}))
     assert measured == {"delay_vehicle_hours": pytest.approx(6.75), "longest_queue_km": pytest.approx(0.125),
                         "most_waiting_vehicles": pytest.approx(18), "served_vehicles": 1080, "inside_vehicles": 0, "rounded": "", "error": ""}
-    assert "cycle of signals[1]: 120 s asked, 119 s modelled" in measure(task(plain, step=Fraction(7)))["rounded"]
+    assert "length of road c: 2.5 km asked, 2.5375 km modelled and" in measure(task(plain, step=Fraction(7)))["rounded"]
     assert measure(task(plain, **{"demand": Fraction(2)}))["served_vehicles"] > 1080
     assert "no such key" in measure(task(plain, **{"signals.ofset": 40}))["error"]
     assert "no program" in measure(task("/none"))["error"]

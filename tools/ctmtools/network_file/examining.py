@@ -6,8 +6,8 @@ from ..problem import Problem
 from ..program import ask
 from .faults import first_fault
 from .kinds import NUMBERS
-from .network import network_of, told
-from .records import read_records, text_of_line, line_of
+from .network import clipped, network_of, told
+from .records import line_of, read_records, text_of_line
 from .warnings import warnings_of
 
 MOST_SHOWN = 100  # letters of a line of the file
@@ -43,5 +43,4 @@ def _shown(content, records, fault):
     if fault.record > len(records):
         return ""
     line = line_of(content, records[fault.record - 1].place)
-    text = text_of_line(content, line).expandtabs(2)
-    return f"{line:6d} | {text[:MOST_SHOWN]}{' ..' if len(text) > MOST_SHOWN else ''}"
+    return f"{line:6d} | {clipped(text_of_line(content, line).expandtabs(2), MOST_SHOWN)}"

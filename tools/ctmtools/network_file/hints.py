@@ -38,8 +38,12 @@ def _header_hint(content, records):
         return "The bytes are UTF-16, as Excel's \"Unicode text\" is; save the file as CSV in UTF-8."
     if not records:
         return "There are only comments and blank lines; the first record must be ctm,1 or ctm,2."
+    if b"\r" in content and b"\n" not in content:
+        return "The lines end with carriage returns alone, so a comment doesn't end; save the file with line feeds."
     fields = records[0].fields
     joined = ",".join(fields)
+    if len(fields) > 1 and not any(fields):
+        return "Commas stand in empty rows, as Excel writes them; take them away, and those behind records too."
     if re.fullmatch(r"ctm;[12];*", joined, re.IGNORECASE):
         return "Semicolons stand between the fields; put commas there, in the whole file."
     if re.fullmatch(r"ctm[\t ]+[12]\s*", joined, re.IGNORECASE):
@@ -144,6 +148,8 @@ def _number_hint(content, records, record, fault):
     sort = FIELDS[record.kind][fault.place - 1].sort
     if not text:
         return "The field is empty."
+    if "#" in text:
+        return "A comment stands on a line of its own; # behind a record is part of it."
     if DECIMAL_COMMA.fullmatch(text):
         return f"Is a decimal comma meant? Write {text.replace(',', '.')}."
     if text != text.strip():
@@ -210,8 +216,27 @@ def _unknown_hint(content, records, record, fault):
              if other.kind in kinds.CELLS and len(other.fields) > 1]
     if name.strip() in names:
         return "Take the spaces away."
-    near = [other for other in names if other.lower() == name.lower()] or difflib.get_close_matches(name, names, 2, 0.6)
+    near = _near(name, names)
     return f"Is {' or '.join(near)} meant?" if near else "No cell of this file has that name."
+
+
+def _near(name, names):
+    """The names that one may be meant to be: those that look alike, else those that differ least."""
+    for alike in (str.lower, _looks, _without_zeros):
+        found = [other for other in names if alike(other) == alike(name)]
+        if found:
+            return found[:2]
+    return difflib.get_close_matches(name, names, 2, 0.6)
+
+
+def _looks(name):
+    """A name with letters and digits that are easily taken for each other made one."""
+    return name.lower().translate(str.maketrans("li|o-", "1110_"))
+
+
+def _without_zeros(name):
+    """A name with its numbers without leading zeros."""
+    return re.sub(r"0+(?=[0-9])", "", name.lower())
 
 
 def _wrong_kind_hint(content, records, record, fault):

@@ -93,9 +93,15 @@ def _place_of(content, records, fault):
     record = records[fault.record - 1]
     line = line_of(content, record.place)
     if fault.place is None:
-        return f"line {line}, `{','.join(record.fields)}`"
+        return f"line {line}, `{clipped(','.join(record.fields))}`"
     names = ["kind"] + field_names(record.kind)
-    return f"line {line}, field {fault.place + 1} ({names[fault.place]}), `{record.fields[fault.place]}`"
+    return f"line {line}, field {fault.place + 1} ({names[fault.place]}), `{clipped(record.fields[fault.place])}`"
+
+
+def clipped(text, most=60):
+    """A text as far as it goes into a line, with what can't be printed as spaces."""
+    text = "".join(letter if letter.isprintable() else " " for letter in text)
+    return text if len(text) <= most else text[:most] + ".."
 
 
 def field_names(kind):

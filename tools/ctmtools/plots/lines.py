@@ -1,6 +1,7 @@
 """Lines over a time-space diagram, as theory or observation has them: points of clock time and kilometre."""
 
 from matplotlib.lines import Line2D
+from matplotlib.patheffects import withStroke
 
 from ..problem import Problem
 from .figure import moment, moments
@@ -14,7 +15,7 @@ def draw_lines(axes, report, texts):
     handles = []
     for i, text in enumerate(texts):
         label, points = _points(report, text)
-        look = {**LOOKS[i % len(LOOKS)], "linewidth": 1.8}
+        look = {**LOOKS[i % len(LOOKS)], "linewidth": 1.8, "path_effects": [withStroke(linewidth=3.4, foreground="white")]}
         axes.plot(moments(report, [step for step, _ in points]), [place for _, place in points], **look)
         if label not in [handle.get_label() for handle in handles]:
             handles.append(Line2D([], [], label=label, **look))

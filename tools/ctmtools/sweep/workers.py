@@ -7,7 +7,6 @@ import tempfile
 import zipfile
 from concurrent.futures import ProcessPoolExecutor, as_completed
 from concurrent.futures.process import BrokenProcessPool
-from contextlib import contextmanager
 from pathlib import Path
 
 from ..problem import Problem, one_line
@@ -51,28 +50,27 @@ def _leave_interrupts():
 
 def cluster(tasks, address):
     """Runs the tasks on the workers of the Dask cluster at an address; a lost worker's are given to the others."""
-    from distributed import Client, as_completed as completed
+    from distributed import Client
 
-    with _client(Client, address) as client:
-        _send_package(client)
+    try:
+        client = Client(address, timeout=PATIENCE)
+    except (OSError, TimeoutError, ValueError) as error:
+        raise Problem(f"--dask {address}: no scheduler answers there: {one_line(error)}") from None
+    _send_package(client)
+    return _gathered(client, tasks)
+
+
+def _gathered(client, tasks):
+    """Gives the tasks to a cluster, and what they measured as it comes."""
+    from distributed import as_completed as completed
+
+    with client:
         futures = {client.submit(measure, task, pure=False): i for i, task in enumerate(tasks)}
         for future in completed(list(futures)):
             if future.status == "finished":
                 yield futures[future], future.result()
             else:
                 yield futures[future], failed(f"{type(future.exception()).__name__}: {future.exception()}")
-
-
-@contextmanager
-def _client(make, address):
-    try:
-        client = make(address, timeout=PATIENCE)
-    except (OSError, TimeoutError, ValueError) as error:
-        raise Problem(f"--dask {address}: no scheduler answers there: {one_line(error)}") from None
-    try:
-        yield client
-    finally:
-        client.close()
 
 
 def _send_package(client):
@@ -85,6 +83,7 @@ def _send_package(client):
         try:
             client.register_worker_plugin(UploadFile(str(path)), name="ctmtools")
         except Exception as error:  # whatever a worker's machine lacks comes as its own kind of exception
+            client.close()
             raise Problem(f"--dask: the workers don't take the tools: {one_line(error)}") from None
 
 
