@@ -6,7 +6,7 @@ import pytest
 
 from ctmtools.network_file.faults import first_fault
 from ctmtools.network_file.kinds import NUMBERS
-from ctmtools.network_file.records import line_of, lines_of, read_records
+from ctmtools.network_file.records import ends_of_lines, line_of, read_records
 from ctmtools.program import ask
 
 ENDS = ["\n", "\r\n", "\r"]
@@ -73,7 +73,7 @@ def test_odd_files(content, program):
 def test_lines_are_counted_as_an_editor_does():
     content = b"one\r\ntwo\rthree\nfour"
     assert [line_of(content, content.index(word)) for word in (b"one", b"two", b"three", b"four")] == [1, 2, 3, 4]
-    assert lines_of(content, [0, 5, 9, 15]) == [1, 2, 3, 4]
+    assert ends_of_lines(content) == [5, 9, 15]
 
 
 def test_a_record_over_lines_has_the_line_where_it_begins():

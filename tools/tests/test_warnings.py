@@ -25,6 +25,8 @@ CASES = {
                                   ["line 4: the road m01 can carry N·A/(A + B) = 15 vehicles a step for long, which is below its Q of 18"]),
     "a signal that is never green": (HEAD + LINKS + DEMAND + "signal,m01,40,0,20,30\n",
                                      ["line 11: the signal of m01 is green in no step of the run"]),
+    "a ring that nothing reaches": (HEAD + LINKS + DEMAND + "road,a,6,1,1,2,0\nroad,b,6,1,1,2,0\nlink,a,b\nlink,b,a\n",
+                                   ["line 11: no vehicle ever reaches the road a, nor 1 more behind it"]),
     "a demand behind the end": (HEAD + LINKS + DEMAND + "demand,on,9,12,1\n", ["line 11: this demand begins behind the last step"]),
 }
 

@@ -1,5 +1,6 @@
 """A network file that has no fault, as cells, connectors and what comes with the steps."""
 
+from bisect import bisect_right
 from dataclasses import dataclass, field
 from functools import cached_property
 from pathlib import Path
@@ -11,7 +12,7 @@ from ..amounts import PARTS, parts_of
 from ..problem import Problem
 from .faults import first_fault
 from .hints import hint_of
-from .records import line_of, read_records
+from .records import ends_of_lines, line_of, read_records
 
 
 @dataclass
@@ -42,9 +43,19 @@ class Network:
                              for row in self.links.itertuples())
         return graph
 
+    @cached_property
+    def kinds(self):
+        """The kind of each cell, by name."""
+        return self.cells.kind.to_dict()
+
+    @cached_property
+    def line_ends(self):
+        """The places behind the ends of the lines of the file."""
+        return ends_of_lines(self.content)
+
     def line(self, record):
         """The line, from 1, that a record of this number stands in."""
-        return line_of(self.content, self.records[record - 1].place)
+        return 1 + bisect_right(self.line_ends, self.records[record - 1].place)
 
 
 def read_network(path):

@@ -64,14 +64,9 @@ def line_of(content, place):
     return 1 + sum(1 for _ in LINE_END.finditer(content, 0, place))
 
 
-def lines_of(content, places):
-    """The numbers from 1 of the lines of rising places, found in one pass."""
-    lines, line, last = [], 1, 0
-    for place in places:
-        line += sum(1 for _ in LINE_END.finditer(content, last, place))
-        lines.append(line)
-        last = place
-    return lines
+def ends_of_lines(content):
+    """The places behind the ends of all lines, in rising order."""
+    return [found.end() for found in LINE_END.finditer(content)]
 
 
 def text_of_line(content, line):

@@ -2,8 +2,6 @@
 
 from dataclasses import dataclass
 
-import networkx
-
 from ..amounts import PARTS, parts_of
 
 FAR_ABOVE = 2  # a demand is far above a gate's capacity from this many times it on
@@ -45,55 +43,65 @@ def _line(network, cell):
 
 def _dead_ends(network):
     """Roads and gates that nothing leads out of."""
-    graph = network.graph
-    for cell, row in network.cells.iterrows():
-        if row.kind == "exit" or graph.out_degree(cell):
+    names = list(network.kinds)
+    for place, (cell, kind) in enumerate(network.kinds.items()):
+        if kind == "exit" or network.graph.out_degree(cell):
             continue
-        follower = _follower(network, cell)
+        follower = _follower(network, names, place)
         hint = f" Is a link,{cell},{follower} forgotten?" if follower else ""
         yield Warning("dead ends", _line(network, cell),
-                      f"the {row.kind} {cell} is a dead end: nothing leads out of it, so what comes in stays.{hint}")
+                      f"the {kind} {cell} is a dead end: nothing leads out of it, so what comes in stays.{hint}")
 
 
-def _follower(network, cell):
+def _follower(network, names, place):
     """The next cell in the file, where nothing leads into it: a link to it may be forgotten."""
-    names = list(network.cells.index)
-    place = names.index(cell) + 1
-    if place < len(names) and network.cells.kind[names[place]] != "gate" and not network.graph.in_degree(names[place]):
-        return names[place]
-    bare = [name for name in names if network.cells.kind[name] == "exit" and not network.graph.in_degree(name)]
-    return bare[0] if len(bare) == 1 else None
+    if place + 1 < len(names):
+        following = names[place + 1]
+        if network.kinds[following] != "gate" and not network.graph.in_degree(following):
+            return following
+    return None
 
 
 def _unreached(network):
-    """Roads and exits that no vehicle comes to."""
-    fed = set(network.demands.gate[(network.demands["amount"] > 0) & (network.demands["from"] < network.steps)])
-    fed |= set(network.cells.index[network.cells["first"] > 0])
-    gates = {cell for cell in network.cells.index if network.cells.kind[cell] == "gate"}
-    sources = fed | gates
-    reached = set(sources)
-    for source in sources:
-        if source in reached:
-            reached |= networkx.descendants(network.graph, source)
-    unreached = [cell for cell in network.cells.index if cell not in reached]
-    for cell in unreached:
-        if not any(up in unreached for up in network.graph.predecessors(cell)):
-            count = sum(other not in reached for other in networkx.descendants(network.graph, cell))
-            more = f", nor {count} more behind it" if count else ""
-            yield Warning("cells that nothing reaches", _line(network, cell),
-                          f"no vehicle ever reaches the {network.cells.kind[cell]} {cell}{more}: no gate leads to it")
+    """Roads and exits that no vehicle comes to; of cells that lead to each other the first alone is told."""
+    demands, cells = network.demands, network.cells
+    reached = set(demands.gate[(demands["amount"] > 0) & (demands["from"] < network.steps)])
+    reached |= set(cells.index[cells["first"] > 0])
+    reached |= {cell for cell, kind in network.kinds.items() if kind == "gate"}
+    _spread(network.graph, reached)
+    told = set(reached)
+    first = [cell for cell in network.kinds if all(up in reached for up in network.graph.predecessors(cell))]
+    for cell in [*first, *network.kinds]:  # those that begin a chain, and then those of rings
+        if cell in told:
+            continue
+        behind = {cell}
+        _spread(network.graph, behind, told)
+        told |= behind
+        more = f", nor {len(behind) - 1} more behind it" if len(behind) > 1 else ""
+        yield Warning("cells that nothing reaches", _line(network, cell),
+                      f"no vehicle ever reaches the {network.kinds[cell]} {cell}{more}: no gate leads to it")
+
+
+def _spread(graph, cells, barred=frozenset()):
+    """Adds to a set of cells all that can be reached from them, but for those that are barred."""
+    waiting = list(cells)
+    while waiting:
+        for down in graph.successors(waiting.pop()):
+            if down not in cells and down not in barred:
+                cells.add(down)
+                waiting.append(down)
 
 
 def _gates_without_demand(network):
-    with_demand = set(network.demands.gate)
-    for cell, row in network.cells.iterrows():
-        if row.kind == "gate" and cell not in with_demand and row["first"] == 0:
+    fed = set(network.demands.gate) | set(network.cells.index[network.cells["first"] > 0])
+    for cell, kind in network.kinds.items():
+        if kind == "gate" and cell not in fed:
             yield Warning("gates without demand", _line(network, cell), f"the gate {cell} has no demand: nobody comes")
 
 
 def _high_demands(network):
     """Demands far above the greatest capacity that their gates ever have."""
-    most = network.cells.Q.astype(float).copy()
+    most = network.cells.Q.astype(float).to_dict()
     for row in network.limits.itertuples():
         most[row.cell] = max(most[row.cell], row.Q)
     for row in network.demands.itertuples():
@@ -140,10 +148,12 @@ def _overlapping(network):
 
 def _short_of_capacity(network):
     """Roads whose greatest lasting flow, N·A/(A + B), is below Q."""
-    for cell, row in network.cells[network.cells.kind == "road"].iterrows():
-        a, b = int(row.A), int(row.B)
-        fields = network.records[int(row.record) - 1].fields
-        room, most = parts_of(fields[2]), parts_of(fields[3])
+    for record in network.records[1:]:
+        if record.kind != "road":
+            continue
+        cell = record.fields[1]
+        room, most = map(parts_of, record.fields[2:4])
+        a, b = map(int, record.fields[4:6])
         lasting = room * a / (a + b)
         if most - lasting > max(1, most // 1_000_000):
             yield Warning("roads that can't carry Q for long", _line(network, cell),

@@ -25,7 +25,7 @@ def draw(report, output=None, cells=(), background=None, shifted=False, begin=No
     first, last = span_of(report, begin, until)
     drawn, axes = figure()
     lags = _lags(report, cells) if shifted else [0] * len(cells)
-    kinds = report.need_network().cells.kind
+    kinds = report.need_network().kinds
     for i, (cell, lag) in enumerate(zip(cells, lags)):
         times = numpy.array(report.times) + lag
         passed = _passed(report, cell, kinds[cell])
@@ -68,7 +68,7 @@ def _lags(report, cells):
             lags.append(networkx.shortest_path_length(graph, cell, cells[-1]))
         except networkx.NetworkXNoPath:
             raise Problem(f"{report.name}: no way leads from {cell} to {cells[-1]}") from None
-    kinds = report.network.cells.kind
+    kinds = report.network.kinds
     # What has come is counted a step sooner than what has gone: at an exit, the last cell, and at a gate.
     at_exit = kinds[cells[-1]] == "exit"
     return [max(0, lag - at_exit) + (kinds[cell] == "gate") for cell, lag in zip(cells, lags)]

@@ -5,7 +5,10 @@ import numpy
 from .figure import drawing, figure, save, target
 
 MOST_BARS = 150
+MOST_NAMES = 40  # cells that are named on the axis
 ROOM = 1.5  # bars between roads
+LETTER = 5.0  # points that a letter of a name takes
+GATE = "gate"
 
 
 @drawing
@@ -16,49 +19,49 @@ def draw(report, output=None):
     delay = units.hours(report.cells.wait)
     groups = _groups(report, delay)
     drawn, axes = figure(size=(8, 4.2))
-    place, ticks, names = 0.0, [], []
+    step = -(-sum(len(cells) for _, cells in groups) // MOST_NAMES)
+    place, ticks, names, middles = 0.0, [], [], []
     for name, cells in groups:
         places = place + numpy.arange(len(cells))
         axes.bar(places, delay[cells], width=0.85, color="#4a4a4a")
-        if len(groups) > 1 and name != "gate":
-            axes.annotate(name, (places.mean(), 0), xycoords=("data", "axes fraction"), xytext=(0, -34),
-                          textcoords="offset points", ha="center", va="top", fontsize=9, annotation_clip=False)
-        for i in _ticked(len(cells)):
-            ticks.append(places[i])
-            names.append(f"gate {cells[i]}" if name == "gate" else cells[i])
+        ticks += list(places[::step])
+        names += [f"{GATE} {cell}" if name == GATE else cell for cell in cells[::step]]
+        if name != GATE:
+            middles.append((places.mean(), name))
         place = places[-1] + 1 + ROOM
-    axes.set_xticks(ticks, names, rotation=90 if len(ticks) > 12 else 0, fontsize=8)
+    turned = len(ticks) > 12
+    axes.set_xticks(ticks, names, rotation=90 if turned else 0, fontsize=8)
+    _name_roads(axes, middles, LETTER * max(map(len, names), default=0) if turned else 10)
     axes.grid(False, axis="x")
     axes.set_xlim(-1, place - ROOM)
-    axes.set_xlabel("Cell, in the direction of travel")
-    if len(groups) > 1:
-        axes.xaxis.labelpad = 18
     axes.set_ylabel(f"Delay ({units.delay_unit})")
     axes.set_title(f"{report.title}: delay by cell, {delay.sum():,.1f} {units.delay_unit} in all")
     save(drawn, path)
     return path
 
 
-def _ticked(count):
-    """The places of the cells that are named: each of a few, else some at equal steps."""
-    step = 1 if count <= 24 else -(-count // 16)
-    return range(0, count, step)
+def _name_roads(axes, middles, depth):
+    """Writes the names of the roads below those of the cells, which reach so many points down, and the axis's label."""
+    axes.set_xlabel("Cells in the direction of travel")
+    if len(middles) > 1:
+        for middle, name in middles:
+            axes.annotate(name, (middle, 0), xycoords=("data", "axes fraction"), xytext=(0, -10 - depth),
+                          textcoords="offset points", ha="center", va="top", fontsize=9, annotation_clip=False)
+        axes.xaxis.labelpad = 18
 
 
 def _groups(report, delay):
     """The roads with their cells, and the gates that have a delay; of a large network the cells with the most delay."""
-    units = report.units
-    exits = set()
+    units, kinds = report.units, {}
     if report.network is not None:
-        exits = {cell for cell in report.cells.index if report.network.cells.kind[cell] == "exit"}
-    rest = [cell for cell in report.cells.index if cell not in units.cells and cell not in exits]
+        kinds = report.network.kinds
+    rest = [cell for cell in report.cells.index if cell not in units.cells]
     if units.roads:
         groups = [(f"road {road}", list(cells)) for road, cells in units.roads.items()]
-        groups += [("gate", [cell]) for cell in rest if delay[cell] > 0]
     else:
-        groups = [("all cells", rest)]
+        groups = [("cells", [cell for cell in rest if kinds.get(cell, "road") == "road"])]
+    groups.append((GATE, [cell for cell in rest if kinds.get(cell) == "gate" and delay[cell] > 0]))
     if sum(len(cells) for _, cells in groups) > MOST_BARS:
         most = set(delay.sort_values(ascending=False).index[:MOST_BARS // 2])
         groups = [(name, [cell for cell in cells if cell in most]) for name, cells in groups]
-        groups = [(name, cells) for name, cells in groups if cells]
-    return groups
+    return [(name, cells) for name, cells in groups if cells]

@@ -20,7 +20,7 @@ class Map:
 
     def __init__(self, report):
         self.report, self.network = report, report.need_network()
-        self.kinds = self.network.cells.kind
+        self.kinds = self.network.kinds
         lengths = [report.units.length(cell) or 1.0 for cell in self.network.cells.index if self.kinds[cell] == "road"]
         self.stub = STUB * (sum(lengths) / len(lengths) if lengths else 1.0)
         self.places, self.lines, self.side = {}, {}, 1

@@ -14,7 +14,7 @@ def draw(report, output=None):
     """Draws the map, and gives the path of the picture. The delay is in vehicle-hours for each km, or by cell."""
     report.need_network()
     path = target(report, "map", output)
-    units, kinds = report.units, report.network.cells.kind
+    units, kinds = report.units, report.network.kinds
     lines = lay_out(report)
     roads = [cell for cell in report.cells.index if kinds[cell] == "road"]
     delay = units.hours(report.cells.wait)
@@ -52,7 +52,7 @@ def _height(lines):
 
 def _ends(axes, report, lines, delay):
     """Marks gates and exits with their names, and the delay at a gate."""
-    kinds = report.network.cells.kind
+    kinds = report.network.kinds
     for cell in report.cells.index:
         if kinds[cell] == "road":
             continue

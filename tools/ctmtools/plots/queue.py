@@ -52,7 +52,7 @@ def _stairs(axes, times, values, look):
 
 def _groups(report, roads):
     """What gets a line: a name, its cells, and whether they have a length. Gates where vehicles wait come last."""
-    units, kinds = report.units, report.network.cells.kind
+    units, kinds = report.units, report.network.kinds
     for road in roads:
         if road not in units.roads:
             raise Problem(f"{report.name}: the units name no road {road}; they name {', '.join(units.roads) or 'none'}")
@@ -63,15 +63,15 @@ def _groups(report, roads):
     else:
         route = [cell for cell in main_route(report.network) if kinds[cell] == "road"]
         groups = [(f"{route[0]} to {route[-1]}", route, True)]
-        rest = [cell for cell in report.cells.index if kinds[cell] == "road" and cell not in set(route)]
+        own = set(route)
+        rest = [cell for cell in report.cells.index if kinds[cell] == "road" and cell not in own]
         if stands[rest].any():
             groups.append(("all other roads", rest, True))
     if not roads:
         gates = [cell for cell in report.cells.index if kinds[cell] == "gate" and stands[cell]]
         groups += [(f"gate {gate}", [gate], False) for gate in gates]
     groups = groups or [(f"road {road}", cells, True) for road, cells in list(units.roads.items())[:1]]
-    most = waiting(report, [cell for _, cells, _ in groups for cell in cells]) is not None
-    if len(groups) > MOST_LINES and most:
+    if len(groups) > MOST_LINES:
         groups = sorted(groups, key=lambda group: -waiting(report, group[1]).sum())
         rest = [cell for _, cells, _ in groups[MOST_LINES - 1:] for cell in cells if kinds[cell] == "road"]
         groups = groups[:MOST_LINES - 1] + [(f"{len(groups) - MOST_LINES + 1} others", rest, True)]

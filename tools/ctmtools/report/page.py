@@ -95,7 +95,7 @@ def clock(report, step):
 
 
 def _inside(report):
-    kinds = report.need_network().cells.kind
+    kinds = report.need_network().kinds
     inside = report.cells.n[[cell for cell in report.cells.index if kinds[cell] != "exit"]]
     inside = inside[inside >= 0.001].sort_values(ascending=False, kind="stable")
     when = report.units.clock(report.steps) if report.units.known else "the end"

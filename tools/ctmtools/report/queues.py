@@ -66,7 +66,7 @@ def standing(report):
     """Whether each cell stands in a queue, from each recorded step to the next: a frame of truth values."""
     held, flow = report.held, report.flow
     frame = (held >= LEAST) & (flow < SLOW * held)
-    kinds = report.need_network().cells.kind
+    kinds = report.need_network().kinds
     frame.loc[:, [cell for cell in frame.columns if kinds[cell] == "exit"]] = False
     return frame
 
@@ -156,7 +156,7 @@ def _origins(spans, graph):
 def _reach(report, origin, spans):
     """The cell of the queue that lies farthest upstream of its origin, and the way to that cell's upstream end."""
     units, graph = report.units, report.network.graph
-    kinds = report.network.cells.kind
+    kinds = report.network.kinds
 
     def length(cell):
         if kinds[cell] != "road":

@@ -1,5 +1,6 @@
 """The text of a report, as data frames in the program's own units: vehicles and steps."""
 
+import io
 from dataclasses import dataclass, field
 from functools import cached_property
 from pathlib import Path
@@ -116,33 +117,39 @@ def _fitting(network, report, name, asked):
 
 def report_of(content, name="the report"):
     """The report that the bytes spell, in vehicles and steps."""
-    lines = content.decode("ascii", "replace").splitlines()
-    head = lines[0].split(",") if lines else []
-    if len(head) != 3 or head[0] != "report" or not lines[-1].startswith("total,"):
+    head, _, rest = content.partition(b"\n")
+    terms = head.split(b",")
+    if len(terms) != 3 or terms[0] != b"report":
         raise Problem(f"{name}: no report of ctm; `ctm-tools run` writes one")
     try:
-        steps, count = int(head[1]), int(head[2])
-        first_cell = len(lines) - 1 - count
-        records = [line.split(",") for line in lines[1:first_cell]]
-        rows = [line.split(",") for line in lines[first_cell:-1]]
-        if any(row[0] != "cell" for row in rows) or any(row[0] != "at" for row in records):
+        steps, count = int(terms[1]), int(terms[2])
+        first_cell = 0 if rest.startswith(b"cell,") else rest.index(b"\ncell,") + 1
+        *rows, last = rest[first_cell:].decode("ascii").splitlines()
+        rows = [row.split(",") for row in rows]
+        if len(rows) != count or any(row[0] != "cell" for row in rows) or not last.startswith("total,"):
             raise ValueError
         names = [row[1] for row in rows]
         cells = pandas.DataFrame([[float(value) for value in row[2:6]] for row in rows],
                                  index=pandas.Index(names, name="cell"), columns=["n", "come", "gone", "wait"])
-        total = pandas.Series(map(float, lines[-1].split(",")[1:]), index=["inside", "entered", "left", "delay"])
-        times, occupancy, departed = _records(records, names)
+        total = pandas.Series(map(float, last.split(",")[1:]), index=["inside", "entered", "left", "delay"])
+        times, occupancy, departed = _records(rest[:first_cell], names)
     except (ValueError, IndexError):
         raise Problem(f"{name}: this report is cut short or isn't one of ctm") from None
     return Report(steps, cells, total, times, occupancy, departed, name=name)
 
 
-def _records(records, names):
-    """The recorded steps, and the frames of occupancies and of departed vehicles."""
+def _records(content, names):
+    """The recorded steps, and the frames of occupancies and of departed vehicles, of the lines of records."""
     count = len(names)
-    if len(records) % count or [row[2] for row in records[:count]] != (names if records else []):
+    first = content[:100 * count].split(b"\n", count)[:count]
+    if content and [line.split(b",")[2].decode() for line in first] != names:
         raise ValueError
-    times = numpy.array([int(row[1]) for row in records[::count]], dtype=int)
-    values = numpy.array([(float(row[3]), float(row[4])) for row in records]).reshape(len(times), count, 2)
-    return (times, pandas.DataFrame(values[:, :, 0], index=times, columns=names),
-            pandas.DataFrame(values[:, :, 1], index=times, columns=names))
+    rows = pandas.read_csv(io.BytesIO(content), header=None, usecols=[0, 1, 3, 4], engine="c",
+                           dtype={0: "category", 1: "int64", 3: "float64", 4: "float64"}) if content else \
+        pandas.DataFrame({column: [] for column in (0, 1, 3, 4)})
+    if len(rows) % count or set(rows[0].unique()) - {"at"}:
+        raise ValueError
+    times = rows[1].to_numpy(dtype=int)[::count]
+    shape = (len(times), count)
+    return (times, pandas.DataFrame(rows[3].to_numpy(dtype=float).reshape(shape), index=times, columns=names),
+            pandas.DataFrame(rows[4].to_numpy(dtype=float).reshape(shape), index=times, columns=names))

@@ -28,7 +28,7 @@ def route_of(report, start=None, end=None, road=None):
         cells = _follow(network, start)
     else:
         cells = main_route(network)
-    cells = [cell for cell in cells if network.cells.kind[cell] == "road"]
+    cells = [cell for cell in cells if network.kinds[cell] == "road"]
     if not cells:
         raise Problem(f"{report.name}: the route has no road cells")
     return cells
@@ -56,7 +56,7 @@ def _follow(network, cell, back=False):
 
 def main_route(network):
     """The longest of the chains that begin at gates, or at cells that nothing leads into, or anywhere."""
-    starts = [cell for cell in network.cells.index if network.cells.kind[cell] == "gate"]
+    starts = [cell for cell in network.cells.index if network.kinds[cell] == "gate"]
     starts = starts or [cell for cell in network.cells.index if network.graph.in_degree(cell) == 0]
     chains = (_follow(network, start) for start in (starts or list(network.cells.index)[:1])[:500])
     return max(chains, key=len)

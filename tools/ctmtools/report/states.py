@@ -44,7 +44,7 @@ def states(report):
 def _scales(units, cell, report):
     """What a vehicle a step, a vehicle in the cell and a cell a step are, in the units of the table."""
     if not units.known:
-        road = report.network is None or report.network.cells.kind[cell] == "road"
+        road = report.network is None or report.network.kinds[cell] == "road"
         return 1.0, 1.0 if road else numpy.nan, 1.0 if road else numpy.nan
     length = units.length(cell)
     hour = 3600 / units.step
