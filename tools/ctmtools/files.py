@@ -14,7 +14,7 @@ def network_target(source, output=None):
 
 
 def report_target(source, output=None):
-    """Where the report of a study or a network goes: where it is asked for, else its name with .report in this folder."""
+    """Where a report goes: where it is asked for, else the study's or network's name with .report in this folder."""
     return Path(output) if output else Path(Path(source).stem + ".report")
 
 

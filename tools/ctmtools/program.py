@@ -91,7 +91,7 @@ def _takes(option, program):
 
 
 def run_words(every, workers=1, program=None):
-    """The words of a run that is recorded each `every` steps (0 for never), on `workers` threads where it takes them."""
+    """The words of a run that is recorded each `every` steps (0 for never), on `workers` threads where it takes any."""
     words = ["run"]
     if every:
         if not takes("--every", program):

@@ -9,7 +9,7 @@ from fractions import Fraction
 
 import plain_model
 import pytest
-from conftest import EXAMPLES, TOOLS
+from conftest import EXAMPLES
 
 from ctmtools.problem import Problem
 from ctmtools.sweep import workers

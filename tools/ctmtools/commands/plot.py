@@ -82,7 +82,8 @@ Examples:
   ctm-tools plot queue interchange.report --road m --road r""")
 @on_picture
 @on_time
-@click.option("--road", "roads", metavar="ROAD", multiple=True, help="A road; may be given again. Else all with queues.")
+@click.option("--road", "roads", metavar="ROAD", multiple=True,
+              help="A road; may be given again. Else all with queues.")
 def queue(report, output, units, network, begin, until, roads):
     """The length of the queues and the vehicles that wait, over time."""
     from ..plots import queue as plot

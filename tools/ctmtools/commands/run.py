@@ -6,7 +6,7 @@ from pathlib import Path
 import click
 
 from ..files import beside, guard_network, guard_report, report_target, write
-from ..network_file.network import network_of, read_bytes
+from ..network_file.network import read_bytes
 from ..network_file.warnings import shortened, warnings_of
 from ..report.page import page
 from ..running import run

@@ -20,11 +20,11 @@ Examples:
   ctm-tools sweep study.toml --vary demand=0.8:1.2:0.1 --vary "signals.offset=0:60:10" --dask tcp://host:8786
 
 A key is one of the study, such as step, lane.wave_speed, roads.m.length, signals.offset (of all signals) or
-signals.2.offset (of the second). demand multiplies all demands, demand.GATE those of a gate. Values are FROM:TO:STEP,
-both ends included, or VALUE,VALUE,.. and are in the key's unit.
+signals.2.offset (of the second). demand multiplies all demands, demand.GATE those of a gate. Values are
+FROM:TO:STEP, both ends included, or VALUE,VALUE,.. and are in the key's unit.
 
-The rows are kept in FOLDER/results.csv as they come. Called again after it was stopped, a sweep does what is missing and
-tries again what failed. With --dask the runs are given to the cluster whose scheduler has that address; its machines
+The rows are kept in FOLDER/results.csv as they come. Called again after it was stopped, a sweep does what is missing
+and tries again what failed. With --dask the runs are given to the cluster whose scheduler has that address; its machines
 need Debian's python3-distributed, python3-pandas, python3-networkx and python3-click, and the program at the path that
 it has here."""
 
@@ -36,8 +36,10 @@ it has here."""
 @click.option("-j", "--jobs", metavar="N", type=click.IntRange(1, 256),
               help="Runs side by side; by default as many as processors.")
 @click.option("--dask", "address", metavar="ADDRESS", help="The scheduler of a Dask cluster.")
-@click.option("-o", "--output", metavar="FOLDER", type=click.Path(), help="Where the results go; else STUDY.sweep here.")
-@click.option("--over", metavar="KEY", multiple=True, help="Draw over this key, or over two; else the first two varied.")
+@click.option("-o", "--output", metavar="FOLDER", type=click.Path(),
+              help="Where the results go; else STUDY.sweep here.")
+@click.option("--over", metavar="KEY", multiple=True,
+              help="Draw over this key, or over two; else the first two varied.")
 @click.option("--every", metavar="K", type=click.IntRange(1, 100_000), help="Record each K-th step.")
 @click.option("--rows", default=20, show_default=True, type=click.IntRange(1), help="How many rows are told.")
 def command(source, varied, jobs, address, output, over, every, rows):

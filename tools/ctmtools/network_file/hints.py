@@ -58,7 +58,8 @@ def _header_hint(content, records):
         return "There are the formats 1 and 2 alone: write ctm,1 or ctm,2."
     later = next((record for record in records if record.fields[:2] in HEADERS), None)
     if later is not None:
-        what = "a row of column names stands before it" if _looks_like_names(fields) else "it must stand before all others"
+        names = _looks_like_names(fields)
+        what = "a row of column names stands before it" if names else "it must stand before all others"
         return f"The record {','.join(later.fields[:2])} is in line {line_of(content, later.place)}; {what}."
     if fields[0] in FIELDS:
         return "The record ctm,1 or ctm,2 is missing; put it before all others."
@@ -187,7 +188,8 @@ def _range_hint(content, records, record, fault):
     if record.kind == "road" and name == "first":
         return f"The road has room for N = {record.fields[2]} vehicles."
     if record.kind == "signal":
-        return f"These are steps in a cycle of {record.fields[2]}; a range doesn't reach over the cycle's end, but an offset can shift it."
+        return (f"These are steps in a cycle of {record.fields[2]}; a range doesn't reach over the cycle's end, but an "
+                "offset can shift it.")
     if name == "to":
         return "The range is of the steps from <= t < to, so `to` is above `from`."
     if record.kind == "turn" or record.kind == "diverge":

@@ -15,7 +15,8 @@ def draw_lines(axes, report, texts):
     handles = []
     for i, text in enumerate(texts):
         label, points = _points(report, text)
-        look = {**LOOKS[i % len(LOOKS)], "linewidth": 1.8, "path_effects": [withStroke(linewidth=3.4, foreground="white")]}
+        edge = [withStroke(linewidth=3.4, foreground="white")]
+        look = {**LOOKS[i % len(LOOKS)], "linewidth": 1.8, "path_effects": edge}
         axes.plot(moments(report, [step for step, _ in points]), [place for _, place in points], **look)
         if label not in [handle.get_label() for handle in handles]:
             handles.append(Line2D([], [], label=label, **look))

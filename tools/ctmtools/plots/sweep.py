@@ -6,7 +6,8 @@ import pandas
 from .figure import DENSITY, drawing, figure, save, style
 
 UNITS = {"offset": "s", "first_green": "s", "cycle": "s", "green": "s", "step": "s", "length": "km", "from": "km",
-         "to": "km", "at": "km", "free_flow_speed": "km/h", "wave_speed": "km/h", "jam_density": "vehicles/km in a lane",
+         "to": "km", "at": "km",
+         "free_flow_speed": "km/h", "wave_speed": "km/h", "jam_density": "vehicles/km in a lane",
          "saturation_flow": "vehicles/h in a lane", "capacity": "vehicles/h", "lanes": "lanes"}
 NAMES = {"delay_vehicle_hours": "Delay (vehicle-hours)", "longest_queue_km": "Longest queue (km)"}
 

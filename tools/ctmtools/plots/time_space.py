@@ -50,7 +50,8 @@ def outline(axes, report, cells, bounds, **look):
     level = numpy.diff(numpy.pad(stands, ((1, 1), (0, 0))).astype(int), axis=0)
     lines = [[(times[column], bounds[row]), (times[column + 1], bounds[row])] for row, column in zip(*level.nonzero())]
     upright = numpy.diff(numpy.pad(stands, ((0, 0), (1, 1))).astype(int), axis=1)
-    lines += [[(times[column], bounds[row]), (times[column], bounds[row + 1])] for row, column in zip(*upright.nonzero())]
+    lines += [[(times[column], bounds[row]), (times[column], bounds[row + 1])]
+              for row, column in zip(*upright.nonzero())]
     axes.add_collection(LineCollection(lines, **look))
 
 

@@ -35,7 +35,7 @@ def _lasting(seconds):
 def _queues(report):
     places = places_of(queues_of(report))
     if not places:
-        yield "No queue: nowhere does traffic move slower than " f"{SLOW:.0%} of the free-flow speed."
+        yield f"No queue: nowhere does traffic move slower than {SLOW:.0%} of the free-flow speed."
         return
     every = report.times[1] - report.times[0]
     seen = f", seen each {every * report.units.step:g} s" if report.units.known and every > 1 else \
@@ -47,11 +47,13 @@ def _queues(report):
     yield from table(rows, right=(2, 5, 8))
     if len(places) > MOST_PLACES:
         rest = sum(place.delay for place in places[MOST_PLACES:])
-        yield f"  and at {len(places) - MOST_PLACES} more places, {told(report.units.hours(rest))} {report.units.delay_unit}"
+        yield (f"  and at {len(places) - MOST_PLACES} more places, {told(report.units.hours(rest))} "
+               f"{report.units.delay_unit}")
     repeated = [place for place in places[:MOST_PLACES] if len(place.queues) > 1]
     if repeated:
         yield ""
-        yield "  Of several queues at one place the longest is told, the first begin, the last clearing and the delay of all."
+        yield ("  Of several queues at one place the longest is told, the first begin, the last clearing and the delay "
+               "of all.")
     for place in places[:MOST_PLACES]:
         for queue in place.queues:
             for other in queue.others[:3]:

@@ -144,7 +144,8 @@ def _origins(spans, graph):
     firsts = {}
     for cell, own in spans.items():
         for begin, _ in own:
-            behind = any(first <= begin <= last for down in graph.successors(cell) for first, last in spans.get(down, ()))
+            behind = any(first <= begin <= last
+                         for down in graph.successors(cell) for first, last in spans.get(down, ()))
             if not behind and cell not in firsts:
                 firsts[cell] = begin
     if not firsts:  # a ring that is full all round

@@ -42,7 +42,7 @@ def _road(report, road):
 
 
 def _follow(network, cell, back=False):
-    """The chain from a cell on, or back from it, by the greater weight at each junction, until it ends or comes round."""
+    """The chain from a cell on, or back from it, by the greater weight at each junction, to its end or once round."""
     chain, seen = [cell], {cell}
     while True:
         steps = network.graph.in_edges(cell, data="weight") if back else network.graph.out_edges(cell, data="weight")

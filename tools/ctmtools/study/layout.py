@@ -28,7 +28,7 @@ class RoadCell:
 
 @dataclass
 class Stretch:
-    """The cells of a section: the km asked for, the first cell's number on the road, how many, and their length in km."""
+    """The cells of a section: the km asked for, the first cell's number on the road, how many, each so many km long."""
 
     start: Fraction
     end: Fraction
@@ -80,8 +80,8 @@ class Layout:
                     numbers[section.cells] += 1
                     name = f"{section.cells}{numbers[section.cells]:0{width}d}"
                     if name in taken:
-                        raise Problem(f"roads.{road.name}: a second cell would be named {name}; name the road otherwise, "
-                                      "or its cells by the key cells")
+                        raise Problem(f"roads.{road.name}: a second cell would be named {name}; name the road "
+                                      "otherwise, or its cells by the key cells")
                     if not NAME.fullmatch(name):
                         raise Problem(f"roads.{road.name}: a cell would be named \"{name}\"; a name is {NAME_RULE}")
                     taken.add(name)
@@ -99,7 +99,8 @@ class Layout:
             first = min(room, rounded_parts(section.first_density * section.lanes * part.length))
             for _ in range(part.count):
                 name = names[road.name][len(cells)]
-                cells.append(RoadCell(name, road.name, place, place + part.length, section, room, capacity, ratio, first))
+                cells.append(RoadCell(name, road.name, place, place + part.length, section, room, capacity, ratio,
+                                      first))
                 place += part.length
         return cells
 

@@ -55,7 +55,7 @@ class Gate:
 
 @dataclass
 class Exit:
-    """Where vehicles go out: the road that leads to it, its capacity in vehicles/h where it is said, and limits of it."""
+    """Where vehicles go out: the road that leads to it, its capacity in vehicles/h where it is said, and limits."""
 
     name: str
     source: str = None

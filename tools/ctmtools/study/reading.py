@@ -113,8 +113,8 @@ def _road(name, table, lane):
     lasting = table.take("length", length)
     if lasting == 0:
         raise Problem(f"{table.key('length')}: is above 0")
-    base = {"lanes": table.take("lanes", whole, None), "first_density": table.take("first_density", density, Fraction(0)),
-            "cells": table.take("cells", word, name)}
+    base = {"lanes": table.take("lanes", whole, None), "cells": table.take("cells", word, name),
+            "first_density": table.take("first_density", density, Fraction(0))}
     for term in LANE:
         base[term] = table.take(term, LANE_READERS[term], lane.get(term))
     places = table.list("sections")

@@ -19,7 +19,8 @@ class Rounded:
         return self.asked != self.modelled
 
     def __str__(self):
-        return f"{self.what}: {told(self.asked)} {self.unit} asked, {told(self.modelled, self.asked)} {self.unit} modelled"
+        modelled = told(self.modelled, self.asked)
+        return f"{self.what}: {told(self.asked)} {self.unit} asked, {modelled} {self.unit} modelled"
 
 
 def told(value, beside=None):
@@ -28,8 +29,7 @@ def told(value, beside=None):
     while beside is not None and value != beside and digits < 15 and \
             f"{float(value):.{digits}g}" == f"{float(beside):.{digits}g}":
         digits += 1
-    text = f"{float(value):,.{digits}g}"
-    return text
+    return f"{float(value):,.{digits}g}"
 
 
 class Rounding:

@@ -1,4 +1,4 @@
-"""The results of a sweep in a file, a row for each run, so that a sweep that was stopped goes on with what is missing."""
+"""The results of a sweep in a file, a row for each run, so that one that was stopped goes on with what is missing."""
 
 import csv
 
