@@ -91,6 +91,10 @@ def test_a_sweep_goes_on_where_it_was_stopped(tool, plain):
     best = out.splitlines()[2].split()
     assert best[:3] == ["40", "1", "6.75"]
     assert tool("sweep", STUDY, "--vary", "signals.offset=0:50:10", "--vary", "demand=1")[1].startswith("6 of 6 runs")
+    assert tool("sweep", STUDY, "--vary", "signals.offset=40", "--vary", "demand=1")[1].startswith("1 of 1 runs")
+    assert tool("sweep", STUDY, "--vary", "signals.offset=0:50:10", "--vary", "demand=1")[1].startswith("6 of 6 runs")
+    status, out, err = tool("sweep", STUDY, "--vary", "signals.offset=40")
+    assert status == 2 and "a sweep over signals.offset, demand; name another folder" in err
     with open("arterial-0.sweep/table.csv") as table:
         assert len(table.readlines()) == 7
 

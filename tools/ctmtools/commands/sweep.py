@@ -1,5 +1,6 @@
 """ctm-tools sweep"""
 
+from contextlib import closing
 from pathlib import Path
 
 import click
@@ -52,9 +53,8 @@ def command(source, varied, jobs, address, output, over, every, rows):
     drawn = _drawn(over, variations)
     tasks = _tasks(source, variations, every)
     folder = Path(output or Path(source).stem + ".sweep")
-    results = Results(folder / "results.csv", keys)
     marks = [fingerprint(task) for task in tasks]
-    results.open(set(marks))
+    results = Results(folder / "results.csv", keys, marks)
     missing = [i for i, mark in enumerate(marks) if mark not in results.rows]
     if len(missing) < len(tasks):
         click.echo(f"{len(tasks) - len(missing)} of {len(tasks)} runs stand in {results.path} already")
@@ -95,8 +95,8 @@ def _do(tasks, marks, results, jobs, address):
     where = f"at {address}" if address else f"on {count} process{'es'[:2 * (count > 1)]}"
     done = 0
     try:
-        with click.progressbar(length=len(tasks), label=f"{len(tasks)} runs {where}", show_pos=True, show_eta=True,
-                               file=click.get_text_stream("stderr")) as bar:
+        with closing(doing), click.progressbar(length=len(tasks), label=f"{len(tasks)} runs {where}", show_pos=True,
+                                               show_eta=True, file=click.get_text_stream("stderr")) as bar:
             for i, measured in doing:
                 results.put(tasks[i].changes, measured, marks[i])
                 done += 1
