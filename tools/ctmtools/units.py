@@ -7,6 +7,7 @@ from pathlib import Path
 from .problem import Problem
 
 SUFFIX = ".units.json"
+DAY = 24 * 3600
 
 
 @dataclass
@@ -55,6 +56,8 @@ class Units:
 def clock_text(seconds, always=False):
     """Seconds after midnight as `hh:mm`, with `:ss` where they aren't whole minutes or where `always` asks for it."""
     whole = round(seconds)
+    if whole > DAY:
+        whole %= DAY
     hours, rest = divmod(whole, 3600)
     minutes, rest = divmod(rest, 60)
     return f"{hours:02d}:{minutes:02d}" + (f":{rest:02d}" if rest or always else "")

@@ -65,6 +65,12 @@ def test_run_prints_a_page(tool, name, recording_program):
     assert status == 0 and again.split("\n\nReport")[0] == out.split("\n\nReport")[0]
 
 
+def test_the_page_in_the_readme(tool, recording_program):
+    status, out, err = tool("run", EXAMPLES / "bottleneck.toml")
+    page = (TOOLS.parent / "README.md").read_text().split("The first prints\n\n```\n")[1].split("```")[0]
+    assert page in out
+
+
 def test_run_of_a_hand_written_network(tool, recording_program):
     status, out, err = tool("run", EXAMPLES / "interchange.csv", "--every", "5")
     assert status == 0 and "vehicle-steps" in out and "each 5th step recorded" in out

@@ -3,6 +3,7 @@
 import random
 
 import pytest
+from conftest import EXAMPLES
 
 from ctmtools.network_file.faults import first_fault
 from ctmtools.network_file.kinds import NUMBERS
@@ -58,6 +59,22 @@ def test_the_program_finds_the_same_fault(seed, program):
         if place is not None and fault.record <= len(records) and records[fault.record - 1].place == place:
             before = content[:place].replace(b"\r\n", b"\n").replace(b"\r", b"\n")
             assert line_of(content, place) == 1 + before.count(b"\n")
+
+
+BITS = [b",", b'"', b"\n", b"\r", b"#", b"0", b".", b" ", b"m", b"-", b";", b"\xff", b",,", b"demand,on,0,5,1\n", b"link,",
+        b"turn,m20,0,5,1,1\n", b"region,m01,0\n", b"exit,q,1\n"]
+
+
+@pytest.mark.parametrize("path", sorted(EXAMPLES.glob("*.csv")), ids=lambda path: path.stem)
+def test_the_same_fault_in_spoilt_examples(path, program):
+    dice = random.Random(path.stem)
+    for _ in range(8):
+        content = bytearray(path.read_bytes().replace(b"ctm,1", dice.choice([b"ctm,1", b"ctm,2"])))
+        for _ in range(dice.randrange(1, 4)):
+            place = dice.randrange(len(content))
+            content[place:place + dice.randrange(3)] = dice.choice(BITS)
+        answer, fault = ask(("check",), bytes(content)), first_fault(read_records(bytes(content)))
+        assert answer.line == (f"ctm: network: record {fault.record} code {NUMBERS[fault.code]} {fault.code}" if fault else "")
 
 
 @pytest.mark.parametrize("content", [

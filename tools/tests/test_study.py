@@ -144,9 +144,9 @@ offset = 10
 
 
 def test_counts_from_a_file(tmp_path):
-    (tmp_path / "counts.csv").write_text("time;north;south\n06:00;100;7,5\n06:15;50;0\n06:30;30;3\n")
+    (tmp_path / "counts.csv").write_text("time;north;south\n06:00;100;7,5\n06:15;50;0\n06:30;30;3\n07:30;1;1\n")
     text = HEAD + ROAD.replace("1000", '{ counts = "counts.csv", column = "south", separator = ";", decimal = "," }')
-    assert records(built(tmp_path, text), "demand") == ["demand,g,0,90,0.083333", "demand,g,180,270,0.033333"]
+    assert records(built(tmp_path, text), "demand") == ["demand,g,0,90,0.083333", "demand,g,180,360,0.008333"]
 
 
 def test_points_and_places_are_kept(tmp_path):
@@ -168,6 +168,8 @@ MISTAKES = {
     "a decimal comma": (HEAD + ROAD.replace("length = 1", "length = 1,5"), "study.toml"),
     "a clock time without a colon": (HEAD + ROAD.replace("1000", '[["6.00", "07:00", 5]]'), "clock time"),
     "a range backwards": (HEAD + ROAD.replace("1000", '[["06:30", "06:10", 5]]'), "isn't after the start"),
+    "a time before the start": (HEAD + ROAD.replace("1000", '[["05:30", "06:30", 5]]'), "the end isn't after the start"),
+    "a time behind the end": (HEAD + ROAD.replace("1000", '[["08:30", "09:30", 5]]'), "outside the study's time, 06:00 to 07:00"),
     "a signal too short": (HEAD + ROAD + '[[signals]]\nroad = "m"\ncycle = 60\ngreen = 4\n', "never green"),
     "a closure beyond the road": (CLOSURE + "from = 5\nlanes = 1\n", "beyond road m"),
     "more lanes closed than there are": (CLOSURE + "lanes = 3\n", "the road has 2"),

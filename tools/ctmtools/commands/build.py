@@ -52,7 +52,11 @@ def told(built, target):
             yield f"  {note}"
     differing = [note for note in built.rounding.differing if not note.what.startswith("length of road")]
     for note in differing:
-        yield f"  rounded: {note}"
+        if not note.is_tiny:
+            yield f"  rounded: {note}"
+    tiny = [note for note in differing if note.is_tiny]
+    if tiny:
+        yield f"  rounded by a millionth or less: {tiny[0]}{f', and {len(tiny) - 1} more' if len(tiny) > 1 else ''}"
     if not differing:
         yield "  All flows, times, places and shares are modelled as asked."
     for line in shortened(warnings_of(network_of(built.text.encode()))):

@@ -12,6 +12,7 @@ from ..amounts import PARTS, parts_of
 from ..problem import Problem
 from .faults import first_fault
 from .hints import hint_of
+from .kinds import FIELDS
 from .records import ends_of_lines, line_of, read_records
 
 
@@ -117,8 +118,6 @@ def clipped(text, most=60):
 
 def field_names(kind):
     """The names of the fields behind a kind."""
-    from .kinds import FIELDS
-
     return [term.name for term in FIELDS.get(kind, ())]
 
 

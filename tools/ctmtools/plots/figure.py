@@ -9,7 +9,8 @@ from matplotlib.figure import Figure
 from matplotlib.ticker import FuncFormatter, MultipleLocator
 
 from ..problem import Problem
-from ..units import clock_text
+from ..study.quantities import clock
+from ..units import DAY, clock_text
 
 LOOK = {"font.size": 9.5, "axes.titlesize": 11, "axes.titlelocation": "left", "axes.spines.top": False,
         "axes.spines.right": False, "axes.grid": True, "grid.color": "#dddddd", "grid.linewidth": 0.6,
@@ -84,14 +85,12 @@ def span_of(report, begin, end):
 
 def moment(report, text):
     """The step of a clock time, or of a number of steps where the units aren't known."""
-    from ..study.quantities import clock
-
     if not report.units.known:
         if not text.isdigit():
             raise Problem(f"{text}: the units aren't known, so a time is a number of steps")
         return int(text)
     seconds = float(clock(text, "time")) - (report.units.start or 0)
-    return (seconds if seconds >= 0 else seconds + 24 * 3600) / report.units.step
+    return (seconds if seconds >= 0 else seconds + DAY) / report.units.step
 
 
 def legend_below(drawn, handles):

@@ -26,7 +26,7 @@ class Map:
         self.places, self.lines, self.side = {}, {}, 1
         self.chains = self._chains()
         self._place_points()
-        self._place_chain(self._chain_of(main_route(self.network)), (0.0, 0.0), 0.0)
+        self._place_chain(main_route(self.network), (0.0, 0.0), 0.0)
         self._grow()
 
     def _length(self, cell):
@@ -65,10 +65,6 @@ class Map:
             chains.append(chain)
         return chains
 
-    def _chain_of(self, route):
-        """A route as one chain: it may run over junctions."""
-        return list(route)
-
     def _place_points(self):
         """Roads whose points the study gives."""
         for road, points in self.report.units.points.items():
@@ -102,7 +98,7 @@ class Map:
 
     def _grow(self):
         """Places the other chains, from those that touch what is placed on."""
-        waiting = deque(chain for chain in self.chains if chain[0] not in self.lines)
+        waiting = deque(run for chain in self.chains for run in self._bare(chain))
         stuck = 0
         while waiting:
             chain = waiting.popleft()
@@ -123,6 +119,17 @@ class Map:
                 stuck += 1
                 continue
             stuck = 0
+
+    def _bare(self, chain):
+        """The stretches of a chain that aren't placed yet."""
+        run = []
+        for cell in [*chain, None]:
+            if cell is None or cell in self.lines:
+                if run:
+                    yield run
+                run = []
+            else:
+                run.append(cell)
 
     def _place_back(self, chain, end, angle):
         """Lays a chain so that it ends in a point, coming from aside."""

@@ -2,11 +2,13 @@
 
 import numpy
 from matplotlib.collections import LineCollection
+from matplotlib.patheffects import withStroke
 
 from .figure import DENSITY, drawing, figure, save, target
 from .layout import lay_out
 
 LEAST_WIDTH, MOST_WIDTH = 1.5, 9.0
+HALO = [withStroke(linewidth=2.5, foreground="white")]  # so that a name can be read over a line
 
 
 @drawing
@@ -63,7 +65,7 @@ def _ends(axes, report, lines, delay):
         if gate and delay[cell] >= 0.05:
             text += f"\n{delay[cell]:,.1f} {report.units.delay_unit.replace('vehicle-', 'veh.-')}"
         axes.annotate(text, start if gate else end, xytext=(-4 if gate else 4, 0), textcoords="offset points",
-                      ha="right" if gate else "left", va="center", fontsize=9)
+                      ha="right" if gate else "left", va="center", fontsize=9, path_effects=HALO)
 
 
 def _road_names(axes, report, lines):
@@ -71,4 +73,5 @@ def _road_names(axes, report, lines):
     for road, cells in report.units.roads.items():
         start, end = lines[cells[len(cells) // 2]][0], lines[cells[len(cells) // 2]][-1]
         axes.annotate(f"road {road}", ((start[0] + end[0]) / 2, (start[1] + end[1]) / 2), xytext=(0, 9),
-                      textcoords="offset points", ha="center", va="bottom", fontsize=9, color="#333333")
+                      textcoords="offset points", ha="center", va="bottom", fontsize=9, color="#333333",
+                      path_effects=HALO)

@@ -44,7 +44,8 @@ def draw(report, output=None, roads=(), begin=None, until=None):
 
 def _stairs(axes, times, values, look):
     """Draws values that hold from each time to the next, but not where they stay at zero."""
-    values = numpy.append(numpy.asarray(values, dtype=float), 0.0)
+    values = numpy.asarray(values, dtype=float)
+    values = numpy.append(values, values[-1])
     here = values > 1e-6
     near = here | numpy.append(here[1:], False) | numpy.insert(here[:-1], 0, False)
     axes.plot(times, numpy.where(near, values, numpy.nan), drawstyle="steps-post", **look)

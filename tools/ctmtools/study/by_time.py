@@ -66,8 +66,6 @@ class ByTime:
         for gate in self.study.gates.values():
             asked = modelled = Fraction(0)
             for i, demand in enumerate(gate.demand, 1):
-                if demand.start >= lasting:
-                    continue
                 what = f"gates.{gate.name}.demand[{i}]"
                 begin, end = self.scale.span(what, demand.start, min(demand.end, lasting))
                 parts = self.scale.flow(what, demand.flow)

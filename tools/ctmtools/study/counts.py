@@ -16,7 +16,8 @@ def flows_of_counts(table, times):
 
     The file has a row of column names. `time` names the column with the clock time at which each interval begins,
     `column` that with the counts. An interval lasts to the next row's time, the last as long as the one before it,
-    where `interval` doesn't say another length. `per` is "interval" for counted vehicles or "hour" for vehicles/h.
+    where `interval` doesn't say another length. Those that begin outside the study's time are left out. `per` is
+    "interval" for counted vehicles or "hour" for vehicles/h.
     """
     name = table.take("counts", word)
     column, time_column = table.take("column", word), table.take("time", word, "time")
@@ -35,7 +36,8 @@ def flows_of_counts(table, times):
     for i, (line, row) in enumerate(rows):
         lasting = interval or _interval(begins, i, f"{path}: line {line}, {time_column}")
         counted = _count(row[column], decimal, f"{path}: line {line}, {column}")
-        flows.append(Flow(begins[i], begins[i] + lasting, counted if per == "hour" else counted * HOUR / lasting))
+        if begins[i] < times.duration:
+            flows.append(Flow(begins[i], begins[i] + lasting, counted if per == "hour" else counted * HOUR / lasting))
     return flows
 
 

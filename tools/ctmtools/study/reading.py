@@ -6,12 +6,12 @@ from pathlib import Path
 
 from ..network_file.network import read_bytes
 from ..problem import Problem, one_line
+from ..units import DAY, clock_text
 from .counts import flows_of_counts
 from .entries import Entries, list_of
 from .plan import Closure, Diverge, Exit, Flow, Gate, Merge, Road, Section, Signal, Study, Turn
 from .quantities import clock, density, duration, flow, length, number, shown, speed, whole, word
 
-DAY = 24 * 3600
 LANE = ("free_flow_speed", "wave_speed", "jam_density", "saturation_flow")
 LANE_READERS = {"free_flow_speed": speed, "wave_speed": speed, "jam_density": density, "saturation_flow": flow}
 
@@ -96,8 +96,15 @@ class Times:
         """The start and the end that a table gives, by default those of the whole study."""
         begin = table.take("start", self.after_start, Fraction(0))
         end = table.take("end", self.after_start, self.duration)
+        return self.checked(begin, end, table.key("end"))
+
+    def checked(self, begin, end, key):
+        """A start and an end, where the one lies in the study's time and the other after it."""
         if end <= begin:
-            raise Problem(f"{table.key('end')}: isn't after start")
+            raise Problem(f"{key}: the end isn't after the start")
+        if begin >= self.duration:
+            span = " to ".join(clock_text(float(time)) for time in (self.start, self.start + self.duration))
+            raise Problem(f"{key}: begins outside the study's time, {span}")
         return begin, end
 
 
@@ -173,9 +180,7 @@ def _flow_row(row, key, times):
         return Flow(begin, end, amount)
     if not isinstance(row, list) or len(row) != 3:
         raise Problem(f"{key}: expected [start, end, flow], found {shown(row)}")
-    begin, end = times.after_start(row[0], key), times.after_start(row[1], key)
-    if end <= begin:
-        raise Problem(f"{key}: the end isn't after the start")
+    begin, end = times.checked(times.after_start(row[0], key), times.after_start(row[1], key), key)
     return Flow(begin, end, flow(row[2], key))
 
 

@@ -18,6 +18,11 @@ class Rounded:
         """Whether the network has another value than the study asks for."""
         return self.asked != self.modelled
 
+    @property
+    def is_tiny(self):
+        """Whether the values differ by no more than a millionth of what was asked."""
+        return abs(self.modelled - self.asked) <= abs(self.asked) / 1_000_000
+
     def __str__(self):
         modelled = told(self.modelled, self.asked)
         return f"{self.what}: {told(self.asked)} {self.unit} asked, {modelled} {self.unit} modelled"
