@@ -22,11 +22,13 @@ def test_help_has_examples(tool, words):
 
 @pytest.mark.parametrize("words, told", [
     (["drive"], "No such command 'drive'"), (["build"], "Missing argument"), (["build", "none.toml"], "no such file"),
-    (["run", "none.csv"], "no such file"), (["lint", "none.csv"], "no such file"), (["table", "none.report"], "no such file"),
+    (["run", "none.csv"], "no such file"), (["lint", "none.csv"], "no such file"), (["table", "none.report"],
+                                                                                    "no such file"),
     (["plot", "queue", "none.report"], "no such file"), (["plot", "heat", "x"], "No such command"),
     (["compare", "a.report"], "Missing argument"), (["sweep", "x.toml"], "Missing option '--vary'"),
     (["build", "x.toml", "--fast"], "No such option"), (["sweep", "x.toml", "--vary", "demand"], "KEY=FROM:TO:STEP"),
-    (["table", EXAMPLES / "bottleneck.csv"], "no report of ctm"), (["table", EXAMPLES / "bottleneck.report"], "no records"),
+    (["table", EXAMPLES / "bottleneck.csv"], "no report of ctm"), (["table", EXAMPLES / "bottleneck.report"],
+                                                                   "no records"),
     (["plot", "time-space", EXAMPLES / "bottleneck.report"], "no records"),
     (["plot", "delay", EXAMPLES / "bottleneck.report", "-o", "x.doc"], "ends with .png"),
     (["build", EXAMPLES / "bottleneck.csv"], "bottleneck.csv"), (["run", EXAMPLES], "is a directory"),
@@ -89,7 +91,8 @@ def test_pictures(tool, reports, name, plot):
 
 def test_pictures_by_their_options(tool, reports):
     path = reports("interchange")
-    for words in (["time-space", path, "--road", "a", "-o", "a.svg"], ["time-space", path, "--first", "m20", "--last", "r2"],
+    for words in (["time-space", path, "--road", "a", "-o", "a.svg"], ["time-space", path, "--first", "m20", "--last",
+                                                                       "r2"],
                   ["time-space", path, "--from", "08:00", "--until", "09:00", "--line", "tail: 08:10 6, 08:40 3"],
                   ["n-curves", path, "--cell", "main", "--cell", "m24", "--shifted", "--background", "3600"],
                   ["queue", path, "--road", "m", "-o", "q.pdf"]):
@@ -108,7 +111,8 @@ def test_pictures_without_units(tool, reports, tmp_path):
 
 
 def test_compare(tool, reports):
-    status, out, err = tool("compare", reports("arterial-0"), reports("arterial-wave"), "--plot", "d.png", "-o", "d.csv")
+    status, out, err = tool("compare", reports("arterial-0"), reports("arterial-wave"), "--plot", "d.png", "-o",
+                            "d.csv")
     assert status == 0 and "-26.25" in out and "-79.5%" in out and os.path.exists("d.png")
     assert open("d.csv").readline().startswith("cell,delay_first")
     status, out, err = tool("compare", reports("event"), reports("event"))

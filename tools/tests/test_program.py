@@ -22,8 +22,8 @@ def made_network(dice):
     count = dice.randrange(4, 12)
     lines = ["ctm,2", f"steps,{dice.randrange(1, 60)}", "gate,g,5,0", "gate,h,3.5,2", "exit,x,4", "exit,y,1.25"]
     for i in range(count):
-        lines.append(f"road,r{i},{dice.choice(['12', '20.5', '7.777777'])},{dice.choice(['3', '4.2'])},{dice.randrange(1, 4)},"
-                     f"{dice.randrange(4, 9)},{dice.choice(['0', '1.5', '6'])}")
+        lines.append(f"road,r{i},{dice.choice(['12', '20.5', '7.777777'])},{dice.choice(['3', '4.2'])},"
+                     f"{dice.randrange(1, 4)},{dice.randrange(4, 9)},{dice.choice(['0', '1.5', '6'])}")
     ups, downs = ["g", "h", *(f"r{i}" for i in range(count))], ["x", "y", *(f"r{i}" for i in range(count))]
     dice.shuffle(ups)
     dice.shuffle(downs)
@@ -37,9 +37,11 @@ def made_network(dice):
             up = ups.pop()
             lines.append(f"diverge,{up},{downs.pop()},{downs.pop()},{dice.randrange(1, 5)},{dice.randrange(1, 5)}")
             lines.append(f"turn,{up},{dice.randrange(9)},{dice.randrange(10, 30)},2,{dice.randrange(1, 4)}")
-    lines += [f"limit,r{dice.randrange(count)},{dice.randrange(9)},{dice.randrange(10, 30)},{dice.choice(['0', '1.3', '9'])}",
+    lines += [f"limit,r{dice.randrange(count)},{dice.randrange(9)},{dice.randrange(10, 30)},"
+              f"{dice.choice(['0', '1.3', '9'])}",
               f"signal,r{dice.randrange(count)},7,{dice.randrange(7)},1,{dice.randrange(3, 8)}",
-              f"demand,g,0,{dice.randrange(1, 50)},{dice.choice(['2', '4.333333'])}", "demand,h,3,20,1.7", "demand,h,5,9,1"]
+              f"demand,g,0,{dice.randrange(1, 50)},{dice.choice(['2', '4.333333'])}", "demand,h,3,20,1.7",
+              "demand,h,5,9,1"]
     return "\n".join(lines).encode() + b"\n"
 
 
@@ -67,7 +69,8 @@ def test_a_program_that_is_none(tmp_path):
     with pytest.raises(Problem):
         ask(("run",), b"", tmp_path / "none")
     script = tmp_path / "ctm"
-    script.write_text("#!/bin/bash\necho './ctm: building' >&2\necho './ctm: the build failed, so nothing was run' >&2\nexit 125\n")
+    script.write_text("#!/bin/bash\necho './ctm: building' >&2\n"
+                      "echo './ctm: the build failed, so nothing was run' >&2\nexit 125\n")
     script.chmod(0o755)
     news = []
     with pytest.raises(Problem, match="the build failed"):

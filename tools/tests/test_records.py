@@ -45,6 +45,11 @@ def made_file(dice):
     return text.encode(), place
 
 
+def line_on(fault):
+    """What the program says of a fault."""
+    return f"ctm: network: record {fault.record} code {NUMBERS[fault.code]} {fault.code}" if fault else ""
+
+
 @pytest.mark.parametrize("seed", range(8))
 def test_the_program_finds_the_same_fault(seed, program):
     dice = random.Random(seed)
@@ -55,13 +60,14 @@ def test_the_program_finds_the_same_fault(seed, program):
         if answer.status == 0:
             assert fault is None
             continue
-        assert answer.line == f"ctm: network: record {fault.record} code {NUMBERS[fault.code]} {fault.code}", content
+        assert answer.line == line_on(fault), content
         if place is not None and fault.record <= len(records) and records[fault.record - 1].place == place:
             before = content[:place].replace(b"\r\n", b"\n").replace(b"\r", b"\n")
             assert line_of(content, place) == 1 + before.count(b"\n")
 
 
-BITS = [b",", b'"', b"\n", b"\r", b"#", b"0", b".", b" ", b"m", b"-", b";", b"\xff", b",,", b"demand,on,0,5,1\n", b"link,",
+BITS = [b",", b'"', b"\n", b"\r", b"#", b"0", b".", b" ", b"m", b"-", b";", b"\xff", b",,", b"demand,on,0,5,1\n",
+        b"link,",
         b"turn,m20,0,5,1,1\n", b"region,m01,0\n", b"exit,q,1\n"]
 
 
@@ -74,17 +80,21 @@ def test_the_same_fault_in_spoilt_examples(path, program):
             place = dice.randrange(len(content))
             content[place:place + dice.randrange(3)] = dice.choice(BITS)
         answer, fault = ask(("check",), bytes(content)), first_fault(read_records(bytes(content)))
-        assert answer.line == (f"ctm: network: record {fault.record} code {NUMBERS[fault.code]} {fault.code}" if fault else "")
+        assert answer.line == line_on(fault)
 
 
 @pytest.mark.parametrize("content", [
-    b"", b"\n\n", b"# only a comment\n", b"# no end", b"ctm,1\n# no end", b'"ctm",1', b'ctm,"1', b'ctm,"1"x', b"ctm,1\r#c\rsteps,3\n",
-    b"\xef\xbb\xbfctm,1", b"\xef\xbb\xbf\xef\xbb\xbfctm,1", b"ctm,1\nexit,\xff,2", b'ctm,1\nexit,"a""b",2', b'ctm,1\nexit,"a\nb",2',
-    b"ctm,1\n ", b"ctm,1\n,", b"ctm,1\nsteps,3,", b'ctm,1\nexit,"x"y,2\nsteps,3', b'ctm,1\nexit,x"y",2\nsteps,3', b"ctm,1\rsteps,3\rexit,x,2",
-    b'ctm,1\n""\n', b'ctm,1\n"steps",3\nexit,x,1\n#', b'\xef\xbb\xbf"ctm",2\nsteps,1\n"exit",x,0', b"ctm,2\nsteps,1\nexit,x,1\nregion,x,1"])
+    b"", b"\n\n", b"# only a comment\n", b"# no end", b"ctm,1\n# no end", b'"ctm",1', b'ctm,"1', b'ctm,"1"x',
+    b"ctm,1\r#c\rsteps,3\n",
+    b"\xef\xbb\xbfctm,1", b"\xef\xbb\xbf\xef\xbb\xbfctm,1", b"ctm,1\nexit,\xff,2", b'ctm,1\nexit,"a""b",2',
+    b'ctm,1\nexit,"a\nb",2',
+    b"ctm,1\n ", b"ctm,1\n,", b"ctm,1\nsteps,3,", b'ctm,1\nexit,"x"y,2\nsteps,3', b'ctm,1\nexit,x"y",2\nsteps,3',
+    b"ctm,1\rsteps,3\rexit,x,2",
+    b'ctm,1\n""\n', b'ctm,1\n"steps",3\nexit,x,1\n#', b'\xef\xbb\xbf"ctm",2\nsteps,1\n"exit",x,0',
+    b"ctm,2\nsteps,1\nexit,x,1\nregion,x,1"])
 def test_odd_files(content, program):
     answer, fault = ask(("check",), content), first_fault(read_records(content))
-    assert answer.line == (f"ctm: network: record {fault.record} code {NUMBERS[fault.code]} {fault.code}" if fault else "")
+    assert answer.line == line_on(fault)
 
 
 def test_lines_are_counted_as_an_editor_does():

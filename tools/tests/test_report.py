@@ -68,7 +68,8 @@ def test_queues_that_meet_are_one(report):
     assert (first.origin, first.farthest, first.reach) == ("r2", "m10", pytest.approx(4.25))
     assert (second.origin, second.delay) == ("a2", pytest.approx(64_800, abs=3))
     queue, = queues_of(report("event"))
-    assert queue.origin == "stadium" and [(other.cell, other.reach) for other in queue.others] == [("n20", pytest.approx(1.5))]
+    assert queue.origin == "stadium"
+    assert [(other.cell, other.reach) for other in queue.others] == [("n20", pytest.approx(1.5))]
 
 
 def test_a_queue_that_still_stands():
@@ -112,10 +113,12 @@ def test_compare(report):
 
 def test_totals_of_a_report_without_records():
     frame = totals(read_report(EXAMPLES / "bottleneck.report"))
-    assert frame.delay.sum() == pytest.approx(166050) and list(frame.columns) == ["cell", "occupancy", "come", "gone", "delay"]
+    assert frame.delay.sum() == pytest.approx(166050)
+    assert list(frame.columns) == ["cell", "occupancy", "come", "gone", "delay"]
 
 
-@pytest.mark.parametrize("content", [b"", b"report,3\n", b"report,3,1\ntotal,0,0,0,0\n", b"report,1,1\ncell,x,1,1,1\ntotal,1,1,1,1\n",
+@pytest.mark.parametrize("content", [b"", b"report,3\n", b"report,3,1\ntotal,0,0,0,0\n",
+                                     b"report,1,1\ncell,x,1,1,1\ntotal,1,1,1,1\n",
                                      b"ctm,1\nsteps,3\n", b"report,1,1\nat,0,y,0,0\ncell,x,1,1,1,1\ntotal,1,1,1,1\n"])
 def test_no_report(content):
     with pytest.raises(Problem):

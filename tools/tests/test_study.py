@@ -140,7 +140,8 @@ green = 30
 offset = 10
 """
     made = built(tmp_path, text)
-    assert records(made, "signal") == ["signal,m1,9,7,0,4", "signal,m2,9,4,0,4", "signal,m4,9,1,0,4", "signal,g,6,5,0,3"]
+    assert records(made, "signal") == ["signal,m1,9,7,0,4", "signal,m2,9,4,0,4", "signal,m4,9,1,0,4",
+                                       "signal,g,6,5,0,3"]
 
 
 def test_counts_from_a_file(tmp_path):
@@ -168,8 +169,10 @@ MISTAKES = {
     "a decimal comma": (HEAD + ROAD.replace("length = 1", "length = 1,5"), "study.toml"),
     "a clock time without a colon": (HEAD + ROAD.replace("1000", '[["6.00", "07:00", 5]]'), "clock time"),
     "a range backwards": (HEAD + ROAD.replace("1000", '[["06:30", "06:10", 5]]'), "isn't after the start"),
-    "a time before the start": (HEAD + ROAD.replace("1000", '[["05:30", "06:30", 5]]'), "the end isn't after the start"),
-    "a time behind the end": (HEAD + ROAD.replace("1000", '[["08:30", "09:30", 5]]'), "outside the study's time, 06:00 to 07:00"),
+    "a time before the start": (HEAD + ROAD.replace("1000", '[["05:30", "06:30", 5]]'),
+                                "the end isn't after the start"),
+    "a time behind the end": (HEAD + ROAD.replace("1000", '[["08:30", "09:30", 5]]'),
+                              "outside the study's time, 06:00 to 07:00"),
     "a signal too short": (HEAD + ROAD + '[[signals]]\nroad = "m"\ncycle = 60\ngreen = 4\n', "never green"),
     "a closure beyond the road": (CLOSURE + "from = 5\nlanes = 1\n", "beyond road m"),
     "more lanes closed than there are": (CLOSURE + "lanes = 3\n", "the road has 2"),

@@ -46,7 +46,8 @@ def test_red_light():
 
 
 @pytest.mark.parametrize("step, cell, reach, cleared, mean, most", [
-    (20, 500, 3.5, "08:40:40", 0.7, 6.8), (10, 250, 3.25, "08:40:50", 0.36, 3.4), (5, 125, 3.125, "08:40:50", 0.18, 1.7),
+    (20, 500, 3.5, "08:40:40", 0.7, 6.8), (10, 250, 3.25, "08:40:50", 0.36, 3.4), (5, 125, 3.125, "08:40:50", 0.18,
+                                                                                   1.7),
     (Fraction(5, 2), 62.5, 3.125, "08:40:50", 0.09, 0.85)])
 def test_lane_drop_over_the_length_of_cells(step, cell, reach, cleared, mean, most):
     report = run("bottleneck", step=Fraction(step))
@@ -60,7 +61,8 @@ def test_lane_drop_over_the_length_of_cells(step, cell, reach, cleared, mean, mo
     theory = LaneDrop(90, 18, 432, 5, 4320, DEMAND, delay=report.units.step / 3600)  # a step passes in the gate
     misplaced = numpy.abs(report.occupancy[cells].to_numpy() - theory.held(bounds, times)).sum(axis=1) / 2
     queued = (times > 1.06) & (times < 2.68)
-    assert misplaced[queued].mean() == pytest.approx(mean, rel=0.05) and misplaced.max() == pytest.approx(most, rel=0.05)
+    assert misplaced[queued].mean() == pytest.approx(mean, rel=0.05)
+    assert misplaced.max() == pytest.approx(most, rel=0.05)
 
 
 def test_theory_of_the_lane_drop():
@@ -78,12 +80,14 @@ def test_road_works():
     queue, = queues_of(report)
     assert hours(report, report.cells.index) == pytest.approx(2328, abs=0.01)
     assert (queue.reach, clocks(report, queue)) == (pytest.approx(4), ("10:00:20", "13:57:30", "14:14:00"))
-    # Five minutes after the end the wave has run 1.5 km back by theory; behind it some cells still hold more than Q = 18.
+    # Five minutes after the end the wave has run 1.5 km back by theory; behind it cells still hold more than Q = 18.
     row = report.occupancy.loc[1830, [f"m{i}" for i in range(15, 21)]]
     assert [round(value, 1) for value in row] == [43.7, 33.3, 25.4, 20.7, 18.6, 18.1]
 
 
-@pytest.mark.parametrize("step, cell, widths", [(4, 50, (237, 333, 470)), (2, 25, (167, 235, 331)), (1, 12.5, (118, 166, 234))])
+@pytest.mark.parametrize("step, cell, widths", [(4, 50, (237, 333, 470)), (2, 25, (167, 235, 331)), (1, 12.5, (118,
+                                                                                                               166,
+                                                                                                               234))])
 def test_a_green_smears_the_wave_by_the_root_of_its_way(step, cell, widths):
     report = run("validation/green", step=Fraction(step))
     assert hours(report, report.cells.index) == pytest.approx(28.8, abs=0.01)
@@ -101,9 +105,11 @@ def test_a_green_smears_the_wave_by_the_root_of_its_way(step, cell, widths):
 def test_merge():
     report = run("validation/merge")
     roads = report.units.roads
-    assert hours(report, roads["a"]) == pytest.approx(56.25) and hours(report, roads["b"]) == pytest.approx(71.015625, abs=0.001)
+    assert hours(report, roads["a"]) == pytest.approx(56.25)
+    assert hours(report, roads["b"]) == pytest.approx(71.015625, abs=0.001)
     assert hours(report, roads["c"]) == 0
-    flow = {road: [round(report.flow.loc[minute * 12, roads[road][-1]] * 720) for minute in (35, 50, 57)] for road in "ab"}
+    flow = {road: [round(report.flow.loc[minute * 12, roads[road][-1]] * 720) for minute in (35, 50, 57)]
+            for road in "ab"}
     assert flow == {"a": [3240, 3240, 1800], "b": [1080, 1080, 2160]}
     ramp, main = queues_of(report)
     assert (main.reach, clocks(report, main)) == (pytest.approx(2.5), ("07:03:35", "07:30:20", "07:40:50"))
@@ -114,7 +120,8 @@ def test_off_ramp():
     report = run("interchange")
     motorway = report.units.roads["m"][:24]
     assert report.cells.wait[["r1", "r2"]].sum() + report.cells.wait[motorway].sum() / 4 == pytest.approx(48_600)
-    assert hours(report, motorway) == pytest.approx(345.38, abs=0.01) and hours(report, ["r1", "r2"]) == pytest.approx(48.66, abs=0.01)
+    assert hours(report, motorway) == pytest.approx(345.38, abs=0.01)
+    assert hours(report, ["r1", "r2"]) == pytest.approx(48.66, abs=0.01)
     assert queues_of(report)[0].reach == pytest.approx(4.25)
 
 

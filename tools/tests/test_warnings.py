@@ -18,16 +18,19 @@ CASES = {
     "vehicles per hour as an amount": (HEAD + LINKS + DEMAND.replace(",6", ",5040"),
                                        ["line 10: the demand of 5040 in a step is far above the gate on's Q of 18",
                                         "5040 vehicles/h are 14."]),
-    "a demand twice": (HEAD + LINKS + DEMAND + DEMAND, ["line 11: demand,on,0,9,6 stands in line 10 too; their amounts add up"]),
-    "demands that overlap": (HEAD + LINKS + DEMAND + "demand,on,5,9,1\n", ["line 11: the demands of on overlap from step 5"]),
+    "a demand twice": (HEAD + LINKS + DEMAND + DEMAND,
+                       ["line 11: demand,on,0,9,6 stands in line 10 too; their amounts add up"]),
+    "demands that overlap": (HEAD + LINKS + DEMAND + "demand,on,5,9,1\n",
+                             ["line 11: the demands of on overlap from step 5"]),
     "a limit twice": (HEAD + LINKS + DEMAND + 2 * "limit,m01,0,3,1\n", ["line 12", "the second does nothing"]),
     "a road that can't carry Q": (HEAD.replace("m01,108", "m01,90") + LINKS + DEMAND,
-                                  ["line 4: the road m01 can carry N·A/(A + B) = 15 vehicles a step for long, which is below its Q of 18"]),
+                                  ["line 4: the road m01 can carry N·A/(A + B) = 15 vehicles a step for long, which is below"]),
     "a signal that is never green": (HEAD + LINKS + DEMAND + "signal,m01,40,0,20,30\n",
                                      ["line 11: the signal of m01 is green in no step of the run"]),
     "a ring that nothing reaches": (HEAD + LINKS + DEMAND + "road,a,6,1,1,2,0\nroad,b,6,1,1,2,0\nlink,a,b\nlink,b,a\n",
                                    ["line 11: no vehicle ever reaches the road a, nor 1 more behind it"]),
-    "a demand behind the end": (HEAD + LINKS + DEMAND + "demand,on,9,12,1\n", ["line 11: this demand begins behind the last step"]),
+    "a demand behind the end": (HEAD + LINKS + DEMAND + "demand,on,9,12,1\n",
+                                ["line 11: this demand begins behind the last step"]),
 }
 
 

@@ -25,8 +25,8 @@ signals.2.offset (of the second). demand multiplies all demands, demand.GATE tho
 FROM:TO:STEP, both ends included, or VALUE,VALUE,.. and are in the key's unit.
 
 The rows are kept in FOLDER/results.csv as they come. Called again after it was stopped, a sweep does what is missing
-and tries again what failed. With --dask the runs are given to the cluster whose scheduler has that address; its machines
-need Debian's python3-distributed, python3-pandas, python3-networkx and python3-click, and the program at the path that
+and tries again what failed. With --dask the runs are given to the cluster whose scheduler has that address; its
+machines need Debian's python3-distributed, python3-pandas, python3-networkx and python3-click, and the program at the path that
 it has here."""
 
 

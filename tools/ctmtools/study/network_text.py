@@ -68,8 +68,8 @@ class Builder:
         step = float(study.step)
         yield f"{MADE} from {study.path.name}: {study.title}"
         yield "#"
-        yield (f"# A step is {step:g} s; step 0 is {clock_text(float(study.start))}. Amounts are vehicles, Q and demand "
-               f"in a step: 1 is {3600 / step:g} vehicles/h.")
+        yield (f"# A step is {step:g} s; step 0 is {clock_text(float(study.start))}. Amounts are vehicles, Q and "
+               f"demand in a step: 1 is {3600 / step:g} vehicles/h.")
         for road, cells in self.layout.cells.items():
             for part, section in zip(self.layout.stretches[road], study.roads[road].sections):
                 names = dict.fromkeys([cells[part.first].name, cells[part.first + part.count - 1].name])
