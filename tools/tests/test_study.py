@@ -166,7 +166,14 @@ MISTAKES = {
     "waves faster than traffic": (HEAD.replace("18", "118") + ROAD, "at most the free-flow speed"),
     "a road that isn't there": (HEAD + ROAD.replace('into = "m"', 'into = "n"'), "there is no road n"),
     "no end": (HEAD.replace('end = "07:00"', "") + ROAD, "either end, a clock time, or duration"),
-    "a decimal comma": (HEAD + ROAD.replace("length = 1", "length = 1,5"), "study.toml"),
+    "a decimal comma": (HEAD + ROAD.replace("length = 1", "length = 1,5"), "`length = 1,5`. Is a decimal comma meant?"),
+    "a time without quotes": (HEAD.replace('"06:00"', "06:00") + ROAD, "Put a clock time in quotes"),
+    "a semicolon": (HEAD.replace("10", "10;") + ROAD, "Take the semicolon away"),
+    "a unit without quotes": (HEAD + ROAD.replace("length = 1", "length = 500 m"),
+                              "Put a number with its unit in quotes"),
+    "a text without quotes": (HEAD + ROAD.replace('"m"', "m"), "Put a text in quotes"),
+    "a colon": (HEAD.replace("step =", "step:") + ROAD, "equals sign"),
+    "a workbook": ("PK\x03\x04", "Excel"),
     "a clock time without a colon": (HEAD + ROAD.replace("1000", '[["6.00", "07:00", 5]]'), "clock time"),
     "a range backwards": (HEAD + ROAD.replace("1000", '[["06:30", "06:10", 5]]'), "isn't after the start"),
     "a time before the start": (HEAD + ROAD.replace("1000", '[["05:30", "06:30", 5]]'),
@@ -192,4 +199,5 @@ def test_mistakes(mistake, tmp_path):
     text, wanted = MISTAKES[mistake]
     with pytest.raises(Problem) as found:
         built(tmp_path, text)
-    assert wanted in str(found.value)
+    assert wanted in str(found.value) and "\n" not in str(found.value)
+    assert str(found.value).startswith(str(tmp_path))

@@ -30,7 +30,10 @@ class Built:
 
 def build(study):
     """The network of a study."""
-    return Builder(study).build()
+    try:
+        return Builder(study).build()
+    except Problem as problem:
+        raise Problem(f"{study.path}: {problem}") from None
 
 
 class Builder:

@@ -11,6 +11,7 @@ from .counts import flows_of_counts
 from .entries import Entries, list_of
 from .plan import Closure, Diverge, Exit, Flow, Gate, Merge, Road, Section, Signal, Study, Turn
 from .quantities import clock, density, duration, flow, length, number, shown, speed, whole, word
+from .slips import slip_hint
 
 LANE = ("free_flow_speed", "wave_speed", "jam_density", "saturation_flow")
 LANE_READERS = {"free_flow_speed": speed, "wave_speed": speed, "jam_density": density, "saturation_flow": flow}
@@ -24,7 +25,7 @@ def read_values(path):
     except UnicodeDecodeError:
         raise Problem(f"{path}: a study file is UTF-8") from None
     except (tomllib.TOMLDecodeError, ValueError) as error:
-        raise Problem(f"{path}: {one_line(error)}") from None
+        raise Problem(f"{path}: {one_line(error)}{slip_hint(content, str(error))}") from None
 
 
 def read_study(path):
