@@ -75,7 +75,7 @@ def test_the_page_in_the_readme(tool, recording_program):
 
 def test_run_of_a_hand_written_network(tool, recording_program):
     status, out, err = tool("run", EXAMPLES / "interchange.csv", "--every", "5")
-    assert status == 0 and "vehicle-steps" in out and "each 5th step recorded" in out
+    assert status == 0 and "vehicle-steps" in out and "recorded every 5 steps" in out
     assert tool("plot", "time-space", "interchange.report")[0] == 0
 
 

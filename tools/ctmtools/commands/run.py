@@ -69,4 +69,4 @@ def _recorded(report):
     if not report.recorded:
         return " without records"
     every = report.times[1] - report.times[0]
-    return " with each step recorded" if every == 1 else f" with each {every}th step recorded"
+    return " with each step recorded" if every == 1 else f" recorded every {every} steps"

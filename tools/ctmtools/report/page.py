@@ -38,8 +38,8 @@ def _queues(report):
         yield f"No queue: nowhere does traffic move slower than {SLOW:.0%} of the free-flow speed."
         return
     every = report.times[1] - report.times[0]
-    seen = f", seen each {every * report.units.step:g} s" if report.units.known and every > 1 else \
-        f", seen each {every} steps" if every > 1 else ""
+    seen = f", seen every {every * report.units.step:g} s" if report.units.known and every > 1 else \
+        f", seen every {every} steps" if every > 1 else ""
     yield f"Queues, where traffic moves slower than {SLOW:.0%} of the free-flow speed{seen}:"
     yield ""
     rows = [("began at", "when", "reached back", "to", "at", "most waiting", "at", "cleared", report.units.delay_unit)]
