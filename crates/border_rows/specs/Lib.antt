@@ -1,2 +1,5 @@
 pub mod Places
 pub mod Spans
+pub mod Standing
+pub mod Views
+pub mod Words
