@@ -1,3 +1,6 @@
 pub mod ChartWidths
 pub mod PlaceLaws
 pub mod Spans
+pub mod ViewUpdates
+pub mod WordUpdates
+pub mod Keeping

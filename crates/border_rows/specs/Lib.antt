@@ -1,3 +1,4 @@
+pub mod Kinds
 pub mod Places
 pub mod Spans
 pub mod Standing

@@ -47,6 +47,8 @@ pub record Steps (net : Network) (chart : ChartLists) (start : StartLists) (fiel
   pub started : (r : ℕ) → r < region_count chart.cut → slice_index start.steps r ≤ step_of chart field.words r
   pub known : (view : View) (hold : Hold) → IsHeld field.views view hold → hold.known ≡ true →
       step_of chart field.words hold.region ≡ (if hold.published then hold.step + 1 else hold.step)
+  pub around : (view : View) (hold : Hold) (q : ℕ) → IsHeld field.views view hold → hold.known ≡ true → Contains hold.cleared q →
+      are_neighbours net.connectors chart.cut hold.region q ≡ true
   pub cleared : (view : View) (hold : Hold) (q : ℕ) → IsHeld field.views view hold → hold.known ≡ true → Contains hold.cleared q →
       hold.step ≤ step_of chart field.words q
 
@@ -58,11 +60,12 @@ pub record Rows (net : Network) (chart : ChartLists) (start : StartLists) (field
       border_word chart field.words r (step_of chart field.words r) j ≡ grid_held net chart.cut start (step_of chart field.words r) (border_cell chart r j)
   pub before : (r q t j : ℕ) → are_neighbours net.connectors chart.cut r q ≡ true → step_of chart field.words q ≡ t → step_of chart field.words r ≡ t + 1 →
       j < width_at (widths_of chart) r → border_word chart field.words r t j ≡ grid_held net chart.cut start t (border_cell chart r j)
+  pub few : (view : View) (hold : Hold) → IsHeld field.views view hold → hold.known ≡ true → hold.written ≤ width_at (widths_of chart) hold.region
   pub written : (view : View) (hold : Hold) (j : ℕ) → IsHeld field.views view hold → hold.known ≡ true → j < hold.written →
       border_word chart field.words hold.region (hold.step + 1) j ≡ grid_held net chart.cut start (hold.step + 1) (border_cell chart hold.region j)
   pub clear : (view : View) (hold : Hold) (q : ℕ) → IsHeld field.views view hold → hold.known ≡ true → (hold.written ≢ 0) ⊎ (hold.published ≡ true) →
       are_neighbours net.connectors chart.cut hold.region q ≡ true → Contains hold.cleared q
-  pub whole : (view : View) (hold : Hold) → IsHeld field.views view hold → hold.published ≡ true → hold.written ≡ width_at (widths_of chart) hold.region
+  pub whole : (view : View) (hold : Hold) → IsHeld field.views view hold → hold.known ≡ true → hold.published ≡ true → hold.written ≡ width_at (widths_of chart) hold.region
 
 -- how many steps all regions have made since their start
 abbrev pub steps_made : ChartLists → StartLists → (words : List ℕ) → ℕ
