@@ -11,8 +11,7 @@ use Rattle.network_file.specs.Reading.{network_of}
 use Rattle.network_file.specs.declared.fault.NetFault.{NetFault}
 use Rattle.network_file.specs.declared.limits.TheConstants.{MOST_BYTES}
 use Rattle.ctm_program.specs.Counts.{counts_line}
-use Rattle.delay_report.specs.Recorded.{recorded_count}
-use Rattle.delay_report.specs.Report.{report_of}
+use Rattle.delay_report.specs.Report.{recorded_count, report_of}
 use Rattle.ctm_program.specs.Lines.{large_input_line, large_record_line, network_line, words_line}
 use Rattle.ctm_program.specs.declared.record_limit.TheConstants.{MOST_RECORDED}
 use Rattle.ctm_program.specs.declared.status.Status.{Status}

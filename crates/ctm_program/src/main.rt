@@ -15,14 +15,14 @@ mod answer;
 mod command_line;
 mod counts;
 mod ending;
-#[cfg(test)]
-mod ledger_tests;
 mod record_limit;
 mod refusal;
 mod status;
 #[cfg(test)]
 mod tests;
 mod top_call;
+#[cfg(test)]
+mod uneven_tests;
 
 use ctm_ports::{OpenGate, StdSink, StdSource};
 use ending::ending;

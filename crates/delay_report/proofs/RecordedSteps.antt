@@ -1,7 +1,7 @@
 -- The recorded steps, one step after the other, and how many there are.
 use Rattle.std.specs.Prelude.{Bool, min, not, ◌==◌, ◌&&◌, ◌||◌, slice_index}
 use Rattle.std.specs.List.{filter, range_with_len}
-use Rattle.std.proofs.Common.{◌≡◌, ℕ, zero, suc, add-zero, ◌<◌, ◌≤◌, ◌+◌, ◌-◌, ◌*◌, ◌/◌, ◌%◌, inl, inr, true, false, List, [], ◌∷◌, ◌++◌, length, get_or, refl, sym, ap, ◌∙◌, append_assoc, arith}
+use Rattle.std.proofs.Common.{◌≡◌, ℕ, zero, suc, add-zero, ◌<◌, ◌≤◌, ◌+◌, ◌-◌, ◌*◌, ◌/◌, ◌%◌, inl, inr, true, false, List, [], ◌∷◌, ◌++◌, length, refl, sym, ap, ◌∙◌, append_assoc, arith}
 use Rattle.std.proofs.Math.Nat.{div-add-mod, lt-div-mul-add, mul-le-mul_right, mul_comm, zero-div}
 use Rattle.std.proofs.Math.Seq.{get_or-append_seam}
 use Rattle.std.proofs.lemmas.Bool.{cases_Bool, cases_lt, eq-eqb, eqb-true, ne_eqb}
@@ -11,7 +11,7 @@ use Rattle.std.proofs.lemmas.List.Elements.{filter-append}
 use Rattle.std.proofs.lemmas.List.Filters.{length-filter_both}
 use Rattle.std.proofs.lemmas.List.FromFn.{length-range_with_len}
 use Rattle.region_step.specs.Recording.{is_recorded, recorded}
-use Rattle.delay_report.specs.Recorded.{recorded_count}
+use Rattle.delay_report.specs.Report.{recorded_count}
 use Rattle.delay_report.proofs.Lines.{range_more}
 
 -- those before step t

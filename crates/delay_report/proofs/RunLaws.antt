@@ -1,25 +1,22 @@
 -- The laws of flights and books at lawful steps of a true start.
-use Rattle.std.specs.Prelude.{All, slice_index, sum_by}
+use Rattle.std.specs.Prelude.{All, slice_index}
 use Rattle.std.specs.List.{Contains}
-use Rattle.std.proofs.Common.{◌≡◌, ◌≢◌, ℕ, ◌<◌, ◌≤◌, ◌+◌, inl, inr, List, [], ◌∷◌, ℤ, length, get_or, refl, sym, ap, subst, ◌∙◌, arith}
+use Rattle.std.proofs.Common.{◌≡◌, ℕ, ◌<◌, ◌≤◌, ◌+◌, inl, inr, List, [], ◌∷◌, ℤ, length, get_or, refl, sym, ap, subst, ◌∙◌, arith}
 use Rattle.std.proofs.lemmas.Bool.{cases_eq, cases_lt}
 use Rattle.std.proofs.lemmas.List.Elements.{All-cons, All-nil, Contains-get_or}
 use Rattle.network_file.specs.Connectors.{cells_of, connector_at}
 use Rattle.network_file.specs.Network.{IsNetwork, Network}
 use Rattle.network_file.specs.declared.connector.Connector.{Connector}
 use Rattle.network_file.specs.declared.connector.Connector.TheVariants.{Link}
-use Rattle.flow_model.specs.State.{row_at, state_at}
 use Rattle.flow_model.specs.declared.row.Row.{Row}
 use Rattle.flow_ledger.specs.FlightLaw.{FlightAtOneStep, FlightLaw, IsClose, LinkFlightLaw}
 use Rattle.flow_ledger.specs.UnevenSteps.{StandAt}
-use Rattle.region_cut.specs.Cuttings.{region_at, region_count}
-use Rattle.region_cut.specs.Joins.{are_neighbours}
+use Rattle.region_cut.specs.Cuttings.{region_at}
 use Rattle.region_cut.specs.LawfulSteps.{AreLawful}
 use Rattle.region_cut.proofs.Anys.{test_from_Contains}
 use Rattle.region_cut.proofs.Meetings.{neighbours-from, touches-touches_region}
 use Rattle.region_cut.proofs.Membership.{region_at-there}
-use Rattle.region_step.specs.Grid.{grid_row}
-use Rattle.region_step.specs.Start.{StartLists, start_of}
+use Rattle.region_step.specs.Start.{StartLists}
 use Rattle.region_step.proofs.Grids.{are_the_recurrences}
 use Rattle.delay_report.specs.RunLaws.{AreReached, AreRowsAt, IsLeastStep, IsLinkFlow, IsStepFlow, step_of}
 

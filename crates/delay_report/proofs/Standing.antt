@@ -1,12 +1,11 @@
 -- What regions that stand where a start brought them have of their cells.
 use Rattle.std.specs.Prelude.{flat_map, replicate, slice_index, slice_index_or, sum_by}
-use Rattle.std.specs.List.{Contains, range_with_len}
-use Rattle.std.proofs.Common.{◌≡◌, ◌≢◌, ℕ, ◌<◌, ◌≤◌, ◌+◌, ◌*◌, inl, inr, List, [], ◌∷◌, ◌++◌, length, get_or, map, refl, sym, ap, subst, ◌∙◌, arith}
+use Rattle.std.specs.List.{range_with_len}
+use Rattle.std.proofs.Common.{◌≡◌, ℕ, ◌<◌, ◌≤◌, ◌+◌, ◌*◌, inl, inr, List, [], ◌∷◌, ◌++◌, length, map, refl, sym, ap, subst, ◌∙◌, arith}
 use Rattle.std.proofs.Math.Nat.{add-mul}
 use Rattle.std.proofs.lemmas.Bool.{cases_eq}
 use Rattle.std.proofs.lemmas.List.{get_or-replicate, length-map}
 use Rattle.std.proofs.lemmas.List.Concat.{length-flat_map}
-use Rattle.std.proofs.lemmas.List.Elements.{All-contains, Contains-get_or}
 use Rattle.std.proofs.lemmas.List.FromFn.{get_or-map-range_with_len, length-map-range_with_len}
 use Rattle.std.proofs.lemmas.List.Sums.{sum_by-cons}
 use Rattle.std.proofs.lemmas.Simd.{map-map}
@@ -24,15 +23,14 @@ use Rattle.region_step.specs.Recording.{note_of, notes_of, recorded}
 use Rattle.region_step.specs.Region.{RegionValue}
 use Rattle.region_step.specs.Standing.{AllStand, Stands}
 use Rattle.region_step.specs.Start.{StartLists, start_of, zero_start}
-use Rattle.region_step.specs.declared.note.Note.{Note}
 use Rattle.region_step.proofs.Grids.{are_the_recurrences}
 use Rattle.region_step.proofs.GridStates.{grid_state-rows}
 use Rattle.region_step.proofs.Ground.{ground}
 use Rattle.region_step.proofs.Lists.{map_same}
 use Rattle.region_step.proofs.StartLaws.{zero_start-lawful, zero_start-true}
 use Rattle.region_step.proofs.Steps.{zero_start-at}
-use Rattle.delay_report.specs.Recorded.{recorded_count}
-use Rattle.delay_report.specs.Regions.{AreNotesOf, AreRowsOf, HaveNotes, HaveRows}
+use Rattle.delay_report.specs.Report.{recorded_count}
+use Rattle.delay_report.specs.Regions.{AreEnded, AreNotesOf, AreRowsOf, HaveNotes, HaveRows}
 use Rattle.delay_report.specs.Report.{state_note}
 use Rattle.delay_report.specs.RunLaws.{AreAtTheEnd, step_of}
 use Rattle.delay_report.proofs.RecordedSteps.{recorded-none}
@@ -171,3 +169,16 @@ end-zero net chart every regions stand = record {
   from_zero = λ some q. zero_start-at net chart.cut q;
   stand = stand;
 }
+
+-- they are numbered in order and have all been recorded so
+pub end-ended : (net : Network) (chart : ChartLists) (start : StartLists) (every : ℕ) (regions : List RegionValue) → AreAtTheEnd net chart start every regions → AreEnded net.steps every regions
+unfolding grid_state
+end-ended net chart start every regions end =
+    let here : (r : ℕ) (region : RegionValue) → r < length regions → Stands net chart start every r net.steps (slice_index_or regions r region) =
+    λ r region within. at_last net chart start every r regions region end.stand (omega (arith, within, end.stand.one_each)) in
+    record {
+      number = λ r region within. ap (λ state. state.number) (here r region within).state;
+      recorded = λ r region within. ap (λ state. state.every) (here r region within).state;
+      step = λ r region within. ap (λ state. state.step) (here r region within).state;
+      started = λ r region within some. ap (λ state. state.started) (here r region within).state ∙ end.from_zero some r;
+    }

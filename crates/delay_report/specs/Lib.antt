@@ -1,5 +1,4 @@
 pub mod Regions
 pub mod Report
-pub mod Recorded
 pub mod RunLaws
 pub mod Places

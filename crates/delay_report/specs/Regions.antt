@@ -1,5 +1,5 @@
 -- What regions that stand at steps of their own have of their cells, seen in the order of the file.
-use Rattle.std.specs.Prelude.{◌≡◌, ℕ, ◌*◌, ◌<◌, List, flat_map, length, map, slice_index_or}
+use Rattle.std.specs.Prelude.{◌≡◌, ◌≢◌, ℕ, ◌*◌, ◌<◌, List, flat_map, length, map, slice_index_or}
 use Rattle.flow_model.specs.State.{row_at}
 use Rattle.flow_model.specs.declared.row.Row.{Row}
 use Rattle.region_cut.specs.Chart.{ChartLists, list_at}
@@ -21,6 +21,13 @@ pub record HaveRows (chart : ChartLists) (regions : List RegionValue) : Type 0 w
 pub record HaveNotes (chart : ChartLists) (regions : List RegionValue) (steps : ℕ) : Type 0 where
   pub notes : (r : ℕ) (region : RegionValue) → r < region_count chart.cut →
       length (slice_index_or regions r region).state.trail ≡ steps * length (list_at chart.cells r)
+
+-- they are numbered in order and stand at the last step, recorded so and from step 0 on, if at all
+pub record AreEnded (steps every : ℕ) (regions : List RegionValue) : Type 0 where
+  pub number : (r : ℕ) (region : RegionValue) → r < length regions → (slice_index_or regions r region).state.number ≡ r
+  pub recorded : (r : ℕ) (region : RegionValue) → r < length regions → (slice_index_or regions r region).state.every ≡ every
+  pub step : (r : ℕ) (region : RegionValue) → r < length regions → (slice_index_or regions r region).state.step ≡ steps
+  pub started : (r : ℕ) (region : RegionValue) → r < length regions → every ≢ 0 → (slice_index_or regions r region).state.started ≡ 0
 
 -- the rows of all cells are those that their regions have
 pub record AreRowsOf (chart : ChartLists) (regions : List RegionValue) (rows : List Row) : Type 0 where

@@ -11,6 +11,10 @@ use Rattle.flow_ledger.specs.Books.{entered_of, inside_of, left_of}
 use Rattle.region_step.specs.Recording.{note_of, recorded}
 use Rattle.region_step.specs.declared.note.Note.{Note}
 
+-- how many of the steps 0 to T are recorded
+abbrev pub recorded_count : (steps every : ℕ) → ℕ
+recorded_count steps every = length (recorded steps every 0 steps)
+
 -- a comma and an amount
 abbrev pub amount_field : ℕ → List ℕ
 amount_field parts = codes "," ++ amount_text parts

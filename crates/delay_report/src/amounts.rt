@@ -1,5 +1,4 @@
-ghost use Rattle.std.specs.Prelude.{◌≡◌, ◌++◌, ℕ, OnOk, codes, pos};
-ghost use Rattle.fixed_flow.specs.Printed.{amount_text};
+ghost use Rattle.std.specs.Prelude.{◌≡◌, ◌++◌, ℕ, OnOk, pos};
 ghost use Rattle.delay_report.specs.Report.{amount_field};
 
 use fixed_flow::{Amount, Text48, put_wide};

@@ -1,5 +1,5 @@
-ghost use Rattle.std.specs.Prelude.{◌≡◌, ◌++◌, length, codes, OnOk};
-ghost use Rattle.delay_report.specs.Report.{amount_field, cell_line, cell_lines};
+ghost use Rattle.std.specs.Prelude.{◌≡◌, ◌++◌, length, OnOk};
+ghost use Rattle.delay_report.specs.Report.{cell_line, cell_lines};
 
 use crate::amounts::put_amount;
 use flow_model::Row;

@@ -85,7 +85,7 @@ impl Ledger {
         books(net, &self.rows)
     }
 
-    /// The flight of connector `k` by these rows, in parts.
+    /// The flight of connector `k` by these rows, in parts: negative where the cells downstream are ahead.
     pub fn flight(&self, net: &Net, k: u32) -> i128
         requires one_each { length self.now ≡ length net.now.cells }
         requires has_connector { k < length net.now.connectors }

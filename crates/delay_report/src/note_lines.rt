@@ -1,8 +1,8 @@
-ghost use Rattle.std.specs.Prelude.{◌≡◌, ◌++◌, ◌<◌, ◌^◌, ℕ, List, codes, decimal, length, slice_index, OnOk};
+ghost use Rattle.std.specs.Prelude.{◌≡◌, ◌++◌, ◌<◌, ◌^◌, ℕ, List, length, slice_index, OnOk};
 ghost use Rattle.delay_report.specs.Places.{ArePlaced};
-ghost use Rattle.delay_report.specs.Recorded.{recorded_count};
+ghost use Rattle.delay_report.specs.Report.{recorded_count};
 ghost use Rattle.delay_report.specs.Regions.{AreNotesOf, HaveNotes, HaveRows};
-ghost use Rattle.delay_report.specs.Report.{amount_field, note_line, note_lines, step_lines};
+ghost use Rattle.delay_report.specs.Report.{note_line, note_lines, step_lines};
 ghost use Rattle.region_step.specs.Recording.{recorded};
 ghost use Rattle.region_step.specs.declared.note.Note.{Note as NoteValue};
 

@@ -1,5 +1,5 @@
 ghost use Rattle.std.specs.Prelude.{◌≡◌, ◌+◌, ◌≤◌};
-ghost use Rattle.delay_report.specs.Recorded.{recorded_count};
+ghost use Rattle.delay_report.specs.Report.{recorded_count};
 
 use network_file::Net;
 

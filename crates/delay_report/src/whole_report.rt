@@ -1,13 +1,12 @@
-ghost use Rattle.std.specs.Prelude.{◌≡◌, ◌++◌, ◌+◌, ℕ, List, IfOk, OnOk, codes, decimal, length};
+ghost use Rattle.std.specs.Prelude.{◌≡◌, ◌++◌, ◌+◌, ℕ, List, IfOk, OnOk, length};
 ghost use Rattle.flow_ledger.specs.Books.{entered_of, initial_of, inside_of, left_of};
-ghost use Rattle.flow_model.specs.State.{state_at};
 ghost use Rattle.flow_model.specs.declared.row.Row.{Row as RowValue};
 ghost use Rattle.region_cut.specs.Chart.{chart_of};
 ghost use Rattle.region_step.specs.Recording.{recorded};
 ghost use Rattle.region_step.specs.Start.{StartLists};
 ghost use Rattle.region_step.specs.declared.note.Note.{Note as NoteValue};
-ghost use Rattle.delay_report.specs.Recorded.{recorded_count};
-ghost use Rattle.delay_report.specs.Regions.{AreNotesOf, AreRowsOf, HaveNotes, HaveRows};
+ghost use Rattle.delay_report.specs.Report.{recorded_count};
+ghost use Rattle.delay_report.specs.Regions.{AreEnded, AreNotesOf, AreRowsOf, HaveNotes, HaveRows};
 ghost use Rattle.delay_report.specs.Report.{report_line, report_of, report_with};
 ghost use Rattle.delay_report.specs.RunLaws.{AreAtTheEnd};
 
@@ -35,6 +34,7 @@ pub fn report(
 ) -> Result<Vec<u8>, NoMemory>
     requires chart { chart.now ≡ chart_of net.now chart.now.cut }
     requires one_each { length chart.now.cut ≡ length net.now.cells }
+    requires ended { AreEnded net.now.steps every regions.now }
     requires rows { HaveRows chart.now regions.now }
     requires notes { HaveNotes chart.now regions.now (recorded_count net.now.steps every) }
     ensures text { IfOk result (λ text. (note : ℕ → ℕ → NoteValue) (rows : List RowValue) →
@@ -44,9 +44,9 @@ pub fn report(
     // Of regions of a true start it is the report of the plain recurrences, whatever the cutting.
     ensures recurrences { IfOk result (λ text. (start : StartLists) → AreAtTheEnd net.now chart.now start every regions.now → text.items ≡ report_of net.now every) }
 
-    // Of its totals: what is inside at the last step and what has left were there at first or have entered.
-    ensures balance { OnOk result (let last = state_at net.now net.now.steps in
-        inside_of net.now last + left_of net.now last ≡ initial_of net.now + entered_of net.now last) }
+    // Then its totals balance: what is inside at the last step and what has left were there at first or have entered.
+    ensures balance { IfOk result (λ text. (start : StartLists) (rows : List RowValue) → AreAtTheEnd net.now chart.now start every regions.now →
+        AreRowsOf chart.now regions.now rows → inside_of net.now rows + left_of net.now rows ≡ initial_of net.now + entered_of net.now rows) }
 {
     let _steps = net.steps;
     let places = cell_places(alloc, net, chart)?;

@@ -1,7 +1,7 @@
 ghost use Rattle.std.specs.Prelude.{◌≡◌, IfOk};
 ghost use Rattle.region_cut.specs.Chart.{chart_of};
 ghost use Rattle.region_step.specs.Standing.{AllStand};
-ghost use Rattle.region_step.specs.Start.{zero_start};
+ghost use Rattle.region_step.specs.Start.{Fits};
 
 use network_file::Net;
 use region_cut::Chart;
@@ -9,7 +9,8 @@ use region_step::{Region, Start};
 use signal_plan::NoMemory;
 use std::alloc::Global;
 
-/// All regions at step 0, recorded at each step that `every` divides and at the last one, never where `every` is 0.
+/// All regions of a start, each at the step where it starts. They are recorded at each step that `every` divides and at
+/// the last one, never where `every` is 0.
 pub fn open_regions(
     alloc: Global,
     net: &Net,
@@ -18,7 +19,7 @@ pub fn open_regions(
     every: u64,
 ) -> Result<Vec<Region>, NoMemory>
     requires chart { chart.now ≡ chart_of net.now chart.now.cut }
-    requires start { start.now ≡ zero_start net.now chart.now.cut }
+    requires fits { Fits net.now chart.now.cut start.now }
     ensures { IfOk result (λ regions. AllStand net.now chart.now start.now every start.now.steps regions.items) }
 {
     let _cells = &net.cells;

@@ -5,9 +5,12 @@ use Rattle.region_cut.specs.Chart.{chart_of}
 use Rattle.region_cut.specs.Cuttings.{region_count}
 use Rattle.region_step.specs.Standing.{AllStand}
 use Rattle.region_step.specs.Start.{zero_start}
-use Rattle.delay_report.specs.RunLaws.{AreAtTheEnd}
-use Rattle.delay_report.proofs.Standing.{end-notes, end-zero, stand-rows}
+use Rattle.delay_report.proofs.Standing.{end-ended, end-notes, end-zero, stand-rows}
 use Rattle.ctm_program.proofs.answer.run_report.Goals as goal
+
+pub report-requires-clause-ended : goal.report-requires-clause-ended
+report-requires-clause-ended c =
+    rw c.deref.ensures.value (end-ended c.args.net.now c.in_ok-chart.chart (zero_start c.args.net.now c.in_ok-chart.chart.cut) c.args.every _ (end-zero c.args.net.now c.in_ok-chart.chart c.args.every _ c.in_ok-regions.ensures))
 
 pub report-requires-clause-rows : goal.report-requires-clause-rows
 report-requires-clause-rows c =

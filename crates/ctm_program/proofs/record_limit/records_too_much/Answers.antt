@@ -1,4 +1,4 @@
-use Rattle.std.proofs.Common.{◌≡◌, ◌<◌, ◌≤◌, ◌+◌, ◌*◌, ◌^◌, length, arith, ap, subst}
+use Rattle.std.proofs.Common.{◌≡◌, ◌≤◌, ◌*◌, ◌^◌, length, arith, ap, subst}
 use Rattle.std.proofs.Math.Nat.{mul-le-mul_right}
 use Rattle.network_file.specs.Network.{IsNetwork}
 use Rattle.region_cut.proofs.ConnectorCells.{few_cells}

@@ -1,4 +1,3 @@
-use Rattle.std.proofs.Common.{ap, ◌∙◌}
 use Rattle.std.proofs.lemmas.List.{take_all}
 use Rattle.delay_report.specs.Report.{delay_of}
 use Rattle.delay_report.proofs.delay.delay.Goals as goal

@@ -1,8 +1,8 @@
 use Rattle.std.specs.Prelude.{slice_index}
-use Rattle.std.proofs.Common.{◌≡◌, ◌+◌, ◌<◌, ◌≤◌, true, false, [], ◌∷◌, ◌++◌, append-nil, append_assoc, length, arith, ap, refl, subst, sym, ◌∙◌}
+use Rattle.std.proofs.Common.{◌≡◌, true, false, [], ◌∷◌, ◌++◌, append-nil, append_assoc, length, arith, ap, refl, sym, ◌∙◌}
 use Rattle.std.proofs.lemmas.List.{length-append}
 use Rattle.region_step.specs.Recording.{is_recorded, recorded}
-use Rattle.delay_report.specs.Recorded.{recorded_count}
+use Rattle.delay_report.specs.Report.{recorded_count}
 use Rattle.delay_report.specs.Report.{note_lines, step_lines}
 use Rattle.delay_report.proofs.Lines.{note_lines-more, note_lines-none}
 use Rattle.delay_report.proofs.RecordedSteps.{before, before-all, before-no, before-yes, stands-among}

@@ -1,4 +1,4 @@
-use Rattle.std.proofs.Common.{◌≡◌, ◌<◌, length, rules, append_assoc, arith, ap, refl, ◌∙◌}
+use Rattle.std.proofs.Common.{◌≡◌, length, rules, append_assoc, arith, ap, refl, ◌∙◌}
 use Rattle.delay_report.proofs.Lines.{lines_of-more, lines_of-none, name_at-read}
 use Rattle.delay_report.proofs.note_lines.put_step_lines.Goals as goal
 

@@ -1,4 +1,4 @@
-use Rattle.std.proofs.Common.{◌≡◌, ◌<◌, ◌≤◌, arith, ap, sym, ◌∙◌}
+use Rattle.std.proofs.Common.{◌≡◌, ◌<◌, arith, ap, sym}
 use Rattle.delay_report.proofs.RecordedSteps.{recorded_count-is, recorded_count-most, recorded_count-never}
 use Rattle.delay_report.proofs.step_count.recorded_steps.Goals as goal
 

@@ -1,4 +1,4 @@
-use Rattle.std.proofs.Common.{subst, arith, rules}
+use Rattle.std.proofs.Common.{arith, rules, subst, sym, ◌∙◌}
 use Rattle.network_file.specs.Network.{IsNetwork}
 use Rattle.flow_model.specs.State.{state_at}
 use Rattle.flow_ledger.proofs.BooksLaws.{state-balance}
@@ -7,7 +7,11 @@ use Rattle.delay_report.proofs.Standing.{end-notes_of, end-rows_of}
 use Rattle.delay_report.proofs.whole_report.report.Goals as goal
 
 pub returns-clause-balance : goal.returns-clause-balance
-returns-clause-balance c = state-balance c.args.net.now c.args.net.now.steps (subst IsNetwork c.net.view_is c.net.invariant) (omega arith)
+returns-clause-balance c = λ start rows end are.
+    let sound = subst IsNetwork c.net.view_is c.net.invariant in
+    let last = end-rows_of c.args.net.now c.args.chart.now start c.args.every c.args.regions.now sound c.requires.chart c.requires.one_each end in
+    let same = sym (c.in_ok-rows.ensures.rows rows are) ∙ c.in_ok-rows.ensures.rows (state_at c.args.net.now c.args.net.now.steps) last in
+    rw same (state-balance c.args.net.now c.args.net.now.steps sound (omega arith))
 
 pub returns-clause-text : goal.returns-clause-text
 unfolding report_with

@@ -2,16 +2,9 @@ use Rattle.std.specs.Prelude.{slice_index}
 use Rattle.std.proofs.Common.{◌≡◌, inl, inr, [], ◌∷◌, ◌++◌, length, get_or, arith, ap, subst, sym, ◌∙◌}
 use Rattle.std.proofs.lemmas.Bool.{cases_lt}
 use Rattle.std.proofs.lemmas.List.{get_or_append_left, length-append}
-use Rattle.network_file.specs.Network.{IsNetwork}
 use Rattle.region_step.specs.Standing.{Stands}
-use Rattle.region_step.specs.Start.{Fits}
-use Rattle.region_step.proofs.StartLaws.{zero_start-fits}
 use Rattle.region_sweeps.proofs.Sweeping.{pushed-at}
 use Rattle.region_sweeps.proofs.opening.open_regions.Goals as goal
-
-pub open-requires-clause-fits : goal.open-requires-clause-fits
-open-requires-clause-fits c =
-    subst (Fits c.args.net.now c.args.chart.now.cut) (sym c.requires.start) (zero_start-fits c.args.net.now c.args.chart.now.cut (subst IsNetwork c.net.view_is c.net.invariant))
 
 pub loop-r-preserved : goal.loop-r-preserved
 loop-r-preserved c =

@@ -1,9 +1,8 @@
 use Rattle.std.specs.Prelude.{slice_index}
-use Rattle.std.proofs.Common.{◌≡◌, ◌<◌, ◌+◌, ◌*◌, length, arith, ap, subst, sym, ◌∙◌}
+use Rattle.std.proofs.Common.{length, arith, ◌∙◌}
 use Rattle.region_cut.specs.Chart.{list_at}
-use Rattle.region_cut.specs.Cuttings.{region_at, region_count}
+use Rattle.region_cut.specs.Cuttings.{region_at}
 use Rattle.region_cut.proofs.Membership.{region_at-there}
-use Rattle.delay_report.specs.Regions.{note_at}
 use Rattle.delay_report.proofs.ByRegion.{note-found, note-inside}
 use Rattle.delay_report.proofs.by_cell.ByCell.note.Goals as goal
 

@@ -1,5 +1,5 @@
-use Rattle.std.proofs.Common.{◌≡◌, ◌<◌, length, arith, ◌∙◌}
-use Rattle.region_cut.specs.Cuttings.{region_at, region_count}
+use Rattle.std.proofs.Common.{arith, ◌∙◌}
+use Rattle.region_cut.specs.Cuttings.{region_at}
 use Rattle.region_cut.proofs.Membership.{region_at-there}
 use Rattle.delay_report.proofs.ByRegion.{row-found}
 use Rattle.delay_report.proofs.by_cell.ByCell.row.Goals as goal

@@ -1,6 +1,6 @@
 use Rattle.region_step.specs.Start.{zero_start}
 use Rattle.delay_report.proofs.Standing.{stand-rows}
-use Rattle.ctm_program.proofs.ledger_tests.ledger_after.Goals as goal
+use Rattle.ctm_program.proofs.uneven_tests.ledger_after.Goals as goal
 
 pub new-requires-clause-rows : goal.new-requires-clause-rows
 new-requires-clause-rows c =

@@ -1,7 +1,7 @@
 use Rattle.region_cut.specs.LawfulSteps.{AreLawful}
 use Rattle.region_step.specs.Standing.{AllStand}
 use Rattle.region_step.specs.Start.{zero_start}
-use Rattle.ctm_program.proofs.ledger_tests.raised.Given as goal
+use Rattle.ctm_program.proofs.uneven_tests.raised.Given as goal
 
 abbrev pub invariant-loop-r : goal.invariant-loop-r
 invariant-loop-r l =

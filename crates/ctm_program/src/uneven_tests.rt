@@ -1,6 +1,6 @@
-ghost use Rattle.std.specs.Prelude.{◌≡◌, IfOk, length};
+ghost use Rattle.std.specs.Prelude.{◌≡◌, All, IfOk, length};
 ghost use Rattle.region_cut.specs.Chart.{chart_of};
-ghost use Rattle.region_cut.specs.LawfulSteps.{AreLawful};
+ghost use Rattle.region_step.specs.Opened.{IsOf};
 ghost use Rattle.region_step.specs.Standing.{AllStand};
 ghost use Rattle.region_step.specs.Start.{zero_start};
 
@@ -13,6 +13,7 @@ use region_step::{Region, Start};
 use region_sweeps::{cutting, open_regions, step_region};
 use signal_plan::NoMemory;
 use std::alloc::Global;
+use std::process::Abort;
 use std::test::Fail;
 
 const VEHICLES: i128 = 1_000_000;
@@ -41,6 +42,40 @@ fn raised(alloc: Global, net: &Net, chart: &Chart, order: &[u32]) -> Result<Stan
         step_region(net, chart, &mut steps, &mut regions, *r % chart.regions());
     }
     Ok(Standing { steps, regions })
+}
+
+// What each cell held a step before its region's step, region by region.
+fn befores<R: Abort>(
+    rt: &R,
+    alloc: Global,
+    chart: &Chart,
+    regions: &[Region],
+) -> Result<Vec<u64>, Fail>
+    requires { All (IsOf chart.now) regions.now }
+{
+    let mut held = Vec::new(alloc);
+    for region in regions {
+        let cells = chart.cells(region.number());
+        assert!(rt; cells.len() <= 3);
+        for p in 0..cells.len() {
+            held.push(region.before(p as u32))?;
+        }
+    }
+    Ok(held)
+}
+
+// The same after these rises.
+fn befores_after<R: Abort>(
+    rt: &R,
+    alloc: Global,
+    net: &Net,
+    chart: &Chart,
+    order: &[u32],
+) -> Result<Vec<u64>, Fail>
+    requires { chart.now ≡ chart_of net.now chart.now.cut }
+{
+    let raised = raised(alloc, net, chart, order)?;
+    befores(rt, alloc, chart, &raised.regions)
 }
 
 // The ledger after these rises.
@@ -78,5 +113,16 @@ fn what_is_under_way_has_the_sign_of_the_region_ahead(rt: HostRuntime) -> Result
         put_wide(ledger.flight(&net, 0), &mut amount);
         assert_eq!(rt; amount.bytes(), text);
     }
+    Ok(())
+}
+
+// The gate stands at step 2, the road and the exit at step 1.
+#[test]
+fn a_region_tells_what_it_held_a_step_before(rt: HostRuntime) -> Result<(), Fail> {
+    let net = Net::read(rt.alloc(), FILE)?;
+    let cut = cutting(rt.alloc(), &net, 1)?;
+    let chart = Chart::new(rt.alloc(), &net, cut)?;
+    let held = befores_after(&rt, rt.alloc(), &net, &chart, &[0, 1, 0])?;
+    assert_eq!(rt; held.as_slice(), [4_000_000, 0, 0].as_slice());
     Ok(())
 }
