@@ -108,5 +108,17 @@ united view other = record view {
 }
 
 -- and the other is spent
-abbrev pub spent : View → View
-spent view = record view { share = 0; seen = none_of view.seen; moves = 0; reach = 0 }
+abbrev pub spent : View
+spent = record {
+  terms = [];
+  share = 0;
+  seen = [];
+  moves = 0;
+  reach = 0;
+  splits = 0;
+  held_found = [];
+  short_found = 0;
+  last_short = record { region = 0; neighbour = 0; step = 0 };
+  looks = [];
+  holds = [];
+}

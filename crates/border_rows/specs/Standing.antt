@@ -1,6 +1,6 @@
 -- The rule of the field: what holds of its words, of the regions at home and of the seats' views between any two atomic
 -- steps. It has four parts.
-use Rattle.std.specs.Prelude.{◌≡◌, ◌≢◌, ◌⊎◌, ℕ, ◌+◌, ◌-◌, ◌%◌, ◌<◌, ◌≤◌, true, List, [], length, slice_index, sum_by, if◌then◌else◌}
+use Rattle.std.specs.Prelude.{◌≡◌, ◌≢◌, ◌⊎◌, ℕ, ◌+◌, ◌-◌, ◌%◌, ◌<◌, ◌≤◌, true, List, [], ◌∷◌, length, slice_index, sum_by, if◌then◌else◌}
 use Rattle.std.specs.List.{Contains, range_with_len}
 use mathlib.Core.Option.{some}
 use mathlib.Core.Option as maybe
@@ -88,7 +88,7 @@ pub record Counts (terms : Terms) (chart : ChartLists) (start : StartLists) (sea
   pub moves : sum_by (λ view. view.moves) field.views ≡ steps_made chart start field.words
   pub reach : (r : ℕ) → r < region_count chart.cut → (step_of chart field.words r ≤ slice_index start.steps r) ⊎
       ((view : View) × Contains field.views view × (step_of chart field.words r ≤ view.reach))
-  pub alike : (view : View) → Contains field.views view → view.share ≢ 0 → view.terms ≡ terms
+  pub alike : (view : View) → Contains field.views view → view.share ≢ 0 → view.terms ≡ terms ∷ []
 
 -- the rule
 pub record IsStanding (terms : Terms) (field : FieldState) : Type 0 where

@@ -38,7 +38,8 @@ pub struct Short {
 
 /// What a seat at a field knows, as contracts see it. No value of it is made, so its lists have no room.
 pub struct View<'a> {
-    pub terms: Terms<'a>,
+    /// What the field was opened with: one, and none for a seat that is spent.
+    pub terms: [Terms<'a>; 0],
     /// Its part of the field's seats. One that has none is spent.
     pub share: u64,
     /// For each region a step that its word has reached.

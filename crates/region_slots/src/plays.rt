@@ -1,0 +1,19 @@
+ghost use Rattle.region_slots.specs.Plays.{IsClaim, IsLook};
+
+use atomic_table::Play;
+use border_rows::View;
+use region_step::Region;
+
+/// A try of a region's claim word.
+pub(crate) struct Claim;
+
+impl<'a> Play<Region, View<'a>> for Claim {
+    ghost then = { λ step old found new. IsClaim step old found new };
+}
+
+/// A look at a region's step word.
+pub(crate) struct Look;
+
+impl<'a> Play<Region, View<'a>> for Look {
+    ghost then = { λ step old found new. IsLook step old found new };
+}
