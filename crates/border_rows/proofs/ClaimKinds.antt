@@ -1,17 +1,31 @@
 -- A step that takes a region, finds it taken or frees it keeps the rule; a seat with all shares never finds one taken.
-use Rattle.std.specs.Prelude.{◌==◌, ◌&&◌, if◌then◌else◌}
-use Rattle.std.specs.List.{count_by}
-use Rattle.std.proofs.Common.{◌≡◌, ◌≢◌, ℕ, ◌+◌, Bool, true, false, List, ◌∷◌, set, refl, sym, ap, ◌∙◌, arith}
+use Rattle.std.specs.Prelude.{slice_index, sum_by, ◌==◌, ◌&&◌, if◌then◌else◌}
+use Rattle.std.specs.List.{Contains, count_by, range_with_len, sum}
+use Rattle.std.proofs.Common.{◌≡◌, ◌≢◌, ◌⊎◌, ℕ, zero, suc, ◌+◌, ◌-◌, ◌<◌, inl, inr, Bool, true, false, List, [], ◌∷◌, length, set, refl, sym, ap, subst, ◌∙◌, arith}
 use Rattle.std.proofs.Math.Bool.{and-false}
 use Rattle.std.proofs.lemmas.Bool.{eq-eqb, ne_eqb}
+use Rattle.std.proofs.lemmas.List.Sums.{sum-map}
 use Rattle.signal_plan.proofs.Sums.{count_by-cons}
 use mathlib.Core.Option.{some}
+use mathlib.Core.Option as maybe
 use lib.ListN.{get_elem?}
+use Rattle.region_cut.specs.Chart.{ChartLists, IsChart}
+use Rattle.region_cut.specs.Cuttings.{region_count}
+use Rattle.region_step.specs.Region.{RegionValue}
+use Rattle.region_step.specs.Start.{StartLists}
+use Rattle.region_step.proofs.Lists.{map_range_same}
 use Rattle.border_rows.specs.Kinds.{fresh, freed, later_of, taken}
-use Rattle.border_rows.specs.Views.{holders, knowers}
+use Rattle.border_rows.specs.Places.{claim_place, widths_of}
+use Rattle.border_rows.specs.Standing.{Counts, FieldState, steps_made}
+use Rattle.border_rows.specs.Views.{IsHeld, holders, knowers}
+use Rattle.border_rows.specs.Words.{step_of}
 use Rattle.border_rows.specs.declared.view.Hold.{Hold}
+use Rattle.border_rows.specs.declared.view.Terms.{Terms}
 use Rattle.border_rows.specs.declared.view.View.{View}
-use Rattle.border_rows.proofs.ViewUpdates.{sum-set}
+use Rattle.border_rows.proofs.ChartWidths.{length-widths_of}
+use Rattle.border_rows.proofs.Keeping.{SameRows, SameSteps}
+use Rattle.border_rows.proofs.ViewUpdates.{Contains-elem, Contains-set, set-Contains, set-keeps, sum-set}
+use Rattle.border_rows.proofs.WordUpdates.{claim-set-border, claim-set-step}
 
 -- how often region r stands among a view's holds, and how often with its step known
 abbrev pub times_held : List Hold → (r : ℕ) → ℕ
@@ -124,3 +138,99 @@ pub same-knowers : (views : List View) (id q : ℕ) (view w : View) → get_elem
 same-knowers views id q view w is same =
     let known : times_known w.holds q ≡ times_known view.holds q = ap (λ l. times_known l q) same in
     omega (arith, knowers-set views id q view w is, known)
+
+-- what a view holds of which one is replaced
+
+Contains-cons : {X : Type 0} (x y : X) (xs : List X) → Contains (y ∷ xs) x → (x ≡ y) ⊎ Contains xs x
+Contains-cons x y xs (zero, within, is) = inl (sym is)
+Contains-cons x y xs (suc k, within, is) = inr (k, omega (arith, within), is)
+
+-- a hold is one of before where the new view holds no more than the old
+held-set : (views : List View) (id : ℕ) (view w v : View) (hold : Hold) → get_elem? views id ≡ some view →
+    (Contains w.holds hold → Contains view.holds hold) → IsHeld (set views id w) v hold → (old : View) × IsHeld views old hold
+held-set views id view w v hold is less held = elim (Contains-set views id w v held.seat) [
+  | inl new ↦ (view, record { seat = Contains-elem views id view is; held = less (subst (λ x. Contains x.holds hold) new held.held) })
+  | inr old ↦ (v, record { seat = old; held = held.held })
+]
+
+held-taken : (views : List View) (id r : ℕ) (view v : View) (hold : Hold) → get_elem? views id ≡ some view →
+    IsHeld (set views id (taken view r)) v hold → (hold ≡ fresh r) ⊎ ((old : View) × IsHeld views old hold)
+held-taken views id r view v hold is held = elim (Contains-set views id (taken view r) v held.seat) [
+  | inl new ↦ elim (Contains-cons hold (fresh r) view.holds (subst (λ x. Contains x.holds hold) new held.held)) [
+    | inl first ↦ inl first
+    | inr later ↦ inr (view, record { seat = Contains-elem views id view is; held = later })
+  ]
+  | inr old ↦ inr (v, record { seat = old; held = held.held })
+]
+
+later-held : (holds : List Hold) (hold : Hold) → Contains (later_of holds) hold → Contains holds hold
+later-held [] hold has = has
+later-held (first ∷ holds) hold (k, within, is) = (suc k, omega (arith, within), is)
+
+-- regions have words of their own
+within-widths : (chart : ChartLists) (r : ℕ) → IsChart chart → r < region_count chart.cut → r < length (widths_of chart)
+within-widths chart r sound within = omega (arith, length-widths_of chart sound, within)
+
+-- a claim word says nothing of steps and rows
+
+pub claim-steps : (chart : ChartLists) (words : List ℕ) (r n : ℕ) → IsChart chart → r < region_count chart.cut →
+    SameSteps chart words (set words (claim_place (widths_of chart) r) n)
+claim-steps chart words r n sound within q there = claim-set-step chart words r q n (within-widths chart r sound within) (within-widths chart q sound there)
+
+pub claim-rows : (chart : ChartLists) (words : List ℕ) (r n : ℕ) → IsChart chart → r < region_count chart.cut →
+    SameRows chart words (set words (claim_place (widths_of chart) r) n)
+claim-rows chart words r n sound within q t j there inside =
+    claim-set-border chart words r q t j n (within-widths chart r sound within) (within-widths chart q sound there) inside
+
+-- the views count alike
+pub record CountsAlike (view w : View) : Type 0 where
+  pub terms : w.terms ≡ view.terms
+  pub share : w.share ≡ view.share
+  pub seen : w.seen ≡ view.seen
+  pub moves : w.moves ≡ view.moves
+  pub reach : w.reach ≡ view.reach
+
+steps_made-same : (chart : ChartLists) (start : StartLists) (before after : List ℕ) → SameSteps chart before after →
+    steps_made chart start after ≡ steps_made chart start before
+steps_made-same chart start before after same =
+    let new : ℕ → ℕ = λ r. step_of chart after r - slice_index start.steps r in
+    let old : ℕ → ℕ = λ r. step_of chart before r - slice_index start.steps r in
+    let regions : List ℕ = range_with_len 0 (region_count chart.cut) in
+    sym (sum-map new regions) ∙ ap sum (map_range_same new old (region_count chart.cut) (λ r within. ap (λ t. t - slice_index start.steps r) (same r within))) ∙ sum-map old regions
+
+pub counts-kept : (terms : Terms) (chart : ChartLists) (start : StartLists) (seats : ℕ) (s : FieldState) (words : List ℕ) (homes : List (maybe.Option RegionValue)) (id : ℕ) (view w : View) →
+    Counts terms chart start seats s → SameSteps chart s.words words → get_elem? s.views id ≡ some view → CountsAlike view w → view.share ≢ 0 →
+    Counts terms chart start seats (record { words = words; homes = homes; views = set s.views id w })
+counts-kept terms chart start seats s words homes id view w old same is alike some_share =
+    let own : Contains s.views view = Contains-elem s.views id view is in
+    record {
+      lengths = λ v has share. elim (Contains-set s.views id w v has) [
+        | inl new ↦ ap (λ x. length x.seen) new ∙ ap length alike.seen ∙ old.lengths view own some_share
+        | inr before ↦ old.lengths v before share
+      ];
+      seen = λ v r has within. elim (Contains-set s.views id w v has) [
+        | inl new ↦
+            let seen : slice_index v.seen r ≡ slice_index view.seen r = ap (λ x. slice_index x.seen r) new ∙ ap (λ l. slice_index l r) alike.seen in
+            omega (arith, seen, old.seen view r own within, same r within)
+        | inr before ↦ omega (arith, old.seen v r before within, same r within)
+      ];
+      shares = omega (arith, sum-set (λ v. v.share) s.views id w view is, alike.share, old.shares);
+      spent = λ v has none. elim (Contains-set s.views id w v has) [
+        | inl new ↦ absurd (some_share (sym alike.share ∙ sym (ap (λ x. x.share) new) ∙ none))
+        | inr before ↦ old.spent v before none
+      ];
+      moves = omega (arith, sum-set (λ v. v.moves) s.views id w view is, alike.moves, old.moves, steps_made-same chart start s.words words same);
+      reach = λ r within. elim (old.reach r within) [
+        | inl low ↦ inl (omega (arith, low, same r within))
+        | inr (v, has, far) ↦ elim (set-keeps s.views id w view v is has) [
+          | inl own_view ↦
+              let reach : w.reach ≡ v.reach = alike.reach ∙ sym (ap (λ x. x.reach) own_view) in
+              inr (w, set-Contains s.views id w view is, omega (arith, reach, far, same r within))
+          | inr there ↦ inr (v, there, omega (arith, far, same r within))
+        ]
+      ];
+      alike = λ v has share. elim (Contains-set s.views id w v has) [
+        | inl new ↦ ap (λ x. x.terms) new ∙ alike.terms ∙ old.alike view own some_share
+        | inr before ↦ old.alike v before share
+      ];
+    }
