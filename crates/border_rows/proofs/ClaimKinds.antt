@@ -1,31 +1,35 @@
 -- A step that takes a region, finds it taken or frees it keeps the rule; a seat with all shares never finds one taken.
 use Rattle.std.specs.Prelude.{slice_index, sum_by, ◌==◌, ◌&&◌, if◌then◌else◌}
 use Rattle.std.specs.List.{Contains, count_by, range_with_len, sum}
-use Rattle.std.proofs.Common.{◌≡◌, ◌≢◌, ◌⊎◌, ℕ, zero, suc, ◌+◌, ◌-◌, ◌<◌, inl, inr, Bool, true, false, List, [], ◌∷◌, length, set, refl, sym, ap, subst, ◌∙◌, arith}
+use Rattle.std.proofs.Common.{◌≡◌, ◌≢◌, ◌⊎◌, ℕ, zero, suc, ◌+◌, ◌-◌, ◌<◌, ◌≤◌, inl, inr, Bool, true, false, List, [], ◌∷◌, length, get_or, set, refl, sym, ap, subst, ◌∙◌, arith}
 use Rattle.std.proofs.Math.Bool.{and-false}
-use Rattle.std.proofs.lemmas.Bool.{eq-eqb, ne_eqb}
-use Rattle.std.proofs.lemmas.List.Sums.{sum-map}
+use Rattle.std.proofs.lemmas.Bool.{cases_eq, eq-eqb, false≢true, ne_eqb}
+use Rattle.std.proofs.lemmas.List.{length-set, set-get_or}
+use Rattle.std.proofs.lemmas.List.Sums.{get_or-le-sum_by, sum-map, sum_by-cons}
 use Rattle.signal_plan.proofs.Sums.{count_by-cons}
 use mathlib.Core.Option.{some}
 use mathlib.Core.Option as maybe
 use lib.ListN.{get_elem?}
+use Rattle.atomic_table.specs.Table.{gives, keeps, stepped}
+use Rattle.atomic_table.proofs.Lists.{set_else, set_here}
 use Rattle.region_cut.specs.Chart.{ChartLists, IsChart}
 use Rattle.region_cut.specs.Cuttings.{region_count}
 use Rattle.region_step.specs.Region.{RegionValue}
+use Rattle.region_step.specs.Standing.{Stands}
 use Rattle.region_step.specs.Start.{StartLists}
 use Rattle.region_step.proofs.Lists.{map_range_same}
-use Rattle.border_rows.specs.Kinds.{fresh, freed, later_of, taken}
+use Rattle.border_rows.specs.Kinds.{found_taken, fresh, freed, later_of, taken}
 use Rattle.border_rows.specs.Places.{claim_place, widths_of}
-use Rattle.border_rows.specs.Standing.{Counts, FieldState, steps_made}
+use Rattle.border_rows.specs.Standing.{Counts, FieldState, IsHome, IsSpent, IsStanding, steps_made}
 use Rattle.border_rows.specs.Views.{IsHeld, holders, knowers}
-use Rattle.border_rows.specs.Words.{step_of}
+use Rattle.border_rows.specs.Words.{claim_of, step_of}
 use Rattle.border_rows.specs.declared.view.Hold.{Hold}
 use Rattle.border_rows.specs.declared.view.Terms.{Terms}
 use Rattle.border_rows.specs.declared.view.View.{View}
 use Rattle.border_rows.proofs.ChartWidths.{length-widths_of}
-use Rattle.border_rows.proofs.Keeping.{SameRows, SameSteps}
+use Rattle.border_rows.proofs.Keeping.{OldHolds, SameRows, SameSteps, rows-kept, steps-kept}
 use Rattle.border_rows.proofs.ViewUpdates.{Contains-elem, Contains-set, set-Contains, set-keeps, sum-set}
-use Rattle.border_rows.proofs.WordUpdates.{claim-set-border, claim-set-step}
+use Rattle.border_rows.proofs.WordUpdates.{claim-set, claim-set-border, claim-set-other, claim-set-step}
 
 -- how often region r stands among a view's holds, and how often with its step known
 abbrev pub times_held : List Hold → (r : ℕ) → ℕ
@@ -34,69 +38,75 @@ times_held holds r = count_by (λ hold. hold.region == r) holds
 abbrev pub times_known : List Hold → (r : ℕ) → ℕ
 times_known holds r = count_by (λ hold. (hold.region == r) && hold.known) holds
 
--- a view in whose place another stands changes the holders by what the two hold
+-- where another view stands in the place of one, the holders change by what the two hold
 pub holders-set : (views : List View) (id r : ℕ) (view w : View) → get_elem? views id ≡ some view →
     holders (set views id w) r + times_held view.holds r ≡ holders views r + times_held w.holds r
 holders-set views id r view w is = sum-set (λ v. times_held v.holds r) views id w view is
 
+-- and those who know a region's step by what the two know
 pub knowers-set : (views : List View) (id r : ℕ) (view w : View) → get_elem? views id ≡ some view →
     knowers (set views id w) r + times_known view.holds r ≡ knowers views r + times_known w.holds r
 knowers-set views id r view w is = sum-set (λ v. times_known v.holds r) views id w view is
 
--- a hold counts for its own region, if for any
+-- one hold more counts where it is of the region
 times_held-cons : (hold : Hold) (holds : List Hold) (r : ℕ) (held : Bool) → (hold.region == r) ≡ held →
     times_held (hold ∷ holds) r ≡ (if held then 1 else 0) + times_held holds r
 times_held-cons hold holds r held is =
     count_by-cons (λ h. h.region == r) hold holds ∙ ap (λ b. (if b then 1 else 0) + times_held holds r) is
 
+-- for its own region it is one more
 times_held-own : (hold : Hold) (holds : List Hold) (r : ℕ) → hold.region ≡ r → times_held (hold ∷ holds) r ≡ times_held holds r + 1
 times_held-own hold holds r is =
     let count = times_held-cons hold holds r true (eq-eqb hold.region r is) in
     omega (arith, count)
 
+-- for another none
 times_held-other : (hold : Hold) (holds : List Hold) (r : ℕ) → hold.region ≢ r → times_held (hold ∷ holds) r ≡ times_held holds r
 times_held-other hold holds r other =
     let count = times_held-cons hold holds r false (ne_eqb hold.region r other) in
     omega (arith, count)
 
+-- one hold more counts as known where it is of the region and its step is known
 times_known-cons : (hold : Hold) (holds : List Hold) (r : ℕ) (known : Bool) → ((hold.region == r) && hold.known) ≡ known →
     times_known (hold ∷ holds) r ≡ (if known then 1 else 0) + times_known holds r
 times_known-cons hold holds r known is =
     count_by-cons (λ h. (h.region == r) && h.known) hold holds ∙ ap (λ b. (if b then 1 else 0) + times_known holds r) is
 
+-- for its own region it is one more
 times_known-own : (hold : Hold) (holds : List Hold) (r : ℕ) → hold.region ≡ r → hold.known ≡ true → times_known (hold ∷ holds) r ≡ times_known holds r + 1
 times_known-own hold holds r is knows =
     let count = times_known-cons hold holds r true (rw (eq-eqb hold.region r is, knows) refl) in
     omega (arith, count)
 
+-- for another none
 times_known-other : (hold : Hold) (holds : List Hold) (r : ℕ) → hold.region ≢ r → times_known (hold ∷ holds) r ≡ times_known holds r
 times_known-other hold holds r other =
     let count = times_known-cons hold holds r false (rw (ne_eqb hold.region r other) refl) in
     omega (arith, count)
 
--- it is none for a region that was just taken
+-- for a region that was just taken none
 times_known-fresh : (holds : List Hold) (r q : ℕ) → times_known (fresh r ∷ holds) q ≡ times_known holds q
 times_known-fresh holds r q =
     let count = times_known-cons (fresh r) holds q false (and-false (r == q)) in
     omega (arith, count)
 
--- taking a region
-
+-- a region that is taken has one holder more
 pub taken-holders : (views : List View) (id r : ℕ) (view : View) → get_elem? views id ≡ some view →
     holders (set views id (taken view r)) r ≡ holders views r + 1
 taken-holders views id r view is = omega (arith, holders-set views id r view (taken view r) is, times_held-own (fresh r) view.holds r refl)
 
+-- another has as many
 pub taken-holders-other : (views : List View) (id r q : ℕ) (view : View) → get_elem? views id ≡ some view → q ≢ r →
     holders (set views id (taken view r)) q ≡ holders views q
 taken-holders-other views id r q view is other =
     omega (arith, holders-set views id q view (taken view r) is, times_held-other (fresh r) view.holds q (λ same. other (sym same)))
 
+-- and as many know the step of each
 pub taken-knowers : (views : List View) (id r q : ℕ) (view : View) → get_elem? views id ≡ some view →
     knowers (set views id (taken view r)) q ≡ knowers views q
 taken-knowers views id r q view is = omega (arith, knowers-set views id q view (taken view r) is, times_known-fresh view.holds r q)
 
--- freeing the region that was taken last
-
+-- a region that is freed has one holder less
 pub freed-holders : (views : List View) (id r : ℕ) (view : View) (hold : Hold) (holds : List Hold) → get_elem? views id ≡ some view →
     view.holds ≡ hold ∷ holds → hold.region ≡ r → holders (set views id (freed view)) r + 1 ≡ holders views r
 freed-holders views id r view hold holds is has own =
@@ -104,6 +114,7 @@ freed-holders views id r view hold holds is has own =
     let after : times_held (later_of view.holds) r ≡ times_held holds r = ap (λ l. times_held (later_of l) r) has in
     omega (arith, holders-set views id r view (freed view) is, before, after)
 
+-- another has as many
 pub freed-holders-other : (views : List View) (id r q : ℕ) (view : View) (hold : Hold) (holds : List Hold) → get_elem? views id ≡ some view →
     view.holds ≡ hold ∷ holds → hold.region ≡ r → q ≢ r → holders (set views id (freed view)) q ≡ holders views q
 freed-holders-other views id r q view hold holds is has own other =
@@ -111,6 +122,7 @@ freed-holders-other views id r q view hold holds is has own other =
     let after : times_held (later_of view.holds) q ≡ times_held holds q = ap (λ l. times_held (later_of l) q) has in
     omega (arith, holders-set views id q view (freed view) is, before, after)
 
+-- and one view less knows its step, if this one did
 pub freed-knowers : (views : List View) (id r : ℕ) (view : View) (hold : Hold) (holds : List Hold) → get_elem? views id ≡ some view →
     view.holds ≡ hold ∷ holds → hold.region ≡ r → hold.known ≡ true → knowers (set views id (freed view)) r + 1 ≡ knowers views r
 freed-knowers views id r view hold holds is has own knows =
@@ -118,6 +130,7 @@ freed-knowers views id r view hold holds is has own knows =
     let after : times_known (later_of view.holds) r ≡ times_known holds r = ap (λ l. times_known (later_of l) r) has in
     omega (arith, knowers-set views id r view (freed view) is, before, after)
 
+-- as many know that of another
 pub freed-knowers-other : (views : List View) (id r q : ℕ) (view : View) (hold : Hold) (holds : List Hold) → get_elem? views id ≡ some view →
     view.holds ≡ hold ∷ holds → hold.region ≡ r → q ≢ r → knowers (set views id (freed view)) q ≡ knowers views q
 freed-knowers-other views id r q view hold holds is has own other =
@@ -125,34 +138,34 @@ freed-knowers-other views id r q view hold holds is has own other =
     let after : times_known (later_of view.holds) q ≡ times_known holds q = ap (λ l. times_known (later_of l) q) has in
     omega (arith, knowers-set views id q view (freed view) is, before, after)
 
--- holding the same
-
+-- a view that holds the same leaves the holders
 pub same-holders : (views : List View) (id q : ℕ) (view w : View) → get_elem? views id ≡ some view → w.holds ≡ view.holds →
     holders (set views id w) q ≡ holders views q
 same-holders views id q view w is same =
     let held : times_held w.holds q ≡ times_held view.holds q = ap (λ l. times_held l q) same in
     omega (arith, holders-set views id q view w is, held)
 
+-- and those who know a region's step
 pub same-knowers : (views : List View) (id q : ℕ) (view w : View) → get_elem? views id ≡ some view → w.holds ≡ view.holds →
     knowers (set views id w) q ≡ knowers views q
 same-knowers views id q view w is same =
     let known : times_known w.holds q ≡ times_known view.holds q = ap (λ l. times_known l q) same in
     omega (arith, knowers-set views id q view w is, known)
 
--- what a view holds of which one is replaced
-
+-- of a list an item is the first or a later one
 Contains-cons : {X : Type 0} (x y : X) (xs : List X) → Contains (y ∷ xs) x → (x ≡ y) ⊎ Contains xs x
 Contains-cons x y xs (zero, within, is) = inl (sym is)
 Contains-cons x y xs (suc k, within, is) = inr (k, omega (arith, within), is)
 
--- a hold is one of before where the new view holds no more than the old
-held-set : (views : List View) (id : ℕ) (view w v : View) (hold : Hold) → get_elem? views id ≡ some view →
+-- what is held once a view holds no more than the one in whose place it stands was held before
+pub held-set : (views : List View) (id : ℕ) (view w v : View) (hold : Hold) → get_elem? views id ≡ some view →
     (Contains w.holds hold → Contains view.holds hold) → IsHeld (set views id w) v hold → (old : View) × IsHeld views old hold
 held-set views id view w v hold is less held = elim (Contains-set views id w v held.seat) [
   | inl new ↦ (view, record { seat = Contains-elem views id view is; held = less (subst (λ x. Contains x.holds hold) new held.held) })
   | inr old ↦ (v, record { seat = old; held = held.held })
 ]
 
+-- what is held once a region is taken is that region, just taken, or was held before
 held-taken : (views : List View) (id r : ℕ) (view v : View) (hold : Hold) → get_elem? views id ≡ some view →
     IsHeld (set views id (taken view r)) v hold → (hold ≡ fresh r) ⊎ ((old : View) × IsHeld views old hold)
 held-taken views id r view v hold is held = elim (Contains-set views id (taken view r) v held.seat) [
@@ -163,26 +176,27 @@ held-taken views id r view v hold is held = elim (Contains-set views id (taken v
   | inr old ↦ inr (v, record { seat = old; held = held.held })
 ]
 
+-- what is held once the region taken last is given back was held before
 later-held : (holds : List Hold) (hold : Hold) → Contains (later_of holds) hold → Contains holds hold
 later-held [] hold has = has
 later-held (first ∷ holds) hold (k, within, is) = (suc k, omega (arith, within), is)
 
--- regions have words of their own
-within-widths : (chart : ChartLists) (r : ℕ) → IsChart chart → r < region_count chart.cut → r < length (widths_of chart)
+-- a region that is there has words
+pub within-widths : (chart : ChartLists) (r : ℕ) → IsChart chart → r < region_count chart.cut → r < length (widths_of chart)
 within-widths chart r sound within = omega (arith, length-widths_of chart sound, within)
 
--- a claim word says nothing of steps and rows
-
+-- a claim word says nothing of the steps
 pub claim-steps : (chart : ChartLists) (words : List ℕ) (r n : ℕ) → IsChart chart → r < region_count chart.cut →
     SameSteps chart words (set words (claim_place (widths_of chart) r) n)
 claim-steps chart words r n sound within q there = claim-set-step chart words r q n (within-widths chart r sound within) (within-widths chart q sound there)
 
+-- nor of the rows
 pub claim-rows : (chart : ChartLists) (words : List ℕ) (r n : ℕ) → IsChart chart → r < region_count chart.cut →
     SameRows chart words (set words (claim_place (widths_of chart) r) n)
 claim-rows chart words r n sound within q t j there inside =
     claim-set-border chart words r q t j n (within-widths chart r sound within) (within-widths chart q sound there) inside
 
--- the views count alike
+-- a view counts as another: it has the same terms and share, and has seen and published as much
 pub record CountsAlike (view w : View) : Type 0 where
   pub terms : w.terms ≡ view.terms
   pub share : w.share ≡ view.share
@@ -190,7 +204,8 @@ pub record CountsAlike (view w : View) : Type 0 where
   pub moves : w.moves ≡ view.moves
   pub reach : w.reach ≡ view.reach
 
-steps_made-same : (chart : ChartLists) (start : StartLists) (before after : List ℕ) → SameSteps chart before after →
+-- where no step is published, as many were made
+pub steps_made-same : (chart : ChartLists) (start : StartLists) (before after : List ℕ) → SameSteps chart before after →
     steps_made chart start after ≡ steps_made chart start before
 steps_made-same chart start before after same =
     let new : ℕ → ℕ = λ r. step_of chart after r - slice_index start.steps r in
@@ -198,6 +213,7 @@ steps_made-same chart start before after same =
     let regions : List ℕ = range_with_len 0 (region_count chart.cut) in
     sym (sum-map new regions) ∙ ap sum (map_range_same new old (region_count chart.cut) (λ r within. ap (λ t. t - slice_index start.steps r) (same r within))) ∙ sum-map old regions
 
+-- counts stay where no step is published and a view counts as the one in whose place it stands
 pub counts-kept : (terms : Terms) (chart : ChartLists) (start : StartLists) (seats : ℕ) (s : FieldState) (words : List ℕ) (homes : List (maybe.Option RegionValue)) (id : ℕ) (view w : View) →
     Counts terms chart start seats s → SameSteps chart s.words words → get_elem? s.views id ≡ some view → CountsAlike view w → view.share ≢ 0 →
     Counts terms chart start seats (record { words = words; homes = homes; views = set s.views id w })
@@ -233,4 +249,28 @@ counts-kept terms chart start seats s words homes id view w old same is alike so
         | inl new ↦ ap (λ x. x.terms) new ∙ alike.terms ∙ old.alike view own some_share
         | inr before ↦ old.alike v before share
       ];
+    }
+
+-- a step that changes neither words nor what its seat holds and has counted keeps the rule
+pub alike-keeps : (terms : Terms) (s : FieldState) (id : ℕ) (view w : View) → IsStanding terms s → get_elem? s.views id ≡ some view → view.share ≢ 0 →
+    CountsAlike view w → w.holds ≡ view.holds → IsStanding terms (record { words = s.words; homes = s.homes; views = set s.views id w })
+alike-keeps terms s id view w old is some_share alike same =
+    let chart : ChartLists = terms.chart.now in
+    let after : FieldState = record { words = s.words; homes = s.homes; views = set s.views id w } in
+    let from : (v : View) (hold : Hold) → IsHeld after.views v hold → (before : View) × IsHeld s.views before hold =
+    λ v hold held. held-set s.views id view w v hold is (subst (λ l. Contains l hold) same) held in
+    let there : (v : View) (hold : Hold) → IsHeld after.views v hold → hold.region < region_count chart.cut =
+    λ v hold held. let was = from v hold held in old.claims.there was.0 hold was.1 in
+    record {
+      claims = record {
+        words = old.claims.words;
+        homes = old.claims.homes;
+        counted = λ q within. old.claims.counted q within ∙ sym (same-holders s.views id q view w is same);
+        one = λ q. omega (arith, old.claims.one q, same-holders s.views id q view w is same);
+        there = there;
+        at_home = λ q within none. old.claims.at_home q within (sym (same-knowers s.views id q view w is same) ∙ none);
+      };
+      steps = steps-kept terms.net.now chart terms.start.now s after old.steps (λ q within. refl) (λ v hold held knows. from v hold held) there;
+      rows = rows-kept terms.net.now chart terms.start.now s after old.rows (λ q within. refl) (λ q t j within inside. refl) (λ v hold held knows. from v hold held) there;
+      counts = counts-kept terms chart terms.start.now terms.seats s s.words s.homes id view w old.counts (λ q within. refl) is alike some_share;
     }
