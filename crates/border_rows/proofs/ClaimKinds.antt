@@ -274,3 +274,54 @@ alike-keeps terms s id view w old is some_share alike same =
       rows = rows-kept terms.net.now chart terms.start.now s after old.rows (λ q within. refl) (λ q t j within inside. refl) (λ v hold held knows. from v hold held) there;
       counts = counts-kept terms chart terms.start.now terms.seats s s.words s.homes id view w old.counts (λ q within. refl) is alike some_share;
     }
+
+-- a region that was free is taken
+pub taken-keeps : (terms : Terms) (s : FieldState) (id r : ℕ) (view : View) (c : List (ℕ × RegionValue)) → IsStanding terms s → IsChart terms.chart.now →
+    get_elem? s.views id ≡ some view → view.share ≢ 0 → r < region_count terms.chart.now.cut → claim_of terms.chart.now s.words r ≡ 0 →
+    IsStanding terms (stepped s (claim_place (widths_of terms.chart.now) r) 1 id c (taken view r) keeps)
+taken-keeps terms s id r view c old sound is some_share within free =
+    let chart : ChartLists = terms.chart.now in
+    let words : List ℕ = set s.words (claim_place (widths_of chart) r) 1 in
+    let after : FieldState = record { words = words; homes = s.homes; views = set s.views id (taken view r) } in
+    let steps : SameSteps chart s.words words = claim-steps chart s.words r 1 sound within in
+    let there : (v : View) (hold : Hold) → IsHeld after.views v hold → hold.region < region_count chart.cut =
+    λ v hold held. elim (held-taken s.views id r view v hold is held) [
+      | inl new ↦ subst (λ q. q < region_count chart.cut) (sym (ap (λ (h : Hold). h.region) new)) within
+      | inr was ↦ old.claims.there was.0 hold was.1
+    ] in
+    let from : OldHolds s.views after.views =
+    λ v hold held knows. elim (held-taken s.views id r view v hold is held) [
+      | inl new ↦ absurd (false≢true (sym (ap (λ (h : Hold). h.known) new) ∙ knows))
+      | inr was ↦ was
+    ] in
+    record {
+      claims = record {
+        words = length-set s.words (claim_place (widths_of chart) r) 1 ∙ old.claims.words;
+        homes = old.claims.homes;
+        counted = λ q inside. elim (cases_eq q r) [
+          | inl same ↦ subst (λ p. claim_of chart words p ≡ holders after.views p) (sym same)
+              (omega (
+                arith,
+                claim-set chart s.words r 1 (within-widths chart r sound within) old.claims.words,
+                old.claims.counted r within,
+                free,
+                taken-holders s.views id r view is,
+              ))
+          | inr other ↦
+              claim-set-other chart s.words r q 1 (within-widths chart r sound within) (within-widths chart q sound inside) other ∙ old.claims.counted q inside ∙
+              sym (taken-holders-other s.views id r q view is other)
+        ];
+        one = λ q. elim (cases_eq q r) [
+          | inl same ↦ subst (λ p. holders after.views p ≤ 1) (sym same) (omega (arith, old.claims.counted r within, free, taken-holders s.views id r view is))
+          | inr other ↦ omega (arith, old.claims.one q, taken-holders-other s.views id r q view is other)
+        ];
+        there = there;
+        at_home = λ q inside none.
+            let home = old.claims.at_home q inside (sym (taken-knowers s.views id r q view is) ∙ none) in
+            (home.0, home.1, subst (λ t. Stands terms.net.now chart terms.start.now terms.every q t home.0) (sym (steps q inside)) home.2);
+      };
+      steps = steps-kept terms.net.now chart terms.start.now s after old.steps steps from there;
+      rows = rows-kept terms.net.now chart terms.start.now s after old.rows steps (claim-rows chart s.words r 1 sound within) from there;
+      counts = counts-kept terms chart terms.start.now terms.seats s words s.homes id view (taken view r) old.counts steps is
+          (record { terms = refl; share = refl; seen = refl; moves = refl; reach = refl }) some_share;
+    }
