@@ -325,3 +325,13 @@ taken-keeps terms s id r view c old sound is some_share within free =
       counts = counts-kept terms chart terms.start.now terms.seats s words s.homes id view (taken view r) old.counts steps is
           (record { terms = refl; share = refl; seen = refl; moves = refl; reach = refl }) some_share;
     }
+
+-- a region that was taken is found so
+pub found_taken-keeps : (terms : Terms) (s : FieldState) (id r : ℕ) (view : View) (c : List (ℕ × RegionValue)) → IsStanding terms s →
+    get_elem? s.views id ≡ some view → view.share ≢ 0 →
+    IsStanding terms
+    (stepped s (claim_place (widths_of terms.chart.now) r) (slice_index s.words (claim_place (widths_of terms.chart.now) r)) id c (found_taken view r) keeps)
+found_taken-keeps terms s id r view c old is some_share =
+    subst (λ words. IsStanding terms (record { words = words; homes = s.homes; views = set s.views id (found_taken view r) }))
+    (sym (set-get_or s.words (claim_place (widths_of terms.chart.now) r) 0))
+    (alike-keeps terms s id view (found_taken view r) old is some_share (record { terms = refl; share = refl; seen = refl; moves = refl; reach = refl }) refl)
