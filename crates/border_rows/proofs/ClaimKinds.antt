@@ -335,3 +335,76 @@ found_taken-keeps terms s id r view c old is some_share =
     subst (λ words. IsStanding terms (record { words = words; homes = s.homes; views = set s.views id (found_taken view r) }))
     (sym (set-get_or s.words (claim_place (widths_of terms.chart.now) r) 0))
     (alike-keeps terms s id view (found_taken view r) old is some_share (record { terms = refl; share = refl; seen = refl; moves = refl; reach = refl }) refl)
+
+-- a region that a seat holds with its slot, at the step that it has published, is given back
+freed_with-keeps : (terms : Terms) (s : FieldState) (id r : ℕ) (view : View) (hold : Hold) (holds : List Hold) (region : RegionValue) (c : List (ℕ × RegionValue)) → IsStanding terms s →
+    IsChart terms.chart.now → get_elem? s.views id ≡ some view → view.share ≢ 0 → r < region_count terms.chart.now.cut → view.holds ≡ hold ∷ holds → hold.region ≡ r →
+    Stands terms.net.now terms.chart.now terms.start.now terms.every r (step_of terms.chart.now s.words r) region →
+    IsStanding terms (stepped s (claim_place (widths_of terms.chart.now) r) 0 id ((r, region) ∷ c) (freed view) gives)
+freed_with-keeps terms s id r view hold holds region c old sound is some_share within has own stands =
+    let chart : ChartLists = terms.chart.now in
+    let words : List ℕ = set s.words (claim_place (widths_of chart) r) 0 in
+    let homes : List (maybe.Option RegionValue) = set s.homes r (some region) in
+    let after : FieldState = record { words = words; homes = homes; views = set s.views id (freed view) } in
+    let steps : SameSteps chart s.words words = claim-steps chart s.words r 0 sound within in
+    let from : (v : View) (h : Hold) → IsHeld after.views v h → (before : View) × IsHeld s.views before h =
+    λ v h held. held-set s.views id view (freed view) v h is (later-held view.holds h) held in
+    let there : (v : View) (h : Hold) → IsHeld after.views v h → h.region < region_count chart.cut =
+    λ v h held. let was = from v h held in old.claims.there was.0 h was.1 in
+    let fewer = freed-holders s.views id r view hold holds is has own in
+    record {
+      claims = record {
+        words = length-set s.words (claim_place (widths_of chart) r) 0 ∙ old.claims.words;
+        homes = length-set s.homes r (some region) ∙ old.claims.homes;
+        counted = λ q inside. elim (cases_eq q r) [
+          | inl same ↦ subst (λ p. claim_of chart words p ≡ holders after.views p) (sym same)
+              (omega (arith, claim-set chart s.words r 0 (within-widths chart r sound within) old.claims.words, old.claims.one r, fewer))
+          | inr other ↦
+              claim-set-other chart s.words r q 0 (within-widths chart r sound within) (within-widths chart q sound inside) other ∙ old.claims.counted q inside ∙
+              sym (freed-holders-other s.views id r q view hold holds is has own other)
+        ];
+        one = λ q. elim (cases_eq q r) [
+          | inl same ↦ subst (λ p. holders after.views p ≤ 1) (sym same) (omega (arith, old.claims.one r, fewer))
+          | inr other ↦ omega (arith, old.claims.one q, freed-holders-other s.views id r q view hold holds is has own other)
+        ];
+        there = there;
+        at_home = λ q inside none. elim (cases_eq q r) [
+          | inl same ↦ subst (λ p. (home : RegionValue) × IsHome homes p home × Stands terms.net.now chart terms.start.now terms.every p (step_of chart words p) home) (sym same) (
+            region,
+            set_here s.homes r (some region) (omega (arith, within, old.claims.homes)),
+            subst (λ t. Stands terms.net.now chart terms.start.now terms.every r t region) (sym (steps r within)) stands,
+          )
+          | inr other ↦
+              let home = old.claims.at_home q inside (sym (freed-knowers-other s.views id r q view hold holds is has own other) ∙ none) in (
+                home.0,
+                set_else s.homes r q (some region) other ∙ home.1,
+                subst (λ t. Stands terms.net.now chart terms.start.now terms.every q t home.0) (sym (steps q inside)) home.2,
+              )
+        ];
+      };
+      steps = steps-kept terms.net.now chart terms.start.now s after old.steps steps (λ v h held knows. from v h held) there;
+      rows = rows-kept terms.net.now chart terms.start.now s after old.rows steps (claim-rows chart s.words r 0 sound within) (λ v h held knows. from v h held) there;
+      counts = counts-kept terms chart terms.start.now terms.seats s words homes id view (freed view) old.counts steps is
+          (record { terms = refl; share = refl; seen = refl; moves = refl; reach = refl }) some_share;
+    }
+
+-- the same for all that the seat carries, where the slot is the first
+pub freed-keeps : (terms : Terms) (s : FieldState) (id r : ℕ) (view : View) (hold : Hold) (holds : List Hold) (region : RegionValue) (c rest : List (ℕ × RegionValue)) → IsStanding terms s →
+    IsChart terms.chart.now → get_elem? s.views id ≡ some view → view.share ≢ 0 → r < region_count terms.chart.now.cut → view.holds ≡ hold ∷ holds → hold.region ≡ r →
+    c ≡ (r, region) ∷ rest → Stands terms.net.now terms.chart.now terms.start.now terms.every r (step_of terms.chart.now s.words r) region →
+    IsStanding terms (stepped s (claim_place (widths_of terms.chart.now) r) 0 id c (freed view) gives)
+freed-keeps terms s id r view hold holds region c rest old sound is some_share within has own carries stands =
+    subst (λ l. IsStanding terms (stepped s (claim_place (widths_of terms.chart.now) r) 0 id l (freed view) gives)) (sym carries)
+    (freed_with-keeps terms s id r view hold holds region rest old sound is some_share within has own stands)
+
+-- a region that a seat knows the step of is given back at the step that the seat knows it to stand at
+pub freed_known-keeps : (terms : Terms) (s : FieldState) (id r : ℕ) (view : View) (hold : Hold) (holds : List Hold) (region : RegionValue) (c rest : List (ℕ × RegionValue)) → IsStanding terms s →
+    IsChart terms.chart.now → get_elem? s.views id ≡ some view → view.share ≢ 0 → view.holds ≡ hold ∷ holds → hold.region ≡ r → hold.known ≡ true →
+    c ≡ (r, region) ∷ rest → Stands terms.net.now terms.chart.now terms.start.now terms.every r (if hold.published then hold.step + 1 else hold.step) region →
+    IsStanding terms (stepped s (claim_place (widths_of terms.chart.now) r) 0 id c (freed view) gives)
+freed_known-keeps terms s id r view hold holds region c rest old sound is some_share has own knows carries stands =
+    let held : IsHeld s.views view hold = record { seat = Contains-elem s.views id view is; held = subst (λ l. Contains l hold) (sym has) (0, omega arith, refl) } in
+    let stood : step_of terms.chart.now s.words r ≡ (if hold.published then hold.step + 1 else hold.step) =
+    ap (step_of terms.chart.now s.words) (sym own) ∙ old.steps.known view hold held knows in
+    freed-keeps terms s id r view hold holds region c rest old sound is some_share (subst (λ q. q < region_count terms.chart.now.cut) own (old.claims.there view hold held)) has own carries
+    (subst (λ t. Stands terms.net.now terms.chart.now terms.start.now terms.every r t region) (sym stood) stands)
