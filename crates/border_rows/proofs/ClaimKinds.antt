@@ -408,3 +408,62 @@ freed_known-keeps terms s id r view hold holds region c rest old sound is some_s
     ap (step_of terms.chart.now s.words) (sym own) ∙ old.steps.known view hold held knows in
     freed-keeps terms s id r view hold holds region c rest old sound is some_share (subst (λ q. q < region_count terms.chart.now.cut) own (old.claims.there view hold held)) has own carries
     (subst (λ t. Stands terms.net.now terms.chart.now terms.start.now terms.every r t region) (sym stood) stands)
+
+-- a sum of terms that are all 0
+none-sum : {X : Type 0} (f : X → ℕ) (xs : List X) → ((x : X) → Contains xs x → f x ≡ 0) → sum_by f xs ≡ 0
+none-sum f [] none = refl
+none-sum f (x ∷ xs) none =
+    let first : f x ≡ 0 = none x (0, omega arith, refl) in
+    let later : sum_by f xs ≡ 0 = none-sum f xs (λ y has. none y (suc has.0, omega (arith, has.1), has.2)) in
+    let all : sum_by f (x ∷ xs) ≡ f x + sum_by f xs = sum_by-cons f x xs in
+    omega (arith, first, later, all)
+
+-- beside a seat that has all shares the others have none
+others-share : (terms : Terms) (s : FieldState) (id : ℕ) (view v : View) → IsStanding terms s → get_elem? s.views id ≡ some view → view.share ≡ terms.seats →
+    Contains (set s.views id (record view { share = 0 })) v → v.share ≡ 0
+others-share terms s id view v old is all (k, within, here) =
+    let others : List View = set s.views id (record view { share = 0 }) in
+    let rest = sum-set (λ (x : View). x.share) s.views id (record view { share = 0 }) view is in
+    let least = get_or-le-sum_by (λ (x : View). x.share) others k v within in
+    let own : (get_or others k v).share ≡ v.share = ap (λ (x : View). x.share) here in
+    omega (arith, rest, all, old.counts.shares, least, own)
+
+-- each view is that of the seat with all shares, or its seat is spent
+pub whole_spent : (terms : Terms) (s : FieldState) (id : ℕ) (view v : View) → IsStanding terms s → get_elem? s.views id ≡ some view → view.share ≡ terms.seats → Contains s.views v →
+    (v ≡ view) ⊎ IsSpent v
+whole_spent terms s id view v old is all has = elim (set-keeps s.views id (record view { share = 0 }) view v is has) [
+  | inl own ↦ inl own
+  | inr other ↦ inr (old.counts.spent v has (others-share terms s id view v old is all other))
+]
+
+-- every other seat is spent
+pub whole_spent-other : (terms : Terms) (s : FieldState) (id k : ℕ) (view v : View) → IsStanding terms s → get_elem? s.views id ≡ some view → view.share ≡ terms.seats → k ≢ id →
+    get_elem? s.views k ≡ some v → IsSpent v
+whole_spent-other terms s id k view v old is all other here =
+    let has = Contains-elem (set s.views id (record view { share = 0 })) k v (set_else s.views id k (record view { share = 0 }) other ∙ here) in
+    old.counts.spent v (Contains-elem s.views k v here) (others-share terms s id view v old is all has)
+
+-- where the seat with all shares holds nothing, no view does
+pub whole_holds : (terms : Terms) (s : FieldState) (id : ℕ) (view v : View) → IsStanding terms s → get_elem? s.views id ≡ some view → view.share ≡ terms.seats → view.holds ≡ [] →
+    Contains s.views v → v.holds ≡ []
+whole_holds terms s id view v old is all empty has = elim (whole_spent terms s id view v old is all has) [
+  | inl own ↦ ap (λ (x : View). x.holds) own ∙ empty
+  | inr gone ↦ gone.holds
+]
+
+-- no region has a holder then
+pub whole_holders : (terms : Terms) (s : FieldState) (id r : ℕ) (view : View) → IsStanding terms s → get_elem? s.views id ≡ some view → view.share ≡ terms.seats → view.holds ≡ [] →
+    holders s.views r ≡ 0
+whole_holders terms s id r view old is all empty =
+    none-sum (λ (v : View). times_held v.holds r) s.views (λ v has. ap (λ l. times_held l r) (whole_holds terms s id view v old is all empty has))
+
+-- and no view knows a region's step
+pub whole_knowers : (terms : Terms) (s : FieldState) (id r : ℕ) (view : View) → IsStanding terms s → get_elem? s.views id ≡ some view → view.share ≡ terms.seats → view.holds ≡ [] →
+    knowers s.views r ≡ 0
+whole_knowers terms s id r view old is all empty =
+    none-sum (λ (v : View). times_known v.holds r) s.views (λ v has. ap (λ l. times_known l r) (whole_holds terms s id view v old is all empty has))
+
+-- it finds no claim word taken
+pub whole_claim : (terms : Terms) (s : FieldState) (id r : ℕ) (view : View) → IsStanding terms s → get_elem? s.views id ≡ some view → view.share ≡ terms.seats → view.holds ≡ [] →
+    r < region_count terms.chart.now.cut → claim_of terms.chart.now s.words r ≡ 0
+whole_claim terms s id r view old is all empty within = old.claims.counted r within ∙ whole_holders terms s id r view old is all empty
