@@ -1,5 +1,5 @@
 -- What contracts see of a field and of a pass.
-use Rattle.std.specs.Prelude.{◌≡◌, ◌≢◌, ℕ, List, [], length}
+use Rattle.std.specs.Prelude.{◌≡◌, ◌≢◌, ℕ, List, [], ◌∷◌, length}
 use Rattle.network_file.specs.Network.{IsNetwork}
 use Rattle.region_cut.specs.Chart.{IsChart, chart_of}
 use Rattle.region_step.specs.Region.{RegionValue}
@@ -31,3 +31,8 @@ pub record IsIdle (view : View) (carried : List (ℕ × RegionValue)) : Type 0 w
   pub share : view.share ≢ 0
   pub holds : view.holds ≡ []
   pub nothing : carried ≡ []
+
+-- the pass is one of the field's
+pub record IsPassOf (field : FieldValue) (pass : PassValue) : Type 0 where
+  pub table : pass.table ≡ field.table
+  pub terms : pass.knows.terms ≡ field.terms ∷ []

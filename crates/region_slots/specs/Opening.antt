@@ -1,12 +1,12 @@
 -- The first seat of a field.
-use Rattle.std.specs.Prelude.{ℕ, [], length, map, replicate}
+use Rattle.std.specs.Prelude.{[], ◌∷◌, map}
 use Rattle.border_rows.specs.declared.view.Terms.{Terms}
 use Rattle.border_rows.specs.declared.view.View.{View}
 
 -- it has all of the field's seats, and has seen where the regions start
 abbrev pub first_view : Terms → View
 first_view terms = record {
-  terms = terms;
+  terms = terms ∷ [];
   share = terms.seats;
   seen = terms.start.now.steps;
   moves = 0;

@@ -1,4 +1,4 @@
-ghost use Rattle.region_slots.specs.Plays.{IsClaim, IsLook};
+ghost use Rattle.region_slots.specs.Plays.{Claimed, Looked};
 
 use atomic_table::Play;
 use border_rows::View;
@@ -8,12 +8,12 @@ use region_step::Region;
 pub(crate) struct Claim;
 
 impl<'a> Play<Region, View<'a>> for Claim {
-    ghost then = { λ step old found new. IsClaim step old found new };
+    ghost then = { λ step old found new. Claimed step old found new };
 }
 
 /// A look at a region's step word.
 pub(crate) struct Look;
 
 impl<'a> Play<Region, View<'a>> for Look {
-    ghost then = { λ step old found new. IsLook step old found new };
+    ghost then = { λ step old found new. Looked step old found new };
 }
