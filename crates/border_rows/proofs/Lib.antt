@@ -5,3 +5,4 @@ pub mod ViewUpdates
 pub mod WordUpdates
 pub mod Keeping
 pub mod LookKinds
+pub mod SeatKinds
