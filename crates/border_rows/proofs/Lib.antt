@@ -5,3 +5,5 @@ pub mod ViewUpdates
 pub mod WordUpdates
 pub mod Keeping
 pub mod ClaimKinds
+pub mod LookKinds
+pub mod SeatKinds
