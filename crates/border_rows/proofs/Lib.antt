@@ -4,3 +4,4 @@ pub mod Spans
 pub mod ViewUpdates
 pub mod WordUpdates
 pub mod Keeping
+pub mod RowKinds

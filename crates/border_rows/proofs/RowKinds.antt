@@ -1,0 +1,158 @@
+-- What a seat that holds a region reads and writes of the rows keeps the rule.
+use Rattle.std.specs.Prelude.{◌==◌, ◌&&◌, if◌then◌else◌, ◌-◌, ◌%◌, max, slice_index, slice_set, sum_by}
+use Rattle.std.specs.List.{Contains, count_by, range_with_len}
+use Rattle.std.proofs.Common.{◌≡◌, ◌≢◌, ◌⊎◌, ℕ, Bool, zero, suc, ◌+◌, ◌<◌, ◌≤◌, inl, inr, true, false, List, [], ◌∷◌, length, get_or, map, set, refl, sym, ap, subst, ◌∙◌, arith}
+use Rattle.std.proofs.lemmas.Bool.{cases_eq, eq-eqb}
+use Rattle.std.proofs.lemmas.List.{get_or-set_other, get_or-set_same, length-map, length-set, set-get_or}
+use Rattle.std.proofs.lemmas.List.FromFn.{get_or-map-range_with_len, get_or-range_with_len, length-range_with_len}
+use Rattle.std.proofs.lemmas.List.Sums.{get_or-le-sum_by, sum_by-cons}
+use mathlib.Core.Option.{some}
+use lib.ListN.{get_elem?}
+use Rattle.signal_plan.proofs.Sums.{count_by-cons, sum_by-same, sum_by_range_one, sum_by_splits}
+use Rattle.network_file.specs.Network.{Network}
+use Rattle.region_cut.specs.Chart.{ChartLists, IsChart}
+use Rattle.region_cut.specs.Cuttings.{region_count}
+use Rattle.region_cut.specs.Joins.{are_neighbours}
+use Rattle.region_cut.specs.LawfulSteps.{AreLawful}
+use Rattle.region_cut.proofs.Meetings.{neighbours-by, neighbours-sym}
+use Rattle.region_step.specs.Grid.{grid_held}
+use Rattle.region_step.specs.Region.{RegionValue}
+use Rattle.region_step.specs.Start.{StartLists}
+use Rattle.atomic_table.specs.Table.{Act, keeps, stepped}
+use Rattle.border_rows.specs.Kinds.{published, wrote}
+use Rattle.border_rows.specs.Places.{row_place, step_place, width_at, widths_of, words_of}
+use Rattle.border_rows.specs.Standing.{Claims, Counts, FieldState, IsStanding, Rows, Steps, steps_made}
+use Rattle.border_rows.specs.Views.{IsHeld, holders, knowers}
+use Rattle.border_rows.specs.Words.{border_cell, border_word, claim_of, step_of, steps_of}
+use Rattle.border_rows.specs.declared.view.Hold.{Hold}
+use Rattle.border_rows.specs.declared.view.Terms.{Terms}
+use Rattle.border_rows.specs.declared.view.View.{View}
+use Rattle.border_rows.proofs.ChartWidths.{length-widths_of}
+use Rattle.border_rows.proofs.Keeping.{neighbours-there}
+use Rattle.border_rows.proofs.ViewUpdates.{Contains-elem, Contains-set, set-Contains, set-keeps, sum-set}
+use Rattle.border_rows.proofs.WordUpdates.{border-set, border-set-claim, border-set-other, border-set-step, step-set, step-set-border, step-set-claim, step-set-other}
+
+-- a list's item counts no more than all do
+item-le-sum : {X : Type 0} (f : X → ℕ) (xs : List X) (x : X) → Contains xs x → f x ≤ sum_by f xs
+item-le-sum f xs x has = omega (arith, get_or-le-sum_by f xs has.0 x has.1, ap f has.2)
+
+-- of items that count 1 in all only one counts
+one-counts : {X : Type 0} (f : X → ℕ) (xs : List X) (x y : X) → sum_by f xs ≤ 1 → Contains xs x → Contains xs y → 1 ≤ f x → 1 ≤ f y → x ≡ y
+one-counts f [] x y few has also here there = absurd (omega (arith, has.1))
+one-counts f (z ∷ zs) x y few (zero, within, is) (zero, inside, same) here there = sym is ∙ same
+one-counts f (z ∷ zs) x y few (zero, within, is) (suc k, inside, same) here there =
+    absurd (omega (arith, sum_by-cons f z zs, ap f is, item-le-sum f zs y (k, omega (arith, inside), same)))
+one-counts f (z ∷ zs) x y few (suc k, within, is) (zero, inside, same) here there =
+    absurd (omega (arith, sum_by-cons f z zs, ap f same, item-le-sum f zs x (k, omega (arith, within), is)))
+one-counts f (z ∷ zs) x y few (suc k, within, is) (suc l, inside, same) here there =
+    one-counts f zs x y (omega (arith, sum_by-cons f z zs)) (k, omega (arith, within), is) (l, omega (arith, inside), same) here there
+
+-- a hold of region r counts
+hold-counts : (hold : Hold) (r : ℕ) → hold.region ≡ r → 1 ≤ (if hold.region == r then 1 else 0)
+hold-counts hold r is = rw (eq-eqb hold.region r is) (omega arith)
+
+holds-count : (holds : List Hold) (hold : Hold) (r : ℕ) → Contains holds hold → hold.region ≡ r → 1 ≤ count_by (λ hold. hold.region == r) holds
+holds-count holds hold r has is =
+    let counts : Hold → ℕ = λ h. if h.region == r then 1 else 0 in
+    omega (arith, hold-counts hold r is, item-le-sum counts holds hold has)
+
+-- views of which one at most holds region r have one hold of it
+pub holds-same : (views : List View) (v w : View) (h k : Hold) (r : ℕ) → holders views r ≤ 1 → IsHeld views v h → IsHeld views w k → h.region ≡ r → k.region ≡ r → h ≡ k
+holds-same views v w h k r one held also is same =
+    let counts : Hold → ℕ = λ h. if h.region == r then 1 else 0 in
+    let holding : View → ℕ = λ view. count_by (λ hold. hold.region == r) view.holds in
+    let first : 1 ≤ holding v = holds-count v.holds h r held.held is in
+    let second : 1 ≤ holding w = holds-count w.holds k r also.held same in
+    let seat : v ≡ w = one-counts holding views v w one held.seat also.seat first second in
+    let few : holding w ≤ 1 = omega (arith, item-le-sum holding views w also.seat) in
+    let there : Contains w.holds h = subst (λ (view : View). Contains view.holds h) seat held.held in
+    one-counts counts w.holds h k few there also.held (hold-counts h r is) (hold-counts k r same)
+
+-- a seat that knows the step of the region that it took last, and hasn't published the step to come
+pub record IsWorking (terms : Terms) (s : FieldState) (id : ℕ) (view : View) (hold : Hold) (holds : List Hold) : Type 0 where
+  pub standing : IsStanding terms s
+  pub charted : IsChart terms.chart.now
+  pub seat : get_elem? s.views id ≡ some view
+  pub share : view.share ≢ 0
+  pub held : view.holds ≡ hold ∷ holds
+  pub known : hold.known ≡ true
+  pub early : hold.published ≡ false
+
+-- the hold is the view's
+hold-held : (views : List View) (id : ℕ) (view : View) (hold : Hold) (holds : List Hold) → get_elem? views id ≡ some view → view.holds ≡ hold ∷ holds → IsHeld views view hold
+hold-held views id view hold holds seat held = record {
+  seat = Contains-elem views id view seat;
+  held = subst (λ (list : List Hold). Contains list hold) (sym held) (0, omega arith, refl);
+}
+
+pub working-held : (terms : Terms) (s : FieldState) (id : ℕ) (view : View) (hold : Hold) (holds : List Hold) → IsWorking terms s id view hold holds → IsHeld s.views view hold
+working-held terms s id view hold holds works = hold-held s.views id view hold holds works.seat works.held
+
+-- no other hold of any view is of its region
+pub hold-alone : (terms : Terms) (s : FieldState) (id : ℕ) (view : View) (hold : Hold) (holds : List Hold) → IsWorking terms s id view hold holds →
+    (v : View) (h : Hold) → IsHeld s.views v h → h.region ≡ hold.region → h ≡ hold
+hold-alone terms s id view hold holds works v h held is =
+    holds-same s.views v view h hold hold.region (works.standing.claims.one hold.region) held (working-held terms s id view hold holds works) is refl
+
+-- a step that leaves the word and the view as they are keeps the rule
+elem-set : {X : Type 0} (xs : List X) (i : ℕ) (x : X) → get_elem? xs i ≡ some x → set xs i x ≡ xs
+elem-set [] i x is = refl
+elem-set (y ∷ ys) zero x is = cc
+elem-set (y ∷ ys) (suc i) x is = ap (λ list. y ∷ list) (elem-set ys i x is)
+
+pub read-keeps : (terms : Terms) (s : FieldState) (i id : ℕ) (c : List (ℕ × RegionValue)) (view : View) → IsStanding terms s → get_elem? s.views id ≡ some view →
+    IsStanding terms (stepped s i (slice_index s.words i) id c view keeps)
+read-keeps terms s i id c view standing seat =
+    let words : set s.words i (slice_index s.words i) ≡ s.words = set-get_or s.words i 0 in
+    let views : set s.views id view ≡ s.views = elem-set s.views id view seat in
+    let of : List ℕ → List View → FieldState = λ some_words some_views. record { words = some_words; homes = s.homes; views = some_views } in
+    let same : stepped s i (slice_index s.words i) id c view keeps ≡ s = ap (λ some_words. of some_words (set s.views id view)) words ∙ ap (of s.words) views in
+    subst (IsStanding terms) (sym same) standing
+
+-- the step of a region just before it is published is the hold's
+pub working-step : (terms : Terms) (s : FieldState) (id : ℕ) (view : View) (hold : Hold) (holds : List Hold) → IsWorking terms s id view hold holds →
+    step_of terms.chart.now s.words hold.region ≡ hold.step
+working-step terms s id view hold holds works =
+    let knows = works.standing.steps.known view hold (working-held terms s id view hold holds works) works.known in
+    rw works.early at knows
+
+pub working-there : (terms : Terms) (s : FieldState) (id : ℕ) (view : View) (hold : Hold) (holds : List Hold) → IsWorking terms s id view hold holds →
+    hold.region < region_count terms.chart.now.cut
+working-there terms s id view hold holds works = works.standing.claims.there view hold (working-held terms s id view hold holds works)
+
+-- neighbours stand at most a step apart
+step_of-listed : (chart : ChartLists) (words : List ℕ) (r : ℕ) → r < region_count chart.cut → slice_index (steps_of chart words) r ≡ step_of chart words r
+step_of-listed chart words r within = get_or-map-range_with_len (step_of chart words) 0 (region_count chart.cut) r r 0 within (omega arith)
+
+pub steps-close : (net : Network) (chart : ChartLists) (words : List ℕ) (r q : ℕ) → AreLawful net chart.cut (steps_of chart words) → are_neighbours net.connectors chart.cut r q ≡ true →
+    step_of chart words r ≤ step_of chart words q + 1
+steps-close net chart words r q lawful near =
+    let there = neighbours-there net chart r q near in
+    omega (arith, lawful.close r q near, step_of-listed chart words r there.0, step_of-listed chart words q there.1)
+
+-- a border word of a neighbour at the region's step or past it is what the cell holds at that step
+pub border-read-near : (terms : Terms) (s : FieldState) (id : ℕ) (view : View) (hold : Hold) (holds : List Hold) (q j : ℕ) → IsWorking terms s id view hold holds →
+    are_neighbours terms.net.now.connectors terms.chart.now.cut hold.region q ≡ true → hold.step ≤ step_of terms.chart.now s.words q → j < width_at (widths_of terms.chart.now) q →
+    border_word terms.chart.now s.words q hold.step j ≡ grid_held terms.net.now terms.chart.now.cut terms.start.now hold.step (border_cell terms.chart.now q j)
+border-read-near terms s id view hold holds q j works near past inside =
+    let net : Network = terms.net.now in
+    let chart : ChartLists = terms.chart.now in
+    let start : StartLists = terms.start.now in
+    let back = neighbours-sym net.connectors chart.cut hold.region q near in
+    let own : step_of chart s.words hold.region ≡ hold.step = working-step terms s id view hold holds works in
+    let close : step_of chart s.words q ≤ step_of chart s.words hold.region + 1 = steps-close net chart s.words q hold.region works.standing.steps.lawful back in
+    elim (cases_eq (step_of chart s.words q) hold.step) [
+      | inl here ↦
+          subst (λ u. border_word chart s.words q u j ≡ grid_held net chart.cut start u (border_cell chart q j)) here
+          (works.standing.rows.now q j ((neighbours-there net chart hold.region q near).1) inside)
+      | inr ahead ↦ works.standing.rows.before q hold.region hold.step j back own (omega arith) inside
+    ]
+
+-- so is one of a cleared neighbour
+pub border-read : (terms : Terms) (s : FieldState) (id : ℕ) (view : View) (hold : Hold) (holds : List Hold) (q j : ℕ) → IsWorking terms s id view hold holds →
+    Contains hold.cleared q → j < width_at (widths_of terms.chart.now) q →
+    border_word terms.chart.now s.words q hold.step j ≡ grid_held terms.net.now terms.chart.now.cut terms.start.now hold.step (border_cell terms.chart.now q j)
+border-read terms s id view hold holds q j works has inside =
+    let held = working-held terms s id view hold holds works in
+    border-read-near terms s id view hold holds q j works (works.standing.steps.around view hold q held works.known has)
+    (works.standing.steps.cleared view hold q held works.known has) inside
