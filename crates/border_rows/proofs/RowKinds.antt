@@ -156,3 +156,95 @@ border-read terms s id view hold holds q j works has inside =
     let held = working-held terms s id view hold holds works in
     border-read-near terms s id view hold holds q j works (works.standing.steps.around view hold q held works.known has)
     (works.standing.steps.cleared view hold q held works.known has) inside
+
+-- the hold that was taken last is changed, and its region isn't: the views hold as many of each region
+counted-set : (p : Hold → Bool) (views : List View) (id : ℕ) (view w : View) (hold new : Hold) (holds : List Hold) → get_elem? views id ≡ some view →
+    view.holds ≡ hold ∷ holds → w.holds ≡ new ∷ holds → p new ≡ p hold →
+    sum_by (λ v. count_by p v.holds) (set views id w) ≡ sum_by (λ v. count_by p v.holds) views
+counted-set p views id view w hold new holds seat held changed alike =
+    let counts : View → ℕ = λ v. count_by p v.holds in
+    let before : counts view ≡ count_by p (hold ∷ holds) = ap (count_by p) held in
+    let after : counts w ≡ count_by p (new ∷ holds) = ap (count_by p) changed in
+    let one : Bool → ℕ = λ b. if b then 1 else 0 in
+    let same : one (p new) ≡ one (p hold) = ap one alike in
+    omega (arith, before, after, same, count_by-cons p hold holds, count_by-cons p new holds, sum-set counts views id w view seat)
+
+-- the hold as it was and as it is now
+pub record IsChanged (view w : View) (hold new : Hold) (holds : List Hold) : Type 0 where
+  pub before : view.holds ≡ hold ∷ holds
+  pub after : w.holds ≡ new ∷ holds
+  pub region : new.region ≡ hold.region
+  pub known : new.known ≡ hold.known
+
+holders-set : (views : List View) (id : ℕ) (view w : View) (hold new : Hold) (holds : List Hold) → get_elem? views id ≡ some view → IsChanged view w hold new holds →
+    (r : ℕ) → holders (set views id w) r ≡ holders views r
+holders-set views id view w hold new holds seat changed r =
+    counted-set (λ h. h.region == r) views id view w hold new holds seat changed.before changed.after (ap (λ region. region == r) changed.region)
+
+knowers-set : (views : List View) (id : ℕ) (view w : View) (hold new : Hold) (holds : List Hold) → get_elem? views id ≡ some view → IsChanged view w hold new holds →
+    (r : ℕ) → knowers (set views id w) r ≡ knowers views r
+knowers-set views id view w hold new holds seat changed r =
+    counted-set (λ h. (h.region == r) && h.known) views id view w hold new holds seat changed.before changed.after
+    (ap (λ region. (region == r) && new.known) changed.region ∙ ap (λ known. (hold.region == r) && known) changed.known)
+
+-- a hold of a view is the changed one then, or one of another region that stood there before
+abbrev pub IsOther : List View → Hold → Hold → Type 0
+IsOther views hold h = (h.region ≢ hold.region) × ((old : View) × IsHeld views old h)
+
+held-after : (views : List View) (id : ℕ) (view w : View) (hold new : Hold) (holds : List Hold) → get_elem? views id ≡ some view → IsChanged view w hold new holds →
+    ((r : ℕ) → holders views r ≤ 1) → (v : View) (h : Hold) → IsHeld (set views id w) v h → (h ≡ new) ⊎ IsOther views hold h
+held-after views id view w hold new holds seat changed one v h held = elim (cases_eq h.region hold.region) [
+  | inl is ↦
+      let there : Contains (set views id w) w = set-Contains views id w view seat in
+      let own : Contains w.holds new = subst (λ (list : List Hold). Contains list new) (sym changed.after) (0, omega arith, refl) in
+      let few : holders (set views id w) hold.region ≤ 1 = omega (arith, one hold.region, holders-set views id view w hold new holds seat changed hold.region) in
+      inl (holds-same (set views id w) v w h new hold.region few held record { seat = there; held = own } is changed.region)
+  | inr other ↦ elim (Contains-set views id w v held.seat) [
+    | inl is ↦
+        let has : Contains (new ∷ holds) h = subst (λ (list : List Hold). Contains list h) (ap (λ (some_view : View). some_view.holds) is ∙ changed.after) held.held in
+        let apart : new ≢ h = λ same. other (sym (ap (λ (some_hold : Hold). some_hold.region) same) ∙ changed.region) in
+        inr (other, (view, record {
+          seat = Contains-elem views id view seat;
+          held = subst (λ (list : List Hold). Contains list h) (sym changed.before) (later new hold holds h has apart);
+        }))
+    | inr was ↦ inr (other, (v, record { seat = was; held = held.held }))
+  ]
+]
+  where
+    later : (x y : Hold) (xs : List Hold) (z : Hold) → Contains (x ∷ xs) z → x ≢ z → Contains (y ∷ xs) z
+    later x y xs z (zero, within, is) apart = absurd (apart is)
+    later x y xs z (suc k, within, is) apart = (suc k, omega (arith, within), is)
+
+-- the field once the view and the words are changed
+abbrev pub field_of : FieldState → (words : List ℕ) → (views : List View) → FieldState
+field_of s words views = record { words = words; homes = s.homes; views = views }
+
+-- a region that is known is counted
+known-counts : (views : List View) (view : View) (hold : Hold) → IsHeld views view hold → hold.known ≡ true → 1 ≤ knowers views hold.region
+known-counts views view hold held known =
+    let counts : Hold → ℕ = λ h. if (h.region == hold.region) && h.known then 1 else 0 in
+    let knowing : View → ℕ = λ v. count_by (λ h. (h.region == hold.region) && h.known) v.holds in
+    let here : counts hold ≡ 1 = rw (eq-eqb hold.region hold.region refl, known) refl in
+    omega (arith, here, item-le-sum counts view.holds hold held.held, item-le-sum knowing views view held.seat)
+
+claims-worked : (terms : Terms) (s : FieldState) (id : ℕ) (view w : View) (hold new : Hold) (holds : List Hold) (words : List ℕ) →
+    IsWorking terms s id view hold holds → IsChanged view w hold new holds → length words ≡ length s.words →
+    ((r : ℕ) → r < region_count terms.chart.now.cut → claim_of terms.chart.now words r ≡ claim_of terms.chart.now s.words r) →
+    ((r : ℕ) → r < region_count terms.chart.now.cut → r ≢ hold.region → step_of terms.chart.now words r ≡ step_of terms.chart.now s.words r) →
+    Claims terms.net.now terms.chart.now terms.start.now terms.every (field_of s words (set s.views id w))
+claims-worked terms s id view w hold new holds words works changed long claims steps =
+    let old = works.standing.claims in
+    record {
+      words = long ∙ old.words;
+      homes = old.homes;
+      counted = λ r within. claims r within ∙ old.counted r within ∙ sym (holders-set s.views id view w hold new holds works.seat changed r);
+      one = λ r. omega (arith, old.one r, holders-set s.views id view w hold new holds works.seat changed r);
+      there = λ v h held. elim (held-after s.views id view w hold new holds works.seat changed old.one v h held) [
+        | inl is ↦ subst (λ r. r < region_count terms.chart.now.cut) (sym (ap (λ (some_hold : Hold). some_hold.region) is ∙ changed.region)) (working-there terms s id view hold holds works)
+        | inr other ↦ old.there other.1.0 h other.1.1
+      ];
+      at_home = λ r within none.
+          let unknown : knowers s.views r ≡ 0 = sym (knowers-set s.views id view w hold new holds works.seat changed r) ∙ none in
+          let apart : r ≢ hold.region = λ same. omega (arith, ap (knowers s.views) same, known-counts s.views view hold (working-held terms s id view hold holds works) works.known) in
+          rw (steps r within apart) (old.at_home r within unknown);
+    }
