@@ -175,6 +175,8 @@ pub record IsChanged (view w : View) (hold new : Hold) (holds : List Hold) : Typ
   pub after : w.holds ≡ new ∷ holds
   pub region : new.region ≡ hold.region
   pub known : new.known ≡ hold.known
+  pub step : new.step ≡ hold.step
+  pub cleared : new.cleared ≡ hold.cleared
 
 holders-set : (views : List View) (id : ℕ) (view w : View) (hold new : Hold) (holds : List Hold) → get_elem? views id ≡ some view → IsChanged view w hold new holds →
     (r : ℕ) → holders (set views id w) r ≡ holders views r
@@ -247,4 +249,99 @@ claims-worked terms s id view w hold new holds words works changed long claims s
           let unknown : knowers s.views r ≡ 0 = sym (knowers-set s.views id view w hold new holds works.seat changed r) ∙ none in
           let apart : r ≢ hold.region = λ same. omega (arith, ap (knowers s.views) same, known-counts s.views view hold (working-held terms s id view hold holds works) works.known) in
           rw (steps r within apart) (old.at_home r within unknown);
+    }
+
+-- no region falls back, and none but region r is published anew
+pub record AreRaised (chart : ChartLists) (before after : List ℕ) (r : ℕ) : Type 0 where
+  pub rises : (q : ℕ) → q < region_count chart.cut → step_of chart before q ≤ step_of chart after q
+  pub others : (q : ℕ) → q < region_count chart.cut → q ≢ r → step_of chart after q ≡ step_of chart before q
+
+steps-worked : (terms : Terms) (s : FieldState) (id : ℕ) (view w : View) (hold new : Hold) (holds : List Hold) (words : List ℕ) →
+    IsWorking terms s id view hold holds → IsChanged view w hold new holds → AreRaised terms.chart.now s.words words hold.region →
+    AreLawful terms.net.now terms.chart.now.cut (steps_of terms.chart.now words) →
+    step_of terms.chart.now words hold.region ≡ (if new.published then hold.step + 1 else hold.step) →
+    Steps terms.net.now terms.chart.now terms.start.now (field_of s words (set s.views id w))
+steps-worked terms s id view w hold new holds words works changed raised lawful own =
+    let net : Network = terms.net.now in
+    let chart : ChartLists = terms.chart.now in
+    let old = works.standing.steps in
+    let held = working-held terms s id view hold holds works in
+    let from = held-after s.views id view w hold new holds works.seat changed works.standing.claims.one in
+    record {
+      lawful = lawful;
+      started = λ r within. omega (arith, old.started r within, raised.rises r within);
+      known = λ v h was knows. elim (from v h was) [
+        | inl is ↦
+            subst (λ (k : Hold). step_of chart words k.region ≡ (if k.published then k.step + 1 else k.step)) (sym is)
+            (rw (changed.region, changed.step) own)
+        | inr other ↦ raised.others h.region (works.standing.claims.there other.1.0 h other.1.1) other.0 ∙ old.known other.1.0 h other.1.1 knows
+      ];
+      around = λ v h q was knows. elim (from v h was) [
+        | inl is ↦
+            subst (λ (k : Hold). Contains k.cleared q → are_neighbours net.connectors chart.cut k.region q ≡ true) (sym is)
+            (rw (changed.region, changed.cleared) (old.around view hold q held works.known))
+        | inr other ↦ old.around other.1.0 h q other.1.1 knows
+      ];
+      cleared = λ v h q was knows. elim (from v h was) [
+        | inl is ↦
+            subst (λ (k : Hold). Contains k.cleared q → k.step ≤ step_of chart words q) (sym is)
+            (rw (changed.step, changed.cleared)
+            (λ has.
+            let near = neighbours-there net chart hold.region q (old.around view hold q held works.known has) in
+            omega (arith, old.cleared view hold q held works.known has, raised.rises q near.1)))
+        | inr other ↦ λ has.
+            let near = neighbours-there net chart h.region q (old.around other.1.0 h q other.1.1 knows has) in
+            omega (arith, old.cleared other.1.0 h q other.1.1 knows has, raised.rises q near.1)
+      ];
+    }
+
+-- what the view has counted follows what is published
+pub record IsCounted (terms : Terms) (before after : List ℕ) (view w : View) : Type 0 where
+  pub alike : w.terms ≡ view.terms
+  pub share : w.share ≡ view.share
+  pub lengths : length w.seen ≡ length view.seen
+  pub seen : (r : ℕ) → r < region_count terms.chart.now.cut → slice_index w.seen r ≤ step_of terms.chart.now after r
+  pub moves : w.moves + steps_made terms.chart.now terms.start.now before ≡ view.moves + steps_made terms.chart.now terms.start.now after
+  pub further : view.reach ≤ w.reach
+  pub reach : (r : ℕ) → r < region_count terms.chart.now.cut →
+      (step_of terms.chart.now after r ≡ step_of terms.chart.now before r) ⊎ (step_of terms.chart.now after r ≤ w.reach)
+
+counts-worked : (terms : Terms) (s : FieldState) (id : ℕ) (view w : View) (words : List ℕ) → IsStanding terms s → get_elem? s.views id ≡ some view → view.share ≢ 0 →
+    ((r : ℕ) → r < region_count terms.chart.now.cut → step_of terms.chart.now s.words r ≤ step_of terms.chart.now words r) → IsCounted terms s.words words view w →
+    Counts terms terms.chart.now terms.start.now terms.seats (field_of s words (set s.views id w))
+counts-worked terms s id view w words standing seat share rises counted =
+    let chart : ChartLists = terms.chart.now in
+    let start : StartLists = terms.start.now in
+    let old = standing.counts in
+    let here : Contains s.views view = Contains-elem s.views id view seat in
+    let new : Contains (set s.views id w) w = set-Contains s.views id w view seat in
+    record {
+      lengths = λ v has some_share. elim (Contains-set s.views id w v has) [
+        | inl is ↦ subst (λ (x : View). length x.seen ≡ region_count chart.cut) (sym is) (counted.lengths ∙ old.lengths view here share)
+        | inr was ↦ old.lengths v was some_share
+      ];
+      seen = λ v r has within. elim (Contains-set s.views id w v has) [
+        | inl is ↦ subst (λ (x : View). slice_index x.seen r ≤ step_of chart words r) (sym is) (counted.seen r within)
+        | inr was ↦ omega (arith, old.seen v r was within, rises r within)
+      ];
+      shares = omega (arith, sum-set (λ (x : View). x.share) s.views id w view seat, counted.share, old.shares);
+      spent = λ v has none. elim (Contains-set s.views id w v has) [
+        | inl is ↦ absurd (share (sym counted.share ∙ sym (ap (λ (x : View). x.share) is) ∙ none))
+        | inr was ↦ old.spent v was none
+      ];
+      moves = omega (arith, sum-set (λ (x : View). x.moves) s.views id w view seat, counted.moves, old.moves);
+      reach = λ r within. elim (counted.reach r within) [
+        | inr far ↦ inr (w, new, far)
+        | inl same ↦ elim (old.reach r within) [
+          | inl low ↦ inl (omega (arith, same, low))
+          | inr some_view ↦ elim (set-keeps s.views id w view some_view.0 seat some_view.1) [
+            | inl is ↦ inr (w, new, omega (arith, same, some_view.2, ap (λ (x : View). x.reach) is, counted.further))
+            | inr has ↦ inr (some_view.0, has, omega (arith, same, some_view.2))
+          ]
+        ]
+      ];
+      alike = λ v has some_share. elim (Contains-set s.views id w v has) [
+        | inl is ↦ ap (λ (x : View). x.terms) is ∙ counted.alike ∙ old.alike view here share
+        | inr was ↦ old.alike v was some_share
+      ];
     }
