@@ -19,7 +19,7 @@ use Rattle.region_step.specs.Grid.{grid_held}
 use Rattle.region_step.specs.Region.{RegionValue}
 use Rattle.region_step.specs.Start.{StartLists}
 use Rattle.atomic_table.specs.Table.{Act, keeps, stepped}
-use Rattle.border_rows.specs.Kinds.{published, wrote}
+use Rattle.border_rows.specs.Kinds.{published, with_first, wrote}
 use Rattle.border_rows.specs.Places.{row_place, step_place, width_at, widths_of, words_of}
 use Rattle.border_rows.specs.Standing.{Claims, Counts, FieldState, IsStanding, Rows, Steps, steps_made}
 use Rattle.border_rows.specs.Views.{IsHeld, holders, knowers}
@@ -345,3 +345,98 @@ counts-worked terms s id view w words standing seat share rises counted =
         | inr was ↦ old.alike v was some_share
       ];
     }
+
+-- all neighbours of a hold's region are cleared
+abbrev pub AllCleared : Terms → Hold → Type 0
+AllCleared terms hold = (q : ℕ) → are_neighbours terms.net.now.connectors terms.chart.now.cut hold.region q ≡ true → Contains hold.cleared q
+
+-- then none stands lower
+none-lower : (terms : Terms) (s : FieldState) (id : ℕ) (view : View) (hold : Hold) (holds : List Hold) (q : ℕ) → IsWorking terms s id view hold holds → AllCleared terms hold →
+    are_neighbours terms.net.now.connectors terms.chart.now.cut hold.region q ≡ true → hold.step ≤ step_of terms.chart.now s.words q
+none-lower terms s id view hold holds q works all near =
+    works.standing.steps.cleared view hold q (working-held terms s id view hold holds works) works.known (all q near)
+
+-- the hold with one more word written, and the hold whose step is published
+abbrev pub wrote_one : Hold → Hold
+wrote_one hold = record hold { written = hold.written + 1 }
+
+abbrev pub published_one : Hold → Hold
+published_one hold = record hold { published = true }
+
+wrote-changed : (view : View) (hold : Hold) (holds : List Hold) → view.holds ≡ hold ∷ holds → IsChanged view (wrote view) hold (wrote_one hold) holds
+wrote-changed view hold holds held = record { before = held; after = ap (with_first wrote_one) held; region = refl; known = refl; step = refl; cleared = refl }
+
+published-changed : (view : View) (hold : Hold) (holds : List Hold) (r n : ℕ) → view.holds ≡ hold ∷ holds → IsChanged view (published view r n) hold (published_one hold) holds
+published-changed view hold holds r n held = record { before = held; after = ap (with_first published_one) held; region = refl; known = refl; step = refl; cleared = refl }
+
+-- one more word of the step to come is written: no word that a row of before needs is touched
+rows-wrote : (terms : Terms) (s : FieldState) (id : ℕ) (view : View) (hold : Hold) (holds : List Hold) (n : ℕ) → IsWorking terms s id view hold holds →
+    hold.written < width_at (widths_of terms.chart.now) hold.region → AllCleared terms hold →
+    n ≡ grid_held terms.net.now terms.chart.now.cut terms.start.now (hold.step + 1) (border_cell terms.chart.now hold.region hold.written) →
+    Rows terms.net.now terms.chart.now terms.start.now
+    (field_of s (set s.words (row_place (widths_of terms.chart.now) hold.region ((hold.step + 1) % 2) hold.written) n) (set s.views id (wrote view)))
+rows-wrote terms s id view hold holds n works short all is_n =
+    let net : Network = terms.net.now in
+    let chart : ChartLists = terms.chart.now in
+    let start : StartLists = terms.start.now in
+    let r : ℕ = hold.region in
+    let words : List ℕ = set s.words (row_place (widths_of chart) r ((hold.step + 1) % 2) hold.written) n in
+    let old = works.standing.rows in
+    let held = working-held terms s id view hold holds works in
+    let wide = length-widths_of chart works.charted in
+    let own : step_of chart s.words r ≡ hold.step = working-step terms s id view hold holds works in
+    let within : r < length (widths_of chart) = omega (arith, wide, working-there terms s id view hold holds works) in
+    let changed = wrote-changed view hold holds works.held in
+    let from = held-after s.views id view (wrote view) hold (wrote_one hold) holds works.seat changed works.standing.claims.one in
+    let there = works.standing.claims.there in
+    let step : (q : ℕ) → q < region_count chart.cut → step_of chart words q ≡ step_of chart s.words q =
+        λ q inside. border-set-step chart s.words r (hold.step + 1) hold.written q n within short (omega (arith, wide, inside)) in
+    let word : (q u j : ℕ) → q < region_count chart.cut → j < width_at (widths_of chart) q → (q ≡ r → u % 2 ≡ (hold.step + 1) % 2 → j ≡ hold.written → ⊥) →
+        border_word chart words q u j ≡ border_word chart s.words q u j =
+        λ q u j inside here apart. border-set-other chart s.words r (hold.step + 1) hold.written q u j n within short (omega (arith, wide, inside)) here apart in
+    record {
+      now = λ q j inside here. rw (step q inside)
+          (word q (step_of chart s.words q) j inside here (λ same parity place. omega (arith, ap (step_of chart s.words) same, own, parity)) ∙ old.now q j inside here);
+      before = λ p q u j near low high here.
+          let both = neighbours-there net chart p q near in
+          let low_before : step_of chart s.words q ≡ u = sym (step q both.1) ∙ low in
+          let high_before : step_of chart s.words p ≡ u + 1 = sym (step p both.0) ∙ high in
+          let apart : p ≢ r = λ same.
+              let near_own : are_neighbours net.connectors chart.cut r q ≡ true = subst (λ k. are_neighbours net.connectors chart.cut k q ≡ true) same near in
+              omega (arith, ap (step_of chart s.words) same, own, low_before, high_before, none-lower terms s id view hold holds q works all near_own) in
+          word p u j both.0 here (λ same parity place. apart same) ∙ old.before p q u j near low_before high_before here;
+      few = λ v h was knows. elim (from v h was) [
+        | inl is ↦ subst (λ (k : Hold). k.written ≤ width_at (widths_of chart) k.region) (sym is) (omega (arith, short))
+        | inr other ↦ old.few other.1.0 h other.1.1 knows
+      ];
+      written = λ v h j was knows. elim (from v h was) [
+        | inl is ↦
+            subst (λ (k : Hold). j < k.written → border_word chart words k.region (k.step + 1) j ≡ grid_held net chart.cut start (k.step + 1) (border_cell chart k.region j)) (sym is)
+            (λ done. elim (cases_eq j hold.written) [
+              | inl here ↦
+                  subst (λ i. border_word chart words r (hold.step + 1) i ≡ grid_held net chart.cut start (hold.step + 1) (border_cell chart r i)) (sym here)
+                  (border-set chart s.words r (hold.step + 1) hold.written n within short works.standing.claims.words ∙ is_n)
+              | inr earlier ↦
+                  word r (hold.step + 1) j (working-there terms s id view hold holds works) (omega (arith, done, short)) (λ same parity place. earlier place) ∙
+                  old.written view hold j held works.known (omega (arith, done, earlier))
+            ])
+        | inr other ↦ λ done.
+            word h.region (h.step + 1) j (there other.1.0 h other.1.1) (omega (arith, done, old.few other.1.0 h other.1.1 knows)) (λ same parity place. other.0 same) ∙
+            old.written other.1.0 h j other.1.1 knows done
+      ];
+      clear = λ v h q was knows. elim (from v h was) [
+        | inl is ↦
+            subst (λ (k : Hold). (k.written ≢ 0) ⊎ (k.published ≡ true) → are_neighbours net.connectors chart.cut k.region q ≡ true → Contains k.cleared q) (sym is)
+            (λ begun near. all q near)
+        | inr other ↦ old.clear other.1.0 h q other.1.1 knows
+      ];
+      whole = λ v h was knows. elim (from v h was) [
+        | inl is ↦
+            subst (λ (k : Hold). k.published ≡ true → k.written ≡ width_at (widths_of chart) k.region) (sym is)
+            (λ done. absurd (absurd-bool (sym works.early ∙ done)))
+        | inr other ↦ old.whole other.1.0 h other.1.1 knows
+      ];
+    }
+  where
+    absurd-bool : false ≡ true → ⊥
+    absurd-bool same = cc
