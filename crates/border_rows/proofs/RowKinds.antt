@@ -2,7 +2,7 @@
 use Rattle.std.specs.Prelude.{◌==◌, ◌&&◌, if◌then◌else◌, ◌-◌, ◌%◌, max, slice_index, slice_set, sum_by}
 use Rattle.std.specs.List.{Contains, count_by, range_with_len}
 use Rattle.std.proofs.Common.{◌≡◌, ◌≢◌, ◌⊎◌, ℕ, Bool, zero, suc, ◌+◌, ◌<◌, ◌≤◌, inl, inr, true, false, List, [], ◌∷◌, length, get_or, map, set, refl, sym, ap, subst, ◌∙◌, arith}
-use Rattle.std.proofs.lemmas.Bool.{cases_eq, eq-eqb}
+use Rattle.std.proofs.lemmas.Bool.{cases_eq, eq-eqb, ne_eqb}
 use Rattle.std.proofs.lemmas.List.{get_or-set_other, get_or-set_same, length-map, length-set, set-get_or}
 use Rattle.std.proofs.lemmas.List.FromFn.{get_or-map-range_with_len, get_or-range_with_len, length-range_with_len}
 use Rattle.std.proofs.lemmas.List.Sums.{get_or-le-sum_by, sum_by-cons}
@@ -28,7 +28,7 @@ use Rattle.border_rows.specs.declared.view.Hold.{Hold}
 use Rattle.border_rows.specs.declared.view.Terms.{Terms}
 use Rattle.border_rows.specs.declared.view.View.{View}
 use Rattle.border_rows.proofs.ChartWidths.{length-widths_of}
-use Rattle.border_rows.proofs.Keeping.{neighbours-there}
+use Rattle.border_rows.proofs.Keeping.{neighbours-there, steps_of-same}
 use Rattle.border_rows.proofs.ViewUpdates.{Contains-elem, Contains-set, set-Contains, set-keeps, sum-set}
 use Rattle.border_rows.proofs.WordUpdates.{border-set, border-set-claim, border-set-other, border-set-step, step-set, step-set-border, step-set-claim, step-set-other}
 
@@ -440,3 +440,73 @@ rows-wrote terms s id view hold holds n works short all is_n =
   where
     absurd-bool : false ≡ true → ⊥
     absurd-bool same = cc
+
+-- sums over the regions
+range-below : (n : ℕ) (k d : ℕ) → k < length (range_with_len 0 n) → get_or (range_with_len 0 n) k d < n
+range-below n k d inside =
+    let within : k < n = omega (arith, inside, length-range_with_len 0 n) in
+    omega (arith, within, get_or-range_with_len 0 n k d within)
+
+sum-range-same : (f g : ℕ → ℕ) (n : ℕ) → ((p : ℕ) → p < n → f p ≡ g p) → sum_by f (range_with_len 0 n) ≡ sum_by g (range_with_len 0 n)
+sum-range-same f g n same = sum_by-same (λ p. p < n) f g (range_with_len 0 n) same (range-below n)
+
+-- one term is one more
+sum-range-more : (f g : ℕ → ℕ) (n r : ℕ) → r < n → g r ≡ f r + 1 → ((p : ℕ) → p < n → p ≢ r → g p ≡ f p) →
+    sum_by g (range_with_len 0 n) ≡ sum_by f (range_with_len 0 n) + 1
+sum-range-more f g n r within here others =
+    let one : ℕ → ℕ = λ p. if r == p then 1 else 0 in
+    let both : ℕ → ℕ = λ p. f p + one p in
+    let each : (p : ℕ) → p < n → g p ≡ both p = λ p inside. elim (cases_eq r p) [
+      | inl is ↦ rw (eq-eqb r p is) (subst (λ k. g k ≡ f k + 1) is here)
+      | inr apart ↦ rw (ne_eqb r p apart) (omega (arith, others p inside (λ same. apart (sym same))))
+    ] in
+    let first : sum_by g (range_with_len 0 n) ≡ sum_by both (range_with_len 0 n) = sum-range-same g both n each in
+    let second : sum_by both (range_with_len 0 n) ≡ sum_by f (range_with_len 0 n) + sum_by one (range_with_len 0 n) = sum_by_splits both f one (range_with_len 0 n) (λ p. refl) in
+    omega (arith, first, second, sum_by_range_one 1 r 0 n (omega arith) (omega (arith, within)))
+
+steps_made-same : (chart : ChartLists) (start : StartLists) (before after : List ℕ) → ((q : ℕ) → q < region_count chart.cut → step_of chart after q ≡ step_of chart before q) →
+    steps_made chart start after ≡ steps_made chart start before
+steps_made-same chart start before after same =
+    sum-range-same (λ q. step_of chart after q - slice_index start.steps q) (λ q. step_of chart before q - slice_index start.steps q) (region_count chart.cut)
+    (λ q within. ap (λ step. step - slice_index start.steps q) (same q within))
+
+-- a written border word keeps the rule
+pub wrote-keeps : (terms : Terms) (s : FieldState) (id : ℕ) (c : List (ℕ × RegionValue)) (view : View) (hold : Hold) (holds : List Hold) (n : ℕ) → IsWorking terms s id view hold holds →
+    hold.written < width_at (widths_of terms.chart.now) hold.region → AllCleared terms hold →
+    n ≡ grid_held terms.net.now terms.chart.now.cut terms.start.now (hold.step + 1) (border_cell terms.chart.now hold.region hold.written) →
+    IsStanding terms (stepped s (row_place (widths_of terms.chart.now) hold.region ((hold.step + 1) % 2) hold.written) n id c (wrote view) keeps)
+wrote-keeps terms s id c view hold holds n works short all is_n =
+    let chart : ChartLists = terms.chart.now in
+    let start : StartLists = terms.start.now in
+    let r : ℕ = hold.region in
+    let place : ℕ = row_place (widths_of chart) r ((hold.step + 1) % 2) hold.written in
+    let words : List ℕ = set s.words place n in
+    let wide = length-widths_of chart works.charted in
+    let own : step_of chart s.words r ≡ hold.step = working-step terms s id view hold holds works in
+    let inside = working-there terms s id view hold holds works in
+    let within : r < length (widths_of chart) = omega (arith, wide, inside) in
+    let changed = wrote-changed view hold holds works.held in
+    let old = works.standing in
+    let step : (q : ℕ) → q < region_count chart.cut → step_of chart words q ≡ step_of chart s.words q =
+        λ q there. border-set-step chart s.words r (hold.step + 1) hold.written q n within short (omega (arith, wide, there)) in
+    let raised : AreRaised chart s.words words r = record { rises = λ q there. omega (arith, step q there); others = λ q there apart. step q there } in
+    let lawful : AreLawful terms.net.now chart.cut (steps_of chart words) = subst (AreLawful terms.net.now chart.cut) (sym (steps_of-same chart s.words words step)) old.steps.lawful in
+    let stays : step_of chart words r ≡ (if hold.published then hold.step + 1 else hold.step) = rw works.early (step r inside ∙ own) in
+    let has = Contains-elem s.views id view works.seat in
+    let counted : IsCounted terms s.words words view (wrote view) = record {
+      alike = refl;
+      share = refl;
+      lengths = refl;
+      seen = λ q there. omega (arith, step q there, old.counts.seen view q has there);
+      moves = omega (arith, steps_made-same chart start s.words words step);
+      further = omega arith;
+      reach = λ q there. inl (step q there);
+    } in
+    record {
+      claims = claims-worked terms s id view (wrote view) hold (wrote_one hold) holds words works changed (length-set s.words place n)
+          (λ q there. border-set-claim chart s.words r (hold.step + 1) hold.written q n within short (omega (arith, wide, there)))
+          (λ q there apart. step q there);
+      steps = steps-worked terms s id view (wrote view) hold (wrote_one hold) holds words works changed raised lawful stays;
+      rows = rows-wrote terms s id view hold holds n works short all is_n;
+      counts = counts-worked terms s id view (wrote view) words old works.seat works.share raised.rises counted;
+    }
