@@ -510,3 +510,152 @@ wrote-keeps terms s id c view hold holds n works short all is_n =
       rows = rows-wrote terms s id view hold holds n works short all is_n;
       counts = counts-worked terms s id view (wrote view) words old works.seat works.share raised.rises counted;
     }
+
+steps_made-more : (chart : ChartLists) (start : StartLists) (before after : List ℕ) (r : ℕ) → r < region_count chart.cut → slice_index start.steps r ≤ step_of chart before r →
+    step_of chart after r ≡ step_of chart before r + 1 → ((q : ℕ) → q < region_count chart.cut → q ≢ r → step_of chart after q ≡ step_of chart before q) →
+    steps_made chart start after ≡ steps_made chart start before + 1
+steps_made-more chart start before after r within started more others =
+    sum-range-more (λ q. step_of chart before q - slice_index start.steps q) (λ q. step_of chart after q - slice_index start.steps q) (region_count chart.cut) r within
+    (omega (arith, more, started)) (λ q inside apart. ap (λ step. step - slice_index start.steps q) (others q inside apart))
+
+-- a rise of a region of which no neighbour is lower keeps the steps lawful
+lawful-risen : (net : Network) (chart : ChartLists) (before after : List ℕ) (r : ℕ) → r < region_count chart.cut → AreLawful net chart.cut (steps_of chart before) →
+    AreRaised chart before after r → step_of chart after r ≡ step_of chart before r + 1 → step_of chart before r < net.steps →
+    ((q : ℕ) → are_neighbours net.connectors chart.cut r q ≡ true → step_of chart before r ≤ step_of chart before q) → AreLawful net chart.cut (steps_of chart after)
+lawful-risen net chart before after r within lawful raised more below lowest = record {
+  one_each = long after;
+  in_time = λ k d inside.
+      let there : k < region_count chart.cut = omega (arith, inside, long after) in
+      let is : get_or (steps_of chart after) k d ≡ step_of chart after k = get_or-map-range_with_len (step_of chart after) 0 (region_count chart.cut) k k d there (omega arith) in
+      let was : step_of chart before k ≤ net.steps = omega (arith, lawful.in_time k 0 (omega (arith, there, long before)), step_of-listed chart before k there) in
+      elim (cases_eq k r) [
+        | inl same ↦ omega (arith, is, ap (step_of chart after) same, more, below)
+        | inr apart ↦ omega (arith, is, raised.others k there apart, was)
+      ];
+  close = λ p q near.
+      let both = neighbours-there net chart p q near in
+      let here = step_of-listed chart after p both.0 in
+      let there = step_of-listed chart after q both.1 in
+      elim (cases_eq p r) [
+        | inl same ↦
+            let near_own : are_neighbours net.connectors chart.cut r q ≡ true = subst (λ k. are_neighbours net.connectors chart.cut k q ≡ true) same near in
+            omega (arith, here, there, ap (step_of chart after) same, more, lowest q near_own, raised.rises q both.1)
+        | inr apart ↦ omega (arith, here, there, raised.others p both.0 apart, steps-close net chart before p q lawful near, raised.rises q both.1)
+      ];
+}
+  where
+    long : (words : List ℕ) → length (steps_of chart words) ≡ region_count chart.cut
+    long words = length-map (range_with_len 0 (region_count chart.cut)) (step_of chart words) ∙ length-range_with_len 0 (region_count chart.cut)
+
+-- the words once step hold.step + 1 of the hold's region is published
+abbrev pub published_words : ChartLists → (words : List ℕ) → Hold → List ℕ
+published_words chart words hold = set words (step_place (widths_of chart) hold.region) (hold.step + 1)
+
+published-own : (terms : Terms) (s : FieldState) (id : ℕ) (view : View) (hold : Hold) (holds : List Hold) → IsWorking terms s id view hold holds →
+    step_of terms.chart.now (published_words terms.chart.now s.words hold) hold.region ≡ hold.step + 1
+published-own terms s id view hold holds works =
+    step-set terms.chart.now s.words hold.region (hold.step + 1)
+    (omega (arith, length-widths_of terms.chart.now works.charted, working-there terms s id view hold holds works)) works.standing.claims.words
+
+published-raised : (terms : Terms) (s : FieldState) (id : ℕ) (view : View) (hold : Hold) (holds : List Hold) → IsWorking terms s id view hold holds →
+    AreRaised terms.chart.now s.words (published_words terms.chart.now s.words hold) hold.region
+published-raised terms s id view hold holds works =
+    let chart : ChartLists = terms.chart.now in
+    let words : List ℕ = published_words chart s.words hold in
+    let wide = length-widths_of chart works.charted in
+    let inside = working-there terms s id view hold holds works in
+    let others : (q : ℕ) → q < region_count chart.cut → q ≢ hold.region → step_of chart words q ≡ step_of chart s.words q =
+        λ q there apart. step-set-other chart s.words hold.region q (hold.step + 1) (omega (arith, wide, inside)) (omega (arith, wide, there)) apart in
+    record {
+      rises = λ q there. elim (cases_eq q hold.region) [
+        | inl same ↦
+            omega (
+              arith,
+              ap (step_of chart s.words) same,
+              ap (step_of chart words) same,
+              working-step terms s id view hold holds works,
+              published-own terms s id view hold holds works,
+            )
+        | inr apart ↦ omega (arith, others q there apart)
+      ];
+      others = others;
+    }
+
+-- the row of a published step is the one that was written, and the one before stays
+rows-published : (terms : Terms) (s : FieldState) (id : ℕ) (view : View) (hold : Hold) (holds : List Hold) → IsWorking terms s id view hold holds →
+    hold.written ≡ width_at (widths_of terms.chart.now) hold.region → AllCleared terms hold →
+    Rows terms.net.now terms.chart.now terms.start.now
+    (field_of s (published_words terms.chart.now s.words hold) (set s.views id (published view hold.region (hold.step + 1))))
+rows-published terms s id view hold holds works full all =
+    let net : Network = terms.net.now in
+    let chart : ChartLists = terms.chart.now in
+    let start : StartLists = terms.start.now in
+    let r : ℕ = hold.region in
+    let words : List ℕ = published_words chart s.words hold in
+    let old = works.standing.rows in
+    let held = working-held terms s id view hold holds works in
+    let wide = length-widths_of chart works.charted in
+    let was : step_of chart s.words r ≡ hold.step = working-step terms s id view hold holds works in
+    let own : step_of chart words r ≡ hold.step + 1 = published-own terms s id view hold holds works in
+    let raised = published-raised terms s id view hold holds works in
+    let inside = working-there terms s id view hold holds works in
+    let changed = published-changed view hold holds r (hold.step + 1) works.held in
+    let from = held-after s.views id view (published view r (hold.step + 1)) hold (published_one hold) holds works.seat changed works.standing.claims.one in
+    let word : (q u j : ℕ) → q < region_count chart.cut → j < width_at (widths_of chart) q → border_word chart words q u j ≡ border_word chart s.words q u j =
+        λ q u j there here. step-set-border chart s.words r q u j (hold.step + 1) (omega (arith, wide, inside)) (omega (arith, wide, there)) here in
+    record {
+      now = λ q j there here. elim (cases_eq q r) [
+        | inl same ↦
+            let place : j < hold.written = omega (arith, here, full, ap (width_at (widths_of chart)) same) in
+            subst (λ k. border_word chart words k (step_of chart words k) j ≡ grid_held net chart.cut start (step_of chart words k) (border_cell chart k j)) (sym same)
+            (subst (λ u. border_word chart words r u j ≡ grid_held net chart.cut start u (border_cell chart r j)) (sym own)
+            (word r (hold.step + 1) j inside (omega (arith, place, full)) ∙ old.written view hold j held works.known place))
+        | inr apart ↦
+            subst (λ u. border_word chart words q u j ≡ grid_held net chart.cut start u (border_cell chart q j)) (sym (raised.others q there apart))
+            (word q (step_of chart s.words q) j there here ∙ old.now q j there here)
+      ];
+      before = λ p q u j near low high here.
+          let both = neighbours-there net chart p q near in
+          word p u j both.0 here ∙ elim (cases_eq p r) [
+            | inl same ↦
+                let stands : step_of chart s.words p ≡ u = omega (arith, ap (step_of chart words) same, ap (step_of chart s.words) same, own, was, high) in
+                subst (λ v. border_word chart s.words p v j ≡ grid_held net chart.cut start v (border_cell chart p j)) stands (old.now p j both.0 here)
+            | inr apart ↦
+                let high_before : step_of chart s.words p ≡ u + 1 = sym (raised.others p both.0 apart) ∙ high in
+                let other : q ≢ r = λ same.
+                    omega (
+                      arith,
+                      ap (step_of chart words) same,
+                      ap (step_of chart s.words) same,
+                      own,
+                      was,
+                      low,
+                      high_before,
+                      steps-close net chart s.words p q works.standing.steps.lawful near,
+                    ) in
+                old.before p q u j near (sym (raised.others q both.1 other) ∙ low) high_before here
+          ];
+      few = λ v h is_held knows. elim (from v h is_held) [
+        | inl is ↦ subst (λ (k : Hold). k.written ≤ width_at (widths_of chart) k.region) (sym is) (omega (arith, full))
+        | inr other ↦ old.few other.1.0 h other.1.1 knows
+      ];
+      written = λ v h j is_held knows. elim (from v h is_held) [
+        | inl is ↦
+            subst (λ (k : Hold). j < k.written → border_word chart words k.region (k.step + 1) j ≡ grid_held net chart.cut start (k.step + 1) (border_cell chart k.region j)) (sym is)
+            (λ done. word r (hold.step + 1) j inside (omega (arith, done, full)) ∙ old.written view hold j held works.known done)
+        | inr other ↦ λ done.
+            word h.region (h.step + 1) j (works.standing.claims.there other.1.0 h other.1.1) (omega (arith, done, old.few other.1.0 h other.1.1 knows)) ∙
+            old.written other.1.0 h j other.1.1 knows done
+      ];
+      clear = λ v h q is_held knows. elim (from v h is_held) [
+        | inl is ↦
+            subst (λ (k : Hold). (k.written ≢ 0) ⊎ (k.published ≡ true) → are_neighbours net.connectors chart.cut k.region q ≡ true → Contains k.cleared q) (sym is)
+            (λ begun near. all q near)
+        | inr other ↦ old.clear other.1.0 h q other.1.1 knows
+      ];
+      whole = λ v h is_held knows. elim (from v h is_held) [
+        | inl is ↦
+            subst (λ (k : Hold). k.published ≡ true → k.written ≡ width_at (widths_of chart) k.region) (sym is) (λ done. full)
+        | inr other ↦ old.whole other.1.0 h other.1.1 knows
+      ];
+    }
