@@ -659,3 +659,54 @@ rows-published terms s id view hold holds works full all =
         | inr other ↦ old.whole other.1.0 h other.1.1 knows
       ];
     }
+
+-- a published step keeps the rule
+pub published-keeps : (terms : Terms) (s : FieldState) (id : ℕ) (c : List (ℕ × RegionValue)) (view : View) (hold : Hold) (holds : List Hold) → IsWorking terms s id view hold holds →
+    hold.written ≡ width_at (widths_of terms.chart.now) hold.region → AllCleared terms hold → hold.step < terms.net.now.steps →
+    IsStanding terms (stepped s (step_place (widths_of terms.chart.now) hold.region) (hold.step + 1) id c (published view hold.region (hold.step + 1)) keeps)
+published-keeps terms s id c view hold holds works full all below =
+    let net : Network = terms.net.now in
+    let chart : ChartLists = terms.chart.now in
+    let start : StartLists = terms.start.now in
+    let r : ℕ = hold.region in
+    let t : ℕ = hold.step in
+    let words : List ℕ = published_words chart s.words hold in
+    let w : View = published view r (t + 1) in
+    let old = works.standing in
+    let wide = length-widths_of chart works.charted in
+    let was : step_of chart s.words r ≡ t = working-step terms s id view hold holds works in
+    let own : step_of chart words r ≡ t + 1 = published-own terms s id view hold holds works in
+    let more : step_of chart words r ≡ step_of chart s.words r + 1 = omega (arith, was, own) in
+    let raised = published-raised terms s id view hold holds works in
+    let inside = working-there terms s id view hold holds works in
+    let changed = published-changed view hold holds r (t + 1) works.held in
+    let lowest : (q : ℕ) → are_neighbours net.connectors chart.cut r q ≡ true → step_of chart s.words r ≤ step_of chart s.words q =
+        λ q near. omega (arith, was, none-lower terms s id view hold holds q works all near) in
+    let lawful = lawful-risen net chart s.words words r inside old.steps.lawful raised more (omega (arith, was, below)) lowest in
+    let has = Contains-elem s.views id view works.seat in
+    let long = old.counts.lengths view has works.share in
+    let counted : IsCounted terms s.words words view w = record {
+      alike = refl;
+      share = refl;
+      lengths = length-set view.seen r (t + 1);
+      seen = λ q there. elim (cases_eq q r) [
+        | inl same ↦
+            subst (λ k. slice_index (set view.seen r (t + 1)) k ≤ step_of chart words k) (sym same)
+            (omega (arith, get_or-set_same view.seen r (t + 1) 0 (omega (arith, long, inside)), own))
+        | inr apart ↦ omega (arith, get_or-set_other view.seen r q (t + 1) 0 apart, old.counts.seen view q has there, raised.rises q there)
+      ];
+      moves = omega (arith, steps_made-more chart start s.words words r inside (old.steps.started r inside) more raised.others);
+      further = omega arith;
+      reach = λ q there. elim (cases_eq q r) [
+        | inl same ↦ inr (omega (arith, ap (step_of chart words) same, own))
+        | inr apart ↦ inl (raised.others q there apart)
+      ];
+    } in
+    record {
+      claims = claims-worked terms s id view w hold (published_one hold) holds words works changed (length-set s.words (step_place (widths_of chart) r) (t + 1))
+          (λ q there. step-set-claim chart s.words r q (t + 1) (omega (arith, wide, inside)) (omega (arith, wide, there)))
+          raised.others;
+      steps = steps-worked terms s id view w hold (published_one hold) holds words works changed raised lawful own;
+      rows = rows-published terms s id view hold holds works full all;
+      counts = counts-worked terms s id view w words old works.seat works.share raised.rises counted;
+    }
