@@ -1,7 +1,7 @@
 -- What a seat that holds a region reads and writes of the rows keeps the rule.
-use Rattle.std.specs.Prelude.{◌==◌, ◌&&◌, if◌then◌else◌, ◌-◌, ◌%◌, max, slice_index, slice_set, sum_by}
+use Rattle.std.specs.Prelude.{◌==◌, ◌&&◌, if◌then◌else◌, ◌-◌, ◌%◌, slice_index, sum_by}
 use Rattle.std.specs.List.{Contains, count_by, range_with_len}
-use Rattle.std.proofs.Common.{◌≡◌, ◌≢◌, ◌⊎◌, ℕ, Bool, zero, suc, ◌+◌, ◌<◌, ◌≤◌, inl, inr, true, false, List, [], ◌∷◌, length, get_or, map, set, refl, sym, ap, subst, ◌∙◌, arith}
+use Rattle.std.proofs.Common.{◌≡◌, ◌≢◌, ◌⊎◌, ℕ, Bool, zero, suc, ◌+◌, ◌<◌, ◌≤◌, inl, inr, true, false, List, [], ◌∷◌, length, get_or, set, refl, sym, ap, subst, ◌∙◌, arith}
 use Rattle.std.proofs.lemmas.Bool.{cases_eq, eq-eqb, ne_eqb}
 use Rattle.std.proofs.lemmas.List.{get_or-set_other, get_or-set_same, length-map, length-set, set-get_or}
 use Rattle.std.proofs.lemmas.List.FromFn.{get_or-map-range_with_len, get_or-range_with_len, length-range_with_len}
@@ -14,13 +14,13 @@ use Rattle.region_cut.specs.Chart.{ChartLists, IsChart}
 use Rattle.region_cut.specs.Cuttings.{region_count}
 use Rattle.region_cut.specs.Joins.{are_neighbours}
 use Rattle.region_cut.specs.LawfulSteps.{AreLawful}
-use Rattle.region_cut.proofs.Meetings.{neighbours-by, neighbours-sym}
+use Rattle.region_cut.proofs.Meetings.{neighbours-sym}
 use Rattle.region_step.specs.Grid.{grid_held}
 use Rattle.region_step.specs.Region.{RegionValue}
 use Rattle.region_step.specs.Start.{StartLists}
-use Rattle.atomic_table.specs.Table.{Act, keeps, stepped}
+use Rattle.atomic_table.specs.Table.{keeps, stepped}
 use Rattle.border_rows.specs.Kinds.{published, with_first, wrote}
-use Rattle.border_rows.specs.Places.{row_place, step_place, width_at, widths_of, words_of}
+use Rattle.border_rows.specs.Places.{row_place, step_place, width_at, widths_of}
 use Rattle.border_rows.specs.Standing.{Claims, Counts, FieldState, IsStanding, Rows, Steps, steps_made}
 use Rattle.border_rows.specs.Views.{IsHeld, holders, knowers}
 use Rattle.border_rows.specs.Words.{border_cell, border_word, claim_of, step_of, steps_of}
@@ -93,6 +93,33 @@ pub hold-alone : (terms : Terms) (s : FieldState) (id : ℕ) (view : View) (hold
     (v : View) (h : Hold) → IsHeld s.views v h → h.region ≡ hold.region → h ≡ hold
 hold-alone terms s id view hold holds works v h held is =
     holds-same s.views v view h hold hold.region (works.standing.claims.one hold.region) held (working-held terms s id view hold holds works) is refl
+
+-- no other seat has its region
+pub seat-alone : (terms : Terms) (s : FieldState) (id : ℕ) (view : View) (hold : Hold) (holds : List Hold) → IsWorking terms s id view hold holds →
+    (v : View) (h : Hold) → IsHeld s.views v h → h.region ≡ hold.region → v ≡ view
+seat-alone terms s id view hold holds works v h held is =
+    let holding : View → ℕ = λ some_view. count_by (λ some_hold. some_hold.region == hold.region) some_view.holds in
+    let own = working-held terms s id view hold holds works in
+    one-counts holding s.views v view (works.standing.claims.one hold.region) held.seat own.seat (holds-count v.holds h hold.region held.held is)
+    (holds-count view.holds hold hold.region own.held refl)
+
+-- and the seat itself has it once
+pub later-apart : (terms : Terms) (s : FieldState) (id : ℕ) (view : View) (hold : Hold) (holds : List Hold) → IsWorking terms s id view hold holds →
+    (h : Hold) → Contains holds h → h.region ≢ hold.region
+later-apart terms s id view hold holds works h has is =
+    let p : Hold → Bool = λ some_hold. some_hold.region == hold.region in
+    let holding : View → ℕ = λ some_view. count_by p some_view.holds in
+    let list : holding view ≡ count_by p (hold ∷ holds) = ap (count_by p) works.held in
+    let seat = item-le-sum holding s.views view (Contains-elem s.views id view works.seat) in
+    omega (
+      arith,
+      list,
+      seat,
+      works.standing.claims.one hold.region,
+      count_by-cons p hold holds,
+      hold-counts hold hold.region refl,
+      holds-count holds h hold.region has is,
+    )
 
 -- a step that leaves the word and the view as they are keeps the rule
 elem-set : {X : Type 0} (xs : List X) (i : ℕ) (x : X) → get_elem? xs i ≡ some x → set xs i x ≡ xs
@@ -205,10 +232,16 @@ held-after views id view w hold new holds seat changed one v h held = elim (case
     | inl is ↦
         let has : Contains (new ∷ holds) h = subst (λ (list : List Hold). Contains list h) (ap (λ (some_view : View). some_view.holds) is ∙ changed.after) held.held in
         let apart : new ≢ h = λ same. other (sym (ap (λ (some_hold : Hold). some_hold.region) same) ∙ changed.region) in
-        inr (other, (view, record {
-          seat = Contains-elem views id view seat;
-          held = subst (λ (list : List Hold). Contains list h) (sym changed.before) (later new hold holds h has apart);
-        }))
+        inr (
+          other,
+          (
+            view,
+            record {
+              seat = Contains-elem views id view seat;
+              held = subst (λ (list : List Hold). Contains list h) (sym changed.before) (later new hold holds h has apart);
+            },
+          ),
+        )
     | inr was ↦ inr (other, (v, record { seat = was; held = held.held }))
   ]
 ]
@@ -346,6 +379,12 @@ counts-worked terms s id view w words standing seat share rises counted =
       ];
     }
 
+-- the load of a border word keeps the rule
+pub border-read-keeps : (terms : Terms) (s : FieldState) (id : ℕ) (c : List (ℕ × RegionValue)) (view : View) (hold : Hold) (holds : List Hold) (q j : ℕ) → IsWorking terms s id view hold holds →
+    IsStanding terms (stepped s (row_place (widths_of terms.chart.now) q (hold.step % 2) j) (border_word terms.chart.now s.words q hold.step j) id c view keeps)
+border-read-keeps terms s id c view hold holds q j works =
+    read-keeps terms s (row_place (widths_of terms.chart.now) q (hold.step % 2) j) id c view works.standing works.seat
+
 -- all neighbours of a hold's region are cleared
 abbrev pub AllCleared : Terms → Hold → Type 0
 AllCleared terms hold = (q : ℕ) → are_neighbours terms.net.now.connectors terms.chart.now.cut hold.region q ≡ true → Contains hold.cleared q
@@ -390,10 +429,10 @@ rows-wrote terms s id view hold holds n works short all is_n =
     let from = held-after s.views id view (wrote view) hold (wrote_one hold) holds works.seat changed works.standing.claims.one in
     let there = works.standing.claims.there in
     let step : (q : ℕ) → q < region_count chart.cut → step_of chart words q ≡ step_of chart s.words q =
-        λ q inside. border-set-step chart s.words r (hold.step + 1) hold.written q n within short (omega (arith, wide, inside)) in
+    λ q inside. border-set-step chart s.words r (hold.step + 1) hold.written q n within short (omega (arith, wide, inside)) in
     let word : (q u j : ℕ) → q < region_count chart.cut → j < width_at (widths_of chart) q → (q ≡ r → u % 2 ≡ (hold.step + 1) % 2 → j ≡ hold.written → ⊥) →
-        border_word chart words q u j ≡ border_word chart s.words q u j =
-        λ q u j inside here apart. border-set-other chart s.words r (hold.step + 1) hold.written q u j n within short (omega (arith, wide, inside)) here apart in
+    border_word chart words q u j ≡ border_word chart s.words q u j =
+    λ q u j inside here apart. border-set-other chart s.words r (hold.step + 1) hold.written q u j n within short (omega (arith, wide, inside)) here apart in
     record {
       now = λ q j inside here. rw (step q inside)
           (word q (step_of chart s.words q) j inside here (λ same parity place. omega (arith, ap (step_of chart s.words) same, own, parity)) ∙ old.now q j inside here);
@@ -402,8 +441,8 @@ rows-wrote terms s id view hold holds n works short all is_n =
           let low_before : step_of chart s.words q ≡ u = sym (step q both.1) ∙ low in
           let high_before : step_of chart s.words p ≡ u + 1 = sym (step p both.0) ∙ high in
           let apart : p ≢ r = λ same.
-              let near_own : are_neighbours net.connectors chart.cut r q ≡ true = subst (λ k. are_neighbours net.connectors chart.cut k q ≡ true) same near in
-              omega (arith, ap (step_of chart s.words) same, own, low_before, high_before, none-lower terms s id view hold holds q works all near_own) in
+          let near_own : are_neighbours net.connectors chart.cut r q ≡ true = subst (λ k. are_neighbours net.connectors chart.cut k q ≡ true) same near in
+          omega (arith, ap (step_of chart s.words) same, own, low_before, high_before, none-lower terms s id view hold holds q works all near_own) in
           word p u j both.0 here (λ same parity place. apart same) ∙ old.before p q u j near low_before high_before here;
       few = λ v h was knows. elim (from v h was) [
         | inl is ↦ subst (λ (k : Hold). k.written ≤ width_at (widths_of chart) k.region) (sym is) (omega (arith, short))
@@ -488,7 +527,7 @@ wrote-keeps terms s id c view hold holds n works short all is_n =
     let changed = wrote-changed view hold holds works.held in
     let old = works.standing in
     let step : (q : ℕ) → q < region_count chart.cut → step_of chart words q ≡ step_of chart s.words q =
-        λ q there. border-set-step chart s.words r (hold.step + 1) hold.written q n within short (omega (arith, wide, there)) in
+    λ q there. border-set-step chart s.words r (hold.step + 1) hold.written q n within short (omega (arith, wide, there)) in
     let raised : AreRaised chart s.words words r = record { rises = λ q there. omega (arith, step q there); others = λ q there apart. step q there } in
     let lawful : AreLawful terms.net.now chart.cut (steps_of chart words) = subst (AreLawful terms.net.now chart.cut) (sym (steps_of-same chart s.words words step)) old.steps.lawful in
     let stays : step_of chart words r ≡ (if hold.published then hold.step + 1 else hold.step) = rw works.early (step r inside ∙ own) in
@@ -565,7 +604,7 @@ published-raised terms s id view hold holds works =
     let wide = length-widths_of chart works.charted in
     let inside = working-there terms s id view hold holds works in
     let others : (q : ℕ) → q < region_count chart.cut → q ≢ hold.region → step_of chart words q ≡ step_of chart s.words q =
-        λ q there apart. step-set-other chart s.words hold.region q (hold.step + 1) (omega (arith, wide, inside)) (omega (arith, wide, there)) apart in
+    λ q there apart. step-set-other chart s.words hold.region q (hold.step + 1) (omega (arith, wide, inside)) (omega (arith, wide, there)) apart in
     record {
       rises = λ q there. elim (cases_eq q hold.region) [
         | inl same ↦
@@ -602,7 +641,7 @@ rows-published terms s id view hold holds works full all =
     let changed = published-changed view hold holds r (hold.step + 1) works.held in
     let from = held-after s.views id view (published view r (hold.step + 1)) hold (published_one hold) holds works.seat changed works.standing.claims.one in
     let word : (q u j : ℕ) → q < region_count chart.cut → j < width_at (widths_of chart) q → border_word chart words q u j ≡ border_word chart s.words q u j =
-        λ q u j there here. step-set-border chart s.words r q u j (hold.step + 1) (omega (arith, wide, inside)) (omega (arith, wide, there)) here in
+    λ q u j there here. step-set-border chart s.words r q u j (hold.step + 1) (omega (arith, wide, inside)) (omega (arith, wide, there)) here in
     record {
       now = λ q j there here. elim (cases_eq q r) [
         | inl same ↦
@@ -623,16 +662,16 @@ rows-published terms s id view hold holds works full all =
             | inr apart ↦
                 let high_before : step_of chart s.words p ≡ u + 1 = sym (raised.others p both.0 apart) ∙ high in
                 let other : q ≢ r = λ same.
-                    omega (
-                      arith,
-                      ap (step_of chart words) same,
-                      ap (step_of chart s.words) same,
-                      own,
-                      was,
-                      low,
-                      high_before,
-                      steps-close net chart s.words p q works.standing.steps.lawful near,
-                    ) in
+                omega (
+                  arith,
+                  ap (step_of chart words) same,
+                  ap (step_of chart s.words) same,
+                  own,
+                  was,
+                  low,
+                  high_before,
+                  steps-close net chart s.words p q works.standing.steps.lawful near,
+                ) in
                 old.before p q u j near (sym (raised.others q both.1 other) ∙ low) high_before here
           ];
       few = λ v h is_held knows. elim (from v h is_held) [
@@ -681,7 +720,7 @@ published-keeps terms s id c view hold holds works full all below =
     let inside = working-there terms s id view hold holds works in
     let changed = published-changed view hold holds r (t + 1) works.held in
     let lowest : (q : ℕ) → are_neighbours net.connectors chart.cut r q ≡ true → step_of chart s.words r ≤ step_of chart s.words q =
-        λ q near. omega (arith, was, none-lower terms s id view hold holds q works all near) in
+    λ q near. omega (arith, was, none-lower terms s id view hold holds q works all near) in
     let lawful = lawful-risen net chart s.words words r inside old.steps.lawful raised more (omega (arith, was, below)) lowest in
     let has = Contains-elem s.views id view works.seat in
     let long = old.counts.lengths view has works.share in
