@@ -7,3 +7,4 @@ pub mod Keeping
 pub mod ClaimKinds
 pub mod LookKinds
 pub mod SeatKinds
+pub mod RowKinds

@@ -264,11 +264,11 @@ split-keeps terms s id view old is shares = standing-same terms s (split_views s
 
 -- the views after two seats are joined
 abbrev joined_views : (views : List View) → (id : ℕ) → View → (at : ℕ) → View → List View
-joined_views views id view at other = set (set views id (united view other)) at (spent other)
+joined_views views id view at other = set (set views id (united view other)) at spent
 
 joined-cases : (views : List View) (id : ℕ) (view : View) (at : ℕ) (other v : View) → Contains (joined_views views id view at other) v →
     (v ≡ spent other) ⊎ (v ≡ united view other) ⊎ Contains views v
-joined-cases views id view at other v has = elim (Contains-set (set views id (united view other)) at (spent other) v has) [
+joined-cases views id view at other v has = elim (Contains-set (set views id (united view other)) at spent v has) [
   | inl gone ↦ inl gone
   | inr first ↦ inr (Contains-set views id (united view other) v first)
 ]
@@ -276,9 +276,9 @@ joined-cases views id view at other v has = elim (Contains-set (set views id (un
 -- a sum over them
 joined-sum : (f : View → ℕ) (views : List View) (id : ℕ) (view : View) (at : ℕ) (other : View) → get_elem? views id ≡ some view →
     get_elem? (set views id (united view other)) at ≡ some other →
-    sum_by f (joined_views views id view at other) + f view + f other ≡ sum_by f views + f (united view other) + f (spent other)
+    sum_by f (joined_views views id view at other) + f view + f other ≡ sum_by f views + f (united view other) + f spent
 joined-sum f views id view at other is also =
-    omega (arith, sum-set f views id (united view other) view is, sum-set f (set views id (united view other)) at (spent other) other also)
+    omega (arith, sum-set f views id (united view other) view is, sum-set f (set views id (united view other)) at spent other also)
 
 -- the new item stands at its place
 elem-set : {X : Type 0} (xs : List X) (i : ℕ) (x old : X) → get_elem? xs i ≡ some old → get_elem? (set xs i x) i ≡ some x
@@ -293,7 +293,7 @@ together-at f xs ys r within = get_or-map-range_with_len (λ i. f (slice_index x
 -- joining two seats that hold no region keeps the rule
 pub join-keeps : (terms : Terms) (s : FieldState) (id : ℕ) (view : View) (at : ℕ) (other : View) → IsStanding terms s → get_elem? s.views id ≡ some view →
     at ≢ id → get_elem? (set s.views id (united view other)) at ≡ some other → view.share ≢ 0 → other.share ≢ 0 → other.holds ≡ [] →
-    IsStanding terms record { words = s.words; homes = s.homes; views = set (set s.views id (united view other)) at (spent other) }
+    IsStanding terms record { words = s.words; homes = s.homes; views = set (set s.views id (united view other)) at spent }
 join-keeps terms s id view at other old is apart also shares others empty = standing-same terms s (joined_views s.views id view at other) old held knew before record {
   lengths = λ v has some. elim (joined-cases s.views id view at other v has) [
     | inl gone ↦ absurd (some (ap (λ (u : View). u.share) gone))
@@ -322,7 +322,7 @@ join-keeps terms s id view at other old is apart also shares others empty = stan
     | inl low ↦ inl low
     | inr far ↦ inr (elim (set-keeps s.views id (united view other) view far.0 is far.1) [
       | inl own ↦ (united view other, both, omega (arith, far.2, ap (λ (u : View). u.reach) own))
-      | inr first ↦ elim (set-keeps (set s.views id (united view other)) at (spent other) other far.0 also first) [
+      | inr first ↦ elim (set-keeps (set s.views id (united view other)) at spent other far.0 also first) [
         | inl gone ↦ (united view other, both, omega (arith, far.2, ap (λ (u : View). u.reach) gone))
         | inr elsewhere ↦ (far.0, elsewhere, far.2)
       ]
@@ -346,7 +346,7 @@ join-keeps terms s id view at other old is apart also shares others empty = stan
 
     both : Contains (joined_views s.views id view at other) (united view other)
     both = Contains-elem (joined_views s.views id view at other) id (united view other)
-        (set_else (set s.views id (united view other)) at id (spent other) (λ same. apart (sym same)) ∙ elem-set s.views id (united view other) view is)
+        (set_else (set s.views id (united view other)) at id spent (λ same. apart (sym same)) ∙ elem-set s.views id (united view other) view is)
 
     none-at : (counts : List ℕ) (r : ℕ) → slice_index (none_of counts) r ≡ 0
     none-at counts r = get_or-map (λ n. 0) counts r 0
