@@ -46,7 +46,7 @@ pub record IsOpening (net : Network) (chart : ChartLists) (start : StartLists) (
 
 -- the view of its one seat
 pub record IsFirst (terms : Terms) (view : View) : Type 0 where
-  pub alike : view.terms ≡ terms
+  pub alike : view.terms ≡ terms ∷ []
   pub share : view.share ≡ terms.seats
   pub seen : view.seen ≡ terms.start.now.steps
   pub moves : view.moves ≡ 0
@@ -246,7 +246,7 @@ split-keeps terms s id view old is shares = standing-same terms s (split_views s
     long : length view.seen ≡ region_count terms.chart.now.cut
     long = old.counts.lengths view seat (λ none. omega (arith, none, shares))
 
-    alike : view.terms ≡ terms
+    alike : view.terms ≡ terms ∷ []
     alike = old.counts.alike view seat (λ none. omega (arith, none, shares))
 
     held : (r : ℕ) → holders (split_views s.views id view) r ≡ holders s.views r
@@ -267,7 +267,7 @@ abbrev joined_views : (views : List View) → (id : ℕ) → View → (at : ℕ)
 joined_views views id view at other = set (set views id (united view other)) at spent
 
 joined-cases : (views : List View) (id : ℕ) (view : View) (at : ℕ) (other v : View) → Contains (joined_views views id view at other) v →
-    (v ≡ spent other) ⊎ (v ≡ united view other) ⊎ Contains views v
+    (v ≡ spent) ⊎ (v ≡ united view other) ⊎ Contains views v
 joined-cases views id view at other v has = elim (Contains-set (set views id (united view other)) at spent v has) [
   | inl gone ↦ inl gone
   | inr first ↦ inr (Contains-set views id (united view other) v first)
@@ -313,7 +313,7 @@ join-keeps terms s id view at other old is apart also shares others empty = stan
   ];
   shares = omega (arith, joined-sum (λ (u : View). u.share) s.views id view at other is also, old.counts.shares);
   spent = λ v has none. elim (joined-cases s.views id view at other v has) [
-    | inl gone ↦ subst IsSpent (sym gone) record { holds = empty; seen = λ r. none-at other.seen r; moves = refl; reach = refl }
+    | inl gone ↦ subst IsSpent (sym gone) record { holds = refl; seen = λ r. none-at r; moves = refl; reach = refl }
     | inr (inl own) ↦ absurd (omega (arith, ap (λ (u : View). u.share) own, none, shares))
     | inr (inr elsewhere) ↦ old.counts.spent v elsewhere none
   ];
@@ -348,18 +348,18 @@ join-keeps terms s id view at other old is apart also shares others empty = stan
     both = Contains-elem (joined_views s.views id view at other) id (united view other)
         (set_else (set s.views id (united view other)) at id spent (λ same. apart (sym same)) ∙ elem-set s.views id (united view other) view is)
 
-    none-at : (counts : List ℕ) (r : ℕ) → slice_index (none_of counts) r ≡ 0
-    none-at counts r = get_or-map (λ n. 0) counts r 0
+    none-at : (r : ℕ) → slice_index spent.seen r ≡ 0
+    none-at r = refl
 
     held : (r : ℕ) → holders (joined_views s.views id view at other) r ≡ holders s.views r
-    held r = omega (arith, joined-sum (λ (u : View). count_by (λ hold. hold.region == r) u.holds) s.views id view at other is also)
+    held r = omega (arith, joined-sum (λ (u : View). count_by (λ hold. hold.region == r) u.holds) s.views id view at other is also, ap (λ holds. count_by (λ (hold : Hold). hold.region == r) holds) empty)
 
     knew : (r : ℕ) → knowers (joined_views s.views id view at other) r ≡ knowers s.views r
-    knew r = omega (arith, joined-sum (λ (u : View). count_by (λ hold. (hold.region == r) && hold.known) u.holds) s.views id view at other is also)
+    knew r = omega (arith, joined-sum (λ (u : View). count_by (λ hold. (hold.region == r) && hold.known) u.holds) s.views id view at other is also, ap (λ holds. count_by (λ (hold : Hold). (hold.region == r) && hold.known) holds) empty)
 
     before : AreHeldBefore s.views (joined_views s.views id view at other)
     before v hold held = elim (joined-cases s.views id view at other v held.seat) [
-      | inl gone ↦ (other, record { seat = beside; held = subst (λ (u : View). Contains u.holds hold) gone held.held })
+      | inl gone ↦ let none : Contains spent.holds hold = subst (λ (u : View). Contains u.holds hold) gone held.held in absurd (omega (arith, none.1))
       | inr (inl own) ↦ (view, record { seat = seat; held = subst (λ (u : View). Contains u.holds hold) own held.held })
       | inr (inr elsewhere) ↦ (v, record { seat = elsewhere; held = held.held })
     ]
