@@ -301,7 +301,7 @@ join-keeps terms s id view at other old is apart also shares others empty = stan
     | inr (inr elsewhere) ↦ old.counts.lengths v elsewhere some
   ];
   seen = λ v r has within. elim (joined-cases s.views id view at other v has) [
-    | inl gone ↦ omega (arith, ap (λ (u : View). slice_index u.seen r) gone, none-at other.seen r)
+    | inl gone ↦ omega (arith, ap (λ (u : View). slice_index u.seen r) gone, none-at r)
     | inr (inl own) ↦ omega (
       arith,
       ap (λ (u : View). slice_index u.seen r) own,
