@@ -2,7 +2,9 @@
 #![tactic(auto)]
 
 mod field;
+mod look;
 mod plays;
 mod rule;
+mod steps;
 
 pub use field::{Field, Pass};
