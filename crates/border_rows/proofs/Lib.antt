@@ -1,3 +1,10 @@
 pub mod ChartWidths
 pub mod PlaceLaws
 pub mod Spans
+pub mod ViewUpdates
+pub mod WordUpdates
+pub mod Keeping
+pub mod ClaimKinds
+pub mod LookKinds
+pub mod SeatKinds
+pub mod RowKinds

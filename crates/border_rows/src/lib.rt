@@ -8,5 +8,7 @@ mod places;
 mod span;
 #[cfg(test)]
 mod tests;
+mod view;
 
 pub use places::Places;
+pub use view::{Hold, Short, Terms, View};

@@ -1,0 +1,751 @@
+-- What a seat that holds a region reads and writes of the rows keeps the rule.
+use Rattle.std.specs.Prelude.{◌==◌, ◌&&◌, if◌then◌else◌, ◌-◌, ◌%◌, slice_index, sum_by}
+use Rattle.std.specs.List.{Contains, count_by, range_with_len}
+use Rattle.std.proofs.Common.{◌≡◌, ◌≢◌, ◌⊎◌, ℕ, Bool, zero, suc, ◌+◌, ◌<◌, ◌≤◌, inl, inr, true, false, List, [], ◌∷◌, length, get_or, set, refl, sym, ap, subst, ◌∙◌, arith}
+use Rattle.std.proofs.lemmas.Bool.{cases_eq, eq-eqb, ne_eqb}
+use Rattle.std.proofs.lemmas.List.{get_or-set_other, get_or-set_same, length-map, length-set, set-get_or}
+use Rattle.std.proofs.lemmas.List.FromFn.{get_or-map-range_with_len, get_or-range_with_len, length-range_with_len}
+use Rattle.std.proofs.lemmas.List.Sums.{get_or-le-sum_by, sum_by-cons}
+use mathlib.Core.Option.{some}
+use lib.ListN.{get_elem?}
+use Rattle.signal_plan.proofs.Sums.{count_by-cons, sum_by-same, sum_by_range_one, sum_by_splits}
+use Rattle.network_file.specs.Network.{Network}
+use Rattle.region_cut.specs.Chart.{ChartLists, IsChart}
+use Rattle.region_cut.specs.Cuttings.{region_count}
+use Rattle.region_cut.specs.Joins.{are_neighbours}
+use Rattle.region_cut.specs.LawfulSteps.{AreLawful}
+use Rattle.region_cut.proofs.Meetings.{neighbours-sym}
+use Rattle.region_step.specs.Grid.{grid_held}
+use Rattle.region_step.specs.Region.{RegionValue}
+use Rattle.region_step.specs.Start.{StartLists}
+use Rattle.atomic_table.specs.Table.{keeps, stepped}
+use Rattle.border_rows.specs.Kinds.{published, with_first, wrote}
+use Rattle.border_rows.specs.Places.{row_place, step_place, width_at, widths_of}
+use Rattle.border_rows.specs.Standing.{Claims, Counts, FieldState, IsStanding, Rows, Steps, steps_made}
+use Rattle.border_rows.specs.Views.{IsHeld, holders, knowers}
+use Rattle.border_rows.specs.Words.{border_cell, border_word, claim_of, step_of, steps_of}
+use Rattle.border_rows.specs.declared.view.Hold.{Hold}
+use Rattle.border_rows.specs.declared.view.Terms.{Terms}
+use Rattle.border_rows.specs.declared.view.View.{View}
+use Rattle.border_rows.proofs.ChartWidths.{length-widths_of}
+use Rattle.border_rows.proofs.Keeping.{neighbours-there, steps_of-same}
+use Rattle.border_rows.proofs.ViewUpdates.{Contains-elem, Contains-set, set-Contains, set-keeps, sum-set}
+use Rattle.border_rows.proofs.WordUpdates.{border-set, border-set-claim, border-set-other, border-set-step, step-set, step-set-border, step-set-claim, step-set-other}
+
+-- a list's item counts no more than all do
+item-le-sum : {X : Type 0} (f : X → ℕ) (xs : List X) (x : X) → Contains xs x → f x ≤ sum_by f xs
+item-le-sum f xs x has = omega (arith, get_or-le-sum_by f xs has.0 x has.1, ap f has.2)
+
+-- of items that count 1 in all only one counts
+one-counts : {X : Type 0} (f : X → ℕ) (xs : List X) (x y : X) → sum_by f xs ≤ 1 → Contains xs x → Contains xs y → 1 ≤ f x → 1 ≤ f y → x ≡ y
+one-counts f [] x y few has also here there = absurd (omega (arith, has.1))
+one-counts f (z ∷ zs) x y few (zero, within, is) (zero, inside, same) here there = sym is ∙ same
+one-counts f (z ∷ zs) x y few (zero, within, is) (suc k, inside, same) here there =
+    absurd (omega (arith, sum_by-cons f z zs, ap f is, item-le-sum f zs y (k, omega (arith, inside), same)))
+one-counts f (z ∷ zs) x y few (suc k, within, is) (zero, inside, same) here there =
+    absurd (omega (arith, sum_by-cons f z zs, ap f same, item-le-sum f zs x (k, omega (arith, within), is)))
+one-counts f (z ∷ zs) x y few (suc k, within, is) (suc l, inside, same) here there =
+    one-counts f zs x y (omega (arith, sum_by-cons f z zs)) (k, omega (arith, within), is) (l, omega (arith, inside), same) here there
+
+-- a hold of region r counts
+hold-counts : (hold : Hold) (r : ℕ) → hold.region ≡ r → 1 ≤ (if hold.region == r then 1 else 0)
+hold-counts hold r is = rw (eq-eqb hold.region r is) (omega arith)
+
+holds-count : (holds : List Hold) (hold : Hold) (r : ℕ) → Contains holds hold → hold.region ≡ r → 1 ≤ count_by (λ hold. hold.region == r) holds
+holds-count holds hold r has is =
+    let counts : Hold → ℕ = λ h. if h.region == r then 1 else 0 in
+    omega (arith, hold-counts hold r is, item-le-sum counts holds hold has)
+
+-- views of which one at most holds region r have one hold of it
+pub holds-same : (views : List View) (v w : View) (h k : Hold) (r : ℕ) → holders views r ≤ 1 → IsHeld views v h → IsHeld views w k → h.region ≡ r → k.region ≡ r → h ≡ k
+holds-same views v w h k r one held also is same =
+    let counts : Hold → ℕ = λ h. if h.region == r then 1 else 0 in
+    let holding : View → ℕ = λ view. count_by (λ hold. hold.region == r) view.holds in
+    let first : 1 ≤ holding v = holds-count v.holds h r held.held is in
+    let second : 1 ≤ holding w = holds-count w.holds k r also.held same in
+    let seat : v ≡ w = one-counts holding views v w one held.seat also.seat first second in
+    let few : holding w ≤ 1 = omega (arith, item-le-sum holding views w also.seat) in
+    let there : Contains w.holds h = subst (λ (view : View). Contains view.holds h) seat held.held in
+    one-counts counts w.holds h k few there also.held (hold-counts h r is) (hold-counts k r same)
+
+-- a seat that knows the step of the region that it took last, and hasn't published the step to come
+pub record IsWorking (terms : Terms) (s : FieldState) (id : ℕ) (view : View) (hold : Hold) (holds : List Hold) : Type 0 where
+  pub standing : IsStanding terms s
+  pub charted : IsChart terms.chart.now
+  pub seat : get_elem? s.views id ≡ some view
+  pub share : view.share ≢ 0
+  pub held : view.holds ≡ hold ∷ holds
+  pub known : hold.known ≡ true
+  pub early : hold.published ≡ false
+
+-- the hold is the view's
+hold-held : (views : List View) (id : ℕ) (view : View) (hold : Hold) (holds : List Hold) → get_elem? views id ≡ some view → view.holds ≡ hold ∷ holds → IsHeld views view hold
+hold-held views id view hold holds seat held = record {
+  seat = Contains-elem views id view seat;
+  held = subst (λ (list : List Hold). Contains list hold) (sym held) (0, omega arith, refl);
+}
+
+pub working-held : (terms : Terms) (s : FieldState) (id : ℕ) (view : View) (hold : Hold) (holds : List Hold) → IsWorking terms s id view hold holds → IsHeld s.views view hold
+working-held terms s id view hold holds works = hold-held s.views id view hold holds works.seat works.held
+
+-- no other hold of any view is of its region
+pub hold-alone : (terms : Terms) (s : FieldState) (id : ℕ) (view : View) (hold : Hold) (holds : List Hold) → IsWorking terms s id view hold holds →
+    (v : View) (h : Hold) → IsHeld s.views v h → h.region ≡ hold.region → h ≡ hold
+hold-alone terms s id view hold holds works v h held is =
+    holds-same s.views v view h hold hold.region (works.standing.claims.one hold.region) held (working-held terms s id view hold holds works) is refl
+
+-- no other seat has its region
+pub seat-alone : (terms : Terms) (s : FieldState) (id : ℕ) (view : View) (hold : Hold) (holds : List Hold) → IsWorking terms s id view hold holds →
+    (v : View) (h : Hold) → IsHeld s.views v h → h.region ≡ hold.region → v ≡ view
+seat-alone terms s id view hold holds works v h held is =
+    let holding : View → ℕ = λ some_view. count_by (λ some_hold. some_hold.region == hold.region) some_view.holds in
+    let own = working-held terms s id view hold holds works in
+    one-counts holding s.views v view (works.standing.claims.one hold.region) held.seat own.seat (holds-count v.holds h hold.region held.held is)
+    (holds-count view.holds hold hold.region own.held refl)
+
+-- and the seat itself has it once
+pub later-apart : (terms : Terms) (s : FieldState) (id : ℕ) (view : View) (hold : Hold) (holds : List Hold) → IsWorking terms s id view hold holds →
+    (h : Hold) → Contains holds h → h.region ≢ hold.region
+later-apart terms s id view hold holds works h has is =
+    let p : Hold → Bool = λ some_hold. some_hold.region == hold.region in
+    let holding : View → ℕ = λ some_view. count_by p some_view.holds in
+    let list : holding view ≡ count_by p (hold ∷ holds) = ap (count_by p) works.held in
+    let seat = item-le-sum holding s.views view (Contains-elem s.views id view works.seat) in
+    omega (
+      arith,
+      list,
+      seat,
+      works.standing.claims.one hold.region,
+      count_by-cons p hold holds,
+      hold-counts hold hold.region refl,
+      holds-count holds h hold.region has is,
+    )
+
+-- a step that leaves the word and the view as they are keeps the rule
+elem-set : {X : Type 0} (xs : List X) (i : ℕ) (x : X) → get_elem? xs i ≡ some x → set xs i x ≡ xs
+elem-set [] i x is = refl
+elem-set (y ∷ ys) zero x is = cc
+elem-set (y ∷ ys) (suc i) x is = ap (λ list. y ∷ list) (elem-set ys i x is)
+
+pub read-keeps : (terms : Terms) (s : FieldState) (i id : ℕ) (c : List (ℕ × RegionValue)) (view : View) → IsStanding terms s → get_elem? s.views id ≡ some view →
+    IsStanding terms (stepped s i (slice_index s.words i) id c view keeps)
+read-keeps terms s i id c view standing seat =
+    let words : set s.words i (slice_index s.words i) ≡ s.words = set-get_or s.words i 0 in
+    let views : set s.views id view ≡ s.views = elem-set s.views id view seat in
+    let of : List ℕ → List View → FieldState = λ some_words some_views. record { words = some_words; homes = s.homes; views = some_views } in
+    let same : stepped s i (slice_index s.words i) id c view keeps ≡ s = ap (λ some_words. of some_words (set s.views id view)) words ∙ ap (of s.words) views in
+    subst (IsStanding terms) (sym same) standing
+
+-- the step of a region just before it is published is the hold's
+pub working-step : (terms : Terms) (s : FieldState) (id : ℕ) (view : View) (hold : Hold) (holds : List Hold) → IsWorking terms s id view hold holds →
+    step_of terms.chart.now s.words hold.region ≡ hold.step
+working-step terms s id view hold holds works =
+    let knows = works.standing.steps.known view hold (working-held terms s id view hold holds works) works.known in
+    rw works.early at knows
+
+pub working-there : (terms : Terms) (s : FieldState) (id : ℕ) (view : View) (hold : Hold) (holds : List Hold) → IsWorking terms s id view hold holds →
+    hold.region < region_count terms.chart.now.cut
+working-there terms s id view hold holds works = works.standing.claims.there view hold (working-held terms s id view hold holds works)
+
+-- neighbours stand at most a step apart
+step_of-listed : (chart : ChartLists) (words : List ℕ) (r : ℕ) → r < region_count chart.cut → slice_index (steps_of chart words) r ≡ step_of chart words r
+step_of-listed chart words r within = get_or-map-range_with_len (step_of chart words) 0 (region_count chart.cut) r r 0 within (omega arith)
+
+pub steps-close : (net : Network) (chart : ChartLists) (words : List ℕ) (r q : ℕ) → AreLawful net chart.cut (steps_of chart words) → are_neighbours net.connectors chart.cut r q ≡ true →
+    step_of chart words r ≤ step_of chart words q + 1
+steps-close net chart words r q lawful near =
+    let there = neighbours-there net chart r q near in
+    omega (arith, lawful.close r q near, step_of-listed chart words r there.0, step_of-listed chart words q there.1)
+
+-- a border word of a neighbour at the region's step or past it is what the cell holds at that step
+pub border-read-near : (terms : Terms) (s : FieldState) (id : ℕ) (view : View) (hold : Hold) (holds : List Hold) (q j : ℕ) → IsWorking terms s id view hold holds →
+    are_neighbours terms.net.now.connectors terms.chart.now.cut hold.region q ≡ true → hold.step ≤ step_of terms.chart.now s.words q → j < width_at (widths_of terms.chart.now) q →
+    border_word terms.chart.now s.words q hold.step j ≡ grid_held terms.net.now terms.chart.now.cut terms.start.now hold.step (border_cell terms.chart.now q j)
+border-read-near terms s id view hold holds q j works near past inside =
+    let net : Network = terms.net.now in
+    let chart : ChartLists = terms.chart.now in
+    let start : StartLists = terms.start.now in
+    let back = neighbours-sym net.connectors chart.cut hold.region q near in
+    let own : step_of chart s.words hold.region ≡ hold.step = working-step terms s id view hold holds works in
+    let close : step_of chart s.words q ≤ step_of chart s.words hold.region + 1 = steps-close net chart s.words q hold.region works.standing.steps.lawful back in
+    elim (cases_eq (step_of chart s.words q) hold.step) [
+      | inl here ↦
+          subst (λ u. border_word chart s.words q u j ≡ grid_held net chart.cut start u (border_cell chart q j)) here
+          (works.standing.rows.now q j ((neighbours-there net chart hold.region q near).1) inside)
+      | inr ahead ↦ works.standing.rows.before q hold.region hold.step j back own (omega arith) inside
+    ]
+
+-- so is one of a cleared neighbour
+pub border-read : (terms : Terms) (s : FieldState) (id : ℕ) (view : View) (hold : Hold) (holds : List Hold) (q j : ℕ) → IsWorking terms s id view hold holds →
+    Contains hold.cleared q → j < width_at (widths_of terms.chart.now) q →
+    border_word terms.chart.now s.words q hold.step j ≡ grid_held terms.net.now terms.chart.now.cut terms.start.now hold.step (border_cell terms.chart.now q j)
+border-read terms s id view hold holds q j works has inside =
+    let held = working-held terms s id view hold holds works in
+    border-read-near terms s id view hold holds q j works (works.standing.steps.around view hold q held works.known has)
+    (works.standing.steps.cleared view hold q held works.known has) inside
+
+-- the hold that was taken last is changed, and its region isn't: the views hold as many of each region
+counted-set : (p : Hold → Bool) (views : List View) (id : ℕ) (view w : View) (hold new : Hold) (holds : List Hold) → get_elem? views id ≡ some view →
+    view.holds ≡ hold ∷ holds → w.holds ≡ new ∷ holds → p new ≡ p hold →
+    sum_by (λ v. count_by p v.holds) (set views id w) ≡ sum_by (λ v. count_by p v.holds) views
+counted-set p views id view w hold new holds seat held changed alike =
+    let counts : View → ℕ = λ v. count_by p v.holds in
+    let before : counts view ≡ count_by p (hold ∷ holds) = ap (count_by p) held in
+    let after : counts w ≡ count_by p (new ∷ holds) = ap (count_by p) changed in
+    let one : Bool → ℕ = λ b. if b then 1 else 0 in
+    let same : one (p new) ≡ one (p hold) = ap one alike in
+    omega (arith, before, after, same, count_by-cons p hold holds, count_by-cons p new holds, sum-set counts views id w view seat)
+
+-- the hold as it was and as it is now
+pub record IsChanged (view w : View) (hold new : Hold) (holds : List Hold) : Type 0 where
+  pub before : view.holds ≡ hold ∷ holds
+  pub after : w.holds ≡ new ∷ holds
+  pub region : new.region ≡ hold.region
+  pub known : new.known ≡ hold.known
+  pub step : new.step ≡ hold.step
+  pub cleared : new.cleared ≡ hold.cleared
+
+holders-set : (views : List View) (id : ℕ) (view w : View) (hold new : Hold) (holds : List Hold) → get_elem? views id ≡ some view → IsChanged view w hold new holds →
+    (r : ℕ) → holders (set views id w) r ≡ holders views r
+holders-set views id view w hold new holds seat changed r =
+    counted-set (λ h. h.region == r) views id view w hold new holds seat changed.before changed.after (ap (λ region. region == r) changed.region)
+
+knowers-set : (views : List View) (id : ℕ) (view w : View) (hold new : Hold) (holds : List Hold) → get_elem? views id ≡ some view → IsChanged view w hold new holds →
+    (r : ℕ) → knowers (set views id w) r ≡ knowers views r
+knowers-set views id view w hold new holds seat changed r =
+    counted-set (λ h. (h.region == r) && h.known) views id view w hold new holds seat changed.before changed.after
+    (ap (λ region. (region == r) && new.known) changed.region ∙ ap (λ known. (hold.region == r) && known) changed.known)
+
+-- a hold of a view is the changed one then, or one of another region that stood there before
+abbrev pub IsOther : List View → Hold → Hold → Type 0
+IsOther views hold h = (h.region ≢ hold.region) × ((old : View) × IsHeld views old h)
+
+held-after : (views : List View) (id : ℕ) (view w : View) (hold new : Hold) (holds : List Hold) → get_elem? views id ≡ some view → IsChanged view w hold new holds →
+    ((r : ℕ) → holders views r ≤ 1) → (v : View) (h : Hold) → IsHeld (set views id w) v h → (h ≡ new) ⊎ IsOther views hold h
+held-after views id view w hold new holds seat changed one v h held = elim (cases_eq h.region hold.region) [
+  | inl is ↦
+      let there : Contains (set views id w) w = set-Contains views id w view seat in
+      let own : Contains w.holds new = subst (λ (list : List Hold). Contains list new) (sym changed.after) (0, omega arith, refl) in
+      let few : holders (set views id w) hold.region ≤ 1 = omega (arith, one hold.region, holders-set views id view w hold new holds seat changed hold.region) in
+      inl (holds-same (set views id w) v w h new hold.region few held record { seat = there; held = own } is changed.region)
+  | inr other ↦ elim (Contains-set views id w v held.seat) [
+    | inl is ↦
+        let has : Contains (new ∷ holds) h = subst (λ (list : List Hold). Contains list h) (ap (λ (some_view : View). some_view.holds) is ∙ changed.after) held.held in
+        let apart : new ≢ h = λ same. other (sym (ap (λ (some_hold : Hold). some_hold.region) same) ∙ changed.region) in
+        inr (
+          other,
+          (
+            view,
+            record {
+              seat = Contains-elem views id view seat;
+              held = subst (λ (list : List Hold). Contains list h) (sym changed.before) (later new hold holds h has apart);
+            },
+          ),
+        )
+    | inr was ↦ inr (other, (v, record { seat = was; held = held.held }))
+  ]
+]
+  where
+    later : (x y : Hold) (xs : List Hold) (z : Hold) → Contains (x ∷ xs) z → x ≢ z → Contains (y ∷ xs) z
+    later x y xs z (zero, within, is) apart = absurd (apart is)
+    later x y xs z (suc k, within, is) apart = (suc k, omega (arith, within), is)
+
+-- the field once the view and the words are changed
+abbrev pub field_of : FieldState → (words : List ℕ) → (views : List View) → FieldState
+field_of s words views = record { words = words; homes = s.homes; views = views }
+
+-- a region that is known is counted
+known-counts : (views : List View) (view : View) (hold : Hold) → IsHeld views view hold → hold.known ≡ true → 1 ≤ knowers views hold.region
+known-counts views view hold held known =
+    let counts : Hold → ℕ = λ h. if (h.region == hold.region) && h.known then 1 else 0 in
+    let knowing : View → ℕ = λ v. count_by (λ h. (h.region == hold.region) && h.known) v.holds in
+    let here : counts hold ≡ 1 = rw (eq-eqb hold.region hold.region refl, known) refl in
+    omega (arith, here, item-le-sum counts view.holds hold held.held, item-le-sum knowing views view held.seat)
+
+claims-worked : (terms : Terms) (s : FieldState) (id : ℕ) (view w : View) (hold new : Hold) (holds : List Hold) (words : List ℕ) →
+    IsWorking terms s id view hold holds → IsChanged view w hold new holds → length words ≡ length s.words →
+    ((r : ℕ) → r < region_count terms.chart.now.cut → claim_of terms.chart.now words r ≡ claim_of terms.chart.now s.words r) →
+    ((r : ℕ) → r < region_count terms.chart.now.cut → r ≢ hold.region → step_of terms.chart.now words r ≡ step_of terms.chart.now s.words r) →
+    Claims terms.net.now terms.chart.now terms.start.now terms.every (field_of s words (set s.views id w))
+claims-worked terms s id view w hold new holds words works changed long claims steps =
+    let old = works.standing.claims in
+    record {
+      words = long ∙ old.words;
+      homes = old.homes;
+      counted = λ r within. claims r within ∙ old.counted r within ∙ sym (holders-set s.views id view w hold new holds works.seat changed r);
+      one = λ r. omega (arith, old.one r, holders-set s.views id view w hold new holds works.seat changed r);
+      there = λ v h held. elim (held-after s.views id view w hold new holds works.seat changed old.one v h held) [
+        | inl is ↦ subst (λ r. r < region_count terms.chart.now.cut) (sym (ap (λ (some_hold : Hold). some_hold.region) is ∙ changed.region)) (working-there terms s id view hold holds works)
+        | inr other ↦ old.there other.1.0 h other.1.1
+      ];
+      at_home = λ r within none.
+          let unknown : knowers s.views r ≡ 0 = sym (knowers-set s.views id view w hold new holds works.seat changed r) ∙ none in
+          let apart : r ≢ hold.region = λ same. omega (arith, ap (knowers s.views) same, known-counts s.views view hold (working-held terms s id view hold holds works) works.known) in
+          rw (steps r within apart) (old.at_home r within unknown);
+    }
+
+-- no region falls back, and none but region r is published anew
+pub record AreRaised (chart : ChartLists) (before after : List ℕ) (r : ℕ) : Type 0 where
+  pub rises : (q : ℕ) → q < region_count chart.cut → step_of chart before q ≤ step_of chart after q
+  pub others : (q : ℕ) → q < region_count chart.cut → q ≢ r → step_of chart after q ≡ step_of chart before q
+
+steps-worked : (terms : Terms) (s : FieldState) (id : ℕ) (view w : View) (hold new : Hold) (holds : List Hold) (words : List ℕ) →
+    IsWorking terms s id view hold holds → IsChanged view w hold new holds → AreRaised terms.chart.now s.words words hold.region →
+    AreLawful terms.net.now terms.chart.now.cut (steps_of terms.chart.now words) →
+    step_of terms.chart.now words hold.region ≡ (if new.published then hold.step + 1 else hold.step) →
+    Steps terms.net.now terms.chart.now terms.start.now (field_of s words (set s.views id w))
+steps-worked terms s id view w hold new holds words works changed raised lawful own =
+    let net : Network = terms.net.now in
+    let chart : ChartLists = terms.chart.now in
+    let old = works.standing.steps in
+    let held = working-held terms s id view hold holds works in
+    let from = held-after s.views id view w hold new holds works.seat changed works.standing.claims.one in
+    record {
+      lawful = lawful;
+      started = λ r within. omega (arith, old.started r within, raised.rises r within);
+      known = λ v h was knows. elim (from v h was) [
+        | inl is ↦
+            subst (λ (k : Hold). step_of chart words k.region ≡ (if k.published then k.step + 1 else k.step)) (sym is)
+            (rw (changed.region, changed.step) own)
+        | inr other ↦ raised.others h.region (works.standing.claims.there other.1.0 h other.1.1) other.0 ∙ old.known other.1.0 h other.1.1 knows
+      ];
+      around = λ v h q was knows. elim (from v h was) [
+        | inl is ↦
+            subst (λ (k : Hold). Contains k.cleared q → are_neighbours net.connectors chart.cut k.region q ≡ true) (sym is)
+            (rw (changed.region, changed.cleared) (old.around view hold q held works.known))
+        | inr other ↦ old.around other.1.0 h q other.1.1 knows
+      ];
+      cleared = λ v h q was knows. elim (from v h was) [
+        | inl is ↦
+            subst (λ (k : Hold). Contains k.cleared q → k.step ≤ step_of chart words q) (sym is)
+            (rw (changed.step, changed.cleared)
+            (λ has.
+            let near = neighbours-there net chart hold.region q (old.around view hold q held works.known has) in
+            omega (arith, old.cleared view hold q held works.known has, raised.rises q near.1)))
+        | inr other ↦ λ has.
+            let near = neighbours-there net chart h.region q (old.around other.1.0 h q other.1.1 knows has) in
+            omega (arith, old.cleared other.1.0 h q other.1.1 knows has, raised.rises q near.1)
+      ];
+    }
+
+-- what the view has counted follows what is published
+pub record IsCounted (terms : Terms) (before after : List ℕ) (view w : View) : Type 0 where
+  pub alike : w.terms ≡ view.terms
+  pub share : w.share ≡ view.share
+  pub lengths : length w.seen ≡ length view.seen
+  pub seen : (r : ℕ) → r < region_count terms.chart.now.cut → slice_index w.seen r ≤ step_of terms.chart.now after r
+  pub moves : w.moves + steps_made terms.chart.now terms.start.now before ≡ view.moves + steps_made terms.chart.now terms.start.now after
+  pub further : view.reach ≤ w.reach
+  pub reach : (r : ℕ) → r < region_count terms.chart.now.cut →
+      (step_of terms.chart.now after r ≡ step_of terms.chart.now before r) ⊎ (step_of terms.chart.now after r ≤ w.reach)
+
+counts-worked : (terms : Terms) (s : FieldState) (id : ℕ) (view w : View) (words : List ℕ) → IsStanding terms s → get_elem? s.views id ≡ some view → view.share ≢ 0 →
+    ((r : ℕ) → r < region_count terms.chart.now.cut → step_of terms.chart.now s.words r ≤ step_of terms.chart.now words r) → IsCounted terms s.words words view w →
+    Counts terms terms.chart.now terms.start.now terms.seats (field_of s words (set s.views id w))
+counts-worked terms s id view w words standing seat share rises counted =
+    let chart : ChartLists = terms.chart.now in
+    let start : StartLists = terms.start.now in
+    let old = standing.counts in
+    let here : Contains s.views view = Contains-elem s.views id view seat in
+    let new : Contains (set s.views id w) w = set-Contains s.views id w view seat in
+    record {
+      lengths = λ v has some_share. elim (Contains-set s.views id w v has) [
+        | inl is ↦ subst (λ (x : View). length x.seen ≡ region_count chart.cut) (sym is) (counted.lengths ∙ old.lengths view here share)
+        | inr was ↦ old.lengths v was some_share
+      ];
+      seen = λ v r has within. elim (Contains-set s.views id w v has) [
+        | inl is ↦ subst (λ (x : View). slice_index x.seen r ≤ step_of chart words r) (sym is) (counted.seen r within)
+        | inr was ↦ omega (arith, old.seen v r was within, rises r within)
+      ];
+      shares = omega (arith, sum-set (λ (x : View). x.share) s.views id w view seat, counted.share, old.shares);
+      spent = λ v has none. elim (Contains-set s.views id w v has) [
+        | inl is ↦ absurd (share (sym counted.share ∙ sym (ap (λ (x : View). x.share) is) ∙ none))
+        | inr was ↦ old.spent v was none
+      ];
+      moves = omega (arith, sum-set (λ (x : View). x.moves) s.views id w view seat, counted.moves, old.moves);
+      reach = λ r within. elim (counted.reach r within) [
+        | inr far ↦ inr (w, new, far)
+        | inl same ↦ elim (old.reach r within) [
+          | inl low ↦ inl (omega (arith, same, low))
+          | inr some_view ↦ elim (set-keeps s.views id w view some_view.0 seat some_view.1) [
+            | inl is ↦ inr (w, new, omega (arith, same, some_view.2, ap (λ (x : View). x.reach) is, counted.further))
+            | inr has ↦ inr (some_view.0, has, omega (arith, same, some_view.2))
+          ]
+        ]
+      ];
+      alike = λ v has some_share. elim (Contains-set s.views id w v has) [
+        | inl is ↦ ap (λ (x : View). x.terms) is ∙ counted.alike ∙ old.alike view here share
+        | inr was ↦ old.alike v was some_share
+      ];
+    }
+
+-- the load of a border word keeps the rule
+pub border-read-keeps : (terms : Terms) (s : FieldState) (id : ℕ) (c : List (ℕ × RegionValue)) (view : View) (hold : Hold) (holds : List Hold) (q j : ℕ) → IsWorking terms s id view hold holds →
+    IsStanding terms (stepped s (row_place (widths_of terms.chart.now) q (hold.step % 2) j) (border_word terms.chart.now s.words q hold.step j) id c view keeps)
+border-read-keeps terms s id c view hold holds q j works =
+    read-keeps terms s (row_place (widths_of terms.chart.now) q (hold.step % 2) j) id c view works.standing works.seat
+
+-- all neighbours of a hold's region are cleared
+abbrev pub AllCleared : Terms → Hold → Type 0
+AllCleared terms hold = (q : ℕ) → are_neighbours terms.net.now.connectors terms.chart.now.cut hold.region q ≡ true → Contains hold.cleared q
+
+-- then none stands lower
+none-lower : (terms : Terms) (s : FieldState) (id : ℕ) (view : View) (hold : Hold) (holds : List Hold) (q : ℕ) → IsWorking terms s id view hold holds → AllCleared terms hold →
+    are_neighbours terms.net.now.connectors terms.chart.now.cut hold.region q ≡ true → hold.step ≤ step_of terms.chart.now s.words q
+none-lower terms s id view hold holds q works all near =
+    works.standing.steps.cleared view hold q (working-held terms s id view hold holds works) works.known (all q near)
+
+-- the hold with one more word written, and the hold whose step is published
+abbrev pub wrote_one : Hold → Hold
+wrote_one hold = record hold { written = hold.written + 1 }
+
+abbrev pub published_one : Hold → Hold
+published_one hold = record hold { published = true }
+
+wrote-changed : (view : View) (hold : Hold) (holds : List Hold) → view.holds ≡ hold ∷ holds → IsChanged view (wrote view) hold (wrote_one hold) holds
+wrote-changed view hold holds held = record { before = held; after = ap (with_first wrote_one) held; region = refl; known = refl; step = refl; cleared = refl }
+
+published-changed : (view : View) (hold : Hold) (holds : List Hold) (r n : ℕ) → view.holds ≡ hold ∷ holds → IsChanged view (published view r n) hold (published_one hold) holds
+published-changed view hold holds r n held = record { before = held; after = ap (with_first published_one) held; region = refl; known = refl; step = refl; cleared = refl }
+
+-- one more word of the step to come is written: no word that a row of before needs is touched
+rows-wrote : (terms : Terms) (s : FieldState) (id : ℕ) (view : View) (hold : Hold) (holds : List Hold) (n : ℕ) → IsWorking terms s id view hold holds →
+    hold.written < width_at (widths_of terms.chart.now) hold.region → AllCleared terms hold →
+    n ≡ grid_held terms.net.now terms.chart.now.cut terms.start.now (hold.step + 1) (border_cell terms.chart.now hold.region hold.written) →
+    Rows terms.net.now terms.chart.now terms.start.now
+    (field_of s (set s.words (row_place (widths_of terms.chart.now) hold.region ((hold.step + 1) % 2) hold.written) n) (set s.views id (wrote view)))
+rows-wrote terms s id view hold holds n works short all is_n =
+    let net : Network = terms.net.now in
+    let chart : ChartLists = terms.chart.now in
+    let start : StartLists = terms.start.now in
+    let r : ℕ = hold.region in
+    let words : List ℕ = set s.words (row_place (widths_of chart) r ((hold.step + 1) % 2) hold.written) n in
+    let old = works.standing.rows in
+    let held = working-held terms s id view hold holds works in
+    let wide = length-widths_of chart works.charted in
+    let own : step_of chart s.words r ≡ hold.step = working-step terms s id view hold holds works in
+    let within : r < length (widths_of chart) = omega (arith, wide, working-there terms s id view hold holds works) in
+    let changed = wrote-changed view hold holds works.held in
+    let from = held-after s.views id view (wrote view) hold (wrote_one hold) holds works.seat changed works.standing.claims.one in
+    let there = works.standing.claims.there in
+    let step : (q : ℕ) → q < region_count chart.cut → step_of chart words q ≡ step_of chart s.words q =
+    λ q inside. border-set-step chart s.words r (hold.step + 1) hold.written q n within short (omega (arith, wide, inside)) in
+    let word : (q u j : ℕ) → q < region_count chart.cut → j < width_at (widths_of chart) q → (q ≡ r → u % 2 ≡ (hold.step + 1) % 2 → j ≡ hold.written → ⊥) →
+    border_word chart words q u j ≡ border_word chart s.words q u j =
+    λ q u j inside here apart. border-set-other chart s.words r (hold.step + 1) hold.written q u j n within short (omega (arith, wide, inside)) here apart in
+    record {
+      now = λ q j inside here. rw (step q inside)
+          (word q (step_of chart s.words q) j inside here (λ same parity place. omega (arith, ap (step_of chart s.words) same, own, parity)) ∙ old.now q j inside here);
+      before = λ p q u j near low high here.
+          let both = neighbours-there net chart p q near in
+          let low_before : step_of chart s.words q ≡ u = sym (step q both.1) ∙ low in
+          let high_before : step_of chart s.words p ≡ u + 1 = sym (step p both.0) ∙ high in
+          let apart : p ≢ r = λ same.
+          let near_own : are_neighbours net.connectors chart.cut r q ≡ true = subst (λ k. are_neighbours net.connectors chart.cut k q ≡ true) same near in
+          omega (arith, ap (step_of chart s.words) same, own, low_before, high_before, none-lower terms s id view hold holds q works all near_own) in
+          word p u j both.0 here (λ same parity place. apart same) ∙ old.before p q u j near low_before high_before here;
+      few = λ v h was knows. elim (from v h was) [
+        | inl is ↦ subst (λ (k : Hold). k.written ≤ width_at (widths_of chart) k.region) (sym is) (omega (arith, short))
+        | inr other ↦ old.few other.1.0 h other.1.1 knows
+      ];
+      written = λ v h j was knows. elim (from v h was) [
+        | inl is ↦
+            subst (λ (k : Hold). j < k.written → border_word chart words k.region (k.step + 1) j ≡ grid_held net chart.cut start (k.step + 1) (border_cell chart k.region j)) (sym is)
+            (λ done. elim (cases_eq j hold.written) [
+              | inl here ↦
+                  subst (λ i. border_word chart words r (hold.step + 1) i ≡ grid_held net chart.cut start (hold.step + 1) (border_cell chart r i)) (sym here)
+                  (border-set chart s.words r (hold.step + 1) hold.written n within short works.standing.claims.words ∙ is_n)
+              | inr earlier ↦
+                  word r (hold.step + 1) j (working-there terms s id view hold holds works) (omega (arith, done, short)) (λ same parity place. earlier place) ∙
+                  old.written view hold j held works.known (omega (arith, done, earlier))
+            ])
+        | inr other ↦ λ done.
+            word h.region (h.step + 1) j (there other.1.0 h other.1.1) (omega (arith, done, old.few other.1.0 h other.1.1 knows)) (λ same parity place. other.0 same) ∙
+            old.written other.1.0 h j other.1.1 knows done
+      ];
+      clear = λ v h q was knows. elim (from v h was) [
+        | inl is ↦
+            subst (λ (k : Hold). (k.written ≢ 0) ⊎ (k.published ≡ true) → are_neighbours net.connectors chart.cut k.region q ≡ true → Contains k.cleared q) (sym is)
+            (λ begun near. all q near)
+        | inr other ↦ old.clear other.1.0 h q other.1.1 knows
+      ];
+      whole = λ v h was knows. elim (from v h was) [
+        | inl is ↦
+            subst (λ (k : Hold). k.published ≡ true → k.written ≡ width_at (widths_of chart) k.region) (sym is)
+            (λ done. absurd (absurd-bool (sym works.early ∙ done)))
+        | inr other ↦ old.whole other.1.0 h other.1.1 knows
+      ];
+    }
+  where
+    absurd-bool : false ≡ true → ⊥
+    absurd-bool same = cc
+
+-- sums over the regions
+range-below : (n : ℕ) (k d : ℕ) → k < length (range_with_len 0 n) → get_or (range_with_len 0 n) k d < n
+range-below n k d inside =
+    let within : k < n = omega (arith, inside, length-range_with_len 0 n) in
+    omega (arith, within, get_or-range_with_len 0 n k d within)
+
+sum-range-same : (f g : ℕ → ℕ) (n : ℕ) → ((p : ℕ) → p < n → f p ≡ g p) → sum_by f (range_with_len 0 n) ≡ sum_by g (range_with_len 0 n)
+sum-range-same f g n same = sum_by-same (λ p. p < n) f g (range_with_len 0 n) same (range-below n)
+
+-- one term is one more
+sum-range-more : (f g : ℕ → ℕ) (n r : ℕ) → r < n → g r ≡ f r + 1 → ((p : ℕ) → p < n → p ≢ r → g p ≡ f p) →
+    sum_by g (range_with_len 0 n) ≡ sum_by f (range_with_len 0 n) + 1
+sum-range-more f g n r within here others =
+    let one : ℕ → ℕ = λ p. if r == p then 1 else 0 in
+    let both : ℕ → ℕ = λ p. f p + one p in
+    let each : (p : ℕ) → p < n → g p ≡ both p = λ p inside. elim (cases_eq r p) [
+      | inl is ↦ rw (eq-eqb r p is) (subst (λ k. g k ≡ f k + 1) is here)
+      | inr apart ↦ rw (ne_eqb r p apart) (omega (arith, others p inside (λ same. apart (sym same))))
+    ] in
+    let first : sum_by g (range_with_len 0 n) ≡ sum_by both (range_with_len 0 n) = sum-range-same g both n each in
+    let second : sum_by both (range_with_len 0 n) ≡ sum_by f (range_with_len 0 n) + sum_by one (range_with_len 0 n) = sum_by_splits both f one (range_with_len 0 n) (λ p. refl) in
+    omega (arith, first, second, sum_by_range_one 1 r 0 n (omega arith) (omega (arith, within)))
+
+steps_made-same : (chart : ChartLists) (start : StartLists) (before after : List ℕ) → ((q : ℕ) → q < region_count chart.cut → step_of chart after q ≡ step_of chart before q) →
+    steps_made chart start after ≡ steps_made chart start before
+steps_made-same chart start before after same =
+    sum-range-same (λ q. step_of chart after q - slice_index start.steps q) (λ q. step_of chart before q - slice_index start.steps q) (region_count chart.cut)
+    (λ q within. ap (λ step. step - slice_index start.steps q) (same q within))
+
+-- a written border word keeps the rule
+pub wrote-keeps : (terms : Terms) (s : FieldState) (id : ℕ) (c : List (ℕ × RegionValue)) (view : View) (hold : Hold) (holds : List Hold) (n : ℕ) → IsWorking terms s id view hold holds →
+    hold.written < width_at (widths_of terms.chart.now) hold.region → AllCleared terms hold →
+    n ≡ grid_held terms.net.now terms.chart.now.cut terms.start.now (hold.step + 1) (border_cell terms.chart.now hold.region hold.written) →
+    IsStanding terms (stepped s (row_place (widths_of terms.chart.now) hold.region ((hold.step + 1) % 2) hold.written) n id c (wrote view) keeps)
+wrote-keeps terms s id c view hold holds n works short all is_n =
+    let chart : ChartLists = terms.chart.now in
+    let start : StartLists = terms.start.now in
+    let r : ℕ = hold.region in
+    let place : ℕ = row_place (widths_of chart) r ((hold.step + 1) % 2) hold.written in
+    let words : List ℕ = set s.words place n in
+    let wide = length-widths_of chart works.charted in
+    let own : step_of chart s.words r ≡ hold.step = working-step terms s id view hold holds works in
+    let inside = working-there terms s id view hold holds works in
+    let within : r < length (widths_of chart) = omega (arith, wide, inside) in
+    let changed = wrote-changed view hold holds works.held in
+    let old = works.standing in
+    let step : (q : ℕ) → q < region_count chart.cut → step_of chart words q ≡ step_of chart s.words q =
+    λ q there. border-set-step chart s.words r (hold.step + 1) hold.written q n within short (omega (arith, wide, there)) in
+    let raised : AreRaised chart s.words words r = record { rises = λ q there. omega (arith, step q there); others = λ q there apart. step q there } in
+    let lawful : AreLawful terms.net.now chart.cut (steps_of chart words) = subst (AreLawful terms.net.now chart.cut) (sym (steps_of-same chart s.words words step)) old.steps.lawful in
+    let stays : step_of chart words r ≡ (if hold.published then hold.step + 1 else hold.step) = rw works.early (step r inside ∙ own) in
+    let has = Contains-elem s.views id view works.seat in
+    let counted : IsCounted terms s.words words view (wrote view) = record {
+      alike = refl;
+      share = refl;
+      lengths = refl;
+      seen = λ q there. omega (arith, step q there, old.counts.seen view q has there);
+      moves = omega (arith, steps_made-same chart start s.words words step);
+      further = omega arith;
+      reach = λ q there. inl (step q there);
+    } in
+    record {
+      claims = claims-worked terms s id view (wrote view) hold (wrote_one hold) holds words works changed (length-set s.words place n)
+          (λ q there. border-set-claim chart s.words r (hold.step + 1) hold.written q n within short (omega (arith, wide, there)))
+          (λ q there apart. step q there);
+      steps = steps-worked terms s id view (wrote view) hold (wrote_one hold) holds words works changed raised lawful stays;
+      rows = rows-wrote terms s id view hold holds n works short all is_n;
+      counts = counts-worked terms s id view (wrote view) words old works.seat works.share raised.rises counted;
+    }
+
+steps_made-more : (chart : ChartLists) (start : StartLists) (before after : List ℕ) (r : ℕ) → r < region_count chart.cut → slice_index start.steps r ≤ step_of chart before r →
+    step_of chart after r ≡ step_of chart before r + 1 → ((q : ℕ) → q < region_count chart.cut → q ≢ r → step_of chart after q ≡ step_of chart before q) →
+    steps_made chart start after ≡ steps_made chart start before + 1
+steps_made-more chart start before after r within started more others =
+    sum-range-more (λ q. step_of chart before q - slice_index start.steps q) (λ q. step_of chart after q - slice_index start.steps q) (region_count chart.cut) r within
+    (omega (arith, more, started)) (λ q inside apart. ap (λ step. step - slice_index start.steps q) (others q inside apart))
+
+-- a rise of a region of which no neighbour is lower keeps the steps lawful
+lawful-risen : (net : Network) (chart : ChartLists) (before after : List ℕ) (r : ℕ) → r < region_count chart.cut → AreLawful net chart.cut (steps_of chart before) →
+    AreRaised chart before after r → step_of chart after r ≡ step_of chart before r + 1 → step_of chart before r < net.steps →
+    ((q : ℕ) → are_neighbours net.connectors chart.cut r q ≡ true → step_of chart before r ≤ step_of chart before q) → AreLawful net chart.cut (steps_of chart after)
+lawful-risen net chart before after r within lawful raised more below lowest = record {
+  one_each = long after;
+  in_time = λ k d inside.
+      let there : k < region_count chart.cut = omega (arith, inside, long after) in
+      let is : get_or (steps_of chart after) k d ≡ step_of chart after k = get_or-map-range_with_len (step_of chart after) 0 (region_count chart.cut) k k d there (omega arith) in
+      let was : step_of chart before k ≤ net.steps = omega (arith, lawful.in_time k 0 (omega (arith, there, long before)), step_of-listed chart before k there) in
+      elim (cases_eq k r) [
+        | inl same ↦ omega (arith, is, ap (step_of chart after) same, more, below)
+        | inr apart ↦ omega (arith, is, raised.others k there apart, was)
+      ];
+  close = λ p q near.
+      let both = neighbours-there net chart p q near in
+      let here = step_of-listed chart after p both.0 in
+      let there = step_of-listed chart after q both.1 in
+      elim (cases_eq p r) [
+        | inl same ↦
+            let near_own : are_neighbours net.connectors chart.cut r q ≡ true = subst (λ k. are_neighbours net.connectors chart.cut k q ≡ true) same near in
+            omega (arith, here, there, ap (step_of chart after) same, more, lowest q near_own, raised.rises q both.1)
+        | inr apart ↦ omega (arith, here, there, raised.others p both.0 apart, steps-close net chart before p q lawful near, raised.rises q both.1)
+      ];
+}
+  where
+    long : (words : List ℕ) → length (steps_of chart words) ≡ region_count chart.cut
+    long words = length-map (range_with_len 0 (region_count chart.cut)) (step_of chart words) ∙ length-range_with_len 0 (region_count chart.cut)
+
+-- the words once step hold.step + 1 of the hold's region is published
+abbrev pub published_words : ChartLists → (words : List ℕ) → Hold → List ℕ
+published_words chart words hold = set words (step_place (widths_of chart) hold.region) (hold.step + 1)
+
+published-own : (terms : Terms) (s : FieldState) (id : ℕ) (view : View) (hold : Hold) (holds : List Hold) → IsWorking terms s id view hold holds →
+    step_of terms.chart.now (published_words terms.chart.now s.words hold) hold.region ≡ hold.step + 1
+published-own terms s id view hold holds works =
+    step-set terms.chart.now s.words hold.region (hold.step + 1)
+    (omega (arith, length-widths_of terms.chart.now works.charted, working-there terms s id view hold holds works)) works.standing.claims.words
+
+published-raised : (terms : Terms) (s : FieldState) (id : ℕ) (view : View) (hold : Hold) (holds : List Hold) → IsWorking terms s id view hold holds →
+    AreRaised terms.chart.now s.words (published_words terms.chart.now s.words hold) hold.region
+published-raised terms s id view hold holds works =
+    let chart : ChartLists = terms.chart.now in
+    let words : List ℕ = published_words chart s.words hold in
+    let wide = length-widths_of chart works.charted in
+    let inside = working-there terms s id view hold holds works in
+    let others : (q : ℕ) → q < region_count chart.cut → q ≢ hold.region → step_of chart words q ≡ step_of chart s.words q =
+    λ q there apart. step-set-other chart s.words hold.region q (hold.step + 1) (omega (arith, wide, inside)) (omega (arith, wide, there)) apart in
+    record {
+      rises = λ q there. elim (cases_eq q hold.region) [
+        | inl same ↦
+            omega (
+              arith,
+              ap (step_of chart s.words) same,
+              ap (step_of chart words) same,
+              working-step terms s id view hold holds works,
+              published-own terms s id view hold holds works,
+            )
+        | inr apart ↦ omega (arith, others q there apart)
+      ];
+      others = others;
+    }
+
+-- the row of a published step is the one that was written, and the one before stays
+rows-published : (terms : Terms) (s : FieldState) (id : ℕ) (view : View) (hold : Hold) (holds : List Hold) → IsWorking terms s id view hold holds →
+    hold.written ≡ width_at (widths_of terms.chart.now) hold.region → AllCleared terms hold →
+    Rows terms.net.now terms.chart.now terms.start.now
+    (field_of s (published_words terms.chart.now s.words hold) (set s.views id (published view hold.region (hold.step + 1))))
+rows-published terms s id view hold holds works full all =
+    let net : Network = terms.net.now in
+    let chart : ChartLists = terms.chart.now in
+    let start : StartLists = terms.start.now in
+    let r : ℕ = hold.region in
+    let words : List ℕ = published_words chart s.words hold in
+    let old = works.standing.rows in
+    let held = working-held terms s id view hold holds works in
+    let wide = length-widths_of chart works.charted in
+    let was : step_of chart s.words r ≡ hold.step = working-step terms s id view hold holds works in
+    let own : step_of chart words r ≡ hold.step + 1 = published-own terms s id view hold holds works in
+    let raised = published-raised terms s id view hold holds works in
+    let inside = working-there terms s id view hold holds works in
+    let changed = published-changed view hold holds r (hold.step + 1) works.held in
+    let from = held-after s.views id view (published view r (hold.step + 1)) hold (published_one hold) holds works.seat changed works.standing.claims.one in
+    let word : (q u j : ℕ) → q < region_count chart.cut → j < width_at (widths_of chart) q → border_word chart words q u j ≡ border_word chart s.words q u j =
+    λ q u j there here. step-set-border chart s.words r q u j (hold.step + 1) (omega (arith, wide, inside)) (omega (arith, wide, there)) here in
+    record {
+      now = λ q j there here. elim (cases_eq q r) [
+        | inl same ↦
+            let place : j < hold.written = omega (arith, here, full, ap (width_at (widths_of chart)) same) in
+            subst (λ k. border_word chart words k (step_of chart words k) j ≡ grid_held net chart.cut start (step_of chart words k) (border_cell chart k j)) (sym same)
+            (subst (λ u. border_word chart words r u j ≡ grid_held net chart.cut start u (border_cell chart r j)) (sym own)
+            (word r (hold.step + 1) j inside (omega (arith, place, full)) ∙ old.written view hold j held works.known place))
+        | inr apart ↦
+            subst (λ u. border_word chart words q u j ≡ grid_held net chart.cut start u (border_cell chart q j)) (sym (raised.others q there apart))
+            (word q (step_of chart s.words q) j there here ∙ old.now q j there here)
+      ];
+      before = λ p q u j near low high here.
+          let both = neighbours-there net chart p q near in
+          word p u j both.0 here ∙ elim (cases_eq p r) [
+            | inl same ↦
+                let stands : step_of chart s.words p ≡ u = omega (arith, ap (step_of chart words) same, ap (step_of chart s.words) same, own, was, high) in
+                subst (λ v. border_word chart s.words p v j ≡ grid_held net chart.cut start v (border_cell chart p j)) stands (old.now p j both.0 here)
+            | inr apart ↦
+                let high_before : step_of chart s.words p ≡ u + 1 = sym (raised.others p both.0 apart) ∙ high in
+                let other : q ≢ r = λ same.
+                omega (
+                  arith,
+                  ap (step_of chart words) same,
+                  ap (step_of chart s.words) same,
+                  own,
+                  was,
+                  low,
+                  high_before,
+                  steps-close net chart s.words p q works.standing.steps.lawful near,
+                ) in
+                old.before p q u j near (sym (raised.others q both.1 other) ∙ low) high_before here
+          ];
+      few = λ v h is_held knows. elim (from v h is_held) [
+        | inl is ↦ subst (λ (k : Hold). k.written ≤ width_at (widths_of chart) k.region) (sym is) (omega (arith, full))
+        | inr other ↦ old.few other.1.0 h other.1.1 knows
+      ];
+      written = λ v h j is_held knows. elim (from v h is_held) [
+        | inl is ↦
+            subst (λ (k : Hold). j < k.written → border_word chart words k.region (k.step + 1) j ≡ grid_held net chart.cut start (k.step + 1) (border_cell chart k.region j)) (sym is)
+            (λ done. word r (hold.step + 1) j inside (omega (arith, done, full)) ∙ old.written view hold j held works.known done)
+        | inr other ↦ λ done.
+            word h.region (h.step + 1) j (works.standing.claims.there other.1.0 h other.1.1) (omega (arith, done, old.few other.1.0 h other.1.1 knows)) ∙
+            old.written other.1.0 h j other.1.1 knows done
+      ];
+      clear = λ v h q is_held knows. elim (from v h is_held) [
+        | inl is ↦
+            subst (λ (k : Hold). (k.written ≢ 0) ⊎ (k.published ≡ true) → are_neighbours net.connectors chart.cut k.region q ≡ true → Contains k.cleared q) (sym is)
+            (λ begun near. all q near)
+        | inr other ↦ old.clear other.1.0 h q other.1.1 knows
+      ];
+      whole = λ v h is_held knows. elim (from v h is_held) [
+        | inl is ↦
+            subst (λ (k : Hold). k.published ≡ true → k.written ≡ width_at (widths_of chart) k.region) (sym is) (λ done. full)
+        | inr other ↦ old.whole other.1.0 h other.1.1 knows
+      ];
+    }
+
+-- a published step keeps the rule
+pub published-keeps : (terms : Terms) (s : FieldState) (id : ℕ) (c : List (ℕ × RegionValue)) (view : View) (hold : Hold) (holds : List Hold) → IsWorking terms s id view hold holds →
+    hold.written ≡ width_at (widths_of terms.chart.now) hold.region → AllCleared terms hold → hold.step < terms.net.now.steps →
+    IsStanding terms (stepped s (step_place (widths_of terms.chart.now) hold.region) (hold.step + 1) id c (published view hold.region (hold.step + 1)) keeps)
+published-keeps terms s id c view hold holds works full all below =
+    let net : Network = terms.net.now in
+    let chart : ChartLists = terms.chart.now in
+    let start : StartLists = terms.start.now in
+    let r : ℕ = hold.region in
+    let t : ℕ = hold.step in
+    let words : List ℕ = published_words chart s.words hold in
+    let w : View = published view r (t + 1) in
+    let old = works.standing in
+    let wide = length-widths_of chart works.charted in
+    let was : step_of chart s.words r ≡ t = working-step terms s id view hold holds works in
+    let own : step_of chart words r ≡ t + 1 = published-own terms s id view hold holds works in
+    let more : step_of chart words r ≡ step_of chart s.words r + 1 = omega (arith, was, own) in
+    let raised = published-raised terms s id view hold holds works in
+    let inside = working-there terms s id view hold holds works in
+    let changed = published-changed view hold holds r (t + 1) works.held in
+    let lowest : (q : ℕ) → are_neighbours net.connectors chart.cut r q ≡ true → step_of chart s.words r ≤ step_of chart s.words q =
+    λ q near. omega (arith, was, none-lower terms s id view hold holds q works all near) in
+    let lawful = lawful-risen net chart s.words words r inside old.steps.lawful raised more (omega (arith, was, below)) lowest in
+    let has = Contains-elem s.views id view works.seat in
+    let long = old.counts.lengths view has works.share in
+    let counted : IsCounted terms s.words words view w = record {
+      alike = refl;
+      share = refl;
+      lengths = length-set view.seen r (t + 1);
+      seen = λ q there. elim (cases_eq q r) [
+        | inl same ↦
+            subst (λ k. slice_index (set view.seen r (t + 1)) k ≤ step_of chart words k) (sym same)
+            (omega (arith, get_or-set_same view.seen r (t + 1) 0 (omega (arith, long, inside)), own))
+        | inr apart ↦ omega (arith, get_or-set_other view.seen r q (t + 1) 0 apart, old.counts.seen view q has there, raised.rises q there)
+      ];
+      moves = omega (arith, steps_made-more chart start s.words words r inside (old.steps.started r inside) more raised.others);
+      further = omega arith;
+      reach = λ q there. elim (cases_eq q r) [
+        | inl same ↦ inr (omega (arith, ap (step_of chart words) same, own))
+        | inr apart ↦ inl (raised.others q there apart)
+      ];
+    } in
+    record {
+      claims = claims-worked terms s id view w hold (published_one hold) holds words works changed (length-set s.words (step_place (widths_of chart) r) (t + 1))
+          (λ q there. step-set-claim chart s.words r q (t + 1) (omega (arith, wide, inside)) (omega (arith, wide, there)))
+          raised.others;
+      steps = steps-worked terms s id view w hold (published_one hold) holds words works changed raised lawful own;
+      rows = rows-published terms s id view hold holds works full all;
+      counts = counts-worked terms s id view w words old works.seat works.share raised.rises counted;
+    }

@@ -1,0 +1,98 @@
+-- The rule of the field: what holds of its words, of the regions at home and of the seats' views between any two atomic
+-- steps. It has four parts.
+use Rattle.std.specs.Prelude.{◌≡◌, ◌≢◌, ◌⊎◌, ℕ, ◌+◌, ◌-◌, ◌%◌, ◌<◌, ◌≤◌, true, List, [], ◌∷◌, length, slice_index, sum_by, if◌then◌else◌}
+use Rattle.std.specs.List.{Contains, range_with_len}
+use mathlib.Core.Option.{some}
+use mathlib.Core.Option as maybe
+use lib.ListN.{get_elem?}
+use Rattle.network_file.specs.Network.{Network}
+use Rattle.region_cut.specs.Chart.{ChartLists, list_at}
+use Rattle.region_cut.specs.Cuttings.{region_count}
+use Rattle.region_cut.specs.Joins.{are_neighbours}
+use Rattle.region_cut.specs.LawfulSteps.{AreLawful}
+use Rattle.region_step.specs.Grid.{grid_held}
+use Rattle.region_step.specs.Region.{RegionValue}
+use Rattle.region_step.specs.Standing.{Stands}
+use Rattle.region_step.specs.Start.{StartLists}
+use Rattle.atomic_table.specs.Table.{State}
+use Rattle.border_rows.specs.Places.{width_at, widths_of, words_of}
+use Rattle.border_rows.specs.Views.{IsHeld, holders, knowers}
+use Rattle.border_rows.specs.Words.{border_cell, border_word, claim_of, step_of, steps_of}
+use Rattle.border_rows.specs.declared.view.Hold.{Hold}
+use Rattle.border_rows.specs.declared.view.Terms.{Terms}
+use Rattle.border_rows.specs.declared.view.View.{View}
+
+-- the slot of region r has this region
+abbrev pub IsHome : List (maybe.Option RegionValue) → (r : ℕ) → RegionValue → Type 0
+IsHome homes r region = get_elem? homes r ≡ some (some region)
+
+abbrev pub FieldState : Type 0
+FieldState = State RegionValue View
+
+-- Claims. The claim word of a region says how many views hold it, one at most. A region of which no view knows the step
+-- is at home, as the start's region at the step that it has published.
+pub record Claims (net : Network) (chart : ChartLists) (start : StartLists) (every : ℕ) (field : FieldState) : Type 0 where
+  pub words : length field.words ≡ words_of (widths_of chart)
+  pub homes : length field.homes ≡ region_count chart.cut
+  pub counted : (r : ℕ) → r < region_count chart.cut → claim_of chart field.words r ≡ holders field.views r
+  pub one : (r : ℕ) → holders field.views r ≤ 1
+  pub there : (view : View) (hold : Hold) → IsHeld field.views view hold → hold.region < region_count chart.cut
+  pub at_home : (r : ℕ) → r < region_count chart.cut → knowers field.views r ≡ 0 →
+      (region : RegionValue) × IsHome field.homes r region × Stands net chart start every r (step_of chart field.words r) region
+
+-- Steps. They are lawful, and none is before the start's. A view that knows a region's step knows what the region has
+-- published, and the neighbours that it has cleared stand at that step or past it.
+pub record Steps (net : Network) (chart : ChartLists) (start : StartLists) (field : FieldState) : Type 0 where
+  pub lawful : AreLawful net chart.cut (steps_of chart field.words)
+  pub started : (r : ℕ) → r < region_count chart.cut → slice_index start.steps r ≤ step_of chart field.words r
+  pub known : (view : View) (hold : Hold) → IsHeld field.views view hold → hold.known ≡ true →
+      step_of chart field.words hold.region ≡ (if hold.published then hold.step + 1 else hold.step)
+  pub around : (view : View) (hold : Hold) (q : ℕ) → IsHeld field.views view hold → hold.known ≡ true → Contains hold.cleared q →
+      are_neighbours net.connectors chart.cut hold.region q ≡ true
+  pub cleared : (view : View) (hold : Hold) (q : ℕ) → IsHeld field.views view hold → hold.known ≡ true → Contains hold.cleared q →
+      hold.step ≤ step_of chart field.words q
+
+-- Rows. A region's row of a step holds what its border cells hold at that step: for the step that it has published, and
+-- for the step before as long as a neighbour stands there. A view writes the words of the step to come once all neighbours
+-- are cleared, and publishes it when they are whole.
+pub record Rows (net : Network) (chart : ChartLists) (start : StartLists) (field : FieldState) : Type 0 where
+  pub now : (r j : ℕ) → r < region_count chart.cut → j < width_at (widths_of chart) r →
+      border_word chart field.words r (step_of chart field.words r) j ≡ grid_held net chart.cut start (step_of chart field.words r) (border_cell chart r j)
+  pub before : (r q t j : ℕ) → are_neighbours net.connectors chart.cut r q ≡ true → step_of chart field.words q ≡ t → step_of chart field.words r ≡ t + 1 →
+      j < width_at (widths_of chart) r → border_word chart field.words r t j ≡ grid_held net chart.cut start t (border_cell chart r j)
+  pub few : (view : View) (hold : Hold) → IsHeld field.views view hold → hold.known ≡ true → hold.written ≤ width_at (widths_of chart) hold.region
+  pub written : (view : View) (hold : Hold) (j : ℕ) → IsHeld field.views view hold → hold.known ≡ true → j < hold.written →
+      border_word chart field.words hold.region (hold.step + 1) j ≡ grid_held net chart.cut start (hold.step + 1) (border_cell chart hold.region j)
+  pub clear : (view : View) (hold : Hold) (q : ℕ) → IsHeld field.views view hold → hold.known ≡ true → (hold.written ≢ 0) ⊎ (hold.published ≡ true) →
+      are_neighbours net.connectors chart.cut hold.region q ≡ true → Contains hold.cleared q
+  pub whole : (view : View) (hold : Hold) → IsHeld field.views view hold → hold.known ≡ true → hold.published ≡ true → hold.written ≡ width_at (widths_of chart) hold.region
+
+-- how many steps all regions have made since their start
+abbrev pub steps_made : ChartLists → StartLists → (words : List ℕ) → ℕ
+steps_made chart start words = sum_by (λ r. step_of chart words r - slice_index start.steps r) (range_with_len 0 (region_count chart.cut))
+
+-- a view whose seat is spent holds nothing and has seen nothing
+pub record IsSpent (view : View) : Type 0 where
+  pub holds : view.holds ≡ []
+  pub seen : (r : ℕ) → slice_index view.seen r ≡ 0
+  pub moves : view.moves ≡ 0
+  pub reach : view.reach ≡ 0
+
+-- Counts. No view has seen more of a region than it has published. The shares are the field's seats, the moves of all views
+-- are the steps that were made, and no region stands past its start and past each view's reach.
+pub record Counts (terms : Terms) (chart : ChartLists) (start : StartLists) (seats : ℕ) (field : FieldState) : Type 0 where
+  pub lengths : (view : View) → Contains field.views view → view.share ≢ 0 → length view.seen ≡ region_count chart.cut
+  pub seen : (view : View) (r : ℕ) → Contains field.views view → r < region_count chart.cut → slice_index view.seen r ≤ step_of chart field.words r
+  pub shares : sum_by (λ view. view.share) field.views ≡ seats
+  pub spent : (view : View) → Contains field.views view → view.share ≡ 0 → IsSpent view
+  pub moves : sum_by (λ view. view.moves) field.views ≡ steps_made chart start field.words
+  pub reach : (r : ℕ) → r < region_count chart.cut → (step_of chart field.words r ≤ slice_index start.steps r) ⊎
+      ((view : View) × Contains field.views view × (step_of chart field.words r ≤ view.reach))
+  pub alike : (view : View) → Contains field.views view → view.share ≢ 0 → view.terms ≡ terms ∷ []
+
+-- the rule
+pub record IsStanding (terms : Terms) (field : FieldState) : Type 0 where
+  pub claims : Claims terms.net.now terms.chart.now terms.start.now terms.every field
+  pub steps : Steps terms.net.now terms.chart.now terms.start.now field
+  pub rows : Rows terms.net.now terms.chart.now terms.start.now field
+  pub counts : Counts terms terms.chart.now terms.start.now terms.seats field

@@ -1,0 +1,63 @@
+use network_file::Net;
+use region_cut::Chart;
+use region_step::Start;
+
+/// What a field was opened with, as its rule is told it once.
+#[derive(Clone, Copy)]
+pub struct Terms<'a> {
+    pub net: &'a Net,
+    pub chart: &'a Chart,
+    pub start: &'a Start,
+    /// Every how many steps regions are recorded.
+    pub every: u64,
+    /// How many seats there are in all.
+    pub seats: u64,
+}
+
+/// A region as a seat holds it. No value of it is made.
+pub struct Hold {
+    pub region: u64,
+    /// Whether the seat knows the step at which it took the region.
+    pub known: bool,
+    /// That step.
+    pub step: u64,
+    /// The neighbours that it has found at that step or past it.
+    pub cleared: [u64; 0],
+    /// How many border words of the step to come it has written.
+    pub written: u64,
+    /// Whether it has published the step to come.
+    pub published: bool,
+}
+
+/// A neighbour that was found a step lower than a region.
+pub struct Short {
+    pub region: u64,
+    pub neighbour: u64,
+    pub step: u64,
+}
+
+/// What a seat at a field knows, as contracts see it. No value of it is made, so its lists have no room.
+pub struct View<'a> {
+    /// What the field was opened with: one, and none for a seat that is spent.
+    pub terms: [Terms<'a>; 0],
+    /// Its part of the field's seats. One that has none is spent.
+    pub share: u64,
+    /// For each region a step that its word has reached.
+    pub seen: [u64; 0],
+    /// How many steps were published through it.
+    pub moves: u64,
+    /// No step published through it lies past this one.
+    pub reach: u64,
+    /// How many seats were shared off from it.
+    pub splits: u64,
+    /// For each region how often its claim word was found taken.
+    pub held_found: [u64; 0],
+    /// How often a neighbour was found a step lower.
+    pub short_found: u64,
+    /// The last such.
+    pub last_short: Short,
+    /// For each region how often its step word was looked at, by itself or when it was taken.
+    pub looks: [u64; 0],
+    /// The regions that it holds.
+    pub holds: [Hold; 0],
+}

@@ -1,0 +1,3 @@
+pub mod FieldView
+pub mod Opening
+pub mod Plays

@@ -1,0 +1,10 @@
+//! The shared field: regions that any thread may take, advance by a step and give back.
+#![tactic(auto)]
+
+mod field;
+mod look;
+mod plays;
+mod rule;
+mod steps;
+
+pub use field::{Field, Pass};
