@@ -1,3 +1,0 @@
-pub mod FieldView
-pub mod Opening
-pub mod Plays
