@@ -34,6 +34,7 @@ def test_help_has_examples(tool, words):
     (["build", EXAMPLES / "bottleneck.csv"], "bottleneck.csv"), (["run", EXAMPLES], "is a directory"),
     (["build", EXAMPLES / "bottleneck.toml", "-o", "none/x.csv"], "no such file"),
     (["plot", "delay", EXAMPLES / "bottleneck.report", "--network", EXAMPLES / "event.csv"], "other cells"),
+    (["table", EXAMPLES / "bottleneck.report", "--totals", "-o", "none/x.csv"], "no such file"),
     (["plot", "delay", EXAMPLES / "bottleneck.report", "--units", "none.units.json"], "no such file")],
     ids=lambda value: " ".join(map(str, value))[:40] if isinstance(value, list) else "")
 def test_errors_are_one_line(tool, words, told):

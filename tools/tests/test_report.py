@@ -70,6 +70,7 @@ def test_queues_that_meet_are_one(report):
     queue, = queues_of(report("event"))
     assert queue.origin == "stadium"
     assert [(other.cell, other.reach) for other in queue.others] == [("n20", pytest.approx(1.5))]
+    assert queue.reach == 0 and queue.longest_reach == pytest.approx(1.5)
 
 
 def test_a_queue_that_still_stands():

@@ -37,6 +37,11 @@ class Queue:
     most_at: int
     others: list = field(default_factory=list)
 
+    @property
+    def longest_reach(self):
+        """The farthest that it, or a part that began elsewhere and joined it, reached back, in the unit of `reach`."""
+        return max([self.reach, *(other.reach for other in self.others)])
+
 
 @dataclass
 class Place:
