@@ -78,6 +78,10 @@ def test_units_may_be_written(tmp_path):
     assert built(tmp_path, text).text.split("\n\n", 1)[1] == built(tmp_path, HEAD + ROAD).text.split("\n\n", 1)[1]
 
 
+def test_a_byte_order_mark_is_dropped(tmp_path):
+    assert built(tmp_path, "\ufeff" + HEAD + ROAD).text == built(tmp_path, HEAD + ROAD).text
+
+
 def test_a_time_between_steps_is_rounded(tmp_path):
     made = built(tmp_path, HEAD + ROAD.replace("1000", '[["06:00:04", "06:30:06", 360]]'))
     assert records(made, "demand") == ["demand,g,0,181,1"]
@@ -190,6 +194,11 @@ MISTAKES = {
     "no counts": (HEAD + ROAD.replace("1000", '{ counts = "none.csv", column = "g" }'), "none.csv: no such file"),
     "two names that meet": (HEAD + ROAD + "[roads.m1]\nlength = 1\nlanes = 1\ncells = \"m\"\n[roads.m0]\nlength = 0.25\n"
                             "lanes = 1\n[exits.m2]\nfrom = \"m0\"\n", "would be named m2"),
+    "no number": (HEAD + ROAD.replace("length = 1", "length = nan"), "roads.m.length: expected a number, found nan"),
+    "a table for a list of tables": (CLOSURE.replace("[[closures]]", "[closures]"), "closures: expected a list of tables, "
+                                     "found one table; head it [[closures]]"),
+    "a title in two lines": ("title = \"a\\nb\"\n" + HEAD + ROAD, "title: expected a text in one line"),
+    "a key twice": (HEAD.replace("step = 10", "step = 10\nstep = 5") + ROAD, "It stands above already"),
     "a demand too great": (HEAD + ROAD.replace("1000", '"99999999 vehicles/s"'), "OutOfRange"),
 }
 
