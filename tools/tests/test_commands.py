@@ -102,6 +102,12 @@ def test_pictures_by_their_options(tool, reports):
     assert open("a.svg").read().count("vehicles/km")
 
 
+@pytest.mark.parametrize("words", [["--from", "12:00"], ["--until", "12:00"], ["--from", "08:00", "--until", "07:00"]])
+def test_times_outside_the_report(tool, reports, words):
+    status, out, err = tool("plot", "queue", reports("interchange"), *words)
+    assert status == 2 and "expected times from 06:00 to 10:00" in err
+
+
 def test_pictures_without_units(tool, reports, tmp_path):
     source = reports("interchange")
     for ending in (".csv", ".report"):
