@@ -154,6 +154,18 @@ def test_counts_from_a_file(tmp_path):
     assert records(built(tmp_path, text), "demand") == ["demand,g,0,90,0.083333", "demand,g,180,360,0.008333"]
 
 
+def test_counts_of_a_whole_day(tmp_path):
+    (tmp_path / "counts.csv").write_text("time,n\n00:00,1\n05:50,20\n06:10,60\n06:30,30\n23:40,4\n")
+    text = HEAD + ROAD.replace("1000", '{ counts = "counts.csv", column = "n", interval = "20 min" }')
+    assert records(built(tmp_path, text), "demand") == ["demand,g,0,60,0.166667", "demand,g,60,180,0.5",
+                                                        "demand,g,180,300,0.25"]
+    (tmp_path / "counts.csv").write_text("time,n\n23:30,9\n00:00,9\n06:00,180\n12:00,9\n")
+    assert records(built(tmp_path, text.replace(', interval = "20 min"', "")), "demand") == ["demand,g,0,360,0.083333"]
+    (tmp_path / "counts.csv").write_text("time,n\n06:30,9\n06:00,180\n")
+    with pytest.raises(Problem, match="line 2, time: the times must rise"):
+        built(tmp_path, text.replace(', interval = "20 min"', ""))
+
+
 def test_points_and_places_are_kept(tmp_path):
     made = built(tmp_path, HEAD + ROAD.replace("lanes = 2", "lanes = 2\npoints = [[0, 0], [1, 1.5]]"))
     assert made.units.points == {"m": [[0.0, 0.0], [1.0, 1.5]]}
