@@ -207,8 +207,8 @@ MISTAKES = {
     "two names that meet": (HEAD + ROAD + "[roads.m1]\nlength = 1\nlanes = 1\ncells = \"m\"\n[roads.m0]\nlength = 0.25\n"
                             "lanes = 1\n[exits.m2]\nfrom = \"m0\"\n", "would be named m2"),
     "no number": (HEAD + ROAD.replace("length = 1", "length = nan"), "roads.m.length: expected a number, found nan"),
-    "a table for a list of tables": (CLOSURE.replace("[[closures]]", "[closures]"), "closures: expected a list of tables, "
-                                     "found one table; head it [[closures]]"),
+    "a table for a list of tables": (CLOSURE.replace("[[closures]]", "[closures]"),
+                                     "closures: expected a list of tables, found one table; head it [[closures]]"),
     "a title in two lines": ("title = \"a\\nb\"\n" + HEAD + ROAD, "title: expected a text in one line"),
     "a key twice": (HEAD.replace("step = 10", "step = 10\nstep = 5") + ROAD, "It stands above already"),
     "a demand too great": (HEAD + ROAD.replace("1000", '"99999999 vehicles/s"'), "OutOfRange"),
