@@ -34,6 +34,7 @@ def test_help_has_examples(tool, words):
     (["build", EXAMPLES / "bottleneck.csv"], "bottleneck.csv"), (["run", EXAMPLES], "is a directory"),
     (["build", EXAMPLES / "bottleneck.toml", "-o", "none/x.csv"], "no such file"),
     (["plot", "delay", EXAMPLES / "bottleneck.report", "--network", EXAMPLES / "event.csv"], "other cells"),
+    (["table", EXAMPLES / "bottleneck.report", "--totals", "-o", "none/x.csv"], "no such file"),
     (["plot", "delay", EXAMPLES / "bottleneck.report", "--units", "none.units.json"], "no such file")],
     ids=lambda value: " ".join(map(str, value))[:40] if isinstance(value, list) else "")
 def test_errors_are_one_line(tool, words, told):
@@ -99,6 +100,12 @@ def test_pictures_by_their_options(tool, reports):
         status, out, err = tool("plot", *words)
         assert status == 0, err
     assert open("a.svg").read().count("vehicles/km")
+
+
+@pytest.mark.parametrize("words", [["--from", "12:00"], ["--until", "12:00"], ["--from", "08:00", "--until", "07:00"]])
+def test_times_outside_the_report(tool, reports, words):
+    status, out, err = tool("plot", "queue", reports("interchange"), *words)
+    assert status == 2 and "expected times from 06:00 to 10:00" in err
 
 
 def test_pictures_without_units(tool, reports, tmp_path):

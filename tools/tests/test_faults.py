@@ -48,6 +48,8 @@ SLIPS = {
     "two decimal commas": (HEAD + "road,c,7,5,2,5,1,5,0\n", "line 7", "decimal comma"),
     "a decimal comma in quotes": (HEAD + 'demand,on,0,9,"6,5"\n', "field 5 (amount)", "Write 6.5"),
     "semicolons below": (HEAD + "link;on;m01\n", "line 7", "Semicolons"),
+    "a semicolon below": (HEAD + "steps;9\n", "line 7", "Semicolons"),
+    "a quote that isn't closed": (HEAD + 'link,"on,m01\nsteps,9\n', "line 7", "A quote isn't closed"),
     "tabs below": (HEAD + "link\ton\tm01\n", "line 7", "Tabs"),
     "a name that nearly exists": (HEAD + "link,on,m1\n", "field 3 (cell downstream), `m1`", "m01"),
     "a letter for a digit": (HEAD + "link,on,m0l\n", "field 3", "Is m01 meant?"),

@@ -46,6 +46,20 @@ def test_states_of_sparse_records_keep_the_flow(reports, tmp_path):
     assert places_of(queues_of(sparse))[0].origin == "r2"
 
 
+def test_platoons_in_free_flow_are_no_queue():
+    import plain_model
+    from ctmtools.network_file.network import network_of
+
+    roads = [f"c{i:02d}" for i in range(40)]
+    links = zip(["g", *roads], [*roads, "x"])
+    text = ("ctm,1\nsteps,200\ngate,g,9,0\nexit,x,9\n" + "".join(f"road,{name},60,9,1,5,0\n" for name in roads) +
+            "".join(f"link,{up},{down}\n" for up, down in links) +
+            "".join(f"demand,g,{step},{step + 3},6\n" for step in range(0, 200, 10))).encode()
+    made = report_of(plain_model.report(text, 10))
+    made.network = network_of(text)
+    assert made.total.delay == 0 and queues_of(made) == []
+
+
 def test_the_queue_of_a_lane_drop(report):
     queue, = queues_of(report("bottleneck"))
     units = report("bottleneck").units
@@ -70,6 +84,7 @@ def test_queues_that_meet_are_one(report):
     queue, = queues_of(report("event"))
     assert queue.origin == "stadium"
     assert [(other.cell, other.reach) for other in queue.others] == [("n20", pytest.approx(1.5))]
+    assert queue.reach == 0 and queue.longest_reach == pytest.approx(1.5)
 
 
 def test_a_queue_that_still_stands():

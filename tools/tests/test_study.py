@@ -78,6 +78,10 @@ def test_units_may_be_written(tmp_path):
     assert built(tmp_path, text).text.split("\n\n", 1)[1] == built(tmp_path, HEAD + ROAD).text.split("\n\n", 1)[1]
 
 
+def test_a_byte_order_mark_is_dropped(tmp_path):
+    assert built(tmp_path, "\ufeff" + HEAD + ROAD).text == built(tmp_path, HEAD + ROAD).text
+
+
 def test_a_time_between_steps_is_rounded(tmp_path):
     made = built(tmp_path, HEAD + ROAD.replace("1000", '[["06:00:04", "06:30:06", 360]]'))
     assert records(made, "demand") == ["demand,g,0,181,1"]
@@ -150,6 +154,18 @@ def test_counts_from_a_file(tmp_path):
     assert records(built(tmp_path, text), "demand") == ["demand,g,0,90,0.083333", "demand,g,180,360,0.008333"]
 
 
+def test_counts_of_a_whole_day(tmp_path):
+    (tmp_path / "counts.csv").write_text("time,n\n00:00,1\n05:50,20\n06:10,60\n06:30,30\n23:40,4\n")
+    text = HEAD + ROAD.replace("1000", '{ counts = "counts.csv", column = "n", interval = "20 min" }')
+    assert records(built(tmp_path, text), "demand") == ["demand,g,0,60,0.166667", "demand,g,60,180,0.5",
+                                                        "demand,g,180,300,0.25"]
+    (tmp_path / "counts.csv").write_text("time,n\n23:30,9\n00:00,9\n06:00,180\n12:00,9\n")
+    assert records(built(tmp_path, text.replace(', interval = "20 min"', "")), "demand") == ["demand,g,0,360,0.083333"]
+    (tmp_path / "counts.csv").write_text("time,n\n06:30,9\n06:00,180\n")
+    with pytest.raises(Problem, match="line 2, time: the times must rise"):
+        built(tmp_path, text.replace(', interval = "20 min"', ""))
+
+
 def test_points_and_places_are_kept(tmp_path):
     made = built(tmp_path, HEAD + ROAD.replace("lanes = 2", "lanes = 2\npoints = [[0, 0], [1, 1.5]]"))
     assert made.units.points == {"m": [[0.0, 0.0], [1.0, 1.5]]}
@@ -190,6 +206,11 @@ MISTAKES = {
     "no counts": (HEAD + ROAD.replace("1000", '{ counts = "none.csv", column = "g" }'), "none.csv: no such file"),
     "two names that meet": (HEAD + ROAD + "[roads.m1]\nlength = 1\nlanes = 1\ncells = \"m\"\n[roads.m0]\nlength = 0.25\n"
                             "lanes = 1\n[exits.m2]\nfrom = \"m0\"\n", "would be named m2"),
+    "no number": (HEAD + ROAD.replace("length = 1", "length = nan"), "roads.m.length: expected a number, found nan"),
+    "a table for a list of tables": (CLOSURE.replace("[[closures]]", "[closures]"),
+                                     "closures: expected a list of tables, found one table; head it [[closures]]"),
+    "a title in two lines": ("title = \"a\\nb\"\n" + HEAD + ROAD, "title: expected a text in one line"),
+    "a key twice": (HEAD.replace("step = 10", "step = 10\nstep = 5") + ROAD, "It stands above already"),
     "a demand too great": (HEAD + ROAD.replace("1000", '"99999999 vehicles/s"'), "OutOfRange"),
 }
 

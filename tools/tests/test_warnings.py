@@ -47,6 +47,11 @@ def test_the_examples_give_no_warning(path):
     assert warnings_of(read_network(path)) == []
 
 
+def test_an_amount_is_told_with_the_step_that_is_known():
+    text = HEAD + LINKS + DEMAND.replace(",6", ",3600")
+    assert "with the step of 5 s, 3600 vehicles/h are 5." in shortened(warnings_of(network_of(text.encode()), 5))[0]
+
+
 def test_many_warnings_of_a_kind_are_counted():
     text = HEAD + LINKS + DEMAND + "".join(f"road,x{i},108,18,1,5,0\n" for i in range(9))
     lines = shortened(warnings_of(network_of(text.encode())))

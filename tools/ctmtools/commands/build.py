@@ -59,5 +59,5 @@ def told(built, target):
         yield f"  rounded by a millionth or less: {tiny[0]}{f', and {len(tiny) - 1} more' if len(tiny) > 1 else ''}"
     if not differing:
         yield "  All flows, times, places and shares are modelled as asked."
-    for line in shortened(warnings_of(network_of(built.text.encode()))):
+    for line in shortened(warnings_of(network_of(built.text.encode()), units.step)):
         yield f"  warning: {line}"

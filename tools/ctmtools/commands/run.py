@@ -49,7 +49,7 @@ def command(source, output, every, workers):
     report.name = str(target)
     for line in page(report):
         click.echo(line)
-    for line in shortened(warnings_of(report.network)):
+    for line in shortened(warnings_of(report.network, units.step)):
         click.echo(f"Warning: {network}: {line}")
     click.echo(f"\nReport {target}{_recorded(report)}, units {units_path(target)}, network {network}")
 

@@ -26,8 +26,8 @@ FROM:TO:STEP, both ends included, or VALUE,VALUE,.. and are in the key's unit.
 
 The rows are kept in FOLDER/results.csv as they come. Called again after it was stopped, a sweep does what is missing
 and tries again what failed. With --dask the runs are given to the cluster whose scheduler has that address; its
-machines need Debian's python3-distributed, python3-pandas, python3-networkx and python3-click, and the program at the path that
-it has here."""
+machines need Debian's python3-distributed, python3-pandas, python3-networkx and python3-click, and the program at the
+path that it has here."""
 
 
 @click.command(epilog=EPILOG)
@@ -108,28 +108,32 @@ def _do(tasks, marks, results, jobs, address):
 def _tell(frame, keys, rows, folder, drawn, task):
     """Prints the best rows, and writes the table and the plot."""
     title = study(Task(task.values, task.path, {}, task.program)).title
+    same = frame.rounded.iloc[0] if len(frame) > 1 and frame.rounded.nunique() == 1 else ""
     lines = [(*keys, "delay (vehicle-hours)", "longest queue (km)", "most waiting", "served", "inside", "")]
     for _, row in frame.head(rows).iterrows():
         figures = ("",) * 5 if row.error else (told(row.delay_vehicle_hours), kilometre(row.longest_queue_km),
                                                f"{row.most_waiting_vehicles:,.0f}", told(row.served_vehicles),
                                                told(row.inside_vehicles))
-        lines.append((*(shown(row[key]) for key in keys), *figures, _remark(row)))
+        lines.append((*(shown(row[key]) for key in keys), *figures, _remark(row, same)))
     click.echo("\n".join(table(lines, right=range(len(keys) + 5))))
     if len(frame) > rows:
         click.echo(f"  and {len(frame) - rows} more rows")
+    if same:
+        click.echo(f"  Rounded in each of them: {same}")
     path = folder / "table.csv"
     frame.drop(columns="fingerprint").to_csv(path, index=False, float_format="%.6f")
     picture = folder / "plot.png"
     failures = int((frame.error != "").sum())
     if failures:
         click.echo(f"{failures} of {len(frame)} runs failed; the same call tries them again")
-    if failures < len(frame):
-        from ..plots.sweep import draw
+    if failures == len(frame):
+        raise Problem(f"no run of the sweep succeeded; the first: {frame.error.iloc[0]}")
+    from ..plots.sweep import draw
 
-        draw(frame, drawn, title, picture)
-        click.echo(f"\n{path}, {picture}")
+    draw(frame, drawn, title, picture)
+    click.echo(f"\n{path}, {picture}")
 
 
-def _remark(row):
-    """What stands behind the figures of a row: why it failed, or what was rounded."""
-    return f"failed: {row.error}" if row.error else f"rounded: {row.rounded}" if row.rounded else ""
+def _remark(row, same):
+    """What stands behind the figures of a row: why it failed, or what was rounded, where that isn't so in all rows."""
+    return f"failed: {row.error}" if row.error else f"rounded: {row.rounded}" if row.rounded not in ("", same) else ""

@@ -1,6 +1,7 @@
 """ctm-tools table"""
 
 import sys
+from contextlib import nullcontext
 
 import click
 
@@ -40,8 +41,8 @@ def command(report, output, ends, cells, separator, decimal, units, network):
     if len(separator) != 1 or len(decimal) != 1 or separator == decimal:
         raise click.UsageError("the separator and the decimal sign are one character each, and differ")
     try:
-        frame.to_csv(output or sys.stdout, sep=separator, decimal=decimal, index=False, float_format="%.9g",
-                     lineterminator="\n")
+        with open(output, "w", newline="", encoding="utf-8") if output else nullcontext(sys.stdout) as file:
+            frame.to_csv(file, sep=separator, decimal=decimal, index=False, float_format="%.9g", lineterminator="\n")
     except BrokenPipeError:
         raise
     except OSError as error:

@@ -84,7 +84,7 @@ def _kind_hint(content, records, record, fault):
         return ("A comment that ends the file needs a line end." if len(record.fields) == 1
                 else "An empty row of commas, as Excel writes it; take it away.")
     for sign, name in ((";", "Semicolons"), ("\t", "Tabs")):
-        if joined.count(sign) > 1 and joined.split(sign)[0] in FIELDS:
+        if sign in joined and joined.split(sign)[0] in FIELDS:
             return f"{name} stand between the fields; put commas there."
     if kind.strip().startswith("#"):
         return "A comment begins with # as the first byte of its line, without a space before it."
@@ -113,6 +113,8 @@ def _count_hint(content, records, record, fault):
     for sign, name in ((";", "Semicolons"), ("\t", "Tabs")):
         if any(sign in field for field in fields):
             return f"{name} stand between the fields; put commas there."
+    if fault.record == len(records) and "\n" in fields[-1]:
+        return "A quote isn't closed, so all that is behind it is one field; close it or take it away."
     missing = [term.name for term in FIELDS[record.kind][len(fields) - 1:]]
     return f"Missing at the end: {', '.join(missing)}." if missing else ""
 

@@ -1,10 +1,12 @@
 """What no refusal covers, and what an engineer would still want to know of a network."""
 
 from dataclasses import dataclass
+from functools import partial
 
 from ..amounts import PARTS, parts_of
 
 FAR_ABOVE = 2  # a demand is far above a gate's capacity from this many times it on
+SUPPOSED_STEP = 10  # seconds, in a warning's example where the step isn't known
 MOST_OF_A_KIND = 5  # of each kind of warning so many are told, and the others counted
 
 
@@ -17,11 +19,14 @@ class Warning:
     text: str
 
 
-def warnings_of(network):
-    """The warnings of a network without a fault, in the order of the file's lines within each kind."""
+def warnings_of(network, step=None):
+    """The warnings of a network without a fault, in the order of the file's lines within each kind.
+
+    `step` is the length of a step in seconds, where it is known.
+    """
     found = []
-    for check in (_dead_ends, _unreached, _gates_without_demand, _high_demands, _late_demands, _twice, _overlapping,
-                  _short_of_capacity, _never_green):
+    for check in (_dead_ends, _unreached, _gates_without_demand, partial(_high_demands, step=step), _late_demands,
+                  _twice, _overlapping, _short_of_capacity, _never_green):
         found += sorted(check(network), key=lambda warning: warning.line)
     return found
 
@@ -99,8 +104,10 @@ def _gates_without_demand(network):
             yield Warning("gates without demand", _line(network, cell), f"the gate {cell} has no demand: nobody comes")
 
 
-def _high_demands(network):
+def _high_demands(network, step):
     """Demands far above the greatest capacity that their gates ever have."""
+    seconds = step or SUPPOSED_STEP
+    told = f"with {'the' if step else 'a'} step of {seconds:g} s"
     most = network.cells.Q.astype(float).to_dict()
     for row in network.limits.itertuples():
         most[row.cell] = max(most[row.cell], row.Q)
@@ -108,8 +115,8 @@ def _high_demands(network):
         if row.amount > FAR_ABOVE * most[row.gate]:
             yield Warning("demands far above a gate's capacity", network.line(row.record),
                           f"the demand of {row.amount:g} in a step is far above the gate {row.gate}'s Q of "
-                          f"{most[row.gate]:g}. A demand is vehicles in a step; with a step of 10 s, "
-                          f"{row.amount:g} vehicles/h are {row.amount / 360:.6g}.")
+                          f"{most[row.gate]:g}. A demand is vehicles in a step; {told}, {row.amount:g} vehicles/h "
+                          f"are {row.amount * seconds / 3600:.6g}.")
 
 
 def _late_demands(network):

@@ -4,7 +4,7 @@ import numpy
 
 from ..problem import Problem
 from ..report.routes import main_route
-from .figure import drawing, figure, moments, save, span_of, style, target, time_axis
+from .figure import drawing, figure, head, moments, save, span_of, style, target, time_axis
 
 
 @drawing
@@ -36,7 +36,7 @@ def draw(report, output=None, cells=(), background=None, shifted=False, begin=No
     axes.set_ylabel("Vehicles in all" if background is None else f"Vehicles in all less {background:g} vehicles/h")
     if background is None:
         axes.set_ylim(bottom=0)
-    axes.set_title(f"{report.title}: cumulative curves" + (", shifted by the free-flow time" if shifted else ""))
+    head(axes, f"{report.title}: cumulative curves" + (", shifted by the free-flow time" if shifted else ""))
     axes.legend(loc="best")
     save(drawn, path)
     return path

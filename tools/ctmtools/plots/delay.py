@@ -2,7 +2,7 @@
 
 import numpy
 
-from .figure import drawing, figure, save, target
+from .figure import drawing, figure, head, save, target
 
 MOST_BARS = 150
 MOST_NAMES = 40  # cells that are named on the axis
@@ -35,7 +35,7 @@ def draw(report, output=None):
     axes.grid(False, axis="x")
     axes.set_xlim(-1, place - ROOM)
     axes.set_ylabel(f"Delay ({units.delay_unit})")
-    axes.set_title(f"{report.title}: delay by cell, {delay.sum():,.1f} {units.delay_unit} in all")
+    head(axes, f"{report.title}: delay by cell, {delay.sum():,.1f} {units.delay_unit} in all")
     save(drawn, path)
     return path
 

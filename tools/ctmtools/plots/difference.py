@@ -1,12 +1,14 @@
 """The difference of two reports as a time-space diagram: density of the second less that of the first."""
 
+from pathlib import Path
+
 import numpy
 from matplotlib.lines import Line2D
 
 from ..problem import Problem
 from ..report.queues import queues_of, standing
 from ..report.routes import kilometres, route_of
-from .figure import RISE, drawing, figure, legend_below, moments, save, target, time_axis
+from .figure import RISE, drawing, figure, head, legend_below, moments, save, target, time_axis
 from .roadside import draw_junctions
 from .time_space import outline
 
@@ -41,7 +43,7 @@ def draw(first, second, output, road=None):
     axes.set_ylim(bounds[0], bounds[-1])
     time_axis(axes, second, 0, ends[-1])
     axes.set_ylabel("Place, direction of travel upward (km)" if known else "Cell, direction of travel upward")
-    axes.set_title(f"Density: “{second.title}” less “{first.title}”")
+    head(axes, "Density: “{1}” less “{0}”".format(*_names(first, second)))
     bar = drawn.colorbar(mesh, ax=axes, pad=0.02)
     bar.set_label("Rise of density (vehicles/km)" if known else "Rise of density (vehicles in a cell)")
     bar.outline.set_visible(False)
@@ -51,14 +53,20 @@ def draw(first, second, output, road=None):
     return path
 
 
+def _names(first, second):
+    """What two reports are called: their titles, or where these are the same their files' names."""
+    titles = first.title, second.title
+    return titles if titles[0] != titles[1] else (Path(first.name).stem, Path(second.name).stem)
+
+
 def _outlines(axes, first, second, cells, bounds):
     """Outlines the queues of both reports, where they are few, and gives what the legend says of them."""
     handles = []
-    for report, (dashes, shade) in zip((first, second), LOOKS):
+    for report, name, (dashes, shade) in zip((first, second), _names(first, second), LOOKS):
         if report.network is None or len(queues_of(report)) > MOST_OUTLINED:
             continue
         if not standing(report)[cells].to_numpy().any():
             continue
         outline(axes, report, cells, bounds, linewidths=1.0, linestyles=[dashes], colors=shade)
-        handles.append(Line2D([], [], linewidth=1.0, linestyle=dashes, color=shade, label=f"queue, {report.title}"))
+        handles.append(Line2D([], [], linewidth=1.0, linestyle=dashes, color=shade, label=f"queue, {name}"))
     return handles

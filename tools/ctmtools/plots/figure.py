@@ -2,6 +2,7 @@
 
 from functools import wraps
 from pathlib import Path
+from textwrap import wrap
 
 from matplotlib import rc_context
 from matplotlib.colors import LinearSegmentedColormap
@@ -23,6 +24,7 @@ DENSITY = "magma_r"  # darker is denser, in grey too
 RISE = LinearSegmentedColormap.from_list("rise", ["#3f8fc9", "#9cc9e8", "#ffffff", "#e58a3a", "#4d1400"])
 DOTS = 120  # an inch
 LETTERS = 115  # of a legend in a row
+LETTERS_IN_TITLE = 85  # in a line
 SPANS = (10, 20, 30, 60, 120, 300, 600, 900, 1200, 1800, 3600, 7200, 10800, 14400, 21600, 43200, 86400)  # seconds
 ENDINGS = (".png", ".svg", ".pdf")
 
@@ -41,6 +43,11 @@ def figure(rows=1, size=(8, 4.3), **named):
     drawn = Figure(figsize=size, dpi=DOTS)
     axes = drawn.subplots(rows, 1, squeeze=False, **named)[:, 0]
     return drawn, axes[0] if rows == 1 else axes
+
+
+def head(axes, text):
+    """Puts a title over axes, in as many lines as it needs."""
+    axes.set_title("\n".join(wrap(text, LETTERS_IN_TITLE)))
 
 
 def target(report, kind, output):
@@ -80,7 +87,13 @@ def time_axis(axes, report, begin=None, end=None):
 
 def span_of(report, begin, end):
     """The steps of a part of the time that is asked for by clock times, or by steps where the units aren't known."""
-    return (0 if begin is None else moment(report, begin)), (report.steps if end is None else moment(report, end))
+    first = 0 if begin is None else moment(report, begin)
+    last = report.steps if end is None else moment(report, end)
+    if not 0 <= first < last <= report.steps:
+        shown = report.units.clock if report.units.known else str
+        raise Problem(f"--from and --until: expected times from {shown(0)} to {shown(report.steps)}, the first before "
+                      "the last")
+    return first, last
 
 
 def moment(report, text):

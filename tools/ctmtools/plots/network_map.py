@@ -4,7 +4,7 @@ import numpy
 from matplotlib.collections import LineCollection
 from matplotlib.patheffects import withStroke
 
-from .figure import DENSITY, drawing, figure, save, target
+from .figure import DENSITY, drawing, figure, head, save, target
 from .layout import lay_out
 
 LEAST_WIDTH, MOST_WIDTH = 1.5, 9.0
@@ -39,8 +39,8 @@ def draw(report, output=None):
     bar = drawn.colorbar(body, ax=axes, orientation="horizontal", shrink=0.6, aspect=40, pad=0.03)
     bar.set_label(f"Delay ({units.delay_unit} for each km)" if units.known else "Delay (vehicle-steps in a cell)")
     bar.outline.set_visible(False)
-    axes.set_title(f"{report.title}: {delay.sum():,.1f} {units.delay_unit} of delay" +
-                   ("" if units.points else ", schematic"))
+    head(axes, f"{report.title}: {delay.sum():,.1f} {units.delay_unit} of delay" +
+         ("" if units.points else ", schematic"))
     save(drawn, path)
     return path
 

@@ -5,7 +5,7 @@ import numpy
 from ..problem import Problem
 from ..report.queues import SLOW, lengths, standing, waiting
 from ..report.routes import main_route
-from .figure import drawing, figure, moments, save, span_of, style, target, time_axis
+from .figure import drawing, figure, head, moments, save, span_of, style, target, time_axis
 
 MOST_LINES = 5
 
@@ -30,7 +30,7 @@ def draw(report, output=None, roads=(), begin=None, until=None):
         _stairs(lower, times, waiting(report, cells), {**look, "label": name})
     upper.set_ylabel("Length of queues (km)" if report.units.known else "Length of queues (cells)")
     lower.set_ylabel("Vehicles that wait")
-    upper.set_title(f"{report.title}: queues")
+    head(upper, f"{report.title}: queues")
     for one in (upper, lower):
         one.set_ylim(bottom=0)
     if line > 1:

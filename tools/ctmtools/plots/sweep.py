@@ -3,7 +3,7 @@
 import numpy
 import pandas
 
-from .figure import DENSITY, drawing, figure, save, style
+from .figure import DENSITY, drawing, figure, head, save, style
 
 UNITS = {"offset": "s", "first_green": "s", "cycle": "s", "green": "s", "step": "s", "length": "km", "from": "km",
          "to": "km", "at": "km",
@@ -33,7 +33,7 @@ def _lines(frame, key, title):
                  markersize=4, **style(0))
         one.set_ylabel(NAMES[name])
         one.set_ylim(bottom=0)
-    axes[0].set_title(f"{title}: over {key}")
+    head(axes[0], f"{title}: over {key}")
     axes[1].set_xlabel(_axis(key))
     return drawn
 
@@ -55,7 +55,7 @@ def _shades(frame, keys, title):
     axes.grid(False)
     axes.set_xlabel(_axis(across))
     axes.set_ylabel(_axis(down))
-    axes.set_title(f"{title}: delay over {down} and {across}")
+    head(axes, f"{title}: delay over {down} and {across}")
     bar = drawn.colorbar(mesh, ax=axes, pad=0.02)
     bar.set_label(NAMES["delay_vehicle_hours"])
     bar.outline.set_visible(False)

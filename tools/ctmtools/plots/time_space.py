@@ -7,7 +7,7 @@ from matplotlib.patches import Patch
 
 from ..report.queues import SLOW, standing
 from ..report.routes import kilometres, route_of
-from .figure import DENSITY, drawing, figure, legend_below, moments, save, span_of, target, time_axis
+from .figure import DENSITY, drawing, figure, head, legend_below, moments, save, span_of, target, time_axis
 from .lines import draw_lines
 from .roadside import draw_junctions, draw_limits, draw_signals
 
@@ -65,4 +65,4 @@ def finish(axes, report, cells, bounds, known, first, last):
         axes.set_ylabel(f"Road {' + '.join(roads)} (km), direction of travel upward")
     else:
         axes.set_ylabel(f"Cells {cells[0]} to {cells[-1]}, direction of travel upward")
-    axes.set_title(f"{report.title}: density over time and place")
+    head(axes, f"{report.title}: density over time and place")

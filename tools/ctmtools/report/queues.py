@@ -37,6 +37,11 @@ class Queue:
     most_at: int
     others: list = field(default_factory=list)
 
+    @property
+    def longest_reach(self):
+        """The farthest that it, or a part that began elsewhere and joined it, reached back, in the unit of `reach`."""
+        return max([self.reach, *(other.reach for other in self.others)])
+
 
 @dataclass
 class Place:
@@ -63,11 +68,16 @@ class Place:
 
 
 def standing(report):
-    """Whether each cell stands in a queue, from each recorded step to the next: a frame of truth values."""
+    """Whether each cell stands in a queue, from each recorded step to the next: a frame of truth values.
+
+    A cell that has waited for less than one such step makes it never did, though means over several steps may look so
+    where vehicles come in platoons.
+    """
     held, flow = report.held, report.flow
     frame = (held >= LEAST) & (flow < SLOW * held)
-    kinds = report.need_network().kinds
-    frame.loc[:, [cell for cell in frame.columns if kinds[cell] == "exit"]] = False
+    kinds, waited = report.need_network().kinds, report.cells.wait
+    never = [cell for cell in frame.columns if kinds[cell] == "exit" or waited[cell] < (1 - SLOW) * LEAST]
+    frame.loc[:, never] = False
     return frame
 
 

@@ -52,7 +52,7 @@ class ByTime:
         first = self.junctions.boundary(closure.road, closure.start_km, f"{closure.place}, from")
         to = self.study.roads[closure.road].length if closure.end_km is None else closure.end_km
         if to <= closure.start_km:
-            raise Problem(f"{closure.place}.to: isn't behind from")
+            raise Problem(f"{closure.place}.to: must be behind from")
         last = self.junctions.boundary(closure.road, to, f"{closure.place}, to")
         first = min(first, len(cells) - 1)
         begin, end = self.scale.span(closure.place, closure.start, closure.end)

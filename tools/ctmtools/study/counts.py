@@ -5,6 +5,7 @@ from fractions import Fraction
 
 from ..network_file.network import read_bytes
 from ..problem import Problem
+from ..units import DAY
 from .plan import Flow
 from .quantities import duration, word
 
@@ -16,7 +17,7 @@ def flows_of_counts(table, times):
 
     The file has a row of column names. `time` names the column with the clock time at which each interval begins,
     `column` that with the counts. An interval lasts to the next row's time, the last as long as the one before it,
-    where `interval` doesn't say another length. Those that begin outside the study's time are left out. `per` is
+    where `interval` doesn't say another length. Those that lie outside the study's time are left out. `per` is
     "interval" for counted vehicles or "hour" for vehicles/h.
     """
     name = table.take("counts", word)
@@ -36,8 +37,11 @@ def flows_of_counts(table, times):
     for i, (line, row) in enumerate(rows):
         lasting = interval or _interval(begins, i, f"{path}: line {line}, {time_column}")
         counted = _count(row[column], decimal, f"{path}: line {line}, {column}")
+        flow = counted if per == "hour" else counted * HOUR / lasting
         if begins[i] < times.duration:
-            flows.append(Flow(begins[i], begins[i] + lasting, counted if per == "hour" else counted * HOUR / lasting))
+            flows.append(Flow(begins[i], begins[i] + lasting, flow))
+        elif begins[i] + lasting > DAY:  # it begins before the study and reaches into it
+            flows.append(Flow(Fraction(0), begins[i] + lasting - DAY, flow))
     return flows
 
 
@@ -63,9 +67,10 @@ def _interval(begins, i, key):
     """The seconds from a row's time to the next one's, for the last row those of the one before."""
     if len(begins) == 1:
         raise Problem(f"{key}: with one row alone, say interval in the study")
-    lasting = begins[i + 1] - begins[i] if i + 1 < len(begins) else begins[i] - begins[i - 1]
-    if lasting <= 0:
-        raise Problem(f"{key}: the times rise from row to row")
+    i = min(i, len(begins) - 2)
+    lasting = (begins[i + 1] - begins[i]) % DAY  # over the study's start too, behind which a day begins anew
+    if not 0 < lasting <= DAY / 2:
+        raise Problem(f"{key}: the times must rise from row to row, by at most 12 h")
     return lasting
 
 

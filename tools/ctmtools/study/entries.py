@@ -42,7 +42,7 @@ class Entries:
 
     def list(self, name):
         """The tables of an array of tables."""
-        values = self.take(name, _list, [])
+        values = self.take(name, _list_of_tables, [])
         return [Entries(value, f"{self.key(name)}[{i}]") for i, value in enumerate(values, 1)]
 
     def done(self):
@@ -58,6 +58,13 @@ def _list(value, key):
     if not isinstance(value, list):
         raise Problem(f"{key}: expected a list, found {shown(value)}")
     return value
+
+
+def _list_of_tables(value, key):
+    if isinstance(value, dict):
+        hint = "" if "[" in key else f"; head it [[{key}]]"
+        raise Problem(f"{key}: expected a list of tables, found one table{hint}")
+    return _list(value, key)
 
 
 def list_of(read, count=None):

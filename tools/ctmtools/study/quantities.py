@@ -2,6 +2,7 @@
 
 import datetime
 import re
+import unicodedata
 from fractions import Fraction
 
 from ..problem import Problem
@@ -20,7 +21,7 @@ CLOCK = re.compile(r"([0-9]{1,2}):([0-9]{2})(?::([0-9]{2}(?:\.[0-9]+)?))?")
 
 def number(value, key):
     """The exact fraction of a number of the study file."""
-    if isinstance(value, bool) or not isinstance(value, (int, float, Fraction)):
+    if isinstance(value, bool) or not isinstance(value, (int, Fraction)):
         raise Problem(f"{key}: expected a number, found {shown(value)}")
     return Fraction(value)
 
@@ -76,8 +77,20 @@ def word(value, key):
     return value
 
 
+def title(value, key):
+    """A text in one line, as a comment of the network file has it."""
+    text = word(value, key)
+    if any(unicodedata.category(letter) == "Cc" for letter in text):
+        raise Problem(f"{key}: expected a text in one line")
+    return text
+
+
 def shown(value):
     """A value of the study file as a message shows it."""
+    if isinstance(value, dict):
+        return "a table"
+    if isinstance(value, list):
+        return "a list"
     if isinstance(value, Fraction):
         return f"{float(value):g}"
     return f"\"{value}\"" if isinstance(value, str) else str(value)

@@ -10,7 +10,7 @@ from ..units import DAY, clock_text
 from .counts import flows_of_counts
 from .entries import Entries, list_of
 from .plan import Closure, Diverge, Exit, Flow, Gate, Merge, Road, Section, Signal, Study, Turn
-from .quantities import clock, density, duration, flow, length, number, shown, speed, whole, word
+from .quantities import clock, density, duration, flow, length, number, shown, speed, title, whole, word
 from .slips import slip_hint
 
 LANE = ("free_flow_speed", "wave_speed", "jam_density", "saturation_flow")
@@ -21,11 +21,16 @@ def read_values(path):
     """The values of a study file as TOML has them, with each decimal number as an exact fraction."""
     content = read_bytes(path)
     try:
-        return tomllib.loads(content.decode("utf-8"), parse_float=Fraction)
+        return tomllib.loads(content.decode("utf-8-sig"), parse_float=_decimal)
     except UnicodeDecodeError:
-        raise Problem(f"{path}: a study file is UTF-8") from None
+        raise Problem(f"{path}: a study file is UTF-8; save it so") from None
     except (tomllib.TOMLDecodeError, ValueError) as error:
         raise Problem(f"{path}: {one_line(error)}{slip_hint(content, str(error))}") from None
+
+
+def _decimal(text):
+    """A decimal number of TOML as an exact fraction; `nan` and `inf` as they are, so that their keys refuse them."""
+    return float(text) if text.strip("+-") in ("nan", "inf") else Fraction(text)
 
 
 def read_study(path):
@@ -43,10 +48,10 @@ def study_of(values, path):
 
 def _study(entries, path):
     start = entries.take("start", clock, Fraction(0))
-    study = Study(entries.take("title", word, path.stem), entries.take("step", duration), start,
+    study = Study(entries.take("title", title, path.stem), entries.take("step", duration), start,
                   _duration_of(entries, start), {}, {}, {}, [], [], [], [], [], path)
     if study.step == 0:
-        raise Problem("step: is above 0")
+        raise Problem("step: must be above 0")
     times = Times(study)
     lane = entries.take("lane", lambda value, key: _lane(Entries(value, key)), {})
     for name, table in entries.tables("roads"):
@@ -76,7 +81,7 @@ def _duration_of(entries, start):
     if lasting is None:
         lasting = end - start if end > start else end + DAY - start
     if lasting == 0:
-        raise Problem("duration: is above 0")
+        raise Problem("duration: must be above 0")
     return lasting
 
 
@@ -120,7 +125,7 @@ def _lane(table):
 def _road(name, table, lane):
     lasting = table.take("length", length)
     if lasting == 0:
-        raise Problem(f"{table.key('length')}: is above 0")
+        raise Problem(f"{table.key('length')}: must be above 0")
     base = {"lanes": table.take("lanes", whole, None), "cells": table.take("cells", word, name),
             "first_density": table.take("first_density", density, Fraction(0))}
     for term in LANE:
@@ -151,11 +156,11 @@ def _section(road, place, base):
                           f"{road.key(name)}: is missing")
     for name in LANE:
         if terms[name] == 0:
-            raise Problem(f"{table.key(name)}: is above 0")
+            raise Problem(f"{table.key(name)}: must be above 0")
     if terms["wave_speed"] > terms["free_flow_speed"]:
-        raise Problem(f"{table.key('wave_speed')}: is at most the free-flow speed")
+        raise Problem(f"{table.key('wave_speed')}: must be at most the free-flow speed")
     if terms["first_density"] > terms["jam_density"]:
-        raise Problem(f"{table.key('first_density')}: is at most the jam density")
+        raise Problem(f"{table.key('first_density')}: must be at most the jam density")
     return Section(start, **terms)
 
 
@@ -266,7 +271,7 @@ def _signals(table):
         greens = [first + i * offset for i in range(len(lines))] if several else [first + offset]
     table.done()
     if not 0 < green <= cycle:
-        raise Problem(f"{table.key('green')}: is above 0 s and at most the cycle")
+        raise Problem(f"{table.key('green')}: must be above 0 s and at most the cycle, {float(cycle):g} s")
     return [Signal(road, line, cycle, green, begin, table.place)
             for line, begin in zip(lines if several else [lines], greens)]
 

@@ -24,4 +24,6 @@ def slip_hint(content, message):
         return ""
     line = lines[int(found[1]) - 1].strip()
     hint = next((text for slip, text in SLIPS if slip.search(line)), "")
+    if "overwrite" in message or "twice" in message:
+        hint = "It stands above already; a key and a table stand once."
     return f"; `{line[:60]}`. {hint}".rstrip()

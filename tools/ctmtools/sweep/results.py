@@ -44,16 +44,18 @@ class Results:
         return ", ".join(column for column in columns if column not in BEHIND) or "nothing"
 
     def _open(self):
-        """Writes the whole rows anew, and leaves the file open for those to come."""
+        """Writes the whole rows anew, into the file's place at once, and leaves the file open for those to come."""
+        anew = self.path.with_suffix(".new")
         try:
             self.path.parent.mkdir(parents=True, exist_ok=True)
-            self.file = open(self.path, "w", newline="")
+            self.file = open(anew, "w", newline="")
+            self.writer = csv.DictWriter(self.file, self.columns)
+            self.writer.writeheader()
+            self.writer.writerows(self.rows.values())
+            self.file.flush()
+            anew.replace(self.path)
         except OSError as error:
             raise Problem(f"{self.path}: {error.strerror.lower()}") from None
-        self.writer = csv.DictWriter(self.file, self.columns)
-        self.writer.writeheader()
-        self.writer.writerows(self.rows.values())
-        self.file.flush()
 
     def put(self, changes, measured, mark):
         """Adds the row of a run, and writes it at once."""

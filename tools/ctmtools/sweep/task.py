@@ -60,7 +60,8 @@ def rounded(rounding):
 def _greatest(report):
     """The way that the longest queue reached back, in km, and the most vehicles that waited in one queue."""
     queues = queues_of(report)
-    return max((queue.reach for queue in queues), default=0.0), max((queue.most for queue in queues), default=0.0)
+    return (max((queue.longest_reach for queue in queues), default=0.0),
+            max((queue.most for queue in queues), default=0.0))
 
 
 def study(task):

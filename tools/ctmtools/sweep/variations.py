@@ -41,7 +41,7 @@ def _number(text):
 def _range(text, first, last, step):
     """The numbers from the first to the last, both included where they fall on a step."""
     if step <= 0 or last < first:
-        raise Problem(f"--vary {text}: the step is above 0, and the last value isn't below the first")
+        raise Problem(f"--vary {text}: the step must be above 0 and the last value at least the first")
     count = int((last - first) / step) + 1
     if count > MOST_VALUES:
         raise Problem(f"--vary {text}: more than {MOST_VALUES} values")
