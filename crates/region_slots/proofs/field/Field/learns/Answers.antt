@@ -1,0 +1,34 @@
+use Rattle.std.proofs.Common.{◌≡◌, ◌<◌, arith, ap, sym, subst, ◌∙◌}
+use Rattle.region_cut.specs.Cuttings.{region_count}
+use Rattle.border_rows.specs.Places.{step_place, widths_of, words_of}
+use Rattle.region_slots.proofs.Looking.{learning}
+use Rattle.region_slots.proofs.field.Field.learns.Goals as goal
+
+pub load-requires : goal.load-requires
+load-requires c =
+    let terms = c.self.inside.table.shared.key in
+    let same_terms : terms ≡ c.args.self.now.terms = ap (λ field. field.terms) c.self.view_is in
+    let same_table : c.self.inside.table.shared.table_id ≡ c.args.self.now.table = ap (λ field. field.table) c.self.view_is in
+    let chart : terms.chart.now ≡ c.self.inside.chart.now = c.self.invariant.1 in
+    let places : c.self.inside.places ≡ widths_of terms.chart.now = c.self.invariant.2 ∙ ap widths_of (sym chart) in
+    let table = c.self.invariant.3 in
+    let place : c.step-word.result ≡ step_place (widths_of terms.chart.now) c.args.region = c.step-word.ensures.place ∙ ap (λ widths. step_place widths c.args.region) places in
+    let there : c.step-word.result < c.self.inside.table.shared.table_id.words = omega (arith, c.step-word.ensures.there, ap words_of places, table.words) in (
+      c.requires.seat.table ∙ sym same_table,
+      there,
+      rw place
+      (learning terms c.self.inside.table.shared.table_id.slots c.args.seat.now.id c.args.region c.args.seat.now.me c.requires.fresh.0 table.chart (rw same_terms c.requires.there)
+        (rw same_terms c.requires.seat.terms) c.requires.seat.share c.requires.fresh.1),
+    )
+
+pub returns-clause-state : goal.returns-clause-state
+returns-clause-state c = ?
+
+pub returns-clause-later : goal.returns-clause-later
+returns-clause-later c = ?
+
+pub returns-clause-started : goal.returns-clause-started
+returns-clause-started c = ?
+
+pub returns-clause-in_time : goal.returns-clause-in_time
+returns-clause-in_time c = ?
