@@ -49,7 +49,7 @@ pub found-step : (terms : Terms) (s : FieldState) (id r : ℕ) (view : View) →
 found-step terms s id r view standing at within = record {
   later = standing.counts.seen view r (Contains-elem s.views id view at) within;
   started = standing.steps.started r within;
-  in_time = omega (arith, standing.steps.lawful.in_time r within, steps_of-at terms.chart.now s.words r within);
+  in_time = omega (arith, standing.steps.lawful.in_time r 0 (omega (arith, within, standing.steps.lawful.one_each)), steps_of-at terms.chart.now s.words r within);
 }
 
 pub looking : (terms : Terms) (slots id r : ℕ) (me : Mine) → IsChart terms.chart.now → r < region_count terms.chart.now.cut → me.0.terms ≡ terms ∷ [] → me.0.share ≢ 0 →
@@ -64,7 +64,7 @@ looking terms slots id r me chart within of_field share = λ s standing long at 
       record {
         seen = λ other q region same.
             let one = one-step terms me.0 r chart within of_field other q region same in
-            subst (λ p. ((looked me.0 r found, me.1) ≡ (looked me.0 p found, me.1)) × (slice_index me.0.seen p ≤ found) × (found ≤ other.net.now.steps)) (sym one.1) (
+            subst (λ p. (◌≡◌ {A = Mine} (looked me.0 r found, me.1) (looked me.0 p found, me.1)) × (slice_index me.0.seen p ≤ found) × (found ≤ other.net.now.steps)) (sym one.1) (
               refl,
               is.later,
               subst (λ (t : Terms). found ≤ t.net.now.steps) (sym one.0) is.in_time,
@@ -82,17 +82,17 @@ learning terms slots id r me later chart within of_field share taken = λ s stan
       found_at me.0 r found,
       takes r keep.0,
       keep.1,
-      keep.2.1,
+      keep.3,
       record {
         known = λ other q also region same first.
             let one = one-step terms me.0 r chart within of_field other q region same in
-            subst (λ (t : Terms). (state : RegionValue) × ((found_at me.0 r found, (r, keep.0) ∷ me.1) ≡ (found_at me.0 q found, (q, state) ∷ me.1))
+            subst (λ (t : Terms). (state : RegionValue) × (◌≡◌ {A = Mine} (found_at me.0 r found, (r, keep.0) ∷ me.1) (found_at me.0 q found, (q, state) ∷ me.1))
                 × Stands t.net.now t.chart.now t.start.now t.every q found state
                 × (slice_index me.0.seen q ≤ found) × (slice_index t.start.now.steps q ≤ found) × (found ≤ t.net.now.steps)) (sym one.0)
-            (subst (λ p. (state : RegionValue) × ((found_at me.0 r found, (r, keep.0) ∷ me.1) ≡ (found_at me.0 p found, (p, state) ∷ me.1))
+            (subst (λ p. (state : RegionValue) × (◌≡◌ {A = Mine} (found_at me.0 r found, (r, keep.0) ∷ me.1) (found_at me.0 p found, (p, state) ∷ me.1))
                 × Stands terms.net.now terms.chart.now terms.start.now terms.every p found state
                 × (slice_index me.0.seen p ≤ found) × (slice_index terms.start.now.steps p ≤ found) × (found ≤ terms.net.now.steps)) (sym one.1)
-              (keep.0, refl, keep.2.0, is.later, is.started, is.in_time));
+              (keep.0, refl, keep.2, is.later, is.started, is.in_time));
       },
     )
 
