@@ -1,1 +1,4 @@
 pub mod Claiming
+pub mod Comparing
+pub mod Reading
+pub mod Writing
