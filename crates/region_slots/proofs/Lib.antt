@@ -1,2 +1,5 @@
 pub mod Claiming
 pub mod Looking
+pub mod Comparing
+pub mod Reading
+pub mod Writing

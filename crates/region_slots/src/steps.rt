@@ -114,6 +114,7 @@ impl<'a> Field<'a> {
         requires working { (hold : Hold) × IsWorkingAt seat.old.me.0 hold × (hold.region ≡ region) × (hold.step + 1 ≡ step)
             × (hold.written ≡ width_at (widths_of self.now.terms.chart.now) region)
             × ((q : ℕ) → are_neighbours self.now.terms.net.now.connectors self.now.terms.chart.now.cut hold.region q ≡ true → Contains hold.cleared q) }
+        requires there { region < region_count self.now.terms.chart.now.cut }
         requires in_time { step ≤ self.now.terms.net.now.steps }
         ensures same { (seat.new.id ≡ seat.old.id) × (seat.new.table_id ≡ seat.old.table_id) }
         ensures risen { seat.new.me ≡ (published seat.old.me.0 region step, seat.old.me.1) }

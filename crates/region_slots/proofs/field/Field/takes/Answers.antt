@@ -1,5 +1,4 @@
-use Rattle.std.proofs.Common.{◌≡◌, ◌<◌, arith, ap, sym, subst, ◌∙◌}
-use Rattle.region_cut.specs.Cuttings.{region_count}
+use Rattle.std.proofs.Common.{◌≡◌, ◌<◌, arith, ap, sym, ◌∙◌}
 use Rattle.border_rows.specs.Places.{claim_place, widths_of, words_of}
 use Rattle.region_slots.proofs.Claiming.{claiming}
 use Rattle.region_slots.proofs.field.Field.takes.Goals as goal
