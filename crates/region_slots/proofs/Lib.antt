@@ -3,3 +3,4 @@ pub mod Looking
 pub mod Comparing
 pub mod Reading
 pub mod Writing
+pub mod Sharing

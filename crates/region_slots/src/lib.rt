@@ -5,6 +5,7 @@ mod field;
 mod look;
 mod plays;
 mod rule;
+mod share;
 mod steps;
 
 pub use field::{Field, Pass};
