@@ -1,2 +1,3 @@
 pub mod Claiming
 pub mod Looking
+pub mod Closing

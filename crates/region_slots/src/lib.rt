@@ -1,10 +1,12 @@
 //! The shared field: regions that any thread may take, advance by a step and give back.
 #![tactic(auto)]
 
+mod close;
 mod field;
 mod look;
 mod plays;
 mod rule;
 mod steps;
 
+pub use close::Closed;
 pub use field::{Field, Pass};
