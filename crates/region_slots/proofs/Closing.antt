@@ -1,7 +1,7 @@
 -- What the last state of a field says of its regions, where one seat has all shares and holds nothing.
 use Rattle.std.specs.Prelude.{max, slice_index, slice_index_or, sum_by}
 use Rattle.std.specs.List.{Contains, range_with_len, sum}
-use Rattle.std.proofs.Common.{◌≡◌, ◌≢◌, ℕ, zero, suc, ◌+◌, ◌-◌, ◌<◌, ◌≤◌, inl, inr, List, [], ◌∷◌, length, get_or, set, refl, sym, ap, subst, ◌∙◌, arith}
+use Rattle.std.proofs.Common.{◌≡◌, ◌≢◌, ℕ, zero, suc, ◌+◌, ◌-◌, ◌<◌, ◌≤◌, inl, inr, Bool, false, List, [], ◌∷◌, ◌++◌, length, take, get_or, set, refl, sym, ap, subst, ◌∙◌, arith}
 use Rattle.std.proofs.lemmas.List.Sums.{sum-map, sum_by-cons}
 use mathlib.Core.Option.{some, some-injective}
 use lib.ListN.{get_elem?}
@@ -22,10 +22,25 @@ use Rattle.border_rows.proofs.ViewUpdates.{Contains-elem, sum-set}
 use Rattle.region_slots.specs.Closing.{steps_since}
 
 -- an item that stands there is read there
-get_or-elem : {X : Type 0} (xs : List X) (i : ℕ) (x d : X) → get_elem? xs i ≡ some x → get_or xs i d ≡ x
+pub get_or-elem : {X : Type 0} (xs : List X) (i : ℕ) (x d : X) → get_elem? xs i ≡ some x → get_or xs i d ≡ x
 get_or-elem [] i x d is = absurd cc
 get_or-elem (y ∷ ys) zero x d is = some-injective y x is
 get_or-elem (y ∷ ys) (suc i) x d is = get_or-elem ys i x d is
+
+-- one item more of a list
+take-suc : {X : Type 0} (xs : List X) (i : ℕ) (x : X) → get_elem? xs i ≡ some x → take (suc i) xs ≡ take i xs ++ x ∷ []
+take-suc [] i x is = absurd cc
+take-suc (y ∷ ys) zero x is = ap (λ z. z ∷ []) (some-injective y x is)
+take-suc (y ∷ ys) (suc i) x is = ap (λ l. y ∷ l) (take-suc ys i x is)
+
+pub take-more : {X : Type 0} (xs : List X) (i : ℕ) (x : X) → get_elem? xs i ≡ some x → take (i + 1) xs ≡ take i xs ++ x ∷ []
+take-more xs i x is = let next : i + 1 ≡ suc i = omega arith in ap (λ n. take n xs) next ∙ take-suc xs i x is
+
+-- where a mark was taken off, none is found
+pub off-here : (marks : List Bool) (i : ℕ) → get_or (set marks i false) i false ≡ false
+off-here [] i = refl
+off-here (mark ∷ marks) zero = refl
+off-here (mark ∷ marks) (suc i) = off-here marks i
 
 -- a sum of terms that are all 0
 none-sum : {X : Type 0} (f : X → ℕ) (xs : List X) → ((k : ℕ) (x : X) → get_elem? xs k ≡ some x → f x ≡ 0) → sum_by f xs ≡ 0

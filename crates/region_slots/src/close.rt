@@ -42,8 +42,8 @@ impl<'a> Field<'a> {
         let mut r = 0;
         while r < chart.regions() {
             let word = places.step(r);
-            let _ = steps.push(closed.word(word as usize));
-            let _ = regions.push(closed.take(r as usize));
+            steps.push_reserved(closed.word(word as usize));
+            regions.push_reserved(closed.take(r as usize));
             r += 1;
         }
         closed.free();

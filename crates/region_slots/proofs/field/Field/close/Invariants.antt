@@ -2,7 +2,7 @@ use Rattle.std.specs.Prelude.{slice_index_or, vec_capacity}
 use Rattle.std.specs.List.{range_with_len}
 use Rattle.std.specs.Mem.Slots.{slots_filled, slots_items, slots_len}
 use Rattle.std.specs.Mem.Slots.Ownership.{Filled}
-use Rattle.std.proofs.Common.{◌≡◌, ◌<◌, ◌≤◌, ℕ, false, map, slice_index, ◌-◌, take}
+use Rattle.std.proofs.Common.{◌≡◌, ◌<◌, ◌≤◌, ℕ, false, map, ◌-◌, take}
 use Rattle.region_cut.specs.Cuttings.{region_count}
 use Rattle.border_rows.specs.Words.{step_of}
 use Rattle.region_slots.proofs.field.Field.close.Given as goal
