@@ -4,3 +4,4 @@ pub mod Comparing
 pub mod Reading
 pub mod Writing
 pub mod Sharing
+pub mod Closing

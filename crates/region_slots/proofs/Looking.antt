@@ -87,12 +87,12 @@ learning terms slots id r me later chart within of_field share taken = λ s stan
         known = λ other q also region same first.
             let one = one-step terms me.0 r chart within of_field other q region same in
             subst (λ (t : Terms). (state : RegionValue) × (◌≡◌ {A = Mine} (found_at me.0 r found, (r, keep.0) ∷ me.1) (found_at me.0 q found, (q, state) ∷ me.1))
-                × Stands t.net.now t.chart.now t.start.now t.every q found state
-                × (slice_index me.0.seen q ≤ found) × (slice_index t.start.now.steps q ≤ found) × (found ≤ t.net.now.steps)) (sym one.0)
+            × Stands t.net.now t.chart.now t.start.now t.every q found state
+            × (slice_index me.0.seen q ≤ found) × (slice_index t.start.now.steps q ≤ found) × (found ≤ t.net.now.steps)) (sym one.0)
             (subst (λ p. (state : RegionValue) × (◌≡◌ {A = Mine} (found_at me.0 r found, (r, keep.0) ∷ me.1) (found_at me.0 p found, (p, state) ∷ me.1))
-                × Stands terms.net.now terms.chart.now terms.start.now terms.every p found state
-                × (slice_index me.0.seen p ≤ found) × (slice_index terms.start.now.steps p ≤ found) × (found ≤ terms.net.now.steps)) (sym one.1)
-              (keep.0, refl, keep.2, is.later, is.started, is.in_time));
+            × Stands terms.net.now terms.chart.now terms.start.now terms.every p found state
+            × (slice_index me.0.seen p ≤ found) × (slice_index terms.start.now.steps p ≤ found) × (found ≤ terms.net.now.steps)) (sym one.1)
+            (keep.0, refl, keep.2, is.later, is.started, is.in_time));
       },
     )
 

@@ -1,3 +1,4 @@
+pub mod Closing
 pub mod FieldView
 pub mod Opening
 pub mod Plays

@@ -13,10 +13,14 @@ pub struct Field<'a> {
     pub(crate) chart: &'a Chart,
     pub(crate) places: Places,
     pub(crate) table: Table<Region, View<'a>, Terms<'a>, Rule, Global>,
+    // They are empty until it is closed, with room for one for each region.
+    pub(crate) steps: Vec<u64>,
+    pub(crate) regions: Vec<Region>,
 }
 
 impl<'a> Model for Field<'a> {
-    ghost use Rattle.std.specs.Prelude.{◌≡◌};
+    ghost use Rattle.std.specs.Prelude.{◌≡◌, ◌≤◌, [], vec_capacity};
+    ghost use Rattle.region_cut.specs.Cuttings.{region_count};
     ghost use Rattle.border_rows.specs.Places.{widths_of};
     ghost use Rattle.region_slots.specs.FieldView.{FieldValue, IsTableFor};
 
@@ -25,7 +29,9 @@ impl<'a> Model for Field<'a> {
     ghost view = { λ field. record { terms = field.table.shared.key; table = field.table.shared.table_id } };
 
     ghost invariant = { λ field. (field.table.shared.key.net.now ≡ field.net.now) × (field.table.shared.key.chart.now ≡ field.chart.now)
-        × (field.places ≡ widths_of field.chart.now) × IsTableFor field.table.shared.key field.table.shared.table_id };
+        × (field.places ≡ widths_of field.chart.now) × IsTableFor field.table.shared.key field.table.shared.table_id
+        × (field.steps.items ≡ []) × (region_count field.chart.now.cut ≤ vec_capacity field.steps)
+        × (field.regions.items ≡ []) × (region_count field.chart.now.cut ≤ vec_capacity field.regions) };
 }
 
 /// A caller's seat at a field.

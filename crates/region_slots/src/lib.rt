@@ -1,6 +1,7 @@
 //! The shared field: regions that any thread may take, advance by a step and give back.
 #![tactic(auto)]
 
+mod close;
 mod field;
 mod look;
 mod plays;
@@ -8,4 +9,5 @@ mod rule;
 mod share;
 mod steps;
 
+pub use close::Closed;
 pub use field::{Field, Pass};

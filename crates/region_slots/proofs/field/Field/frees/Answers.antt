@@ -1,4 +1,4 @@
-use Rattle.std.proofs.Common.{◌≡◌, ◌<◌, arith, ap, sym, subst, ◌∙◌}
+use Rattle.std.proofs.Common.{◌≡◌, ◌<◌, arith, ap, sym, ◌∙◌}
 use Rattle.border_rows.specs.Places.{claim_place, widths_of, words_of}
 use Rattle.region_slots.proofs.Looking.{freeing}
 use Rattle.region_slots.proofs.field.Field.frees.Goals as goal
@@ -17,6 +17,6 @@ store-requires c =
       c.requires.seat.table ∙ sym same_table,
       there,
       rw place
-      (freeing terms c.self.inside.table.shared.table_id.slots c.args.seat.now.id c.args.region c.args.seat.now.me hold later state others table.chart
-        c.requires.seat.share has own knows carries (rw same_terms stands)),
+          (freeing terms c.self.inside.table.shared.table_id.slots c.args.seat.now.id c.args.region c.args.seat.now.me hold later state others table.chart
+          c.requires.seat.share has own knows carries (rw same_terms stands)),
     )

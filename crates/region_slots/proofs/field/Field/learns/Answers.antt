@@ -1,6 +1,5 @@
 use Rattle.std.specs.Prelude.{slice_index}
-use Rattle.std.proofs.Common.{◌≡◌, ◌<◌, ◌≤◌, ◌∷◌, arith, ap, sym, subst, ◌∙◌}
-use Rattle.region_cut.specs.Cuttings.{region_count}
+use Rattle.std.proofs.Common.{◌≡◌, ◌<◌, ◌≤◌, ◌∷◌, arith, ap, sym, ◌∙◌}
 use Rattle.region_step.specs.Region.{RegionValue}
 use Rattle.region_step.specs.Standing.{Stands}
 use Rattle.border_rows.specs.Kinds.{found_at}
@@ -22,8 +21,8 @@ load-requires c =
       c.requires.seat.table ∙ sym same_table,
       there,
       rw place
-      (learning terms c.self.inside.table.shared.table_id.slots c.args.seat.now.id c.args.region c.args.seat.now.me c.requires.fresh.0 table.chart (rw same_terms c.requires.there)
-        (rw same_terms c.requires.seat.terms) c.requires.seat.share c.requires.fresh.1),
+          (learning terms c.self.inside.table.shared.table_id.slots c.args.seat.now.id c.args.region c.args.seat.now.me c.requires.fresh.0 table.chart (rw same_terms c.requires.there)
+          (rw same_terms c.requires.seat.terms) c.requires.seat.share c.requires.fresh.1),
     )
 
 -- what the look at the step word of the region just taken tells

@@ -1,5 +1,4 @@
-use Rattle.std.proofs.Common.{◌≡◌, ◌<◌, arith, ap, sym, subst, ◌∙◌, ◌∷◌, []}
-use Rattle.region_cut.specs.Cuttings.{region_count}
+use Rattle.std.proofs.Common.{◌≡◌, ◌<◌, arith, ap, sym, ◌∙◌, ◌∷◌, []}
 use Rattle.border_rows.specs.Places.{step_place, widths_of, words_of}
 use Rattle.region_slots.proofs.Looking.{looking}
 use Rattle.region_slots.proofs.field.Field.look.Goals as goal
@@ -19,5 +18,5 @@ load-requires c =
       ap (λ pass. pass.table) c.pass.view_is ∙ c.requires.belongs.table ∙ sym same_table,
       there,
       rw place
-      (looking terms c.self.inside.table.shared.table_id.slots seat.id c.args.region seat.me table.chart (rw same_terms c.requires.there) of_field c.pass.invariant.share),
+          (looking terms c.self.inside.table.shared.table_id.slots seat.id c.args.region seat.me table.chart (rw same_terms c.requires.there) of_field c.pass.invariant.share),
     )
