@@ -1,25 +1,20 @@
 -- A step keeps each part of the rule that speaks of nothing that it changes.
-use Rattle.std.specs.Prelude.{slice_index, sum_by}
-use Rattle.std.specs.List.{Contains, range_with_len}
-use Rattle.std.proofs.Common.{◌≡◌, ◌≢◌, ◌⊎◌, ℕ, ◌+◌, ◌-◌, ◌<◌, ◌≤◌, inl, inr, true, List, length, map, refl, sym, ap, subst, ◌∙◌, arith}
+use Rattle.std.proofs.Common.{◌≡◌, ℕ, ◌+◌, ◌<◌, true, List, sym, subst, ◌∙◌, arith}
 use Rattle.network_file.specs.Network.{Network}
 use Rattle.region_cut.specs.Chart.{ChartLists}
-use Rattle.region_cut.specs.Cuttings.{region_at, region_count}
+use Rattle.region_cut.specs.Cuttings.{region_count}
 use Rattle.region_cut.specs.Joins.{are_neighbours}
 use Rattle.region_cut.specs.LawfulSteps.{AreLawful}
 use Rattle.region_cut.proofs.Meetings.{neighbours-by, touches_region-cell}
 use Rattle.region_cut.proofs.Membership.{region_at-there}
 use Rattle.region_step.specs.Grid.{grid_held}
-use Rattle.region_step.specs.Region.{RegionValue}
-use Rattle.region_step.specs.Standing.{Stands}
 use Rattle.region_step.specs.Start.{StartLists}
 use Rattle.region_step.proofs.Lists.{map_range_same}
-use Rattle.border_rows.specs.Places.{width_at, widths_of, words_of}
-use Rattle.border_rows.specs.Standing.{Claims, Counts, FieldState, IsHome, IsSpent, Rows, Steps, steps_made}
-use Rattle.border_rows.specs.Views.{IsHeld, holders, knowers}
-use Rattle.border_rows.specs.Words.{border_cell, border_word, claim_of, step_of, steps_of}
+use Rattle.border_rows.specs.Places.{width_at, widths_of}
+use Rattle.border_rows.specs.Standing.{FieldState, Rows, Steps}
+use Rattle.border_rows.specs.Views.{IsHeld}
+use Rattle.border_rows.specs.Words.{border_cell, border_word, step_of, steps_of}
 use Rattle.border_rows.specs.declared.view.Hold.{Hold}
-use Rattle.border_rows.specs.declared.view.Terms.{Terms}
 use Rattle.border_rows.specs.declared.view.View.{View}
 
 -- neighbours are regions that are there

@@ -2,7 +2,6 @@
 use Rattle.std.specs.Prelude.{slice_index, sum_by, count_by, max, ◌==◌, ◌&&◌}
 use Rattle.std.specs.List.{Contains, range_with_len}
 use Rattle.std.proofs.Common.{◌≡◌, ◌≢◌, ◌⊎◌, ℕ, zero, suc, ◌+◌, ◌-◌, ◌<◌, ◌≤◌, inl, inr, List, [], ◌∷◌, ◌++◌, length, map, get_or, set, refl, sym, ap, subst, ◌∙◌, arith}
-use Rattle.std.proofs.Math.ListN.{get_or-map}
 use Rattle.std.proofs.lemmas.List.{length-map}
 use Rattle.std.proofs.lemmas.List.Elements.{Contains-append_left, Contains-push_cases}
 use Rattle.std.proofs.lemmas.List.FromFn.{fill_by_all, get_or-map-range_with_len, get_or-range_with_len, length-map-range_with_len, length-range_with_len}
@@ -20,7 +19,7 @@ use Rattle.region_step.specs.Standing.{AllStand, Stands}
 use Rattle.region_step.specs.Start.{StartLists}
 use Rattle.atomic_table.specs.Table.{opening}
 use Rattle.atomic_table.proofs.Lists.{at_map, set_else, some_there}
-use Rattle.border_rows.specs.Kinds.{kept, none_of, shared_off, spent, together, united}
+use Rattle.border_rows.specs.Kinds.{kept, shared_off, spent, together, united}
 use Rattle.border_rows.specs.Places.{width_at, widths_of, words_of}
 use Rattle.border_rows.specs.Standing.{Claims, Counts, FieldState, IsHome, IsSpent, IsStanding, steps_made}
 use Rattle.border_rows.specs.Views.{IsHeld, holders, knowers}

@@ -1,12 +1,12 @@
 -- The rule of the field: what holds of its words, of the regions at home and of the seats' views between any two atomic
 -- steps. It has four parts.
-use Rattle.std.specs.Prelude.{◌≡◌, ◌≢◌, ◌⊎◌, ℕ, ◌+◌, ◌-◌, ◌%◌, ◌<◌, ◌≤◌, true, List, [], ◌∷◌, length, slice_index, sum_by, if◌then◌else◌}
+use Rattle.std.specs.Prelude.{◌≡◌, ◌≢◌, ◌⊎◌, ℕ, ◌+◌, ◌-◌, ◌<◌, ◌≤◌, true, List, [], ◌∷◌, length, slice_index, sum_by, if◌then◌else◌}
 use Rattle.std.specs.List.{Contains, range_with_len}
 use mathlib.Core.Option.{some}
 use mathlib.Core.Option as maybe
 use lib.ListN.{get_elem?}
 use Rattle.network_file.specs.Network.{Network}
-use Rattle.region_cut.specs.Chart.{ChartLists, list_at}
+use Rattle.region_cut.specs.Chart.{ChartLists}
 use Rattle.region_cut.specs.Cuttings.{region_count}
 use Rattle.region_cut.specs.Joins.{are_neighbours}
 use Rattle.region_cut.specs.LawfulSteps.{AreLawful}

@@ -1,11 +1,7 @@
 -- What contracts see of the seats at a field.
-use Rattle.std.specs.Prelude.{◌≡◌, ℕ, ◌+◌, ◌<◌, Bool, ◌==◌, ◌&&◌, List, [], sum_by, slice_index}
+use Rattle.std.specs.Prelude.{ℕ, ◌==◌, ◌&&◌, List, sum_by}
 use Rattle.std.specs.List.{Contains, count_by}
-use Rattle.network_file.specs.Network.{Network}
-use Rattle.region_cut.specs.Chart.{ChartLists}
-use Rattle.region_step.specs.Start.{StartLists}
 use Rattle.border_rows.specs.declared.view.Hold.{Hold}
-use Rattle.border_rows.specs.declared.view.Terms.{Terms}
 use Rattle.border_rows.specs.declared.view.View.{View}
 
 -- how many views hold region r, and how many of them know its step

@@ -1,5 +1,5 @@
 -- What the words of a table say of the regions.
-use Rattle.std.specs.Prelude.{ℕ, ◌+◌, ◌%◌, List, map, slice_index}
+use Rattle.std.specs.Prelude.{ℕ, ◌%◌, List, map, slice_index}
 use Rattle.std.specs.List.{range_with_len}
 use Rattle.region_cut.specs.Chart.{ChartLists, list_at}
 use Rattle.region_cut.specs.Cuttings.{region_count}

@@ -1,0 +1,72 @@
+"""ctm-tools compare"""
+
+import click
+
+from ..files import write
+from ..report.comparing import compare, totals
+from ..report.page import table, told
+from ..report.reading import read_report
+from .reports import on_reports
+
+EPILOG = """\b
+Examples:
+  ctm-tools compare arterial-0.report arterial-wave.report
+  ctm-tools compare plan-a.report plan-b.report --plot difference.png
+  ctm-tools compare plan-a.report plan-b.report -o cells.csv
+
+With --plot both reports need records, and the cells of the route are those that both have."""
+
+
+@click.command(epilog=EPILOG)
+@click.argument("first", metavar="A", type=click.Path())
+@click.argument("second", metavar="B", type=click.Path())
+@click.option("--rows", default=10, show_default=True, type=click.IntRange(0), help="How many cells are told.")
+@click.option("-o", "--output", metavar="FILE.csv", type=click.Path(), help="Write the rows of all cells there.")
+@click.option("--plot", "picture", metavar="FILE.png|svg", type=click.Path(),
+              help="Draw the difference of the densities, B less A, as a time-space diagram.")
+@click.option("--road", metavar="ROAD", help="The road to draw; else the longest route.")
+@on_reports
+def command(first, second, rows, output, picture, road, units, network):
+    """Compare two reports: delay and served vehicles in all and cell by cell, the greatest changes first.
+
+    A cell's delay counts where vehicles waited, so a shorter queue shows at the cells that it no longer reaches.
+    """
+    one, two = read_report(first, units, network), read_report(second, units, network)
+    frame, sums = compare(one, two), totals(one, two)
+    unit = frame.attrs["units"]["delay"]
+    click.echo(f"A  {one.title} ({first})\nB  {two.title} ({second})\n")
+    lines = [("", "A", "B", "B - A", "")]
+    for name, row in sums.iterrows():
+        part = row.rise / row["first"] if row["first"] else 0
+        change = f"{part:+.1%}" if abs(part) >= 0.0005 else ""
+        lines.append((name + (f", {unit}" if name == "delay" else ", vehicles"), told(row["first"]),
+                      told(row["second"]), signed(row.rise), change))
+    click.echo("\n".join(table(lines, right=(1, 2, 3, 4))))
+    changed = frame[(frame.delay_rise.abs() >= 0.005) | (frame.gone_rise.abs() >= 0.005)]
+    if changed.empty:
+        click.echo("\nNo cell differs.")
+    else:
+        click.echo(f"\nThe greatest changes of delay, {min(rows, len(changed))} of {len(changed)} cells that differ, "
+                   f"in {unit}; gone in vehicles:\n")
+        lines = [("cell", "A", "B", "B - A", "gone A", "gone B", "B - A")]
+        lines += [(cell, *map(_told, (row.delay_first, row.delay_second)), signed(row.delay_rise),
+                   *map(_told, (row.gone_first, row.gone_second)), signed(row.gone_rise))
+                  for cell, row in changed[:rows].iterrows()]
+        click.echo("\n".join(table(lines, right=range(1, 7))))
+    if output:
+        write(output, frame.to_csv(float_format="%.6f"))
+    if picture:
+        from ..plots.difference import draw
+
+        draw(one, two, picture, road)
+        click.echo(f"\n{picture}")
+
+
+def _told(value):
+    return "none" if value != value else told(value)
+
+
+def signed(value):
+    """A difference with its sign."""
+    text = told(abs(value))
+    return "0" if text == "0" else ("+" if value > 0 else "-") + text

@@ -1,0 +1,40 @@
+"""ctm-tools lint"""
+
+import click
+
+from ..network_file.examining import examine
+from ..network_file.network import read_bytes
+from ..network_file.warnings import shortened
+
+EPILOG = """\b
+Examples:
+  ctm-tools lint examples/interchange.csv
+  ctm-tools lint --strict my-network.csv
+
+The status is 0 where the program accepts the file, 1 where it has a fault (or, with --strict, a warning), and 2 where
+it couldn't be looked at."""
+
+
+@click.command(epilog=EPILOG)
+@click.argument("network", metavar="NET.csv", type=click.Path())
+@click.option("--all", "complete", is_flag=True, help="Tell every warning, and not only the first few of each kind.")
+@click.option("--strict", is_flag=True, help="End with status 1 for a warning too.")
+def command(network, complete, strict):
+    """Say what `ctm check` says of a network file, explain its first fault, and warn of what no refusal covers.
+
+    Of the fault are told the line of the file, the field, its value, what was expected, and what may be meant.
+    """
+    findings = examine(read_bytes(network), network, lambda line: click.echo(line, err=True))
+    click.echo(findings.answer)
+    if findings.fault:
+        click.echo(f"{network}: {findings.fault}")
+        if findings.shown:
+            click.echo(findings.shown)
+        return 1
+    lines = [f"line {warning.line}: {warning.text}" for warning in findings.warnings] if complete \
+        else shortened(findings.warnings)
+    for line in lines:
+        click.echo(f"{network}: warning: {line}")
+    if not lines:
+        click.echo(f"{network}: no fault and no warning")
+    return 1 if strict and lines else 0

@@ -1,0 +1,113 @@
+"""ctm-tools plot"""
+
+import click
+
+from ..report.reading import read_report
+from .reports import on_reports
+
+EPILOG = """\b
+Examples:
+  ctm-tools plot time-space bottleneck.report -o bottleneck.png
+  ctm-tools plot time-space interchange.report --road m --from 08:00 --until 09:30
+  ctm-tools plot n-curves bottleneck.report --cell m01 --cell m20 --shifted
+  ctm-tools plot queue interchange.report -o queue.svg
+  ctm-tools plot delay examples/bottleneck.report
+  ctm-tools plot map interchange.report
+
+Axes are in clock time and kilometres where a file of units stands beside the report, as `run` writes it, and else in
+steps and cells. time-space, n-curves and queue need records."""
+
+
+@click.group(epilog=EPILOG)
+def command():
+    """Draw a report: time-space, n-curves, queue, delay or map.
+
+    The picture goes where -o says, else into this folder under the report's name; its ending says the format.
+    """
+
+
+def on_picture(command):
+    """The argument and the options of each plot."""
+    command = on_reports(command)
+    command = click.option("-o", "--output", metavar="FILE.png|svg|pdf", type=click.Path(),
+                           help="Where the picture goes.")(command)
+    return click.argument("report", metavar="REPORT", type=click.Path())(command)
+
+
+def on_time(command):
+    """The options of a part of the time."""
+    command = click.option("--until", metavar="TIME", help="Draw to this time of day (or step).")(command)
+    return click.option("--from", "begin", metavar="TIME", help="Draw from this time of day (or step) on.")(command)
+
+
+@command.command("time-space", epilog="""\b
+Examples:
+  ctm-tools plot time-space bottleneck.report
+  ctm-tools plot time-space interchange.report --first m20 --last r2
+  ctm-tools plot time-space workzone.report --line "tail, by theory: 10:00:10 5, 14:13:20 1" """)
+@on_picture
+@on_time
+@click.option("--road", metavar="ROAD", help="The road to draw; else the longest route from a gate.")
+@click.option("--first", metavar="CELL", help="The first cell of the chain.")
+@click.option("--last", metavar="CELL", help="The last cell of the chain.")
+@click.option("--line", "lines", metavar="TEXT", multiple=True, help="Draw a line as theory or observation has it, "
+              "`LABEL: TIME KM, TIME KM, ..`; may be given again.")
+def time_space(report, output, units, network, begin, until, road, first, last, lines):
+    """Density over time and place along a chain of cells, in vehicles per km, with queues outlined."""
+    from ..plots import time_space as plot
+
+    click.echo(plot.draw(read_report(report, units, network), output, road, first, last, begin, until,
+                         lines))
+
+
+@command.command("n-curves", epilog="""\b
+Examples:
+  ctm-tools plot n-curves bottleneck.report --cell on --cell m20 --shifted
+  ctm-tools plot n-curves bottleneck.report --background 3600""")
+@on_picture
+@on_time
+@click.option("--cell", "cells", metavar="CELL", multiple=True, help="A cell; may be given again.")
+@click.option("--background", metavar="FLOW", type=float, help="Take off this flow, in vehicles/h.")
+@click.option("--shifted", is_flag=True, help="Move each curve on by the free-flow time to the last cell.")
+def n_curves(report, output, units, network, begin, until, cells, background, shifted):
+    """Cumulative curves: all vehicles that have gone out of chosen cells, over time."""
+    from ..plots import curves as plot
+
+    click.echo(plot.draw(read_report(report, units, network), output, cells, background, shifted, begin, until))
+
+
+@command.command("queue", epilog="""\b
+Examples:
+  ctm-tools plot queue bottleneck.report
+  ctm-tools plot queue interchange.report --road m --road r""")
+@on_picture
+@on_time
+@click.option("--road", "roads", metavar="ROAD", multiple=True,
+              help="A road; may be given again. Else all with queues.")
+def queue(report, output, units, network, begin, until, roads):
+    """The length of the queues and the vehicles that wait, over time."""
+    from ..plots import queue as plot
+
+    click.echo(plot.draw(read_report(report, units, network), output, roads, begin, until))
+
+
+@command.command("delay", epilog="""\b
+Example:
+  ctm-tools plot delay bottleneck.report""")
+@on_picture
+def delay(report, output, units, network):
+    """The delay of each cell, as bars along the roads. It needs no records."""
+    from ..plots import delay as plot
+
+    click.echo(plot.draw(read_report(report, units, network), output))
+
+
+@command.command("map", epilog="""\b
+Example:
+  ctm-tools plot map interchange.report""")
+@on_picture
+def network_map(report, output, units, network):
+    """The network drawn with its delays. It needs no records."""
+    from ..plots import network_map as plot
+
+    click.echo(plot.draw(read_report(report, units, network), output))

@@ -1,0 +1,51 @@
+"""ctm-tools table"""
+
+import sys
+
+import click
+
+from ..report.reading import read_report
+from ..report.states import states, totals
+from .reports import on_reports
+
+EPILOG = """\b
+Examples:
+  ctm-tools table bottleneck.report -o bottleneck-table.csv
+  ctm-tools table bottleneck.report --cell m20 --cell m21
+  ctm-tools table bottleneck.report --separator ";" --decimal ","
+
+Columns: time, cell, occupancy (vehicles), flow (vehicles/h), density (vehicles/km), speed (km/h), step, road, from_km,
+to_km. Flow, density and speed are those from the time to the next one, and empty at the last. Where the units aren't
+known, flow is in vehicles a step, density in vehicles a cell, speed in cells a step, and time is the step.
+With --totals: cell, occupancy, come, gone (vehicles) and delay (vehicle-hours) at the end."""
+
+
+@click.command(epilog=EPILOG)
+@click.argument("report", metavar="REPORT", type=click.Path())
+@click.option("-o", "--output", metavar="FILE.csv", type=click.Path(), help="Where it goes; else to standard output.")
+@click.option("--totals", "ends", is_flag=True, help="The cells at the end, one row each; it needs no records.")
+@click.option("--cell", "cells", metavar="CELL", multiple=True, help="These cells alone; may be given again.")
+@click.option("--separator", default=",", show_default=True, help="What stands between fields.")
+@click.option("--decimal", default=".", show_default=True, help="The decimal sign.")
+@on_reports
+def command(report, output, ends, cells, separator, decimal, units, network):
+    """Write a report as a tidy table with a header, for pandas, R and Excel."""
+    read = read_report(report, units, network)
+    frame = totals(read) if ends else states(read)
+    if cells:
+        for cell in cells:
+            if cell not in read.cells.index:
+                raise click.UsageError(f"there is no cell {cell}")
+        frame = frame[frame.cell.isin(cells)]
+    if len(separator) != 1 or len(decimal) != 1 or separator == decimal:
+        raise click.UsageError("the separator and the decimal sign are one character each, and differ")
+    try:
+        frame.to_csv(output or sys.stdout, sep=separator, decimal=decimal, index=False, float_format="%.9g",
+                     lineterminator="\n")
+    except BrokenPipeError:
+        raise
+    except OSError as error:
+        raise click.UsageError(f"{output}: {error.strerror.lower()}") from None
+    if output:
+        named = ", ".join(f"{column} in {unit}" for column, unit in frame.attrs["units"].items() if column != "time")
+        click.echo(f"{output}: {len(frame)} rows; {named}")

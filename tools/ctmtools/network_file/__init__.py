@@ -1,0 +1,1 @@
+"""The network file as docs/FORMAT.md has it: records and their lines, faults and hints, the network, warnings."""

@@ -1,0 +1,46 @@
+"""A network file examined: what the program says of it, the first fault explained, and the warnings."""
+
+from dataclasses import dataclass
+
+from ..problem import Problem
+from ..program import ask
+from .faults import first_fault
+from .kinds import NUMBERS
+from .network import clipped, network_of, told
+from .records import line_of, read_records, text_of_line
+from .warnings import warnings_of
+
+MOST_SHOWN = 100  # letters of a line of the file
+
+
+@dataclass
+class Findings:
+    """What was found: the program's own line, the fault in one line with the line of the file, or the warnings."""
+
+    answer: str
+    fault: str = ""
+    shown: str = ""
+    warnings: list = None
+
+
+def examine(content, name, news=None):
+    """The findings on the bytes of a network file."""
+    answer = ask(("check",), content, news=news)
+    if answer.status == 0:
+        return Findings(answer.out.decode().strip(), warnings=warnings_of(network_of(content, name)))
+    if answer.status != 3:
+        raise Problem(f"{name}: {answer.line or f'ctm ended with status {answer.status}'}")
+    records = read_records(content)
+    fault = first_fault(records)
+    own = f"ctm: network: record {fault.record} code {NUMBERS[fault.code]} {fault.code}" if fault else "no fault"
+    if own != answer.line:
+        raise Problem(f"{name}: {answer.line}; these tools find {own}, so no hint can be given")
+    return Findings(answer.line, told(content, records, fault), _shown(content, records, fault))
+
+
+def _shown(content, records, fault):
+    """The line of the file that the fault stands in, as far as it goes on a screen."""
+    if fault.record > len(records):
+        return ""
+    line = line_of(content, records[fault.record - 1].place)
+    return f"{line:6d} | {clipped(text_of_line(content, line).expandtabs(2), MOST_SHOWN)}"

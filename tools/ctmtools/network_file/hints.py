@@ -1,0 +1,272 @@
+"""What a fault of a network file was probably meant to be: a hint for each sort of slip."""
+
+import difflib
+import re
+
+from . import kinds
+from .kinds import FIELDS
+from .records import line_of
+
+HEADERS = (("ctm", "1"), ("ctm", "2"))
+DECIMAL_COMMA = re.compile(r"[0-9]+,[0-9]+")
+
+
+def hint_of(content, records, fault):
+    """A hint on a fault in one sentence or two, or an empty text where there is none."""
+    if fault.code == "NoHeader":
+        return _header_hint(content, records)
+    if fault.record > len(records):
+        return _whole_hint(records, fault)
+    record = records[fault.record - 1]
+    hints = {"BadKind": _kind_hint, "BadCount": _count_hint, "BadName": _name_hint, "BadNumber": _number_hint,
+             "OutOfRange": _range_hint, "Repeated": _repeated_hint, "Unknown": _unknown_hint,
+             "WrongKind": _wrong_kind_hint, "InTaken": _taken_hint, "OutTaken": _taken_hint}
+    hint = hints.get(fault.code)
+    return hint(content, records, record, fault) if hint else ""
+
+
+def _line(content, records, number):
+    return line_of(content, records[number - 1].place)
+
+
+def _header_hint(content, records):
+    if not content.strip():
+        return "The file is empty."
+    if content.startswith(b"PK\x03\x04"):
+        return "This is an Excel workbook or another archive; save it as CSV."
+    if content.startswith((b"\xff\xfe", b"\xfe\xff")) or b"\x00" in content[:200]:
+        return "The bytes are UTF-16, as Excel's \"Unicode text\" is; save the file as CSV in UTF-8."
+    if not records:
+        return "There are only comments and blank lines; the first record must be ctm,1 or ctm,2."
+    if b"\r" in content and b"\n" not in content:
+        return "The lines end with carriage returns alone, so a comment doesn't end; save the file with line feeds."
+    fields = records[0].fields
+    joined = ",".join(fields)
+    if len(fields) > 1 and not any(fields):
+        return "Commas stand in empty rows, as Excel writes them; take them away, and those behind records too."
+    if re.fullmatch(r"ctm;[12];*", joined, re.IGNORECASE):
+        return "Semicolons stand between the fields; put commas there, in the whole file."
+    if re.fullmatch(r"ctm[\t ]+[12]\s*", joined, re.IGNORECASE):
+        return "Tabs or spaces stand between the fields; put commas there, in the whole file."
+    if fields[:2] in HEADERS and not any(fields[2:]):
+        return "Commas trail behind the record, as Excel writes them; take them away, in the whole file."
+    if tuple(field.strip().lower() for field in fields) in HEADERS:
+        return "The header has capitals or spaces; write it as ctm,1 or ctm,2."
+    if joined.startswith("\\xef\\xbb\\xbf"):
+        return "The byte order mark stands twice; take one away."
+    if re.fullmatch(r"ctm,.*", joined):
+        return "There are the formats 1 and 2 alone: write ctm,1 or ctm,2."
+    later = next((record for record in records if record.fields[:2] in HEADERS), None)
+    if later is not None:
+        names = _looks_like_names(fields)
+        what = "a row of column names stands before it" if names else "it must stand before all others"
+        return f"The record {','.join(later.fields[:2])} is in line {line_of(content, later.place)}; {what}."
+    if fields[0] in FIELDS:
+        return "The record ctm,1 or ctm,2 is missing; put it before all others."
+    if _looks_like_names(fields):
+        return "A row of column names stands there; this file has none. Put ctm,1 or ctm,2 in its place."
+    return "The first record of a network file is ctm,1 or ctm,2."
+
+
+def _looks_like_names(fields):
+    return len(fields) > 1 and all(re.fullmatch(r"[A-Za-z_ /()-]+", field) for field in fields)
+
+
+def _kind_hint(content, records, record, fault):
+    form = int(records[0].fields[1])
+    kind = record.kind
+    joined = ",".join(record.fields)
+    if kind in kinds.ONLY_IN_FORMAT_2 and form == 1:
+        return f"A {kind} is of format 2 alone: write ctm,2 in the first record."
+    if record.fields in HEADERS:
+        return "The header stands once, at the top of the file; are two files joined here?"
+    if not any(record.fields):
+        return ("A comment that ends the file needs a line end." if len(record.fields) == 1
+                else "An empty row of commas, as Excel writes it; take it away.")
+    for sign, name in ((";", "Semicolons"), ("\t", "Tabs")):
+        if joined.count(sign) > 1 and joined.split(sign)[0] in FIELDS:
+            return f"{name} stand between the fields; put commas there."
+    if kind.strip().startswith("#"):
+        return "A comment begins with # as the first byte of its line, without a space before it."
+    if kind.strip().lower() in FIELDS:
+        return f"Write it as {kind.strip().lower()}, in lower case and without spaces."
+    near = difflib.get_close_matches(kind.strip().lower(), kinds.kinds_of(form), 1)
+    if near:
+        return f"Is {near[0]} meant?"
+    if _looks_like_names(record.fields):
+        return "This looks like a row of column names, which the file doesn't have; put # before it."
+    return ""
+
+
+def _count_hint(content, records, record, fault):
+    wanted = len(FIELDS[record.kind]) + 1
+    fields = record.fields
+    if len(fields) > wanted:
+        if not any(fields[wanted:]):
+            return "Commas trail behind the record, as Excel writes them; take them away."
+        where = _decimal_comma_at(record, len(fields) - wanted)
+        if where:
+            return f"Is a decimal comma meant? Write {where} with a point."
+        if any(field.startswith("#") for field in fields) or "#" in fields[-1]:
+            return "A comment stands on a line of its own; # behind a record is part of it."
+        return f"There are {len(fields) - wanted} too many."
+    for sign, name in ((";", "Semicolons"), ("\t", "Tabs")):
+        if any(sign in field for field in fields):
+            return f"{name} stand between the fields; put commas there."
+    missing = [term.name for term in FIELDS[record.kind][len(fields) - 1:]]
+    return f"Missing at the end: {', '.join(missing)}." if missing else ""
+
+
+def _decimal_comma_at(record, surplus):
+    """Two fields of digits that make one number with a decimal comma, where joining such pairs mends the count."""
+    sorts = [term.sort for term in FIELDS[record.kind]]
+    pairs = []
+    place, sort = 1, 0
+    fields = record.fields
+    while place < len(fields) and sort < len(sorts):
+        spare = (len(fields) - place) - (len(sorts) - sort)
+        if sorts[sort] == "amount" and spare > 0 and fields[place].isdigit() and fields[place + 1].isdigit():
+            pairs.append(f"{fields[place]},{fields[place + 1]}")
+            place += 1
+        place, sort = place + 1, sort + 1
+    return " and ".join(pairs) if pairs and len(pairs) == surplus else ""
+
+
+def _name_hint(content, records, record, fault):
+    text = record.fields[fault.place]
+    if not text:
+        return "The name is empty."
+    if len(text) > 32:
+        return f"It has {len(text)} letters."
+    if text != text.strip():
+        return "Take the spaces away."
+    better = re.sub(r"[^A-Za-z0-9_.-]+", "_", text)
+    return f"{better} would do." if better.strip("_") else ""
+
+
+def _number_hint(content, records, record, fault):
+    text = record.fields[fault.place]
+    sort = FIELDS[record.kind][fault.place - 1].sort
+    if not text:
+        return "The field is empty."
+    if "#" in text:
+        return "A comment stands on a line of its own; # behind a record is part of it."
+    if DECIMAL_COMMA.fullmatch(text):
+        return f"Is a decimal comma meant? Write {text.replace(',', '.')}."
+    if text != text.strip():
+        return "Take the spaces away."
+    if re.fullmatch(r"\d{1,3}([ ']\d{3})+(\.\d+)?", text):
+        return "Take away what stands between the thousands."
+    if text.startswith("+"):
+        return "Take the plus sign away."
+    if text.startswith("-"):
+        return "No number here is negative."
+    if re.fullmatch(r"[0-9.]+[eE][-+]?[0-9]+", text):
+        return "Write it without an exponent."
+    if re.fullmatch(r"[0-9]*\.[0-9]*", text):
+        if sort == "whole":
+            return "A whole number has no point."
+        if text.startswith("."):
+            return f"Write 0{text}."
+        if text.endswith("."):
+            return f"Write {text[:-1]}."
+        return "At most six decimals are read, and at most 12 digits before the point."
+    unit = re.fullmatch(r"([0-9]+(?:\.[0-9]+)?)\s*([A-Za-z/%]+)", text)
+    if unit:
+        return f"Take the unit {unit[2]} away; the file counts in steps and vehicles."
+    if re.fullmatch(r"[0-2]?[0-9]:[0-5][0-9](:[0-5][0-9])?", text):
+        return "A clock time isn't read here; the file counts steps from 0."
+    if fault.place < len(record.fields) - 1 and re.fullmatch(r"[0-9.]+", record.fields[fault.place + 1]):
+        return "Are two fields exchanged?"
+    return ""
+
+
+def _range_hint(content, records, record, fault):
+    name = FIELDS[record.kind][fault.place - 1].name
+    if record.kind == "road" and name == "B":
+        return "A/B is the speed of waves by the free-flow speed, at most 1; are A and B exchanged?"
+    if record.kind == "road" and name == "first":
+        return f"The road has room for N = {record.fields[2]} vehicles."
+    if record.kind == "signal":
+        return (f"These are steps in a cycle of {record.fields[2]}; a range doesn't reach over the cycle's end, but an "
+                "offset can shift it.")
+    if name == "to":
+        return "The range is of the steps from <= t < to, so `to` is above `from`."
+    if record.kind == "turn" or record.kind == "diverge":
+        return "A share is at least 1; a closed branch gets 1 against 1000."
+    if name == "Q":
+        return "Q is vehicles in a step, not in an hour."
+    return ""
+
+
+def _repeated_hint(content, records, record, fault):
+    line = _line(content, records, fault.earlier)
+    if record.kind == "steps":
+        return f"Line {line} has {','.join(records[fault.earlier - 1].fields)}."
+    name = record.fields[fault.place]
+    what = {"signal": "signal", "region": "region"}.get(record.kind)
+    return f"The {what} of {name} stands in line {line}." if what else f"{name} stands in line {line} too."
+
+
+def _unknown_hint(content, records, record, fault):
+    name = record.fields[fault.place]
+    later = next((other for other in records[fault.record:]
+                  if other.kind in kinds.CELLS and len(other.fields) > 1 and other.fields[1] == name), None)
+    if later is not None:
+        return f"{name} is declared later, in line {line_of(content, later.place)}; move that line up."
+    names = [other.fields[1] for other in records
+             if other.kind in kinds.CELLS and len(other.fields) > 1]
+    if name.strip() in names:
+        return "Take the spaces away."
+    near = _near(name, names)
+    return f"Is {' or '.join(near)} meant?" if near else "No cell of this file has that name."
+
+
+def _near(name, names):
+    """The names that one may be meant to be: those that look alike, else those that differ least."""
+    for alike in (str.lower, _looks, _without_zeros):
+        found = [other for other in names if alike(other) == alike(name)]
+        if found:
+            return found[:2]
+    return difflib.get_close_matches(name, names, 2, 0.6)
+
+
+def _looks(name):
+    """A name with letters and digits that are easily taken for each other made one."""
+    return name.lower().translate(str.maketrans("li|o-", "1110_"))
+
+
+def _without_zeros(name):
+    """A name with its numbers without leading zeros."""
+    return re.sub(r"0+(?=[0-9])", "", name.lower())
+
+
+def _wrong_kind_hint(content, records, record, fault):
+    name = record.fields[fault.place]
+    kind = records[fault.earlier - 1].kind
+    line = _line(content, records, fault.earlier)
+    sort = FIELDS[record.kind][fault.place - 1].sort
+    why = {"up": "nothing leads out of an exit", "down": "nothing leads into a gate", "signal": "an exit has no signal",
+           "demand": "demand comes at gates alone", "turn": "no diverge above leads out of it"}[sort]
+    return f"{name} is {'an exit' if kind == 'exit' else 'a ' + kind} (line {line}); {why}."
+
+
+def _taken_hint(content, records, record, fault):
+    name = record.fields[fault.place]
+    way = "into" if fault.code == "InTaken" else "out of"
+    joint = "A merge joins two cells into one." if fault.code == "InTaken" else "A diverge parts one cell into two."
+    if fault.earlier == record.number:
+        return f"{name} stands twice in this record."
+    other = records[fault.earlier - 1]
+    if other.fields == record.fields:
+        return f"The same record stands in line {_line(content, records, fault.earlier)}."
+    return (f"{','.join(other.fields)} in line {_line(content, records, fault.earlier)} leads {way} {name} already. "
+            f"{joint}")
+
+
+def _whole_hint(records, fault):
+    if fault.code == "TooMuch":
+        return "A demand is vehicles in each step; is one written in vehicles per hour?"
+    if fault.code == "NoSteps":
+        return "Put it behind the header."
+    return ""

@@ -1,0 +1,75 @@
+"""From the bytes of a network file to its records, each with its line, by the rules of docs/FORMAT.md."""
+
+import re
+from dataclasses import dataclass
+
+BYTE_ORDER_MARK = b"\xef\xbb\xbf"
+# What may stand at the beginning of a record and gives none: line ends, and comments to their line feed.
+SKIPPED = re.compile(rb"(?:[\r\n]+|#[^\n]*\n)*")
+UNFINISHED_COMMENT = re.compile(rb"#[^\n]*\Z")
+PLAIN_RECORD = re.compile(rb'[^"\r\n]*(?=[\r\n]|\Z)')
+FIELD = re.compile(rb'"([^"]*(?:""[^"]*)*)(?:"|\Z)([^,\r\n]*)|([^,\r\n]*)')
+LINE_END = re.compile(rb"\r\n|\n|\r")
+
+
+@dataclass(frozen=True)
+class Record:
+    """A record: its number from 1, the place of its first byte, and its fields as text (bytes beyond ASCII escaped)."""
+
+    number: int
+    place: int
+    fields: tuple
+
+    @property
+    def kind(self):
+        """The first field, which names the kind of the record."""
+        return self.fields[0]
+
+
+def read_records(content):
+    """The records of a file's bytes, in order."""
+    found = []
+    place = len(BYTE_ORDER_MARK) if content.startswith(BYTE_ORDER_MARK) else 0
+    while True:
+        place = SKIPPED.match(content, place).end()
+        if place >= len(content):
+            return found
+        if UNFINISHED_COMMENT.match(content, place):
+            found.append(Record(len(found) + 1, place, ("",)))
+            return found
+        fields, end = _record_at(content, place)
+        found.append(Record(len(found) + 1, place, fields))
+        place = end
+
+
+def _record_at(content, place):
+    """The fields of the record that begins at a place, and the place behind them."""
+    plain = PLAIN_RECORD.match(content, place)
+    if plain:
+        return tuple(plain.group().decode("ascii", "backslashreplace").split(",")), plain.end()
+    fields = []
+    while True:
+        found = FIELD.match(content, place)
+        quoted, behind, bare = found.groups()
+        field = bare if quoted is None else quoted.replace(b'""', b'"') + behind
+        fields.append(field.decode("ascii", "backslashreplace"))
+        place = found.end()
+        if content[place:place + 1] != b",":
+            return tuple(fields), place
+        place += 1
+
+
+def line_of(content, place):
+    """The number from 1 of the line that the byte at a place stands in, as an editor counts lines."""
+    return 1 + sum(1 for _ in LINE_END.finditer(content, 0, place))
+
+
+def ends_of_lines(content):
+    """The places behind the ends of all lines, in rising order."""
+    return [found.end() for found in LINE_END.finditer(content)]
+
+
+def text_of_line(content, line):
+    """The text of a line, counted from 1, without its end."""
+    lines = LINE_END.split(content)
+    return lines[line - 1].decode("utf-8", "backslashreplace") if line <= len(lines) else ""

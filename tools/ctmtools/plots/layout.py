@@ -1,0 +1,166 @@
+"""Where the cells of a network lie on its map: by the points of the study, else drawn out from the main route."""
+
+import math
+from collections import deque
+
+from ..report.routes import main_route
+
+TURN = math.radians(32)  # by which a branch leaves the road that it leaves or joins
+BEND = 0.25  # of the way between two placed ends by which a road bends aside
+STUB = 0.6  # of a mean road cell: how long a gate or an exit is
+
+
+def lay_out(report):
+    """For each cell the line that it is drawn as, two or more points in km (or cells), in the direction of travel."""
+    return Map(report).lines
+
+
+class Map:
+    """The map in the making: the places of joints, which are connectors and loose ends, and the lines of cells."""
+
+    def __init__(self, report):
+        self.report, self.network = report, report.need_network()
+        self.kinds = self.network.kinds
+        lengths = [report.units.length(cell) or 1.0 for cell in self.network.cells.index if self.kinds[cell] == "road"]
+        self.stub = STUB * (sum(lengths) / len(lengths) if lengths else 1.0)
+        self.places, self.lines, self.side = {}, {}, 1
+        self.chains = self._chains()
+        self._place_points()
+        self._place_chain(main_route(self.network), (0.0, 0.0), 0.0)
+        self._grow()
+
+    def _length(self, cell):
+        if self.kinds[cell] != "road":
+            return self.stub
+        return (self.report.units.length(cell) if self.report.units.known else None) or 1.0
+
+    def _head(self, cell):
+        """The joint at a cell's upstream end: the first cell of those that its connector leads into."""
+        ups = list(self.network.graph.predecessors(cell))
+        return ("joint", min(self.network.graph.successors(ups[0]))) if ups else ("source", cell)
+
+    def _tail(self, cell):
+        downs = list(self.network.graph.successors(cell))
+        return self._head(downs[0]) if downs else ("sink", cell)
+
+    def _chains(self):
+        """The cells as chains that are joined by plain links alone."""
+        graph, chains, seen = self.network.graph, [], set()
+
+        def follows(up, down):
+            return graph.out_degree(up) == 1 and graph.in_degree(down) == 1
+
+        starts = [cell for cell in graph if not any(follows(up, cell) for up in graph.predecessors(cell))]
+        for start in [*starts, *graph]:
+            if start in seen:
+                continue
+            chain = [start]
+            seen.add(start)
+            while True:
+                downs = [down for down in graph.successors(chain[-1]) if follows(chain[-1], down) and down not in seen]
+                if not downs:
+                    break
+                chain.append(downs[0])
+                seen.add(downs[0])
+            chains.append(chain)
+        return chains
+
+    def _place_points(self):
+        """Roads whose points the study gives."""
+        for road, points in self.report.units.points.items():
+            if len(points) > 1:
+                self._along(self.report.units.roads[road], [tuple(point) for point in points])
+
+    def _along(self, cells, points):
+        """Lays cells along a line of points, each with its part of the length."""
+        reach = [0.0]
+        for one, two in zip(points, points[1:]):
+            reach.append(reach[-1] + math.dist(one, two))
+        total = sum(map(self._length, cells))
+        done = 0.0
+        for cell in cells:
+            begin, done = done, done + self._length(cell)
+            ends = [_at(points, reach, part / total * reach[-1]) for part in (begin, done)]
+            self.lines[cell] = [ends[0], *_between(points, reach, begin / total * reach[-1], done / total * reach[-1]),
+                                ends[1]]
+            self.places.setdefault(self._head(cell), ends[0])
+            self.places.setdefault(self._tail(cell), ends[1])
+
+    def _place_chain(self, chain, start, angle):
+        """Lays a chain that isn't placed yet as a straight line from a point, or from its end back."""
+        chain = [cell for cell in chain if cell not in self.lines]
+        x, y = start
+        for cell in chain:
+            head = self.places.setdefault(self._head(cell), (x, y))
+            x, y = head[0] + self._length(cell) * math.cos(angle), head[1] + self._length(cell) * math.sin(angle)
+            x, y = self.places.setdefault(self._tail(cell), (x, y))
+            self.lines[cell] = [head, (x, y)]
+
+    def _grow(self):
+        """Places the other chains, from those that touch what is placed on."""
+        waiting = deque(run for chain in self.chains for run in self._bare(chain))
+        stuck = 0
+        while waiting:
+            chain = waiting.popleft()
+            head, tail = self._head(chain[0]), self._tail(chain[-1])
+            if head in self.places and tail in self.places:
+                self._bend(chain, self.places[head], self.places[tail])
+            elif head in self.places:
+                self.side = -self.side
+                self._place_chain(chain, self.places[head], self.side * TURN)
+            elif tail in self.places:
+                self.side = -self.side
+                self._place_back(chain, self.places[tail], self.side * TURN)
+            elif stuck > len(waiting):
+                low = min((place[1] for place in self.places.values()), default=0)
+                self._place_chain(chain, (0.0, low - 3 * self.stub - 1), 0.0)
+            else:
+                waiting.append(chain)
+                stuck += 1
+                continue
+            stuck = 0
+
+    def _bare(self, chain):
+        """The stretches of a chain that aren't placed yet."""
+        run = []
+        for cell in [*chain, None]:
+            if cell is None or cell in self.lines:
+                if run:
+                    yield run
+                run = []
+            else:
+                run.append(cell)
+
+    def _place_back(self, chain, end, angle):
+        """Lays a chain so that it ends in a point, coming from aside."""
+        total = sum(map(self._length, chain))
+        start = end[0] - total * math.cos(angle), end[1] + total * math.sin(angle)
+        self._along(chain, [start, end])
+
+    def _bend(self, chain, start, end):
+        """Lays a chain between two placed points, aside from the straight way between them."""
+        self.side = -self.side
+        width, height = end[0] - start[0], end[1] - start[1]
+        way = math.hypot(width, height) or sum(map(self._length, chain)) / 2
+        bend = self.side * max(BEND * way, 0.5 * math.sqrt(max(0.0, sum(map(self._length, chain)) ** 2 - way ** 2)))
+        across = (-height / way, width / way) if math.hypot(width, height) else (0.0, 1.0)
+        points = [start]
+        for part in (0.15, 0.3, 0.5, 0.7, 0.85):
+            rise = bend * math.sin(math.pi * part)
+            points.append((start[0] + part * width + rise * across[0], start[1] + part * height + rise * across[1]))
+        self._along(chain, [*points, end])
+
+
+def _at(points, reach, way):
+    """The point of a line at a way from its beginning."""
+    for i in range(1, len(points)):
+        if way <= reach[i] or i == len(points) - 1:
+            part = (way - reach[i - 1]) / ((reach[i] - reach[i - 1]) or 1)
+            (x, y), (u, v) = points[i - 1], points[i]
+            return x + part * (u - x), y + part * (v - y)
+    return points[0]
+
+
+def _between(points, reach, begin, end):
+    """The points of a line that lie between two ways."""
+    return [point for point, way in zip(points, reach) if begin < way < end]

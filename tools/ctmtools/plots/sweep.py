@@ -1,0 +1,72 @@
+"""The results of a sweep over one or two of the varied values."""
+
+import numpy
+import pandas
+
+from .figure import DENSITY, drawing, figure, save, style
+
+UNITS = {"offset": "s", "first_green": "s", "cycle": "s", "green": "s", "step": "s", "length": "km", "from": "km",
+         "to": "km", "at": "km",
+         "free_flow_speed": "km/h", "wave_speed": "km/h", "jam_density": "vehicles/km in a lane",
+         "saturation_flow": "vehicles/h in a lane", "capacity": "vehicles/h", "lanes": "lanes"}
+NAMES = {"delay_vehicle_hours": "Delay (vehicle-hours)", "longest_queue_km": "Longest queue (km)"}
+
+
+@drawing
+def draw(frame, keys, title, path):
+    """Draws a frame of results over one or two keys; of the others the value with the least delay is taken."""
+    frame = frame[frame.error == ""].copy()
+    for key in keys:
+        numbers = pandas.to_numeric(frame[key], errors="coerce")
+        if numbers.notna().all():
+            frame[key] = numbers
+    frame = frame.sort_values("delay_vehicle_hours").drop_duplicates(keys)
+    drawn = _lines(frame, keys[0], title) if len(keys) == 1 else _shades(frame, keys, title)
+    save(drawn, path)
+
+
+def _lines(frame, key, title):
+    frame = frame.sort_values(key)
+    drawn, axes = figure(2, size=(8, 5), sharex=True)
+    for i, (one, name) in enumerate(zip(axes, NAMES)):
+        one.plot(frame[key].astype(str) if frame[key].dtype == object else frame[key], frame[name], marker="o",
+                 markersize=4, **style(0))
+        one.set_ylabel(NAMES[name])
+        one.set_ylim(bottom=0)
+    axes[0].set_title(f"{title}: over {key}")
+    axes[1].set_xlabel(_axis(key))
+    return drawn
+
+
+def _shades(frame, keys, title):
+    down, across = keys
+    table = frame.pivot(index=down, columns=across, values="delay_vehicle_hours")
+    drawn, axes = figure(size=(8, max(3.0, 1.8 + 0.36 * len(table))))
+    values = table.to_numpy(dtype=float)
+    mesh = axes.imshow(values, cmap=DENSITY, aspect="auto", origin="lower", vmin=0)
+    if values.size <= 150:
+        middle = numpy.nanmax(values) / 2
+        for (i, j), value in numpy.ndenumerate(values):
+            if value == value:
+                axes.text(j, i, f"{value:,.0f}" if value >= 100 else f"{value:.3g}", ha="center", va="center",
+                          fontsize=8, color="white" if value > middle else "black")
+    axes.set_xticks(range(len(table.columns)), [_short(value) for value in table.columns])
+    axes.set_yticks(range(len(table.index)), [_short(value) for value in table.index])
+    axes.grid(False)
+    axes.set_xlabel(_axis(across))
+    axes.set_ylabel(_axis(down))
+    axes.set_title(f"{title}: delay over {down} and {across}")
+    bar = drawn.colorbar(mesh, ax=axes, pad=0.02)
+    bar.set_label(NAMES["delay_vehicle_hours"])
+    bar.outline.set_visible(False)
+    return drawn
+
+
+def _short(value):
+    return f"{value:g}" if isinstance(value, (int, float)) else str(value)
+
+
+def _axis(key):
+    """A key as its axis says it."""
+    unit = "factor" if key.split(".")[0] == "demand" else UNITS.get(key.split(".")[-1])
+    return f"{key} ({unit})" if unit else key

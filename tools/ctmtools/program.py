@@ -1,0 +1,112 @@
+"""The proved program: where it is, which options it takes, and a call of it over bytes."""
+
+import os
+import subprocess
+import threading
+from dataclasses import dataclass
+from functools import lru_cache
+from pathlib import Path
+
+from .problem import Problem, one_line
+
+TOP = Path(__file__).resolve().parents[2]
+MOST_RECORDED = 4_000_000  # cells times recorded steps, docs/FORMAT.md
+SMALLEST = b"ctm,1\nsteps,1\nexit,x,0\n"
+NOT_BUILT = 125
+BUILD_NEWS = b"./ctm: "
+
+
+@dataclass(frozen=True)
+class Answer:
+    """What the program answered: its exit status and the bytes on both its outputs."""
+
+    status: int
+    out: bytes
+    err: bytes
+
+    @property
+    def line(self):
+        """The line that the program wrote on why there is no text."""
+        return one_line(self.err.decode("utf-8", "replace"))
+
+
+def program_path():
+    """The path of the program: that of the variable CTM_PROGRAM, else `ctm` at the top of the repository."""
+    path = Path(os.environ.get("CTM_PROGRAM") or TOP / "ctm").resolve()
+    if not path.exists():
+        raise Problem(f"{path}: there is no program there; CTM_PROGRAM names one, and without it ./ctm is taken")
+    return path
+
+
+def ask(words, content, program=None, news=None):
+    """The program's answer to words and bytes. What `./ctm` says while it builds goes to `news`, line by line."""
+    program = str(program or program_path())
+    try:
+        process = subprocess.Popen([program, *words], stdin=subprocess.PIPE, stdout=subprocess.PIPE,
+                                   stderr=subprocess.PIPE)
+    except OSError as error:
+        raise Problem(f"{program}: {error.strerror.lower()}") from None
+    kept, told = [], []
+
+    def read_errors():
+        for line in process.stderr:
+            if line.startswith(BUILD_NEWS):
+                told.append(line.decode("utf-8", "replace").rstrip())
+                if news:
+                    news(told[-1])
+            else:
+                kept.append(line)
+
+    reader = threading.Thread(target=read_errors)
+    writer = threading.Thread(target=_write, args=(process.stdin, content))
+    reader.start()
+    writer.start()
+    out = process.stdout.read()
+    status = process.wait()
+    writer.join()
+    reader.join()
+    if status == NOT_BUILT and told:
+        raise Problem(one_line(told[-1]))
+    if status < 0:
+        raise Problem(f"{program} was ended by signal {-status}")
+    return Answer(status, out, b"".join(kept))
+
+
+def _write(stream, content):
+    try:
+        stream.write(content)
+        stream.close()
+    except BrokenPipeError:
+        pass
+
+
+def takes(option, program=None):
+    """Whether `run` takes an option with the value 1, asked of the program itself over the smallest network."""
+    return _takes(option, str(program or program_path()))
+
+
+@lru_cache(maxsize=None)
+def _takes(option, program):
+    return ask(("run", option, "1"), SMALLEST, program).status == 0
+
+
+def run_words(every, workers=1, program=None):
+    """The words of a run that is recorded each `every` steps (0 for never), on `workers` threads where it takes any."""
+    words = ["run"]
+    if every:
+        if not takes("--every", program):
+            raise Problem("this ctm takes no --every, so it records nothing; build the newest")
+        words += ["--every", str(every)]
+    if workers > 1 and takes("--workers", program):
+        words += ["--regions", str(min(512, 8 * workers)), "--workers", str(workers)]
+    return words
+
+
+def recording_step(steps, cells):
+    """The least K with which a run of so many steps and cells is recorded within the program's limit."""
+    every = max(1, -(-steps * cells // MOST_RECORDED))
+    while (steps // every + 1 + (steps % every > 0)) * cells > MOST_RECORDED:
+        every += 1
+        if every > steps and 2 * cells > MOST_RECORDED:
+            return 0
+    return every

@@ -1,0 +1,42 @@
+"""Two reports side by side: delay and served vehicles, in all and cell by cell."""
+
+import pandas
+
+
+def compare(first, second):
+    """A row for each cell of both reports: delay and gone of each and their rise, the greatest changes of delay first.
+
+    Delay is in vehicle-hours where both steps are known, else in vehicle-steps; gone is in vehicles, for an exit what
+    has come to it.
+    """
+    known = first.units.known and second.units.known
+    columns = {}
+    for name, report in (("first", first), ("second", second)):
+        delay = report.units.hours(report.cells.wait) if known else report.cells.wait
+        columns[f"delay_{name}"], columns[f"gone_{name}"] = delay, _served(report)
+    frame = pandas.DataFrame(columns)
+    frame["delay_rise"] = frame.delay_second.fillna(0) - frame.delay_first.fillna(0)
+    frame["gone_rise"] = frame.gone_second.fillna(0) - frame.gone_first.fillna(0)
+    frame.index.name = "cell"
+    order = frame.delay_rise.abs().sort_values(ascending=False, kind="stable").index
+    frame = frame.loc[order, ["delay_first", "delay_second", "delay_rise", "gone_first", "gone_second", "gone_rise"]]
+    frame.attrs["units"] = {"delay": first.units.delay_unit if known else "vehicle-steps", "gone": "vehicles"}
+    return frame
+
+
+def _served(report):
+    """The vehicles that have gone out of each cell; of one that nothing leaves, as an exit, those that came."""
+    return report.cells.gone.where(report.cells.gone > 0, report.cells.come)
+
+
+def totals(first, second):
+    """Vehicles that came, were served and are still inside, and the delay, of both reports, and the rise."""
+    known = first.units.known and second.units.known
+    rows = {}
+    for name, report in (("first", first), ("second", second)):
+        delay = report.units.hours(report.total.delay) if known else report.total.delay
+        rows[name] = pandas.Series({"came": report.total.entered, "served": report.total.left,
+                                    "inside at the end": report.total.inside, "delay": delay})
+    frame = pandas.DataFrame(rows)
+    frame["rise"] = frame["second"] - frame["first"]
+    return frame

@@ -1,0 +1,155 @@
+"""The text of a report, as data frames in the program's own units: vehicles and steps."""
+
+import io
+from dataclasses import dataclass, field
+from functools import cached_property
+from pathlib import Path
+
+import numpy
+import pandas
+
+from ..network_file.network import Network, read_bytes, read_network
+from ..problem import Problem
+from ..units import Units, read_units, units_path
+
+
+@dataclass
+class Report:
+    """A report, with its units and its network where these are known.
+
+    `cells` is indexed by the cell's name and has n, come, gone (vehicles) and wait (vehicle-steps) at the last step.
+    `times` are the recorded steps; `occupancy` and `departed` are frames with a row for each of them and a column for
+    each cell: the vehicles that it holds then, and all that have gone out of it until then.
+    `total` has inside, entered, left (vehicles) and delay (vehicle-steps).
+    """
+
+    steps: int
+    cells: pandas.DataFrame
+    total: pandas.Series
+    times: numpy.ndarray
+    occupancy: pandas.DataFrame
+    departed: pandas.DataFrame
+    units: Units = field(default_factory=Units)
+    network: Network = None
+    name: str = ""
+
+    @property
+    def recorded(self):
+        """Whether the report has records, which a run with --every gives."""
+        return len(self.times) > 1
+
+    @property
+    def title(self):
+        """The title of the study, or the name of the file."""
+        return self.units.title or Path(self.name).stem
+
+    @cached_property
+    def flow(self):
+        """Vehicles a step that leave each cell between a recorded step and the next, indexed by the first of both."""
+        gone = self.departed.to_numpy()
+        return pandas.DataFrame(numpy.diff(gone, axis=0) / numpy.diff(self.times)[:, None],
+                                index=self.times[:-1], columns=self.departed.columns)
+
+    @cached_property
+    def held(self):
+        """Vehicles that each cell holds between a recorded step and the next, indexed as `flow`.
+
+        Where each step is recorded this is what the cell holds at the step; else the mean of both ends.
+        """
+        n = self.occupancy.to_numpy()
+        each = numpy.diff(self.times) == 1
+        mean = numpy.where(each[:, None], n[:-1], (n[:-1] + n[1:]) / 2)
+        return pandas.DataFrame(mean, index=self.times[:-1], columns=self.occupancy.columns)
+
+    def need_records(self):
+        """The problem of a report without records, where there are none."""
+        if not self.recorded:
+            raise Problem(f"{self.name}: the report has no records; `ctm-tools run` and `ctm run --every K` write them")
+
+    def need_network(self):
+        """The network, or the problem that it isn't known."""
+        if self.network is None:
+            raise Problem(f"{self.name}: the network of this report isn't known; name its file with --network")
+        return self.network
+
+
+def read_report(path, units=None, network=None):
+    """The report in a file, in vehicles and steps, with the units that stand beside it and the network they name.
+
+    `units` and `network` are paths that are taken in place of these. A network is also found beside the report, under
+    its name with the ending .csv.
+    """
+    path = Path(path)
+    report = report_of(read_bytes(path), str(path))
+    units_file = Path(units) if units else units_path(path)
+    if units and not units_file.exists():
+        raise Problem(f"{units_file}: no such file or directory")
+    report.units = read_units(units_file)
+    report.network = _network_beside(path, units_file, report, network)
+    if report.network is not None and not report.units.known and not units:
+        report.units = _units_of_network(report, units_file, network)
+    return report
+
+
+def _units_of_network(report, units_file, network):
+    """The units that stand beside the network's file, where the report has none of its own."""
+    return read_units(units_path(network)) if network else report.units
+
+
+def _network_beside(path, units_file, report, network):
+    if network:
+        return _fitting(read_network(network), report, network, True)
+    names = [units_file.parent / report.units.network] if report.units.network else []
+    for name in [*names, path.with_suffix(".csv")]:
+        if name.exists() and name != path:
+            return _fitting(read_network(name), report, name, False)
+    return None
+
+
+def _fitting(network, report, name, asked):
+    """The network where it has the report's cells; where it hasn't, none, or the problem where it was asked for."""
+    if list(network.cells.index) == list(report.cells.index):
+        return network
+    if asked:
+        raise Problem(f"{name}: has other cells than the report")
+    return None
+
+
+def report_of(content, name="the report"):
+    """The report that the bytes spell, in vehicles and steps."""
+    head, _, rest = content.partition(b"\n")
+    terms = head.split(b",")
+    if len(terms) != 3 or terms[0] != b"report":
+        raise Problem(f"{name}: no report of ctm; `ctm-tools run` writes one")
+    try:
+        steps, count = int(terms[1]), int(terms[2])
+        first_cell = 0 if rest.startswith(b"cell,") else rest.index(b"\ncell,") + 1
+        *rows, last = rest[first_cell:].decode("ascii").splitlines()
+        rows = [row.split(",") for row in rows]
+        if len(rows) != count or any(row[0] != "cell" for row in rows) or not last.startswith("total,"):
+            raise ValueError
+        names = [row[1] for row in rows]
+        cells = pandas.DataFrame([[float(value) for value in row[2:6]] for row in rows],
+                                 index=pandas.Index(names, name="cell"), columns=["n", "come", "gone", "wait"])
+        total = pandas.Series(map(float, last.split(",")[1:]), index=["inside", "entered", "left", "delay"])
+        times, occupancy, departed = _records(rest[:first_cell], names)
+    except (ValueError, IndexError):
+        raise Problem(f"{name}: this report is cut short or isn't one of ctm") from None
+    return Report(steps, cells, total, times, occupancy, departed, name=name)
+
+
+def _records(content, names):
+    """The recorded steps, and the frames of occupancies and of departed vehicles, of the lines of records."""
+    count = len(names)
+    first = content[:100 * count].split(b"\n", count)[:count]
+    if content and [line.split(b",")[2].decode() for line in first] != names:
+        raise ValueError
+    rows = pandas.read_csv(io.BytesIO(content), header=None, usecols=[0, 1, 3, 4], engine="c",
+                           dtype={0: "category", 1: "int64", 3: "float64", 4: "float64"}) if content else \
+        pandas.DataFrame({column: [] for column in (0, 1, 3, 4)})
+    if len(rows) % count or set(rows[0].unique()) - {"at"}:
+        raise ValueError
+    times = rows[1].to_numpy(dtype=int)[::count]
+    shape = (len(times), count)
+    return (times, pandas.DataFrame(rows[3].to_numpy(dtype=float).reshape(shape), index=times, columns=names),
+            pandas.DataFrame(rows[4].to_numpy(dtype=float).reshape(shape), index=times, columns=names))

@@ -1,0 +1,77 @@
+"""Chains of cells: from a cell on in the direction of travel, and the roads that units name."""
+
+import networkx
+
+from ..problem import Problem
+
+
+def route_of(report, start=None, end=None, road=None):
+    """The cells of a route: those of a named road, else from a cell to another, else the longest chain from a gate.
+
+    Gates and exits at its ends are left out, since they have no length. At a diverge the greater share is followed
+    where no end is given.
+    """
+    if road:
+        return _road(report, road)
+    network = report.need_network()
+    for cell in (start, end):
+        if cell is not None and cell not in network.cells.index:
+            raise Problem(f"{report.name}: there is no cell {cell}")
+    if start and end:
+        try:
+            cells = networkx.shortest_path(network.graph, start, end)
+        except networkx.NetworkXNoPath:
+            raise Problem(f"{report.name}: no way leads from {start} to {end}") from None
+    elif end:
+        cells = _follow(network, end, back=True)[::-1]
+    elif start:
+        cells = _follow(network, start)
+    else:
+        cells = main_route(network)
+    cells = [cell for cell in cells if network.kinds[cell] == "road"]
+    if not cells:
+        raise Problem(f"{report.name}: the route has no road cells")
+    return cells
+
+
+def _road(report, road):
+    if road not in report.units.roads:
+        known = ", ".join(report.units.roads) or "none"
+        raise Problem(f"{report.name}: the units name no road {road}; they name {known}")
+    return report.units.roads[road]
+
+
+def _follow(network, cell, back=False):
+    """The chain from a cell on, or back from it, by the greater weight at each junction, to its end or once round."""
+    chain, seen = [cell], {cell}
+    while True:
+        steps = network.graph.in_edges(cell, data="weight") if back else network.graph.out_edges(cell, data="weight")
+        ways = [(weight, up if back else down) for up, down, weight in steps]
+        cell = max(ways, key=lambda way: way[0])[1] if ways else None
+        if cell is None or cell in seen:
+            return chain
+        chain.append(cell)
+        seen.add(cell)
+
+
+def main_route(network):
+    """The longest of the chains that begin at gates, or at cells that nothing leads into, or anywhere."""
+    starts = [cell for cell in network.cells.index if network.kinds[cell] == "gate"]
+    starts = starts or [cell for cell in network.cells.index if network.graph.in_degree(cell) == 0]
+    chains = (_follow(network, start) for start in (starts or list(network.cells.index)[:1])[:500])
+    return max(chains, key=len)
+
+
+def kilometres(report, cells):
+    """The kilometres at the boundaries of a chain's cells, from 0, or the cells' numbers where no length is known.
+
+    The kilometres of one road go on from where the road's first cell of the chain lies.
+    """
+    units = report.units
+    lengths = [units.length(cell) for cell in cells]
+    known = units.known and all(lengths)
+    start = units.cells[cells[0]]["from_km"] if known else 0
+    bounds = [start]
+    for length in lengths:
+        bounds.append(bounds[-1] + (length if known else 1))
+    return bounds, known

@@ -1,0 +1,121 @@
+"""The connectors of a study: links within roads and between them, merges, diverges and ramps."""
+
+from ..problem import Problem
+from .plan import Merge
+
+
+class Junctions:
+    """The records of connectors and turns, and which cells each cell leads into."""
+
+    def __init__(self, study, layout, scale):
+        self.study, self.layout, self.scale = study, layout, scale
+        self.connectors, self.turns = [], []
+        self.out_of = {}  # for each cell the cells that its connector leads into, and the place in the study
+        self.into = {}  # for each cell that something leads into the place in the study
+        self._roads(self._ramps())
+        self._ends()
+        self._joints()
+
+    def road_cells(self, road, place):
+        """The cells of a road that a place of the study names."""
+        if road not in self.layout.cells:
+            names = [*self.study.roads, *self.study.gates, *self.study.exits]
+            known = f"the study has {', '.join(names)}" if len(names) <= 12 else f"the study has {len(names)} others"
+            raise Problem(f"{place}: there is no road {road}; {known}")
+        return self.layout.cells[road]
+
+    def boundary(self, road, kilometre, what):
+        """The number of cells before the boundary that lies nearest to a kilometre of a road, noted where it moves."""
+        length = self.study.roads[road].length
+        if kilometre > length:
+            raise Problem(f"{what}: km {float(kilometre):g} is beyond road {road}, which has {float(length):g} km")
+        boundary = self.layout.boundary(road, kilometre)
+        self.scale.rounding.note(f"place of {what}", kilometre, self.layout.kilometre(road, boundary), "km")
+        return boundary
+
+    def _source(self, name, place):
+        """The cell that a road or a gate ends in."""
+        return name if name in self.study.gates else self.road_cells(name, place)[-1].name
+
+    def _target(self, name, place):
+        """The cell that a road begins with, or an exit."""
+        return name if name in self.study.exits else self.road_cells(name, place)[0].name
+
+    def _put(self, kind, ups, downs, numbers, place):
+        for up in ups:
+            if up in self.out_of:
+                raise Problem(f"{place}: {up} leads on already, by {self.out_of[up][1]}; a diverge parts one into two")
+            self.out_of[up] = downs, place
+        for down in downs:
+            if down in self.into:
+                raise Problem(f"{place}: something leads into {down} already, by {self.into[down]}; a merge joins two "
+                              "into one")
+            self.into[down] = place
+        self.connectors.append(",".join([kind, *ups, *downs, *map(str, numbers)]))
+
+    def _roads(self, cut):
+        """Links the cells of each road, but for the boundaries that ramps have taken."""
+        for road, cells in self.layout.cells.items():
+            for i in range(1, len(cells)):
+                if (road, i) not in cut:
+                    self._put("link", [cells[i - 1].name], [cells[i].name], [], f"roads.{road}")
+
+    def _ends(self):
+        """Links gates and exits to their roads, and roads that go on as another."""
+        for gate in self.study.gates.values():
+            if gate.into:
+                place = f"gates.{gate.name}.into"
+                self._put("link", [gate.name], [self._target(gate.into, place)], [], place)
+        for exit_ in self.study.exits.values():
+            if exit_.source:
+                place = f"exits.{exit_.name}.from"
+                self._put("link", [self._source(exit_.source, place)], [exit_.name], [], place)
+        for source, into, place in self.study.links:
+            self._put("link", [self._source(source, place)], [self._target(into, place)], [], place)
+
+    def _joints(self):
+        """Puts the merges and diverges at the ends of roads."""
+        for diverge in self.study.diverges:
+            if diverge.at is None:
+                self._put_diverge(diverge, self._source(diverge.source, diverge.place),
+                                  [self._target(name, diverge.place) for name in diverge.into])
+        for merge in self.study.merges:
+            if merge.at is None:
+                self._put_merge(merge, [self._source(name, merge.place) for name in merge.sources],
+                                self._target(merge.into, merge.place))
+
+    def _ramps(self):
+        """Puts the merges and diverges of ramps, and gives the boundaries that they take from their roads."""
+        cut = {}
+        for ramp in [*self.study.diverges, *self.study.merges]:
+            if ramp.at is None:
+                continue
+            joins = isinstance(ramp, Merge)
+            road = ramp.into if joins else ramp.source
+            cells = self.road_cells(road, ramp.place)
+            boundary = self.boundary(road, ramp.at, ramp.place)
+            if not 0 < boundary < len(cells):
+                raise Problem(f"{ramp.place}.at: a ramp stands within its road; at its end use merges or diverges")
+            if (road, boundary) in cut:
+                raise Problem(f"{ramp.place}.at: {cut[road, boundary]} stands there already; two ramps are at least a "
+                              "cell apart")
+            cut[road, boundary] = ramp.place
+            before, behind = cells[boundary - 1].name, cells[boundary].name
+            if joins:
+                self._put_merge(ramp, [before, self._source(ramp.sources[1], ramp.place)], behind)
+            else:
+                self._put_diverge(ramp, before, [behind, self._target(ramp.into[1], ramp.place)])
+        return cut
+
+    def _put_merge(self, merge, ups, down):
+        weights = self.scale.weights(f"{merge.place}: priority of the first", merge.priorities)
+        self._put("merge", ups, [down], weights, merge.place)
+
+    def _put_diverge(self, diverge, up, downs):
+        shares = self.scale.weights(f"{diverge.place}: share of the first", diverge.shares)
+        self._put("diverge", [up], downs, shares, diverge.place)
+        for i, turn in enumerate(diverge.turns, 1):
+            what = f"{diverge.place}.turns[{i}]"
+            begin, end = self.scale.span(what, turn.start, turn.end)
+            shares = self.scale.weights(f"{what}: share of the first", turn.shares)
+            self.turns.append(f"turn,{up},{begin},{end},{shares[0]},{shares[1]}")

@@ -1,0 +1,158 @@
+"""From a study to the text of its network file, its units, and what was rounded."""
+
+from dataclasses import dataclass, field
+from fractions import Fraction
+
+from ..amounts import PARTS, amount_text, rounded_parts
+from ..network_file.faults import NAME, first_fault
+from ..network_file.kinds import CELLS, CONNECTORS, MOST_RECORDS, NAME_RULE
+from ..network_file.network import told as fault_told
+from ..network_file.records import read_records
+from ..problem import Problem
+from ..units import Units, clock_text
+from .by_time import ByTime
+from .junctions import Junctions
+from .layout import HOUR, Layout
+from .rounding import Rounding
+from .scale import Scale
+
+MADE = "# Made by ctm-tools build"
+
+
+@dataclass
+class Built:
+    """A network made of a study: the text of its file, its units, and what was rounded."""
+
+    text: str
+    units: Units
+    rounding: Rounding = field(repr=False)
+
+
+def build(study):
+    """The network of a study."""
+    try:
+        return Builder(study).build()
+    except Problem as problem:
+        raise Problem(f"{study.path}: {problem}") from None
+
+
+class Builder:
+    """Makes the text of a study's network, sort by sort."""
+
+    def __init__(self, study):
+        _check_names(study)
+        self.study = study
+        self.rounding = Rounding()
+        self.layout = Layout(study, self.rounding)
+        self.scale = Scale(study, self.rounding)
+        self.junctions = Junctions(study, self.layout, self.scale)
+
+    def build(self):
+        """The built network."""
+        by_time = ByTime(self.study, self.junctions, self.scale)
+        sections = [
+            ("gate,name,Q,first", self._gates()), ("road,name,N,Q,A,B,first", self._roads()),
+            ("exit,name,Q", self._exits()),
+            ("link,up,down; merge,first up,second up,down,P1,P2; diverge,up,first down,second down,B1,B2; "
+             "turn,cell,from,to,B1,B2", [*self.junctions.connectors, *self.junctions.turns]),
+            ("signal,cell,cycle,offset,from,to", by_time.signals()), ("limit,cell,from,to,Q", by_time.limits()),
+            ("demand,gate,from,to,vehicles in a step", by_time.demands())]
+        sections = [(comment, list(records)) for comment, records in sections]
+        large = _is_large([record for _, records in sections for record in records])
+        form = 2 if self.junctions.turns or large else 1
+        text = "\n".join([*self._head(), f"ctm,{form}", f"steps,{self.scale.steps}"]) + "\n"
+        text += "".join("\n".join(["", f"# {comment}", *records]) + "\n" for comment, records in sections if records)
+        _check(text)
+        return Built(text, self._units(), self.rounding)
+
+    def _head(self):
+        """The comment that says the units."""
+        study = self.study
+        step = float(study.step)
+        yield f"{MADE} from {study.path.name}: {study.title}"
+        yield "#"
+        yield (f"# A step is {step:g} s; step 0 is {clock_text(float(study.start))}. Amounts are vehicles, Q and "
+               f"demand in a step: 1 is {3600 / step:g} vehicles/h.")
+        for road, cells in self.layout.cells.items():
+            for part, section in zip(self.layout.stretches[road], study.roads[road].sections):
+                names = dict.fromkeys([cells[part.first].name, cells[part.first + part.count - 1].name])
+                yield (f"# {' to '.join(names)}: road {road}, {section.lanes} lane{'s'[:section.lanes != 1]}, cells of "
+                       f"{float(part.length) * 1000:g} m, {float(section.free_flow_speed):g} km/h, waves "
+                       f"{float(section.wave_speed):g} km/h; in a lane {float(section.jam_density):g} vehicles/km and "
+                       f"{float(section.saturation_flow):g} vehicles/h")
+        yield ""
+
+    def _capacity(self, what, flow, cells):
+        """The parts that pass in a step: of a flow where it is said, else as much as the cells beside it."""
+        if flow is not None:
+            return self.scale.flow(what, flow)
+        known = {cell.name: cell.capacity for row in self.layout.cells.values() for cell in row}
+        found = [known[name] for name in cells if name in known]
+        if not found:
+            raise Problem(f"{what}: is missing, and no road stands beside it")
+        return sum(found)
+
+    def _gates(self):
+        for gate in self.study.gates.values():
+            downs, _ = self.junctions.out_of.get(gate.name, ([], ""))
+            capacity = self._capacity(f"gates.{gate.name}.capacity", gate.capacity, downs)
+            yield f"gate,{gate.name},{amount_text(capacity)},{amount_text(rounded_parts(gate.first))}"
+
+    def _roads(self):
+        for road, cells in self.layout.cells.items():
+            for cell in cells:
+                yield (f"road,{cell.name},{amount_text(cell.room)},{amount_text(cell.capacity)},"
+                       f"{cell.ratio.numerator},{cell.ratio.denominator},{amount_text(cell.first)}")
+            for part, section in zip(self.layout.stretches[road], self.study.roads[road].sections):
+                self._note_section(f"of road {road} from km {float(part.start):g}", section, cells[part.first], part)
+
+    def _note_section(self, where, section, cell, part):
+        note, lanes = self.rounding.note, section.lanes
+        note(f"wave speed {where}", section.wave_speed, cell.ratio * section.free_flow_speed, "km/h")
+        note(f"jam density {where}", section.jam_density * lanes, Fraction(cell.room, PARTS) / part.length,
+             "vehicles/km")
+        note(f"saturation flow {where}", section.saturation_flow * lanes,
+             Fraction(cell.capacity, PARTS) * HOUR / self.study.step, "vehicles/h")
+
+    def _exits(self):
+        for exit_ in self.study.exits.values():
+            ups = [up for up, (downs, _) in self.junctions.out_of.items() if exit_.name in downs]
+            capacity = self._capacity(f"exits.{exit_.name}.capacity", exit_.capacity, ups)
+            yield f"exit,{exit_.name},{amount_text(capacity)}"
+
+    def _units(self):
+        units = Units(self.study.title, float(self.study.step), float(self.study.start))
+        for road, row in self.layout.cells.items():
+            units.roads[road] = [cell.name for cell in row]
+            if self.study.roads[road].points:
+                units.points[road] = self.study.roads[road].points
+            for cell in row:
+                section = cell.section
+                units.cells[cell.name] = {"road": road, "from_km": float(cell.start), "to_km": float(cell.end),
+                                          "lanes": section.lanes, "free_flow_kmh": float(section.free_flow_speed),
+                                          "wave_kmh": float(section.wave_speed)}
+        return units
+
+
+def _check_names(study):
+    for name in [*study.gates, *study.exits]:
+        if not NAME.fullmatch(name):
+            raise Problem(f"{name}: a gate's or an exit's name is {NAME_RULE}")
+        if name in study.roads or name in study.gates and name in study.exits:
+            raise Problem(f"{name}: a road, a gate and an exit have names of their own")
+
+
+def _is_large(records):
+    """Whether a network has more records of a sort than format 1 allows."""
+    kinds = [record.split(",", 1)[0] for record in records]
+    return any(sum(kind in sort for kind in kinds) > MOST_RECORDS[1]
+               for sort in (CELLS, CONNECTORS, ("limit",), ("demand",)))
+
+
+def _check(text):
+    """The problem of a built network that the program would refuse, as one with too many cells."""
+    content = text.encode()
+    records = read_records(content)
+    fault = first_fault(records)
+    if fault:
+        raise Problem("the built network has a fault: " + fault_told(content, records, fault))

@@ -1,0 +1,141 @@
+"""A study as its file says it: roads, gates, exits, junctions, signals, closures, all in physical units."""
+
+from dataclasses import dataclass, field
+from fractions import Fraction
+from pathlib import Path
+
+
+@dataclass
+class Section:
+    """A stretch of a road from a kilometre on: lanes, and what holds of each lane, in km/h, vehicles/km, vehicles/h.
+
+    `first_density` is what stands on each lane at the start, in vehicles/km; `cells` is the name before the numbers.
+    """
+
+    start: Fraction
+    lanes: int
+    free_flow_speed: Fraction
+    wave_speed: Fraction
+    jam_density: Fraction
+    saturation_flow: Fraction
+    first_density: Fraction
+    cells: str
+
+
+@dataclass
+class Road:
+    """A road in one direction: its length in km, its sections in the direction of travel, its points on the map."""
+
+    name: str
+    length: Fraction
+    sections: list
+    points: list = field(default_factory=list)
+
+
+@dataclass
+class Flow:
+    """A flow in vehicles/h from a clock time to another, in seconds after the study's start."""
+
+    start: Fraction
+    end: Fraction
+    flow: Fraction
+
+
+@dataclass
+class Gate:
+    """Where vehicles come in: the road that it leads into, its demand, its capacity in vehicles/h where it is said."""
+
+    name: str
+    into: str = None
+    demand: list = field(default_factory=list)
+    capacity: Fraction = None
+    limits: list = field(default_factory=list)
+    first: Fraction = Fraction(0)
+
+
+@dataclass
+class Exit:
+    """Where vehicles go out: the road that leads to it, its capacity in vehicles/h where it is said, and limits."""
+
+    name: str
+    source: str = None
+    capacity: Fraction = None
+    limits: list = field(default_factory=list)
+
+
+@dataclass
+class Merge:
+    """Two streams into one, with what passes of each where both queue. `at` is the km of a road that a ramp joins."""
+
+    sources: list
+    into: str
+    priorities: list
+    at: Fraction = None
+    place: str = ""
+
+
+@dataclass
+class Turn:
+    """Turning shares from a time to another, in seconds after the study's start."""
+
+    start: Fraction
+    end: Fraction
+    shares: list
+
+
+@dataclass
+class Diverge:
+    """One stream into two, with turning shares and those by time. `at` is the km of a road that a ramp leaves."""
+
+    source: str
+    into: list
+    shares: list
+    turns: list = field(default_factory=list)
+    at: Fraction = None
+    place: str = ""
+
+
+@dataclass
+class Signal:
+    """A signal: the road and km of its stop line or the gate, cycle and green in s, and when it first turns green."""
+
+    road: str
+    at: Fraction
+    cycle: Fraction
+    green: Fraction
+    first_green: Fraction
+    place: str = ""
+
+
+@dataclass
+class Closure:
+    """Lanes closed on a road between two km and two times, or the capacity in vehicles/h that is left there."""
+
+    road: str
+    start_km: Fraction
+    end_km: Fraction
+    start: Fraction
+    end: Fraction
+    lanes: Fraction = None
+    capacity: Fraction = None
+    saturation_flow: Fraction = None
+    place: str = ""
+
+
+@dataclass
+class Study:
+    """A study: its step in s, the clock time of its start in s after midnight, its duration in s, and its parts."""
+
+    title: str
+    step: Fraction
+    start: Fraction
+    duration: Fraction
+    roads: dict
+    gates: dict
+    exits: dict
+    links: list
+    merges: list
+    diverges: list
+    signals: list
+    closures: list
+    path: Path = None

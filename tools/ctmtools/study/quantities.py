@@ -1,0 +1,83 @@
+"""Quantities of a study: numbers in the documented unit, or texts such as "500 m", as exact fractions."""
+
+import datetime
+import re
+from fractions import Fraction
+
+from ..problem import Problem
+
+# For each sort of quantity the unit of a bare number, and what each unit is of it.
+UNITS = {
+    "length": ("km", {"km": Fraction(1), "m": Fraction(1, 1000)}),
+    "speed": ("km/h", {"km/h": Fraction(1), "m/s": Fraction(18, 5)}),
+    "density": ("vehicles/km", {"vehicles/km": Fraction(1), "veh/km": Fraction(1)}),
+    "flow": ("vehicles/h", {"vehicles/h": Fraction(1), "veh/h": Fraction(1), "vehicles/s": Fraction(3600)}),
+    "duration": ("s", {"s": Fraction(1), "min": Fraction(60), "h": Fraction(3600)}),
+}
+TEXT = re.compile(r"\s*([+-]?[0-9]+(?:\.[0-9]+)?)\s*(.*?)\s*")
+CLOCK = re.compile(r"([0-9]{1,2}):([0-9]{2})(?::([0-9]{2}(?:\.[0-9]+)?))?")
+
+
+def number(value, key):
+    """The exact fraction of a number of the study file."""
+    if isinstance(value, bool) or not isinstance(value, (int, float, Fraction)):
+        raise Problem(f"{key}: expected a number, found {shown(value)}")
+    return Fraction(value)
+
+
+def quantity(sort):
+    """A reader of quantities of a sort, which gives each in the unit of a bare number."""
+    unit, units = UNITS[sort]
+
+    def read(value, key):
+        if isinstance(value, str):
+            found = TEXT.fullmatch(value)
+            if not found or found[2] not in units:
+                raise Problem(f"{key}: expected a {sort}, a number in {unit} or a text in {' or '.join(units)}, "
+                              f"found {shown(value)}")
+            result = Fraction(found[1]) * units[found[2]]
+        else:
+            result = number(value, key)
+        if result < 0:
+            raise Problem(f"{key}: a {sort} isn't negative, found {shown(value)}")
+        return result
+    return read
+
+
+length = quantity("length")  # in km
+speed = quantity("speed")  # in km/h
+density = quantity("density")  # in vehicles/km
+flow = quantity("flow")  # in vehicles/h
+duration = quantity("duration")  # in s
+
+
+def clock(value, key):
+    """A clock time in seconds after midnight: a text `hh:mm` or `hh:mm:ss`, or a local time of TOML."""
+    if isinstance(value, datetime.time):
+        return Fraction(value.hour * 3600 + value.minute * 60 + value.second) + Fraction(value.microsecond, 10**6)
+    found = CLOCK.fullmatch(value) if isinstance(value, str) else None
+    if not found or int(found[2]) > 59 or float(found[3] or 0) >= 60 or int(found[1]) > 48:
+        raise Problem(f"{key}: expected a clock time such as \"06:30\", found {shown(value)}")
+    return Fraction(int(found[1]) * 3600 + int(found[2]) * 60) + Fraction(found[3] or 0)
+
+
+def whole(value, key):
+    """A whole number, 1 or more."""
+    result = number(value, key)
+    if result.denominator != 1 or result < 1:
+        raise Problem(f"{key}: expected a whole number, 1 or more, found {shown(value)}")
+    return int(result)
+
+
+def word(value, key):
+    """A text that isn't empty."""
+    if not isinstance(value, str) or not value:
+        raise Problem(f"{key}: expected a text, found {shown(value)}")
+    return value
+
+
+def shown(value):
+    """A value of the study file as a message shows it."""
+    if isinstance(value, Fraction):
+        return f"{float(value):g}"
+    return f"\"{value}\"" if isinstance(value, str) else str(value)

@@ -1,0 +1,45 @@
+"""From seconds, vehicles per hour and ratios to whole steps, parts and whole numbers, each rounding noted."""
+
+from fractions import Fraction
+
+from ..amounts import PARTS, rounded_parts
+from ..problem import Problem
+from .layout import HOUR
+
+
+class Scale:
+    """The steps of a study, and the amounts in one of them."""
+
+    def __init__(self, study, rounding):
+        self.step = study.step
+        self.rounding = rounding
+        self.steps = self.whole_steps("duration of the study", study.duration, least=1)
+
+    def whole_steps(self, what, seconds, least=0):
+        """The steps nearest to a time in seconds."""
+        steps = max(least, round(seconds / self.step))
+        self.rounding.note(what, seconds, steps * self.step, "s")
+        return steps
+
+    def span(self, what, start, end):
+        """The steps from a time to another, in seconds after the study's start; at least one."""
+        begin = self.whole_steps(f"start of {what}", start)
+        stop = self.whole_steps(f"end of {what}", end)
+        if stop <= begin:
+            raise Problem(f"{what}: is shorter than a step of {float(self.step):g} s")
+        return begin, stop
+
+    def flow(self, what, flow):
+        """The parts in a step of a flow in vehicles/h."""
+        parts = rounded_parts(flow * self.step / HOUR)
+        self.rounding.note(what, flow, Fraction(parts, PARTS) * HOUR / self.step, "vehicles/h")
+        return parts
+
+    def weights(self, what, pair):
+        """Two whole numbers, 1 to 1,000, in the ratio of two numbers or next to it."""
+        less, more = sorted(pair)
+        ratio = (less / more).limit_denominator(1000)
+        low, high = (ratio.numerator, ratio.denominator) if ratio else (1, 1000)
+        first, second = (low, high) if pair[0] <= pair[1] else (high, low)
+        self.rounding.note(what, 100 * pair[0] / sum(pair), Fraction(100 * first, first + second), "%")
+        return first, second

@@ -1,0 +1,93 @@
+"""The units of a network: seconds of a step, clock time of step 0, and for each cell its road, kilometres and speed."""
+
+import json
+from dataclasses import dataclass, field
+from pathlib import Path
+
+from .problem import Problem
+
+SUFFIX = ".units.json"
+DAY = 24 * 3600
+
+
+@dataclass
+class Units:
+    """What a study knows beyond its network file.
+
+    `step` is the length of a step in seconds and `start` the clock time of step 0 in seconds after midnight, each None
+    where it isn't known. `cells` has for each road cell `road`, `from_km`, `to_km`, `lanes`, `free_flow_kmh`,
+    `wave_kmh`; `roads` has for each road its cells in the direction of travel, and `points` where they are given.
+    """
+
+    title: str = ""
+    step: float = None
+    start: float = None
+    network: str = None
+    cells: dict = field(default_factory=dict)
+    roads: dict = field(default_factory=dict)
+    points: dict = field(default_factory=dict)
+
+    @property
+    def known(self):
+        """Whether the seconds of a step are known, and with them clock times, hours and kilometres."""
+        return self.step is not None
+
+    def length(self, cell):
+        """The length of a cell in km, or None where it isn't known: gates and exits have none."""
+        row = self.cells.get(cell)
+        return row["to_km"] - row["from_km"] if row else None
+
+    def hours(self, vehicle_steps):
+        """Vehicle-steps as vehicle-hours, or as they are where the step isn't known."""
+        return vehicle_steps * self.step / 3600 if self.known else vehicle_steps
+
+    @property
+    def delay_unit(self):
+        """The unit of `hours`."""
+        return "vehicle-hours" if self.known else "vehicle-steps"
+
+    def clock(self, step, seconds=False):
+        """The clock time of a step as `hh:mm` or `hh:mm:ss`, or `step N` where it isn't known."""
+        if not self.known:
+            return f"step {step:g}"
+        return clock_text((self.start or 0) + step * self.step, seconds)
+
+
+def clock_text(seconds, always=False):
+    """Seconds after midnight as `hh:mm`, with `:ss` where they aren't whole minutes or where `always` asks for it."""
+    whole = round(seconds)
+    if whole > DAY:
+        whole %= DAY
+    hours, rest = divmod(whole, 3600)
+    minutes, rest = divmod(rest, 60)
+    return f"{hours:02d}:{minutes:02d}" + (f":{rest:02d}" if rest or always else "")
+
+
+def units_path(path):
+    """Where the units of a network file or a report stand: beside it, under its name without the ending."""
+    path = Path(path)
+    return path.with_name(path.stem + SUFFIX)
+
+
+def read_units(path):
+    """The units in a file; units that say nothing where there is no such file."""
+    path = Path(path)
+    if not path.exists():
+        return Units()
+    try:
+        values = json.loads(path.read_text())
+        return Units(values.get("title", ""), values.get("step_seconds"), values.get("start_seconds"),
+                     values.get("network"), values.get("cells", {}), values.get("roads", {}), values.get("points", {}))
+    except (OSError, ValueError, AttributeError) as error:
+        raise Problem(f"{path}: no units file: {error}") from None
+
+
+def write_units(path, units):
+    """Writes the units to a file, with a line for each cell."""
+    cells = ",\n".join(f"    {json.dumps(name)}: {json.dumps(row)}" for name, row in units.cells.items())
+    head = {"title": units.title, "step_seconds": units.step, "start_seconds": units.start, "network": units.network,
+            "roads": units.roads, "points": units.points}
+    lines = [f"  {json.dumps(key)}: {json.dumps(value)}" for key, value in head.items() if value not in (None, {}, "")]
+    if cells:
+        lines.append('  "cells": {\n' + cells + "\n  }")
+    Path(path).write_text("{\n" + ",\n".join(lines) + "\n}\n")

@@ -1,0 +1,95 @@
+"""Each fault of docs/FORMAT.md found here as by the program, and the hints on what a slip was meant to be."""
+
+import re
+from pathlib import Path
+
+import pytest
+
+from ctmtools.network_file.faults import first_fault
+from ctmtools.network_file.kinds import NUMBERS
+from ctmtools.network_file.network import told
+from ctmtools.network_file.records import read_records
+
+FORMAT = Path(__file__).resolve().parents[2] / "docs" / "FORMAT.md"
+ROW = re.compile(r"\|(?: (\d+))? \|(?: `(\w+)`)? \| `([^`]+)`(?: \([^|]*\))? \| (\d+) \|")
+
+
+def rows_of_faults():
+    code = None
+    for found in filter(None, map(ROW.fullmatch, FORMAT.read_text().splitlines())):
+        code = found[2] or code
+        yield found[3], code, int(found[4])
+
+
+@pytest.mark.parametrize("file, code, record", rows_of_faults())
+def test_the_table_of_faults(file, code, record):
+    fault = first_fault(read_records(file.replace("; ", "\n").encode() + b"\n"))
+    assert (fault.code, fault.record) == (code, record)
+
+
+def test_all_codes_are_in_the_table():
+    assert {code for _, code, _ in rows_of_faults()} | {"TooMany"} == set(NUMBERS)
+
+
+HEAD = "ctm,1\nsteps,9\ngate,on,18,0\nroad,m01,108,18,1,5,0\nroad,m02,108,18,1,5,0\nexit,off,12\n"
+# A slip, and what has to be told of it: the line, and a part of the hint.
+SLIPS = {
+    "a header row": (b"kind,name,value\nctm,1\nsteps,9\n", "line 1", "column names"),
+    "a header row below": (HEAD + "gate,name,Q,first\n", "line 7, field 3 (Q), `Q`", "BadNumber"),
+    "semicolons": (b"ctm;1\nsteps;9\n", "line 1", "Semicolons"),
+    "tabs": (b"ctm\t1\nsteps\t9\n", "line 1", "Tabs"),
+    "UTF-16": ("ctm,1\nsteps,9\n".encode("utf-16"), "line 1", "UTF-16"),
+    "an empty file": (b"", "line 1", "empty"),
+    "comments alone": (b"# a\n", "line 1", "only comments"),
+    "Excel's trailing commas": (b"ctm,1,,,,,\nsteps,9,,,,,\n", "line 1", "trail"),
+    "trailing commas below": (HEAD + "link,on,m01,,,\n", "line 7", "trail"),
+    "a workbook": (b"PK\x03\x04....", "line 1", "Excel"),
+    "a decimal comma": (HEAD + "demand,on,0,9,6,5\n", "line 7", "decimal comma meant? Write 6,5 with a point"),
+    "two decimal commas": (HEAD + "road,c,7,5,2,5,1,5,0\n", "line 7", "decimal comma"),
+    "a decimal comma in quotes": (HEAD + 'demand,on,0,9,"6,5"\n', "field 5 (amount)", "Write 6.5"),
+    "semicolons below": (HEAD + "link;on;m01\n", "line 7", "Semicolons"),
+    "tabs below": (HEAD + "link\ton\tm01\n", "line 7", "Tabs"),
+    "a name that nearly exists": (HEAD + "link,on,m1\n", "field 3 (cell downstream), `m1`", "m01"),
+    "a letter for a digit": (HEAD + "link,on,m0l\n", "field 3", "Is m01 meant?"),
+    "carriage returns alone": (b"# a\rctm,1\r", "line 1", "carriage returns"),
+    "empty rows of commas": (b",,,\nctm,1,,\n", "line 1", "Excel"),
+    "a comment behind a number": (HEAD + "limit,m01,0,9,2 # a\n", "field 5", "line of its own"),
+    "another case": (HEAD + "link,ON,m01\n", "field 2", "Is on meant?"),
+    "a cell declared later": ("ctm,1\nlink,a,b\ngate,a,1,0\nexit,b,1\n", "line 2", "declared later, in line 3"),
+    "a capital kind": (HEAD + "Link,on,m01\n", "line 7, field 1 (kind)", "link, in lower case"),
+    "a misspelt kind": (HEAD + "lnik,on,m01\n", "line 7", "Is link meant?"),
+    "a comment behind a space": (HEAD + " # a comment\n", "line 7", "first byte"),
+    "a comment behind a record": (HEAD + "link,on,m01 # first\n", "field 3", "m01"),
+    "a turn in format 1": (HEAD + "turn,on,0,1,1,1\n", "line 7", "format 2 alone"),
+    "a space": (HEAD + "link,on, m01\n", "field 3", "spaces"),
+    "a name with a space": (HEAD + "exit,way out,3\n", "field 2 (name), `way out`", "way_out"),
+    "a second cell of a name": (HEAD + "exit,off,3\n", "field 2", "line 6"),
+    "too many decimals": (HEAD + "exit,x,1.23456789\n", "field 3", "six decimals"),
+    "an exponent": (HEAD + "exit,x,1e3\n", "field 3", "exponent"),
+    "a clock time": (HEAD + "demand,on,06:00,9,1\n", "field 3 (from)", "clock time"),
+    "a unit": (HEAD + "demand,on,0,9s,1\n", "field 4 (to)", "unit s"),
+    "a negative number": (HEAD + "demand,on,-1,9,1\n", "field 3", "negative"),
+    "A and B exchanged": (HEAD + "road,c,108,18,5,1,0\n", "field 6 (B), `1`", "exchanged"),
+    "a full road": (HEAD + "road,c,108,18,1,5,109\n", "field 7 (first)", "room for N = 108"),
+    "an empty range": (HEAD + "demand,on,5,5,1\n", "field 4 (to)", "above `from`"),
+    "a link twice": (HEAD + "link,on,m01\nlink,on,m01\n", "line 8", "same record stands in line 7"),
+    "a second way out": (HEAD + "link,on,m01\nlink,on,m02\n", "line 8", "diverge"),
+    "into a gate": (HEAD + "link,m01,on\n", "field 3", "nothing leads into a gate"),
+    "a demand at a road": (HEAD + "demand,m01,0,1,1\n", "field 2", "at gates alone"),
+    "vehicles per hour": ("ctm,1\nsteps,9000\ngate,on,1,0\ndemand,on,0,9000,5040\n", "whole file", "vehicles per hour"),
+    "the header twice": (HEAD + "ctm,1\n", "line 7", "two files"),
+    "another format": (b"ctm,3\n", "line 1", "formats 1 and 2"),
+    "no header": (b"steps,9\n", "line 1", "is missing"),
+    "an empty row": (HEAD + ",,,,\n", "line 7", "empty row"),
+    "no steps": ("ctm,1\nexit,x,1\n", "whole file", "NoSteps"),
+}
+
+
+@pytest.mark.parametrize("slip", SLIPS)
+def test_hints(slip):
+    content, where, hint = SLIPS[slip]
+    content = content.encode() if isinstance(content, str) else content
+    records = read_records(content)
+    text = told(content, records, first_fault(records))
+    assert where in text and hint in text
+    assert "\n" not in text

@@ -1,0 +1,78 @@
+"""The program called: its records against the plain recurrences, and what a caller is told where it can't be run."""
+
+import random
+
+import plain_model
+import pytest
+from conftest import EXAMPLES
+
+from ctmtools.problem import Problem
+from ctmtools.program import ask, recording_step, run_words
+
+
+@pytest.mark.parametrize("name", ["interchange", "event", "arterial-wave", "workzone"])
+@pytest.mark.parametrize("every", [1, 7, 100_000])
+def test_the_records_are_those_of_the_recurrences(name, every, recording_program):
+    content = (EXAMPLES / f"{name}.csv").read_bytes()
+    assert ask(("run", "--every", str(every)), content).out == plain_model.report(content, every)
+
+
+def made_network(dice):
+    """A network of roads that part, meet and come round, with all that changes by the step."""
+    count = dice.randrange(4, 12)
+    lines = ["ctm,2", f"steps,{dice.randrange(1, 60)}", "gate,g,5,0", "gate,h,3.5,2", "exit,x,4", "exit,y,1.25"]
+    for i in range(count):
+        lines.append(f"road,r{i},{dice.choice(['12', '20.5', '7.777777'])},{dice.choice(['3', '4.2'])},"
+                     f"{dice.randrange(1, 4)},{dice.randrange(4, 9)},{dice.choice(['0', '1.5', '6'])}")
+    ups, downs = ["g", "h", *(f"r{i}" for i in range(count))], ["x", "y", *(f"r{i}" for i in range(count))]
+    dice.shuffle(ups)
+    dice.shuffle(downs)
+    while len(ups) > 1 and len(downs) > 1:
+        sort = dice.choice(["link", "link", "merge", "diverge"])
+        if sort == "link":
+            lines.append(f"link,{ups.pop()},{downs.pop()}")
+        elif sort == "merge":
+            lines.append(f"merge,{ups.pop()},{ups.pop()},{downs.pop()},{dice.randrange(1, 5)},{dice.randrange(1, 5)}")
+        else:
+            up = ups.pop()
+            lines.append(f"diverge,{up},{downs.pop()},{downs.pop()},{dice.randrange(1, 5)},{dice.randrange(1, 5)}")
+            lines.append(f"turn,{up},{dice.randrange(9)},{dice.randrange(10, 30)},2,{dice.randrange(1, 4)}")
+    lines += [f"limit,r{dice.randrange(count)},{dice.randrange(9)},{dice.randrange(10, 30)},"
+              f"{dice.choice(['0', '1.3', '9'])}",
+              f"signal,r{dice.randrange(count)},7,{dice.randrange(7)},1,{dice.randrange(3, 8)}",
+              f"demand,g,0,{dice.randrange(1, 50)},{dice.choice(['2', '4.333333'])}", "demand,h,3,20,1.7",
+              "demand,h,5,9,1"]
+    return "\n".join(lines).encode() + b"\n"
+
+
+@pytest.mark.parametrize("seed", range(40))
+def test_the_reports_of_made_networks(seed, program):
+    content = made_network(random.Random(seed))
+    assert ask(("run",), content).out == plain_model.report(content)
+
+
+def test_the_step_between_records_is_the_least_allowed():
+    assert recording_step(1440, 32) == 1
+    assert recording_step(100_000, 40) == 2
+    for steps, cells in ((100_000, 1000), (999, 200_000), (3, 2_000_000), (100_000, 3)):
+        every = recording_step(steps, cells)
+        recorded = steps // every + 1 + (steps % every > 0)
+        assert recorded * cells <= 4_000_000
+    assert recording_step(5, 3_000_000) == 0
+
+
+def test_words_of_a_run_without_records():
+    assert run_words(0) == ["run"]
+
+
+def test_a_program_that_is_none(tmp_path):
+    with pytest.raises(Problem):
+        ask(("run",), b"", tmp_path / "none")
+    script = tmp_path / "ctm"
+    script.write_text("#!/bin/bash\necho './ctm: building' >&2\n"
+                      "echo './ctm: the build failed, so nothing was run' >&2\nexit 125\n")
+    script.chmod(0o755)
+    news = []
+    with pytest.raises(Problem, match="the build failed"):
+        ask(("run",), b"", script, news.append)
+    assert news[0] == "./ctm: building"

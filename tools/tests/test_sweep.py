@@ -1,0 +1,154 @@
+"""Sweeps: every combination, the best first, going on where one was stopped, and on a cluster that loses a worker."""
+
+import importlib.util
+import multiprocessing
+import os
+import signal
+import threading
+import time
+from fractions import Fraction
+
+import plain_model
+import pytest
+from conftest import EXAMPLES
+
+from ctmtools.problem import Problem
+from ctmtools.sweep import workers
+from ctmtools.sweep.task import Task, fingerprint, measure
+from ctmtools.sweep.variations import changed, combinations, variation
+from ctmtools.study.reading import read_values
+
+STUDY = EXAMPLES / "arterial-0.toml"
+
+
+@pytest.fixture(scope="session")
+def plain_program(tmp_path_factory):
+    """A program that records, for as long as the built one may not: the plain recurrences, called as it is."""
+    import sys
+
+    path = tmp_path_factory.mktemp("plain") / "ctm"
+    path.write_text(f"#!/bin/bash\nexec {sys.executable} {plain_model.__file__} \"$@\"\n")
+    path.chmod(0o755)
+    return str(path)
+
+
+@pytest.fixture
+def plain(plain_program, monkeypatch):
+    """Has the tools call the plain recurrences."""
+    monkeypatch.setenv("CTM_PROGRAM", plain_program)
+    return plain_program
+
+
+def task(program, **changes):
+    return Task(read_values(STUDY), str(STUDY), changes, program)
+
+
+def test_variations():
+    assert [float(value) for value in variation("demand=0.8:1.2:0.1").values] == [0.8, 0.9, 1.0, 1.1, 1.2]
+    assert variation("roads.m.lanes=2,3").values == (2, 3)
+    assert variation("start=06:00,07:00").values == ("06:00", "07:00")
+    assert len(combinations([variation("a=1:3:1"), variation("b=1,2")])) == 6
+    for text in ("demand", "demand=", "=1", "demand=1:0:1", "demand=0:1:0", "demand=0:9:0.001"):
+        with pytest.raises(Problem):
+            variation(text)
+
+
+def test_changes_of_a_study():
+    values = {"step": 10, "signals": [{"offset": 1}, {"offset": 2}], "roads": {"m": {"lanes": 2}}}
+    made, factors = changed(values, {"signals.offset": 5, "demand": 2, "demand.on": 3, "roads.m.lanes": 4})
+    assert made["signals"] == [{"offset": 5}, {"offset": 5}] and made["roads"]["m"]["lanes"] == 4
+    assert factors == {"": 2, "on": 3} and values["signals"][0]["offset"] == 1
+    assert changed(values, {"signals.2.offset": 7})[0]["signals"] == [{"offset": 1}, {"offset": 7}]
+    for key in ("roads.q.lanes", "signals.3.offset", "signals.1", "step.x"):
+        with pytest.raises(Problem):
+            changed(values, {key: 1})
+
+
+def test_a_run_is_measured(plain):
+    measured = measure(task(plain, **{"signals.offset": Fraction(40)}))
+    assert measured == {"delay_vehicle_hours": pytest.approx(6.75), "longest_queue_km": pytest.approx(0.125),
+                        "most_waiting_vehicles": pytest.approx(18), "served_vehicles": 1080, "inside_vehicles": 0,
+                        "rounded": "", "error": ""}
+    assert "length of road c: 2.5 km asked, 2.5375 km modelled and" in measure(task(plain, step=Fraction(7)))["rounded"]
+    assert measure(task(plain, **{"demand": Fraction(2)}))["served_vehicles"] > 1080
+    assert "no such key" in measure(task(plain, **{"signals.ofset": 40}))["error"]
+    assert "no program" in measure(task("/none"))["error"]
+
+
+def test_a_fingerprint_tells_studies_apart(plain):
+    marks = {fingerprint(task(plain)), fingerprint(task(plain, **{"signals.offset": Fraction(40)})),
+             fingerprint(task(plain, demand=1))}
+    assert len(marks) == 3 and fingerprint(task(plain)) in marks
+
+
+def test_a_sweep_goes_on_where_it_was_stopped(tool, plain):
+    words = ["sweep", STUDY, "--vary", "signals.offset=0:50:10", "--vary", "demand=1,x", "-j", "1"]
+    status, out, err = tool(*words)
+    assert status == 0 and "6 of 12 runs failed" in out and "failed: " in out
+    rows = open("arterial-0.sweep/results.csv").read().splitlines(keepends=True)
+    assert os.path.getsize("arterial-0.sweep/plot.png") and rows[0].startswith("signals.offset,demand,delay")
+    with open("arterial-0.sweep/results.csv", "w") as file:  # stopped in the middle of a row
+        file.write("".join(rows[:4]) + rows[4][:20])
+    status, out, err = tool("sweep", STUDY, "--vary", "signals.offset=0:50:10", "--vary", "demand=1", "-j", "2")
+    assert status == 0 and "of 6 runs stand in" in out
+    best = out.splitlines()[2].split()
+    assert best[:3] == ["40", "1", "6.75"]
+    assert tool("sweep", STUDY, "--vary", "signals.offset=0:50:10", "--vary", "demand=1")[1].startswith("6 of 6 runs")
+    assert tool("sweep", STUDY, "--vary", "signals.offset=40", "--vary", "demand=1")[1].startswith("1 of 1 runs")
+    assert tool("sweep", STUDY, "--vary", "signals.offset=0:50:10", "--vary", "demand=1")[1].startswith("6 of 6 runs")
+    status, out, err = tool("sweep", STUDY, "--vary", "signals.offset=40")
+    assert status == 2 and "a sweep over signals.offset, demand; name another folder" in err
+    with open("arterial-0.sweep/table.csv") as table:
+        assert len(table.readlines()) == 7
+
+
+def test_a_sweep_over_one_value_and_over_names(tool, plain):
+    assert tool("sweep", STUDY, "--vary", "signals.offset=0,40", "-j", "1", "--over", "signals.offset")[0] == 0
+    status, out, err = tool("sweep", STUDY, "--vary", "signals.offset=0,40", "--over", "demand")
+    assert status == 2 and "isn't varied" in err
+
+
+def test_an_ended_process_loses_nothing(plain, tmp_path):
+    """One of two processes is ended from outside; its run is done again."""
+    tasks = [task(plain, **{"signals.offset": i % 12 * 10}) for i in range(8)]
+    done = {}
+    for i, measured in workers.beside(tasks, 2):
+        if not done:
+            os.kill(multiprocessing.active_children()[0].pid, signal.SIGKILL)
+        done[i] = measured
+    assert sorted(done) == list(range(8)) and not any(measured["error"] for measured in done.values())
+
+
+@pytest.mark.skipif(importlib.util.find_spec("distributed") is None, reason="python3-distributed is missing")
+def test_a_lost_worker_of_a_cluster_loses_nothing(tool, plain):
+    """A scheduler and two workers on the loopback address, one of them ended in the middle."""
+    from distributed import LocalCluster
+
+    with LocalCluster(n_workers=2, threads_per_worker=1, processes=True, host="127.0.0.1",
+                      dashboard_address=None) as cluster:
+        victim = next(iter(cluster.workers.values())).pid
+
+        over = threading.Event()
+
+        def end_it():
+            while not over.is_set() and (not os.path.exists("arterial-0.sweep/results.csv") or \
+                    len(open("arterial-0.sweep/results.csv").readlines()) < 3):
+                time.sleep(0.02)
+            os.kill(victim, signal.SIGKILL)
+
+        ender = threading.Thread(target=end_it)
+        ender.start()
+        status, out, err = tool("sweep", STUDY, "--vary", "signals.offset=0:110:10", "--dask",
+                                cluster.scheduler_address)
+        over.set()
+        ender.join()
+    assert status == 0, err
+    rows = [line for line in open("arterial-0.sweep/table.csv")][1:]
+    assert len(rows) == 12 and not any("failed" in row or "lost" in row for row in rows)
+    assert out.splitlines()[1].split()[:2] == ["40", "6.75"]
+
+
+def test_no_scheduler(tool, plain, monkeypatch):
+    monkeypatch.setattr(workers, "PATIENCE", 1)
+    status, out, err = tool("sweep", STUDY, "--vary", "demand=1", "--dask", "tcp://127.0.0.1:1")
+    assert status == 2 and "no scheduler answers there" in err
