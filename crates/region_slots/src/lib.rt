@@ -2,7 +2,9 @@
 #![tactic(auto)]
 
 mod field;
+mod first_words;
 mod look;
+mod open;
 mod plays;
 mod rule;
 mod share;
