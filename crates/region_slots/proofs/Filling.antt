@@ -1,17 +1,18 @@
 -- The words of a region are filled as a field opens.
 use Rattle.std.specs.Prelude.{slice_index}
-use Rattle.std.proofs.Common.{◌≡◌, ◌≢◌, ℕ, zero, suc, ◌+◌, ◌-◌, ◌<◌, ◌≤◌, ◌%◌, inl, inr, List, length, set, refl, sym, ap, subst, ◌∙◌, arith}
+use Rattle.std.proofs.Common.{◌≡◌, ◌≢◌, ℕ, ◌+◌, ◌-◌, ◌<◌, ◌%◌, inl, inr, List, length, replicate, set, sym, subst, ◌∙◌, arith}
 use Rattle.std.proofs.lemmas.Bool.{cases_lt}
-use Rattle.std.proofs.lemmas.List.{length-set}
+use Rattle.std.proofs.lemmas.List.{get_or-replicate, length-replicate, length-set}
 use Rattle.flow_model.specs.State.{occupancy}
 use Rattle.region_cut.specs.Chart.{ChartLists, IsChart}
 use Rattle.region_cut.specs.Cuttings.{region_count}
 use Rattle.region_step.specs.Start.{StartLists}
-use Rattle.border_rows.specs.Places.{row_place, step_place, width_at, widths_of, words_of}
-use Rattle.border_rows.specs.Words.{border_cell, border_word, step_of}
+use Rattle.border_rows.specs.Places.{claim_place, row_place, step_place, width_at, widths_of, words_of}
+use Rattle.border_rows.specs.Words.{border_cell, border_word, claim_of, step_of}
 use Rattle.border_rows.proofs.ClaimKinds.{within-widths}
+use Rattle.border_rows.proofs.PlaceLaws.{claim-there}
 use Rattle.border_rows.proofs.WordUpdates.{border-set, border-set-claim, border-set-other, border-set-step, step-set, step-set-border, step-set-claim, step-set-other}
-use Rattle.region_slots.specs.FirstWords.{AreFirstRows, OnlyThose}
+use Rattle.region_slots.specs.FirstWords.{AreFirstRows, AreFirstWords, OnlyThose}
 
 -- the words of region r are filled as far as border cell k
 pub record IsFilling (chart : ChartLists) (start : StartLists) (before after : List ℕ) (r k : ℕ) : Type 0 where
@@ -106,3 +107,39 @@ filling-more chart start before words r s k sound within long is inside old = re
           subst (λ i. border_word chart twice r (s + 1) i ≡ slice_index start.earlier (border_cell chart r i)) (sym here)
           (border-set chart once r (s + 1) k earlier there inside (only-once.long ∙ long))
     ]
+
+-- other regions' words stay
+first-stay : (chart : ChartLists) (start : StartLists) (before after : List ℕ) (r q : ℕ) → q < region_count chart.cut → q ≢ r → OnlyThose chart before after r →
+    AreFirstWords chart start before q → AreFirstWords chart start after q
+first-stay chart start before after r q there other only old = record {
+  step = only.steps q there other ∙ old.step;
+  rows = record {
+    now = λ j below wide. only.rows q (slice_index start.steps q) j there other wide ∙ old.rows.now j below wide;
+    before = λ j below wide. only.rows q (slice_index start.steps q + 1) j there other wide ∙ old.rows.before j below wide;
+  };
+}
+
+-- the words of the regions below k are filled, and no region is taken
+pub record AreFilled (chart : ChartLists) (start : StartLists) (words : List ℕ) (k : ℕ) : Type 0 where
+  pub long : length words ≡ words_of (widths_of chart)
+  pub free : (r : ℕ) → r < region_count chart.cut → claim_of chart words r ≡ 0
+  pub each : (r : ℕ) → r < region_count chart.cut → r < k → AreFirstWords chart start words r
+
+pub filled-zero : (chart : ChartLists) (start : StartLists) (n : ℕ) → n ≡ words_of (widths_of chart) → IsChart chart → AreFilled chart start (replicate n 0) 0
+filled-zero chart start n is sound = record {
+  long = length-replicate {A = ℕ} n 0 ∙ is;
+  free = λ r there.
+      get_or-replicate n (claim_place (widths_of chart) r) 0 0 (omega (arith, is, claim-there (widths_of chart) r (within-widths chart r sound there)));
+  each = λ r there none. absurd (omega (arith, none));
+}
+
+pub filled-more : (chart : ChartLists) (start : StartLists) (before after : List ℕ) (k : ℕ) → OnlyThose chart before after k → AreFirstWords chart start after k →
+    AreFilled chart start before k → AreFilled chart start after (k + 1)
+filled-more chart start before after k only new old = record {
+  long = only.long ∙ old.long;
+  free = λ r there. only.claims r there ∙ old.free r there;
+  each = λ r there below. elim (cases_lt r k) [
+    | inl sooner ↦ first-stay chart start before after k r there (λ same. omega (arith, same, sooner)) only (old.each r there sooner)
+    | inr last ↦ let here : r ≡ k = omega (arith, below, last) in subst (AreFirstWords chart start after) (sym here) new
+  ];
+}

@@ -1,3 +1,4 @@
 pub mod Claiming
 pub mod Sharing
 pub mod Filling
+pub mod Openings
