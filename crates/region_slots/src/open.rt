@@ -53,11 +53,12 @@ impl<'a> Field<'a> {
         requires fits { Fits net.now chart.now.cut start.now }
         requires lawful { AreLawful net.now chart.now.cut start.now.steps }
         requires some { 1 ≤ seats }
-        ensures terms { IfOk result (λ both. both.0.terms ≡ record { net = net; chart = chart; start = start; every = every; seats = seats }) }
+        ensures terms { IfOk result (λ both. both.0.terms ≡ record { net = net.entry; chart = chart.entry; start = start.entry; every = every; seats = seats }) }
         ensures knows { IfOk result (λ both. both.1.knows ≡ first_view both.0.terms) }
         ensures belongs { IfOk result (λ both. IsPassOf both.0 both.1) }
     {
         let _cells = &net.cells;
+        let _regions = chart.regions();
         let places = Places::new(alloc, chart)?;
         let words = first_words(alloc, &places, chart, start)?;
         let regions = first_regions(alloc, net, chart, start, every)?;
