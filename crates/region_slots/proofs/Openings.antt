@@ -1,8 +1,8 @@
 -- A field opens.
-use Rattle.std.specs.Prelude.{All, map, slice_index}
+use Rattle.std.specs.Prelude.{All, slice_index}
 use Rattle.std.specs.List.{Contains}
-use Rattle.std.proofs.Common.{◌≡◌, ◌≢◌, ℕ, ◌+◌, ◌<◌, ◌≤◌, ◌%◌, List, [], ◌∷◌, ◌++◌, length, get_or, refl, sym, ap, subst, ◌∙◌, arith}
-use Rattle.std.proofs.lemmas.List.Elements.{All-contains, Contains-get_or}
+use Rattle.std.proofs.Common.{◌≡◌, ℕ, ◌+◌, ◌<◌, ◌≤◌, ◌%◌, List, [], ◌∷◌, ◌++◌, length, get_or, refl, sym, ap, ◌∙◌, arith}
+use Rattle.std.proofs.lemmas.List.Elements.{Contains-get_or}
 use Rattle.network_file.specs.Network.{IsNetwork, Network}
 use Rattle.flow_model.specs.State.{occupancy}
 use Rattle.region_cut.specs.Chart.{ChartLists, IsChart, chart_of, list_at}
@@ -11,13 +11,13 @@ use Rattle.region_cut.specs.LawfulSteps.{AreLawful}
 use Rattle.region_step.specs.Grid.{grid_held}
 use Rattle.region_step.specs.Region.{RegionValue}
 use Rattle.region_step.specs.Standing.{AllStand}
-use Rattle.region_step.specs.Start.{Fits, StartLists, start_of}
+use Rattle.region_step.specs.Start.{StartLists, start_of}
 use Rattle.region_step.proofs.Grids.{grid_held-earlier, grid_held-started, grid_row-start}
 use Rattle.region_step.proofs.Ground.{ground}
 use Rattle.atomic_table.specs.Table.{opening}
 use Rattle.border_rows.specs.Places.{row_place, width_at, widths_of}
 use Rattle.border_rows.specs.Standing.{IsStanding}
-use Rattle.border_rows.specs.Words.{border_cell, border_word}
+use Rattle.border_rows.specs.Words.{border_cell}
 use Rattle.border_rows.specs.declared.view.Terms.{Terms}
 use Rattle.border_rows.proofs.ChartWidths.{width_at-widths_of}
 use Rattle.border_rows.proofs.SeatKinds.{IsOpening, opening-stands}

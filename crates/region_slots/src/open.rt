@@ -1,12 +1,12 @@
-ghost use Rattle.std.specs.Prelude.{◌≡◌, ◌≤◌, IfOk};
+ghost use Rattle.std.specs.Prelude.{◌≡◌, IfOk};
 ghost use Rattle.region_cut.specs.Chart.{chart_of};
 ghost use Rattle.region_step.specs.Standing.{AllStand};
 ghost use Rattle.region_step.specs.Start.{Fits};
 
 use crate::field::{Field, Pass};
 use crate::first_words::first_words;
-use border_rows::{Places, Terms};
 use atomic_table::Table;
+use border_rows::{Places, Terms};
 use network_file::Net;
 use region_cut::Chart;
 use region_step::{Region, Start};
