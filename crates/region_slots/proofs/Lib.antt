@@ -5,3 +5,5 @@ pub mod Reading
 pub mod Writing
 pub mod Sharing
 pub mod Closing
+pub mod Filling
+pub mod Openings

@@ -1,7 +1,6 @@
 -- A seat shared off, two seats made one, and what the whole share has seen.
 use Rattle.std.specs.Prelude.{max, slice_index}
-use Rattle.std.specs.List.{Contains}
-use Rattle.std.proofs.Common.{◌≡◌, ◌≢◌, ℕ, ◌<◌, ◌≤◌, inl, inr, List, [], ◌∷◌, refl, sym, ap, subst, ◌∙◌, arith}
+use Rattle.std.proofs.Common.{◌≡◌, ◌≢◌, ℕ, ◌<◌, ◌≤◌, inl, inr, [], ◌∷◌, refl, sym, ap, subst, ◌∙◌, arith}
 use mathlib.Core.Option.{none, some}
 use lib.ListN.{get_elem?}
 use Rattle.atomic_table.specs.Table.{Allows, Joins, Splits, keeps, step}
@@ -10,7 +9,6 @@ use Rattle.region_cut.specs.Cuttings.{region_count}
 use Rattle.border_rows.specs.Kinds.{kept, shared_off, spent, united}
 use Rattle.border_rows.specs.Places.{widths_of, words_of}
 use Rattle.border_rows.specs.Standing.{FieldState, IsStanding}
-use Rattle.border_rows.specs.Words.{step_of}
 use Rattle.border_rows.specs.declared.view.Terms.{Terms}
 use Rattle.border_rows.specs.declared.view.View.{View}
 use Rattle.border_rows.proofs.ClaimKinds.{whole_spent, within-widths}
@@ -18,7 +16,7 @@ use Rattle.border_rows.proofs.PlaceLaws.{claim-there}
 use Rattle.border_rows.proofs.RowKinds.{read-keeps}
 use Rattle.border_rows.proofs.SeatKinds.{join-keeps, split-keeps}
 use Rattle.border_rows.proofs.ViewUpdates.{Contains-elem}
-use Rattle.region_slots.specs.Plays.{Bounded, IsRegion, Mine}
+use Rattle.region_slots.specs.Plays.{Bounded, Mine}
 use Rattle.region_slots.proofs.Claiming.{same-terms}
 
 -- a field has a word

@@ -1,4 +1,5 @@
 pub mod Closing
 pub mod FieldView
+pub mod FirstWords
 pub mod Opening
 pub mod Plays

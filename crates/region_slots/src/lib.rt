@@ -3,7 +3,9 @@
 
 mod close;
 mod field;
+mod first_words;
 mod look;
+mod open;
 mod plays;
 mod rule;
 mod share;

@@ -17,10 +17,7 @@ impl<'a> Field<'a> {
         ensures belongs { IsPassOf self.now pass.new }
         ensures also { IsPassOf self.now result }
     {
-        let seat = self
-            .table
-            .shared
-            .split_seat::<ShareOff>(&mut pass.seat);
+        let seat = self.table.shared.split_seat::<ShareOff>(&mut pass.seat);
         Pass { seat }
     }
 
@@ -36,9 +33,7 @@ impl<'a> Field<'a> {
             slice_index pass.new.knows.seen r ≤ max (slice_index self.now.terms.start.now.steps r) pass.new.knows.reach }
     {
         let Pass { seat } = other;
-        self.table
-            .shared
-            .join_seat::<Unite>(&mut pass.seat, seat);
+        self.table.shared.join_seat::<Unite>(&mut pass.seat, seat);
         self.table.shared.load::<Bound>(&mut pass.seat, 0);
     }
 }

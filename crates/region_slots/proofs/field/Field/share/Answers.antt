@@ -1,4 +1,4 @@
-use Rattle.std.proofs.Common.{◌≡◌, ◌<◌, ◌≤◌, arith, ap, sym, ◌∙◌}
+use Rattle.std.proofs.Common.{◌≡◌, arith, ap, sym, ◌∙◌}
 use Rattle.region_slots.proofs.Sharing.{sharing, some-word}
 use Rattle.region_slots.proofs.field.Field.share.Goals as goal
 

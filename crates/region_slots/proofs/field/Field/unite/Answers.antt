@@ -1,4 +1,4 @@
-use Rattle.std.proofs.Common.{◌≡◌, ◌<◌, ◌∷◌, [], arith, ap, sym, ◌∙◌}
+use Rattle.std.proofs.Common.{◌≡◌, ◌∷◌, [], arith, ap, sym, ◌∙◌}
 use Rattle.region_slots.proofs.Sharing.{bounding, some-word, uniting}
 use Rattle.region_slots.proofs.field.Field.unite.Goals as goal
 
