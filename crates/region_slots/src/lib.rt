@@ -10,6 +10,8 @@ mod plays;
 mod rule;
 mod share;
 mod steps;
+#[cfg(test)]
+mod tests;
 
 pub use close::Closed;
 pub use field::{Field, Pass};
