@@ -1,4 +1,6 @@
 pub mod Claiming
 pub mod Comparing
+pub mod Filling
 pub mod Reading
+pub mod Telling
 pub mod Writing

@@ -1,3 +1,4 @@
 pub mod FieldView
 pub mod Opening
 pub mod Plays
+pub mod Turning

@@ -3,8 +3,11 @@
 
 mod field;
 mod look;
+mod parts;
 mod plays;
 mod rule;
 mod steps;
+mod turn;
 
 pub use field::{Field, Pass};
+pub use turn::Turn;
