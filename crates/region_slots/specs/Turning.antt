@@ -88,6 +88,8 @@ pub record HasFallenShort (old new : View) (r q s : ℕ) : Type 0 where
   pub one_more : new.short_found ≡ old.short_found + 1
   pub last : new.last_short ≡ record { region = r; neighbour = q; step = s }
   pub before : slice_index old.seen q ≤ s
+  pub now : Hold
+  pub works : IsWorkingAt new now
 
 -- region r was found at a step below goal, and its neighbour q a step lower, at step s
 pub record IsBehind (old new : View) (goal r q s : ℕ) : Type 0 where

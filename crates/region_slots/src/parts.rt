@@ -1,6 +1,7 @@
 use crate::field::Field;
 use atomic_table::Seat;
 use border_rows::View;
+use network_file::Net;
 use region_step::Region;
 
 // What a turn does with a region that it has taken.
@@ -116,10 +117,11 @@ impl<'a> Field<'a> {
         requires seat { IsSeatOf self.now seat.old }
         requires there { region < region_count self.now.terms.chart.now.cut }
         requires at { IsAt seat.old.me.0 region step }
+        requires long { length seat.old.me.0.seen ≡ region_count self.now.terms.chart.now.cut }
         ensures same { (seat.new.id ≡ seat.old.id) × (seat.new.table_id ≡ seat.old.table_id) × (seat.new.me.1 ≡ seat.old.me.1) }
         ensures cleared { result ≡ None → ((hold : Hold) → IsWorkingAt seat.old.me.0 hold → HasLooked seat.old.me.0 seat.new.me.0 hold) × IsCleared self.now.terms seat.new.me.0
             × ((q : ℕ) → are_neighbours self.now.terms.net.now.connectors self.now.terms.chart.now.cut region q ≡ true → step ≤ slice_index seat.new.me.0.seen q) }
-        ensures short { (q s : ℕ) → result ≡ Some (q, s) → HasFallenShort seat.old.me.0 seat.new.me.0 region q s × (s + 1 ≡ step) }
+        ensures short { (q s : ℕ) → result ≡ Some (q, s) → HasFallenShort seat.old.me.0 seat.new.me.0 region q s × (s + 1 ≡ step) × IsAt seat.new.me.0 region step }
     {
         let _regions = self.chart.regions();
         let neighbours = self.chart.neighbours(region);
@@ -147,7 +149,8 @@ impl<'a> Field<'a> {
         ensures same { (seat.new.id ≡ seat.old.id) × (seat.new.table_id ≡ seat.old.table_id) }
         ensures risen { seat.new.me ≡ (freed (published (wrote_many seat.old.me.0 (width_at (widths_of self.now.terms.chart.now) region)) region (step + 1)), rest seat.old.me.1) }
     {
-        let _steps = self.net.steps;
+        let net: &Net = self.net;
+        let _steps = net.steps;
         self.tells(seat, region, step);
         self.advances(seat, region, step);
         self.fills(seat, region, step + 1);

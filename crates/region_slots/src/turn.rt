@@ -22,7 +22,7 @@ impl<'a> Field<'a> {
     ghost use Rattle.border_rows.specs.Kinds.{found_taken, looked};
     ghost use Rattle.region_slots.specs.FieldView.{IsIdle, IsPassOf, IsSeatOf};
     ghost use Rattle.region_slots.specs.Turning.{IsBehind, IsMoved};
-    ghost use Rattle.region_slots.specs.declared.turn.Turn.{Behind, Ended, Held, Moved};
+    ghost use Rattle.region_slots.specs.declared.turn.Turn.TheVariants.{Behind, Ended, Held, Moved};
 
     /// A turn on a region: it is taken, and where it stands below the goal and no neighbour stands a step lower it is
     /// taken through its step. Then it is free again.
