@@ -1,5 +1,5 @@
 -- A view that looks at neighbours.
-use Rattle.std.specs.Prelude.{slice_index, slice_set}
+use Rattle.std.specs.Prelude.{Option, Some, slice_index, slice_set}
 use Rattle.std.specs.List.{Contains}
 use Rattle.std.proofs.Common.{◌≡◌, ◌≢◌, ℕ, zero, suc, ◌+◌, ◌<◌, ◌≤◌, inl, inr, List, [], ◌∷◌, length, refl, sym, ap, subst, ◌∙◌, arith}
 use Rattle.std.proofs.lemmas.Bool.{cases_eq, cases_lt}
@@ -114,3 +114,7 @@ falls-short old view hold r q s has past =
       now = has.now;
       works = record { later = has.works.later; holds = has.works.holds; known = has.works.known; early = has.works.early };
     }
+
+-- what is given says of which neighbour and step
+pub pair-same : (q s p t : ℕ) → ◌≡◌ {A = Option (ℕ × ℕ)} (Some (q, s)) (Some (p, t)) → (q ≡ p) × (s ≡ t)
+pair-same q s p t same = (cc, cc)

@@ -12,7 +12,8 @@ use Rattle.region_cut.specs.Joins.{are_neighbours}
 use Rattle.region_cut.specs.LawfulSteps.{AreLawful}
 use Rattle.region_cut.specs.declared.halo.Halo.{Halo}
 use Rattle.region_cut.proofs.ChartParts.{chart-neighbours}
-use Rattle.region_cut.proofs.Membership.{Contains-neighbours_of}
+use Rattle.region_cut.proofs.Membership.{Contains-neighbours_of, neighbours_of-Contains}
+use Rattle.border_rows.proofs.Keeping.{neighbours-there}
 use Rattle.region_cut.proofs.Meetings.{halo-neighbours, neighbours-sym}
 use Rattle.region_step.specs.Advance.{HasHaloPut, HasRowsInBounds}
 use Rattle.region_step.specs.Grid.{grid_held}
@@ -177,3 +178,12 @@ pub halo-beside : (terms : Terms) (table : TableId) (r : ℕ) (other : Halo) →
 halo-beside terms table r other field within listed =
     let facts = (field.chart.regions r within).met other listed in
     (listed-near terms table r other.region field within facts.0, omega (arith, facts.2, width_at-widths_of terms.chart.now other.region), facts.3)
+
+-- each neighbour stands in the chart's list
+pub near-listed : (terms : Terms) (table : TableId) (r q : ℕ) → IsTableFor terms table → r < region_count terms.chart.now.cut → are_neighbours terms.net.now.connectors terms.chart.now.cut r q ≡ true →
+    (i : ℕ) × (i < length (list_at terms.chart.now.neighbours r)) × (slice_index (list_at terms.chart.now.neighbours r) i ≡ q)
+near-listed terms table r q field within near =
+    let there = (neighbours-there terms.net.now terms.chart.now r q near).1 in
+    let has : Contains (list_at terms.chart.now.neighbours r) q =
+    subst (λ list. Contains list q) (sym (chart-neighbours terms.net.now terms.chart.now.cut terms.chart.now r field.charted within)) (neighbours_of-Contains terms.net.now terms.chart.now.cut r q there near) in
+    (has.0, has.1, get_or_default (list_at terms.chart.now.neighbours r) has.0 0 q has.1 ∙ has.2)
