@@ -117,4 +117,6 @@ falls-short old view hold r q s has past =
 
 -- what is given says of which neighbour and step
 pub pair-same : (q s p t : ℕ) → ◌≡◌ {A = Option (ℕ × ℕ)} (Some (q, s)) (Some (p, t)) → (q ≡ p) × (s ≡ t)
-pair-same q s p t same = (cc, cc)
+pair-same q s p t same =
+    let pairs : ◌≡◌ {A = ℕ × ℕ} (q, s) (p, t) = cc in
+    (ap {A = ℕ × ℕ} (λ x. x.0) pairs, ap {A = ℕ × ℕ} (λ x. x.1) pairs)
