@@ -19,6 +19,7 @@ use Rattle.border_rows.specs.declared.view.Terms.{Terms}
 use Rattle.border_rows.specs.declared.view.View.{View}
 use Rattle.border_rows.proofs.ClaimKinds.{found_taken-keeps, taken-keeps, whole_claim, within-widths}
 use Rattle.border_rows.proofs.PlaceLaws.{claims-differ}
+use Rattle.border_rows.proofs.ViewUpdates.{Contains-elem}
 use Rattle.region_slots.specs.Plays.{Claimed, IsRegion, Mine}
 
 -- the field of a view is one
@@ -42,6 +43,8 @@ claiming terms slots id r me chart within of_field share = λ s standing long at
     λ other q region same.
     let one : other ≡ terms = same-terms me.0 terms other of_field region.of_field in
     (one, same-claim terms r q chart within (rw one at region.there) (rw one at same)) in
+    let long_seen : (other : Terms) (q : ℕ) → IsRegion me.0 other q → length me.0.seen ≡ region_count other.chart.now.cut =
+    λ other q region. standing.counts.lengths me.0 (Contains-elem s.views id me.0 at) share ∙ ap (λ (t : Terms). region_count t.chart.now.cut) (sym (same-terms me.0 terms other of_field region.of_field)) in
     exchanged found 0 1
     (λ n. (w : View) × (a : Act RegionValue) × Valid s.homes me.1 a × IsStanding terms (stepped s (claim_place (widths_of terms.chart.now) r) n id me.1 w a)
     × Claimed (step slots (claim_place (widths_of terms.chart.now) r) 0 1 none) me found (w, carried_after me.1 a))
@@ -54,6 +57,7 @@ claiming terms slots id r me chart within of_field share = λ s standing long at
         free = λ other q region same zero_found. let is = is_r other q region same in ap (λ p. (taken me.0 p, me.1)) (sym is.1);
         held = λ other q region same some_found. absurd (some_found free);
         whole = λ other q region same all idle. free;
+        long = long_seen;
       },
     ))
     (λ held. (
@@ -68,5 +72,6 @@ claiming terms slots id r me chart within of_field share = λ s standing long at
             (ap (λ p. (found_taken me.0 p, me.1)) (sym is.1), omega (arith, held, standing.claims.counted r within, standing.claims.one r));
         whole = λ other q region same all idle.
             let is = is_r other q region same in absurd (held (whole_claim terms s id r me.0 standing at (rw is.0 at all) idle within));
+        long = long_seen;
       },
     ))

@@ -2,7 +2,9 @@
 use Rattle.std.specs.Prelude.{◌≡◌, ◌≢◌, ℕ, List, [], ◌∷◌, true, false}
 use Rattle.network_file.specs.Network.{IsNetwork}
 use Rattle.region_cut.specs.Chart.{IsChart, chart_of}
+use Rattle.region_cut.specs.LawfulSteps.{AreLawful}
 use Rattle.region_step.specs.Region.{RegionValue}
+use Rattle.region_step.specs.Start.{Fits}
 use Rattle.atomic_table.specs.Seated.{TableId}
 use Rattle.atomic_table.specs.declared.shared.Seat.{Seat}
 use Rattle.border_rows.specs.Places.{widths_of, words_of}
@@ -27,6 +29,8 @@ pub record IsTableFor (terms : Terms) (table : TableId) : Type 0 where
   pub charted : terms.chart.now ≡ chart_of terms.net.now terms.chart.now.cut
   pub chart : IsChart terms.chart.now
   pub words : table.words ≡ words_of (widths_of terms.chart.now)
+  pub fits : Fits terms.net.now terms.chart.now.cut terms.start.now
+  pub lawful : AreLawful terms.net.now terms.chart.now.cut terms.start.now.steps
 
 -- between calls a pass has a share, and holds nothing
 pub record IsIdle (view : View) (carried : List (ℕ × RegionValue)) : Type 0 where

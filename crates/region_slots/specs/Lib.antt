@@ -3,3 +3,4 @@ pub mod FieldView
 pub mod FirstWords
 pub mod Opening
 pub mod Plays
+pub mod Turning

@@ -1,5 +1,5 @@
 -- What each atomic step tells the seat that makes it. The step's word says of which region it is.
-use Rattle.std.specs.Prelude.{◌≡◌, ◌≢◌, ℕ, ◌+◌, ◌%◌, ◌<◌, ◌≤◌, List, [], ◌∷◌, true, false, max, slice_index}
+use Rattle.std.specs.Prelude.{◌≡◌, ◌≢◌, ℕ, ◌+◌, ◌%◌, ◌<◌, ◌≤◌, List, [], ◌∷◌, true, false, length, max, slice_index}
 use Rattle.std.specs.List.{Contains}
 use Rattle.region_cut.specs.Cuttings.{region_count}
 use Rattle.region_cut.specs.Joins.{are_neighbours}
@@ -38,6 +38,7 @@ pub record Claimed (step : Step RegionValue) (old : Mine) (found : ℕ) (new : M
   pub held : (terms : Terms) (r : ℕ) → IsRegion old.0 terms r → step.word ≡ claim_place (widths_of terms.chart.now) r → found ≢ 0 →
       (new ≡ (found_taken old.0 r, old.1)) × (found ≡ 1)
   pub whole : (terms : Terms) (r : ℕ) → IsRegion old.0 terms r → step.word ≡ claim_place (widths_of terms.chart.now) r → old.0.share ≡ terms.seats → old.0.holds ≡ [] → found ≡ 0
+  pub long : (terms : Terms) (r : ℕ) → IsRegion old.0 terms r → length old.0.seen ≡ region_count terms.chart.now.cut
 
 -- a look at a region's step word
 pub record Looked (step : Step RegionValue) (old : Mine) (found : ℕ) (new : Mine) : Type 0 where

@@ -6,7 +6,7 @@ use region_step::Region;
 
 // The atomic steps of a turn, each by itself.
 impl<'a> Field<'a> {
-    ghost use Rattle.std.specs.Prelude.{◌≡◌, ◌≢◌, ◌+◌, ◌%◌, ◌<◌, ◌≤◌, ◌↔◌, ℕ, List, [], ◌∷◌, IsTrue, true, false, slice_index, if◌then◌else◌};
+    ghost use Rattle.std.specs.Prelude.{◌≡◌, ◌≢◌, ◌+◌, ◌%◌, ◌<◌, ◌≤◌, ◌↔◌, ℕ, List, [], ◌∷◌, IsTrue, true, false, length, slice_index, if◌then◌else◌};
     ghost use Rattle.std.specs.List.{Contains};
     ghost use Rattle.region_cut.specs.Cuttings.{region_count};
     ghost use Rattle.region_cut.specs.Joins.{are_neighbours};
@@ -27,6 +27,7 @@ impl<'a> Field<'a> {
         ensures same { (seat.new.id ≡ seat.old.id) × (seat.new.table_id ≡ seat.old.table_id) }
         ensures taken { IsTrue result → seat.new.me ≡ (taken seat.old.me.0 region, seat.old.me.1) }
         ensures held { result ≡ false → seat.new.me ≡ (found_taken seat.old.me.0 region, seat.old.me.1) }
+        ensures long { length seat.old.me.0.seen ≡ region_count self.now.terms.chart.now.cut }
         ensures never_whole { seat.old.me.0.share ≡ self.now.terms.seats → seat.old.me.0.holds ≡ [] → IsTrue result }
     {
         let word = self.places.claim(region);

@@ -17,3 +17,6 @@ compare_exchange-found-requires c =
       there,
       rw place (claiming terms c.self.inside.table.shared.table_id.slots c.args.seat.now.id c.args.region c.args.seat.now.me table.chart (rw same_terms c.requires.there) (rw same_terms c.requires.seat.terms) c.requires.seat.share),
     )
+
+pub returns-clause-long : goal.returns-clause-long
+returns-clause-long c = c.compare_exchange-found.ensures.2.long c.args.self.now.terms c.args.region record { of_field = c.requires.seat.terms; there = c.requires.there }

@@ -1,0 +1,105 @@
+use Rattle.std.proofs.Common.{◌≡◌, ℕ, IsTrue, true, List, [], ◌∷◌, refl, sym, ap, subst, ◌∙◌}
+use Rattle.border_rows.specs.Kinds.{found_at, fresh, known_at, taken}
+use Rattle.border_rows.specs.declared.view.Hold.{Hold}
+use Rattle.border_rows.specs.declared.view.View.{View}
+use Rattle.region_slots.proofs.Comparing.{same-hold}
+use Rattle.region_slots.proofs.field.Field.tries.Goals as goal
+
+pub frees-requires-clause-state : goal.frees-requires-clause-state
+frees-requires-clause-state g c =
+    let mine = c.takes.ensures.taken c.if-not-takes.false in
+    let state = c.learns-step.ensures.state in
+    let view : c.learns-step.new.seat.me.0 ≡ found_at (taken c.args.seat.now.me.0 c.args.region) c.args.region c.learns-step.result =
+    ap (λ m. m.0) state.1 ∙ ap (λ m. found_at m.0 c.args.region c.learns-step.result) mine in
+    (
+      known_at (fresh c.args.region) c.learns-step.result,
+      c.args.seat.now.me.0.holds,
+      state.0,
+      c.takes.new.seat.me.1,
+      ap (λ (v : View). v.holds) view,
+      refl,
+      refl,
+      ap (λ m. m.1) state.1,
+      state.2,
+    )
+
+pub clears-requires-clause-at : goal.clears-requires-clause-at
+clears-requires-clause-at g c =
+    let mine = c.takes.ensures.taken c.if-not-takes.false in
+    let state = c.learns-step.ensures.state in
+    let view : c.learns-step.new.seat.me.0 ≡ found_at (taken c.args.seat.now.me.0 c.args.region) c.args.region c.learns-step.result =
+    ap (λ m. m.0) state.1 ∙ ap (λ m. found_at m.0 c.args.region c.learns-step.result) mine in
+    record {
+      hold = known_at (fresh c.args.region) c.learns-step.result;
+      works = record { later = c.args.seat.now.me.0.holds; holds = ap (λ (v : View). v.holds) view; known = refl; early = refl };
+      region = refl;
+      step = refl;
+    }
+
+pub frees-requires-in-Some-clause-seat : goal.frees-requires-in-Some-clause-seat
+frees-requires-in-Some-clause-seat g c =
+    let mine = c.takes.ensures.taken c.if-not-takes.false in
+    let state = c.learns-step.ensures.state in
+    let view : c.learns-step.new.seat.me.0 ≡ found_at (taken c.args.seat.now.me.0 c.args.region) c.args.region c.learns-step.result =
+    ap (λ m. m.0) state.1 ∙ ap (λ m. found_at m.0 c.args.region c.learns-step.result) mine in
+    let short = c.clears.ensures.short c.in-Some.neighbour c.in-Some.s c.in-Some.is in
+    record {
+      table = c.clears.ensures.same.1 ∙ c.learns-step.ensures.same.1 ∙ c.takes.ensures.same.1 ∙ c.requires.seat.table;
+      terms = short.0.still.alike.terms ∙ ap (λ (v : View). v.terms) view ∙ c.requires.seat.terms;
+      share = λ none. c.requires.seat.share (sym (short.0.still.alike.share ∙ ap (λ (v : View). v.share) view) ∙ none);
+    }
+
+pub frees-requires-in-Some-clause-state : goal.frees-requires-in-Some-clause-state
+frees-requires-in-Some-clause-state g c =
+    let mine = c.takes.ensures.taken c.if-not-takes.false in
+    let state = c.learns-step.ensures.state in
+    let view : c.learns-step.new.seat.me.0 ≡ found_at (taken c.args.seat.now.me.0 c.args.region) c.args.region c.learns-step.result =
+    ap (λ m. m.0) state.1 ∙ ap (λ m. found_at m.0 c.args.region c.learns-step.result) mine in
+    let short = c.clears.ensures.short c.in-Some.neighbour c.in-Some.s c.in-Some.is in
+    (
+      short.2.hold,
+      short.2.works.later,
+      state.0,
+      c.takes.new.seat.me.1,
+      short.2.works.holds,
+      short.2.region,
+      short.2.works.known,
+      c.clears.ensures.same.2 ∙ ap (λ m. m.1) state.1,
+      rw (short.2.works.early, short.2.step) state.2,
+    )
+
+pub rises-requires-clause-seat : goal.rises-requires-clause-seat
+rises-requires-clause-seat g c =
+    let mine = c.takes.ensures.taken c.if-not-takes.false in
+    let state = c.learns-step.ensures.state in
+    let view : c.learns-step.new.seat.me.0 ≡ found_at (taken c.args.seat.now.me.0 c.args.region) c.args.region c.learns-step.result =
+    ap (λ m. m.0) state.1 ∙ ap (λ m. found_at m.0 c.args.region c.learns-step.result) mine in
+    let looked = (c.clears.ensures.cleared c.in_default.is).0 in
+    let has = looked (known_at (fresh c.args.region) c.learns-step.result) record { later = c.args.seat.now.me.0.holds; holds = ap (λ (v : View). v.holds) view; known = refl; early = refl } in
+    record {
+      table = c.clears.ensures.same.1 ∙ c.learns-step.ensures.same.1 ∙ c.takes.ensures.same.1 ∙ c.requires.seat.table;
+      terms = has.still.alike.terms ∙ ap (λ (v : View). v.terms) view ∙ c.requires.seat.terms;
+      share = λ none. c.requires.seat.share (sym (has.still.alike.share ∙ ap (λ (v : View). v.share) view) ∙ none);
+    }
+
+pub rises-requires-clause-at : goal.rises-requires-clause-at
+rises-requires-clause-at g c =
+    let mine = c.takes.ensures.taken c.if-not-takes.false in
+    let state = c.learns-step.ensures.state in
+    let view : c.learns-step.new.seat.me.0 ≡ found_at (taken c.args.seat.now.me.0 c.args.region) c.args.region c.learns-step.result =
+    ap (λ m. m.0) state.1 ∙ ap (λ m. found_at m.0 c.args.region c.learns-step.result) mine in
+    let looked = (c.clears.ensures.cleared c.in_default.is).0 in
+    let has = looked (known_at (fresh c.args.region) c.learns-step.result) record { later = c.args.seat.now.me.0.holds; holds = ap (λ (v : View). v.holds) view; known = refl; early = refl } in
+    record { hold = has.now; works = has.works; region = has.region; step = has.step }
+
+pub rises-requires-clause-none : goal.rises-requires-clause-none
+rises-requires-clause-none g c =
+    let mine = c.takes.ensures.taken c.if-not-takes.false in
+    let state = c.learns-step.ensures.state in
+    let view : c.learns-step.new.seat.me.0 ≡ found_at (taken c.args.seat.now.me.0 c.args.region) c.args.region c.learns-step.result =
+    ap (λ m. m.0) state.1 ∙ ap (λ m. found_at m.0 c.args.region c.learns-step.result) mine in
+    let looked = (c.clears.ensures.cleared c.in_default.is).0 in
+    let has = looked (known_at (fresh c.args.region) c.learns-step.result) record { later = c.args.seat.now.me.0.holds; holds = ap (λ (v : View). v.holds) view; known = refl; early = refl } in
+    record {
+      many = λ hold works. ap (λ (h : Hold). h.written) (same-hold c.clears.new.seat.me.0.holds has.now hold has.works.later works.later has.works.holds works.holds) ∙ has.written;
+    }
