@@ -6,6 +6,11 @@ use Rattle.border_rows.specs.Kinds.{found_at, freed, fresh, known_at, later_of, 
 use Rattle.border_rows.specs.declared.view.Hold.{Hold}
 use Rattle.border_rows.specs.declared.view.View.{View}
 use Rattle.region_slots.proofs.Comparing.{same-hold}
+use Rattle.std.specs.Prelude.{slice_index}
+use Rattle.std.proofs.Common.{◌≤◌}
+use Rattle.region_slots.specs.Turning.{HasFallenShort, IsBehind}
+use Rattle.region_slots.specs.declared.turn.Turn.TheVariants.{Behind}
+use Rattle.region_slots.proofs.Looking.{turned-behind}
 use Rattle.region_slots.proofs.field.Field.tries.Goals as goal
 
 pub frees-requires-clause-state : goal.frees-requires-clause-state
@@ -138,3 +143,25 @@ returns-clause-idle g c =
           sym (ap later_of has.works.holds) ∙ has.later ∙ ap (λ (v : View). later_of v.holds) view ∙ c.requires.idle.holds;
       nothing = ap (λ m. m.1) given ∙ ap rest (c.clears.ensures.same.2 ∙ ap (λ m. m.1) state.1) ∙ ap (λ m. m.1) mine ∙ c.requires.idle.nothing;
     }
+
+behind-same : (n p q s : ℕ) → Behind n p ≡ Behind q s → (n ≡ q) × (p ≡ s)
+behind-same n p q s same = (cc, cc)
+
+pub returns-in-Some-clause-behind : goal.returns-in-Some-clause-behind
+returns-in-Some-clause-behind g c = λ q s is.
+    let mine = c.takes.ensures.taken c.if-not-takes.false in
+    let state = c.learns-step.ensures.state in
+    let view : c.learns-step.new.seat.me.0 ≡ found_at (taken c.args.seat.now.me.0 c.args.region) c.args.region c.learns-step.result =
+    ap (λ m. m.0) state.1 ∙ ap (λ m. found_at m.0 c.args.region c.learns-step.result) mine in
+    let n : ℕ = c.in-Some.neighbour in
+    let p : ℕ = c.in-Some.s in
+    let r : ℕ = c.args.region in
+    let old : View = c.args.seat.now.me.0 in
+    let short = c.clears.ensures.short n p c.in-Some.is in
+    let fallen : HasFallenShort (found_at (taken old r) r c.learns-step.result) c.clears.new.seat.me.0 r n p = subst (λ (v : View). HasFallenShort v c.clears.new.seat.me.0 r n p) view short.0 in
+    let past : slice_index old.seen r ≤ c.learns-step.result = subst (λ m. slice_index m.0.seen r ≤ c.learns-step.result) mine c.learns-step.ensures.later in
+    let behind = turned-behind old c.clears.new.seat.me.0 r n p c.learns-step.result c.args.goal fallen short.1 c.if-goal-step.false past in
+    let same = behind-same n p q s is in
+    subst (λ t. IsBehind old c.frees-in-Some.new.seat.me.0 c.args.goal r q t) same.1
+    (subst (λ t. IsBehind old c.frees-in-Some.new.seat.me.0 c.args.goal r t p) same.0
+    (subst (λ (v : View). IsBehind old v c.args.goal r n p) (sym (ap (λ m. m.0) c.frees-in-Some.ensures.given)) behind))
