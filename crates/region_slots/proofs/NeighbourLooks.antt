@@ -4,11 +4,11 @@ use Rattle.std.specs.List.{Contains}
 use Rattle.std.proofs.Common.{◌≡◌, ◌≢◌, ℕ, zero, suc, ◌+◌, ◌<◌, ◌≤◌, inl, inr, List, [], ◌∷◌, length, refl, sym, ap, subst, ◌∙◌, arith}
 use Rattle.std.proofs.lemmas.Bool.{cases_eq, cases_lt}
 use Rattle.std.proofs.lemmas.List.{get_or-set_other, get_or-set_same, get_or_past, length-set}
-use Rattle.border_rows.specs.Kinds.{cleared, found_short, later_of, with_first}
+use Rattle.border_rows.specs.Kinds.{cleared, found_at, found_short, freed, later_of, taken, with_first}
 use Rattle.border_rows.specs.declared.view.Hold.{Hold}
 use Rattle.border_rows.specs.declared.view.View.{View}
 use Rattle.region_slots.specs.FieldView.{IsWorkingAt}
-use Rattle.region_slots.specs.Turning.{HasFallenShort, HasLooked, IsLater}
+use Rattle.region_slots.specs.Turning.{HasFallenShort, HasLooked, IsBehind, IsLater}
 use Rattle.region_slots.proofs.Comparing.{same-hold}
 
 -- what was seen last is no less than what was seen before
@@ -120,3 +120,31 @@ pub pair-same : (q s p t : ℕ) → ◌≡◌ {A = Option (ℕ × ℕ)} (Some (q
 pair-same q s p t same =
     let pairs : ◌≡◌ {A = ℕ × ℕ} (q, s) (p, t) = cc in
     (ap {A = ℕ × ℕ} (λ x. x.0) pairs, ap {A = ℕ × ℕ} (λ x. x.1) pairs)
+
+-- a turn that ends behind a neighbour
+pub turned-behind : (old view : View) (r q s step goal : ℕ) → HasFallenShort (found_at (taken old r) r step) view r q s → s + 1 ≡ step → step < goal → slice_index old.seen r ≤ step →
+    IsBehind old (freed view) goal r q s
+turned-behind old view r q s step goal short by_one below past =
+    let alike = short.still.alike in
+    record {
+      still = record {
+        alike = record {
+          terms = alike.terms;
+          share = alike.share;
+          splits = alike.splits;
+          held_found = alike.held_found;
+          seen = record {
+            long = alike.seen.long ∙ length-set old.seen r step;
+            later = λ p. omega (arith, alike.seen.later p, later-set old.seen r step p past);
+          };
+        };
+        moves = short.still.moves;
+        reach = short.still.reach;
+      };
+      looks = short.looks;
+      one_more = short.one_more;
+      last = short.last;
+      below = omega (arith, by_one, below);
+      own = omega (arith, by_one, past);
+      before = omega (arith, short.before, later-set old.seen r step q past);
+    }

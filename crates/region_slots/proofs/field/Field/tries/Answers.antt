@@ -1,8 +1,16 @@
-use Rattle.std.proofs.Common.{◌≡◌, ℕ, IsTrue, true, List, [], ◌∷◌, refl, sym, ap, subst, ◌∙◌}
-use Rattle.border_rows.specs.Kinds.{found_at, fresh, known_at, taken}
+use Rattle.std.proofs.Common.{◌≡◌, ℕ, ◌+◌, IsTrue, true, List, [], ◌∷◌, refl, sym, ap, subst, ◌∙◌}
+use Rattle.atomic_table.specs.Table.{rest}
+use Rattle.border_rows.specs.Places.{width_at, widths_of}
+use Rattle.region_slots.specs.Turning.{wrote_many}
+use Rattle.border_rows.specs.Kinds.{found_at, freed, fresh, known_at, later_of, published, taken}
 use Rattle.border_rows.specs.declared.view.Hold.{Hold}
 use Rattle.border_rows.specs.declared.view.View.{View}
 use Rattle.region_slots.proofs.Comparing.{same-hold}
+use Rattle.std.specs.Prelude.{slice_index}
+use Rattle.std.proofs.Common.{◌≤◌}
+use Rattle.region_slots.specs.Turning.{HasFallenShort, IsBehind}
+use Rattle.region_slots.specs.declared.turn.Turn.TheVariants.{Behind}
+use Rattle.region_slots.proofs.NeighbourLooks.{turned-behind}
 use Rattle.region_slots.proofs.field.Field.tries.Goals as goal
 
 pub frees-requires-clause-state : goal.frees-requires-clause-state
@@ -103,3 +111,57 @@ rises-requires-clause-none g c =
     record {
       many = λ hold works. ap (λ (h : Hold). h.written) (same-hold c.clears.new.seat.me.0.holds has.now hold has.works.later works.later has.works.holds works.holds) ∙ has.written;
     }
+
+pub returns-in-Some-clause-idle : goal.returns-in-Some-clause-idle
+returns-in-Some-clause-idle g c =
+    let mine = c.takes.ensures.taken c.if-not-takes.false in
+    let state = c.learns-step.ensures.state in
+    let view : c.learns-step.new.seat.me.0 ≡ found_at (taken c.args.seat.now.me.0 c.args.region) c.args.region c.learns-step.result =
+    ap (λ m. m.0) state.1 ∙ ap (λ m. found_at m.0 c.args.region c.learns-step.result) mine in
+    let short = c.clears.ensures.short c.in-Some.neighbour c.in-Some.s c.in-Some.is in
+    let given = c.frees-in-Some.ensures.given in
+    record {
+      share = λ none. c.requires.seat.share (sym (short.0.still.alike.share ∙ ap (λ (v : View). v.share) view) ∙ sym (ap (λ m. m.0.share) given) ∙ none);
+      holds = ap (λ m. m.0.holds) given ∙ short.0.later ∙ ap (λ (v : View). later_of v.holds) view ∙ c.requires.idle.holds;
+      nothing = ap (λ m. m.1) given ∙ ap rest (c.clears.ensures.same.2 ∙ ap (λ m. m.1) state.1) ∙ ap (λ m. m.1) mine ∙ c.requires.idle.nothing;
+    }
+
+pub returns-clause-idle : goal.returns-clause-idle
+returns-clause-idle g c =
+    let mine = c.takes.ensures.taken c.if-not-takes.false in
+    let state = c.learns-step.ensures.state in
+    let view : c.learns-step.new.seat.me.0 ≡ found_at (taken c.args.seat.now.me.0 c.args.region) c.args.region c.learns-step.result =
+    ap (λ m. m.0) state.1 ∙ ap (λ m. found_at m.0 c.args.region c.learns-step.result) mine in
+    let looked = (c.clears.ensures.cleared c.in_default.is).0 in
+    let has = looked (known_at (fresh c.args.region) c.learns-step.result) record { later = c.args.seat.now.me.0.holds; holds = ap (λ (v : View). v.holds) view; known = refl; early = refl } in
+    let given = c.rises.ensures.risen in
+    let width : ℕ = width_at (widths_of c.args.self.now.terms.chart.now) c.args.region in
+    record {
+      share = λ none. c.requires.seat.share (sym (has.still.alike.share ∙ ap (λ (v : View). v.share) view) ∙ sym (ap (λ m. m.0.share) given) ∙ none);
+      holds = ap (λ m. m.0.holds) given ∙
+          ap (λ (l : List Hold). (freed (published (wrote_many (record c.clears.new.seat.me.0 { holds = l }) width) c.args.region (c.learns-step.result + 1))).holds) has.works.holds ∙
+          sym (ap later_of has.works.holds) ∙ has.later ∙ ap (λ (v : View). later_of v.holds) view ∙ c.requires.idle.holds;
+      nothing = ap (λ m. m.1) given ∙ ap rest (c.clears.ensures.same.2 ∙ ap (λ m. m.1) state.1) ∙ ap (λ m. m.1) mine ∙ c.requires.idle.nothing;
+    }
+
+behind-same : (n p q s : ℕ) → Behind n p ≡ Behind q s → (n ≡ q) × (p ≡ s)
+behind-same n p q s same = (cc, cc)
+
+pub returns-in-Some-clause-behind : goal.returns-in-Some-clause-behind
+returns-in-Some-clause-behind g c = λ q s is.
+    let mine = c.takes.ensures.taken c.if-not-takes.false in
+    let state = c.learns-step.ensures.state in
+    let view : c.learns-step.new.seat.me.0 ≡ found_at (taken c.args.seat.now.me.0 c.args.region) c.args.region c.learns-step.result =
+    ap (λ m. m.0) state.1 ∙ ap (λ m. found_at m.0 c.args.region c.learns-step.result) mine in
+    let n : ℕ = c.in-Some.neighbour in
+    let p : ℕ = c.in-Some.s in
+    let r : ℕ = c.args.region in
+    let old : View = c.args.seat.now.me.0 in
+    let short = c.clears.ensures.short n p c.in-Some.is in
+    let fallen : HasFallenShort (found_at (taken old r) r c.learns-step.result) c.clears.new.seat.me.0 r n p = subst (λ (v : View). HasFallenShort v c.clears.new.seat.me.0 r n p) view short.0 in
+    let past : slice_index old.seen r ≤ c.learns-step.result = subst (λ m. slice_index m.0.seen r ≤ c.learns-step.result) mine c.learns-step.ensures.later in
+    let behind = turned-behind old c.clears.new.seat.me.0 r n p c.learns-step.result c.args.goal fallen short.1 c.if-goal-step.false past in
+    let same = behind-same n p q s is in
+    subst (λ t. IsBehind old c.frees-in-Some.new.seat.me.0 c.args.goal r q t) same.1
+    (subst (λ t. IsBehind old c.frees-in-Some.new.seat.me.0 c.args.goal r t p) same.0
+    (subst (λ (v : View). IsBehind old v c.args.goal r n p) (sym (ap (λ m. m.0) c.frees-in-Some.ensures.given)) behind))
