@@ -65,10 +65,9 @@ returns-clause-advanced c =
     let state : RegionValue = c.slot_mut-state.result.now in
     let is : c.requires.slot.0 ≡ state = same-slot c.args.seat.now.me.1 (rest c.args.seat.now.me.1) (rest c.args.seat.now.me.1) c.args.region c.requires.slot.0 state c.requires.slot.1 c.slot_mut-state.ensures.value in
     let told : IsTold terms c.args.region c.args.step (length (list_at terms.chart.now.halo c.args.region)) state = subst (IsTold terms c.args.region c.args.step (length (list_at terms.chart.now.halo c.args.region))) is c.requires.slot.2 in
-    let all : length (halo_cells terms.chart.now c.args.region) ≤ length (list_at terms.chart.now.halo c.args.region) = omega (arith, length-map (list_at terms.chart.now.halo c.args.region) (λ halo. halo.cell)) in
-    (
+    let all : length (halo_cells terms.chart.now c.args.region) ≤ length (list_at terms.chart.now.halo c.args.region) = omega (arith, length-map (list_at terms.chart.now.halo c.args.region) (λ halo. halo.cell)) in (
       c.advance.new.self,
       refl,
       advanced-stands terms c.self.inside.net.now c.self.inside.chart.now c.args.region c.args.step (length (list_at terms.chart.now.halo c.args.region)) state c.advance.new.self net chart told all c.advance.ensures.opened
-      (c.advance.ensures.grid terms.start.now terms.every c.args.region c.args.step c.requires.started),
+          (c.advance.ensures.grid terms.start.now terms.every c.args.region c.args.step c.requires.started),
     )

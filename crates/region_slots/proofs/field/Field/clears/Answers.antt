@@ -62,7 +62,9 @@ returns-then-s-step-clause-short c = λ p t is.
     record {
       hold = has.now;
       works = record { later = has.works.later; holds = has.works.holds; known = has.works.known; early = has.works.early };
-      region = has.region ∙ at.region; step = has.step ∙ at.step } in
+      region = has.region ∙ at.region;
+      step = has.step ∙ at.step;
+    } in
     let one : q ≡ p = (pair-same q s p t is).0 in
     let two : s ≡ t = (pair-same q s p t is).1 in
     subst (λ n. HasFallenShort c.args.seat.now.me.0 c.compares-s.new.seat.me.0 c.args.region p n × (n + 1 ≡ c.args.step) × IsAt c.compares-s.new.seat.me.0 c.args.region c.args.step) two
@@ -117,7 +119,7 @@ returns-clause-cleared c = λ none.
     let at = c.requires.at in
     let has : HasLooked c.args.seat.now.me.0 c.loop-k.seat.me.0 at.hold = c.loop-k.invariant.3 at.hold at.works in
     let found : (q : ℕ) → are_neighbours terms.net.now.connectors terms.chart.now.cut c.args.region q ≡ true →
-        (i : ℕ) × (i < c.loop-k.k) × (slice_index c.neighbours-neighbours.result.now i ≡ q) =
+    (i : ℕ) × (i < c.loop-k.k) × (slice_index c.neighbours-neighbours.result.now i ≡ q) =
     λ q near.
     let here = near-listed terms c.args.self.now.table c.args.region q field c.requires.there near in
     (here.0, omega (arith, here.1, ap length list, c.loop-k-test.false), ap (λ l. slice_index l here.0) list ∙ here.2) in (

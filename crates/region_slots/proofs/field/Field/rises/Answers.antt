@@ -15,8 +15,7 @@ publishes-requires-clause-working c =
     let width : ℕ = width_at (widths_of c.args.self.now.terms.chart.now) c.args.region in
     let at = c.requires.at in
     let view : c.fills.new.seat.me.0 ≡ wrote_many c.args.seat.now.me.0 width =
-    ap (λ m. m.0) c.fills.ensures.written ∙ ap (λ (v : View). wrote_many v width) (ap (λ m. m.0) c.advances.ensures.advanced.1 ∙ ap (λ m. m.0) c.tells.ensures.told.1) in
-    (
+    ap (λ m. m.0) c.fills.ensures.written ∙ ap (λ (v : View). wrote_many v width) (ap (λ m. m.0) c.advances.ensures.advanced.1 ∙ ap (λ m. m.0) c.tells.ensures.told.1) in (
       written_to width at.hold,
       subst (λ (v : View). IsWorkingAt v (written_to width at.hold)) (sym view) (wrote_many-works c.args.seat.now.me.0 at.hold width at.works),
       at.region,
@@ -34,8 +33,7 @@ frees-requires-clause-state c =
     let terms = c.args.self.now.terms in
     let advanced = c.advances.ensures.advanced in
     let r : ℕ = c.args.region in
-    let done : Hold → Hold = λ hold. record hold { published = true } in
-    (
+    let done : Hold → Hold = λ hold. record hold { published = true } in (
       done (written_to width at.hold),
       at.works.later,
       advanced.0,
