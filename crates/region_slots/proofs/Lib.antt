@@ -1,0 +1,12 @@
+pub mod Claiming
+pub mod Closing
+pub mod Comparing
+pub mod Filling
+pub mod Looking
+pub mod NeighbourLooks
+pub mod Openings
+pub mod Reading
+pub mod RowFilling
+pub mod Sharing
+pub mod Telling
+pub mod Writing

@@ -1,0 +1,150 @@
+-- A view that looks at neighbours.
+use Rattle.std.specs.Prelude.{Option, Some, slice_index, slice_set}
+use Rattle.std.specs.List.{Contains}
+use Rattle.std.proofs.Common.{◌≡◌, ◌≢◌, ℕ, zero, suc, ◌+◌, ◌<◌, ◌≤◌, inl, inr, List, [], ◌∷◌, length, refl, sym, ap, subst, ◌∙◌, arith}
+use Rattle.std.proofs.lemmas.Bool.{cases_eq, cases_lt}
+use Rattle.std.proofs.lemmas.List.{get_or-set_other, get_or-set_same, get_or_past, length-set}
+use Rattle.border_rows.specs.Kinds.{cleared, found_at, found_short, freed, later_of, taken, with_first}
+use Rattle.border_rows.specs.declared.view.Hold.{Hold}
+use Rattle.border_rows.specs.declared.view.View.{View}
+use Rattle.region_slots.specs.FieldView.{IsWorkingAt}
+use Rattle.region_slots.specs.Turning.{HasFallenShort, HasLooked, IsBehind, IsLater}
+use Rattle.region_slots.proofs.Comparing.{same-hold}
+
+-- what was seen last is no less than what was seen before
+pub later-set : (seen : List ℕ) (q s p : ℕ) → slice_index seen q ≤ s → slice_index seen p ≤ slice_index (slice_set seen q s) p
+later-set seen q s p past = elim (cases_eq p q) [
+  | inl same ↦ subst (λ i. slice_index seen i ≤ slice_index (slice_set seen q s) i) (sym same) own
+  | inr other ↦ omega (arith, get_or-set_other seen q p s 0 other)
+]
+  where
+    own : slice_index seen q ≤ slice_index (slice_set seen q s) q
+    own = elim (cases_lt q (length seen)) [
+      | inl within ↦ omega (arith, past, get_or-set_same seen q s 0 within)
+      | inr behind ↦ omega (arith, get_or_past seen q 0 behind)
+    ]
+
+pub seen-later : (seen : List ℕ) (old view : View) (q s : ℕ) → IsLater old view → view.seen ≡ seen → slice_index view.seen q ≤ s → (new : View) → new.seen ≡ slice_set view.seen q s → IsLater old new
+seen-later seen old view q s was is past new saw = record {
+  long = ap length saw ∙ length-set view.seen q s ∙ was.long;
+  later = λ p. subst (λ l. slice_index old.seen p ≤ slice_index l p) (sym saw) (omega (arith, was.later p, later-set view.seen q s p past));
+}
+
+-- no neighbour is looked at yet
+pub looked-none : (view : View) (hold : Hold) → IsWorkingAt view hold → HasLooked view view hold
+looked-none view hold works = record {
+  still = record { alike = record { terms = refl; share = refl; splits = refl; held_found = refl; seen = record { long = refl; later = λ q. omega arith } }; moves = refl; reach = refl };
+  found = record { short_found = refl; last_short = refl };
+  looks = refl;
+  later = refl;
+  now = hold;
+  works = works;
+  region = refl;
+  step = refl;
+  written = refl;
+}
+
+-- the hold with one more cleared
+abbrev pub clear_one : ℕ → Hold → Hold
+clear_one q hold = record hold { cleared = q ∷ hold.cleared }
+
+pub cleared-works : (view : View) (hold : Hold) (q s : ℕ) → IsWorkingAt view hold → IsWorkingAt (cleared view q s) (clear_one q hold)
+cleared-works view hold q s works = record { later = works.later; holds = ap (with_first (clear_one q)) works.holds; known = works.known; early = works.early }
+
+-- one more is looked at
+pub looked-more : (old view : View) (hold : Hold) (q s : ℕ) → HasLooked old view hold → slice_index view.seen q ≤ s → HasLooked old (cleared view q s) hold
+looked-more old view hold q s has past =
+    let alike = has.still.alike in
+    record {
+      still = record {
+        alike = record {
+          terms = alike.terms;
+          share = alike.share;
+          splits = alike.splits;
+          held_found = alike.held_found;
+          seen = seen-later view.seen old view q s alike.seen refl past (cleared view q s) refl;
+        };
+        moves = has.still.moves;
+        reach = has.still.reach;
+      };
+      found = record { short_found = has.found.short_found; last_short = has.found.last_short };
+      looks = has.looks;
+      later = ap (λ l. later_of (with_first (clear_one q) l)) has.works.holds ∙ sym (ap later_of has.works.holds) ∙ has.later;
+      now = clear_one q has.now;
+      works = cleared-works view has.now q s has.works;
+      region = has.region;
+      step = has.step;
+      written = has.written;
+    }
+
+-- what was cleared stays so, and so is the neighbour
+pub cleared-more : (view : View) (hold now : Hold) (q s p : ℕ) → IsWorkingAt view now → IsWorkingAt (cleared view q s) hold → Contains now.cleared p → Contains hold.cleared p
+cleared-more view hold now q s p was works has =
+    let also = cleared-works view now q s was in
+    let is : hold ≡ clear_one q now = same-hold (cleared view q s).holds (clear_one q now) hold also.later works.later also.holds works.holds in
+    subst (λ (h : Hold). Contains h.cleared p) (sym is) (suc has.0, omega (arith, has.1), has.2)
+
+pub cleared-own : (view : View) (hold now : Hold) (q s : ℕ) → IsWorkingAt view now → IsWorkingAt (cleared view q s) hold → Contains hold.cleared q
+cleared-own view hold now q s was works =
+    let also = cleared-works view now q s was in
+    let is : hold ≡ clear_one q now = same-hold (cleared view q s).holds (clear_one q now) hold also.later works.later also.holds works.holds in
+    subst (λ (h : Hold). Contains h.cleared q) (sym is) (0, omega arith, refl)
+
+-- a neighbour is found a step lower
+pub falls-short : (old view : View) (hold : Hold) (r q s : ℕ) → HasLooked old view hold → slice_index view.seen q ≤ s → HasFallenShort old (found_short view r q s) r q s
+falls-short old view hold r q s has past =
+    let alike = has.still.alike in
+    record {
+      still = record {
+        alike = record {
+          terms = alike.terms;
+          share = alike.share;
+          splits = alike.splits;
+          held_found = alike.held_found;
+          seen = seen-later view.seen old view q s alike.seen refl past (found_short view r q s) refl;
+        };
+        moves = has.still.moves;
+        reach = has.still.reach;
+      };
+      looks = has.looks;
+      later = has.later;
+      one_more = ap (λ n. n + 1) has.found.short_found;
+      last = refl;
+      before = omega (arith, alike.seen.later q, past);
+      now = has.now;
+      works = record { later = has.works.later; holds = has.works.holds; known = has.works.known; early = has.works.early };
+    }
+
+-- what is given says of which neighbour and step
+pub pair-same : (q s p t : ℕ) → ◌≡◌ {A = Option (ℕ × ℕ)} (Some (q, s)) (Some (p, t)) → (q ≡ p) × (s ≡ t)
+pair-same q s p t same =
+    let pairs : ◌≡◌ {A = ℕ × ℕ} (q, s) (p, t) = cc in
+    (ap {A = ℕ × ℕ} (λ x. x.0) pairs, ap {A = ℕ × ℕ} (λ x. x.1) pairs)
+
+-- a turn that ends behind a neighbour
+pub turned-behind : (old view : View) (r q s step goal : ℕ) → HasFallenShort (found_at (taken old r) r step) view r q s → s + 1 ≡ step → step < goal → slice_index old.seen r ≤ step →
+    IsBehind old (freed view) goal r q s
+turned-behind old view r q s step goal short by_one below past =
+    let alike = short.still.alike in
+    record {
+      still = record {
+        alike = record {
+          terms = alike.terms;
+          share = alike.share;
+          splits = alike.splits;
+          held_found = alike.held_found;
+          seen = record {
+            long = alike.seen.long ∙ length-set old.seen r step;
+            later = λ p. omega (arith, alike.seen.later p, later-set old.seen r step p past);
+          };
+        };
+        moves = short.still.moves;
+        reach = short.still.reach;
+      };
+      looks = short.looks;
+      one_more = short.one_more;
+      last = short.last;
+      below = omega (arith, by_one, below);
+      own = omega (arith, by_one, past);
+      before = omega (arith, short.before, later-set old.seen r step q past);
+    }

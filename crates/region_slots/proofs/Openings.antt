@@ -1,0 +1,78 @@
+-- A field opens.
+use Rattle.std.specs.Prelude.{All, slice_index}
+use Rattle.std.specs.List.{Contains}
+use Rattle.std.proofs.Common.{◌≡◌, ℕ, ◌+◌, ◌<◌, ◌≤◌, ◌%◌, List, [], ◌∷◌, ◌++◌, length, get_or, refl, sym, ap, ◌∙◌, arith}
+use Rattle.std.proofs.lemmas.List.Elements.{Contains-get_or}
+use Rattle.network_file.specs.Network.{IsNetwork, Network}
+use Rattle.flow_model.specs.State.{occupancy}
+use Rattle.region_cut.specs.Chart.{ChartLists, IsChart, chart_of, list_at}
+use Rattle.region_cut.specs.Cuttings.{region_at, region_count}
+use Rattle.region_cut.specs.LawfulSteps.{AreLawful}
+use Rattle.region_step.specs.Grid.{grid_held}
+use Rattle.region_step.specs.Region.{RegionValue}
+use Rattle.region_step.specs.Standing.{AllStand}
+use Rattle.region_step.specs.Start.{StartLists, start_of}
+use Rattle.region_step.proofs.Grids.{grid_held-earlier, grid_held-started, grid_row-start}
+use Rattle.region_step.proofs.Ground.{ground}
+use Rattle.atomic_table.specs.Table.{opening}
+use Rattle.border_rows.specs.Places.{row_place, width_at, widths_of}
+use Rattle.border_rows.specs.Standing.{IsStanding}
+use Rattle.border_rows.specs.Words.{border_cell}
+use Rattle.border_rows.specs.declared.view.Terms.{Terms}
+use Rattle.border_rows.proofs.ChartWidths.{width_at-widths_of}
+use Rattle.border_rows.proofs.SeatKinds.{IsOpening, opening-stands}
+use Rattle.region_slots.specs.FirstWords.{IsLaidOut}
+use Rattle.region_slots.specs.Opening.{first_view}
+
+-- what is pushed stands last
+pub pushed-at : {X : Type 0} (xs : List X) (x d : X) (k : ℕ) → k ≡ length xs → get_or (xs ++ x ∷ []) k d ≡ x
+pushed-at [] x d k last = ap (λ i. get_or (x ∷ []) i d) last
+pushed-at (y ∷ xs) x d k last = ap (λ i. get_or (y ∷ xs ++ x ∷ []) i d) last ∙ pushed-at xs x d (length xs) refl
+
+-- the border cells of a region have rows in any list of one for each cell
+pub border-within : {X : Type 0} (net : Network) (chart : ChartLists) (xs : List X) (r : ℕ) → IsNetwork net → chart ≡ chart_of net chart.cut → length xs ≡ length net.cells →
+    r < region_count chart.cut → All (λ i. i < length xs) (list_at chart.border r)
+border-within net chart xs r sound charted one_each within = λ k d inside.
+    let here = ground net chart.cut chart r sound charted within in
+    let cell : ℕ = get_or (list_at chart.border r) k d in
+    omega (arith, one_each, (here.own cell (here.inside k d inside)).0)
+
+-- a border cell of a region is of that region
+border-region : (chart : ChartLists) (r j : ℕ) → IsChart chart → r < region_count chart.cut → j < width_at (widths_of chart) r → region_at chart.cut (border_cell chart r j) ≡ r
+border-region chart r j sound within inside =
+    let facts = sound.regions r within in
+    let has : Contains (list_at chart.border r) (border_cell chart r j) = Contains-get_or (list_at chart.border r) j 0 (omega (arith, inside, width_at-widths_of chart r)) in
+    (facts.own (border_cell chart r j) (facts.inside (border_cell chart r j) has)).1
+
+-- what it holds as the region starts
+held-first : (net : Network) (cut : List ℕ) (start : StartLists) (i : ℕ) → grid_held net cut start (start_of start cut i) i ≡ occupancy start.rows i
+held-first net cut start i =
+    grid_held-started net cut start (start_of start cut i) i (omega arith) ∙ ap (λ row. row.n) (grid_row-start net cut start (start_of start cut i) i (omega arith))
+
+-- words that are laid out and regions that stand where they start are those of a field that opens
+pub laid-opens : (net : Network) (chart : ChartLists) (start : StartLists) (every : ℕ) (words : List ℕ) (regions : List RegionValue) → IsChart chart → IsLaidOut chart start words →
+    AllStand net chart start every start.steps regions → IsOpening net chart start every words regions
+laid-opens net chart start every words regions sound laid stand = record {
+  long = laid.long;
+  free = laid.free;
+  steps = λ r within. (laid.each r within).step;
+  now = λ r j within inside.
+      let from : start_of start chart.cut (border_cell chart r j) ≡ slice_index start.steps r = ap (slice_index start.steps) (border-region chart r j sound within inside) in
+      (laid.each r within).rows.now j inside inside ∙ sym (held-first net chart.cut start (border_cell chart r j)) ∙
+      ap (λ t. grid_held net chart.cut start t (border_cell chart r j)) from;
+  before = λ r t j within inside next.
+      let from : start_of start chart.cut (border_cell chart r j) ≡ slice_index start.steps r = ap (slice_index start.steps) (border-region chart r j sound within inside) in
+      let parity : t % 2 ≡ (slice_index start.steps r + 1) % 2 = omega (arith, next) in
+      ap (λ p. slice_index words (row_place (widths_of chart) r p j)) parity ∙ (laid.each r within).rows.before j inside inside ∙
+      sym (grid_held-earlier net chart.cut start t (border_cell chart r j) (omega (arith, from, next)));
+  homes = stand;
+}
+
+-- they stand under the rule
+pub laid-stands : (terms : Terms) (words : List ℕ) (regions : List RegionValue) → IsChart terms.chart.now → AreLawful terms.net.now terms.chart.now.cut terms.start.now.steps →
+    IsLaidOut terms.chart.now terms.start.now words → AllStand terms.net.now terms.chart.now terms.start.now terms.every terms.start.now.steps regions → 1 ≤ terms.seats →
+    IsStanding terms (opening words regions (first_view terms))
+laid-stands terms words regions sound lawful laid stand seats =
+    opening-stands terms words regions (first_view terms) lawful (laid-opens terms.net.now terms.chart.now terms.start.now terms.every words regions sound laid stand)
+    record { alike = refl; share = refl; seen = refl; moves = refl; reach = refl; holds = refl }
+    (λ none. omega (arith, none, seats))

@@ -1,0 +1,67 @@
+-- A look at a border word of a cleared neighbour.
+use Rattle.std.specs.Prelude.{slice_index}
+use Rattle.std.specs.List.{Contains}
+use Rattle.std.proofs.Common.{◌≡◌, ◌≢◌, ℕ, ◌+◌, ◌%◌, ◌<◌, ◌≤◌, true, List, [], ◌∷◌, refl, sym, ap, subst, ◌∙◌, arith}
+use Rattle.std.proofs.Math.Nat.{mod-lt}
+use mathlib.Core.Option.{none, some}
+use lib.ListN.{get_elem?}
+use Rattle.atomic_table.specs.Table.{Act, Allows, Valid, carried_after, keeps, step, stepped}
+use Rattle.region_cut.specs.Chart.{IsChart}
+use Rattle.region_cut.specs.Cuttings.{region_count}
+use Rattle.region_cut.specs.Joins.{are_neighbours}
+use Rattle.region_step.specs.Grid.{grid_held}
+use Rattle.region_step.specs.Region.{RegionValue}
+use Rattle.border_rows.specs.Places.{HasRowWord, row_place, width_at, widths_of}
+use Rattle.border_rows.specs.Standing.{FieldState, IsStanding}
+use Rattle.border_rows.specs.Words.{border_cell, border_word}
+use Rattle.border_rows.specs.declared.view.Hold.{Hold}
+use Rattle.border_rows.specs.declared.view.Terms.{Terms}
+use Rattle.border_rows.specs.declared.view.View.{View}
+use Rattle.border_rows.proofs.ClaimKinds.{within-widths}
+use Rattle.border_rows.proofs.Keeping.{neighbours-there}
+use Rattle.border_rows.proofs.PlaceLaws.{rows-same}
+use Rattle.border_rows.proofs.RowKinds.{IsWorking, border-read, border-read-keeps}
+use Rattle.border_rows.proofs.WordUpdates.{row-word}
+use Rattle.region_slots.specs.FieldView.{IsWorkingAt}
+use Rattle.region_slots.specs.Plays.{IsBeside, Mine, Read}
+use Rattle.region_slots.proofs.Claiming.{same-terms}
+use Rattle.region_slots.proofs.Comparing.{same-hold}
+
+-- what the rule says of a seat at work
+pub working : (terms : Terms) (s : FieldState) (id : ℕ) (view : View) (hold : Hold) → IsChart terms.chart.now → IsStanding terms s → get_elem? s.views id ≡ some view → view.share ≢ 0 →
+    (works : IsWorkingAt view hold) → IsWorking terms s id view hold works.later
+working terms s id view hold chart standing at share works =
+    record { standing = standing; charted = chart; seat = at; share = share; held = works.holds; known = works.known; early = works.early }
+
+-- what a look at the word of border cell j of neighbour q in its row of the hold's step may be told
+pub reading : (terms : Terms) (slots id q j : ℕ) (me : Mine) (hold : Hold) → IsChart terms.chart.now → me.0.terms ≡ terms ∷ [] → me.0.share ≢ 0 → IsWorkingAt me.0 hold →
+    are_neighbours terms.net.now.connectors terms.chart.now.cut hold.region q ≡ true → Contains hold.cleared q → j < width_at (widths_of terms.chart.now) q →
+    Allows (IsStanding terms) slots id me (row_place (widths_of terms.chart.now) q (hold.step % 2) j) (λ n. n)
+    (Read (step slots (row_place (widths_of terms.chart.now) q (hold.step % 2) j) 0 0 none) me)
+reading terms slots id q j me hold chart of_field share works near has inside = λ s standing long at small.
+    let there : q < region_count terms.chart.now.cut = (neighbours-there terms.net.now terms.chart.now hold.region q near).1 in
+    let working_now : IsWorking terms s id me.0 hold works.later = working terms s id me.0 hold chart standing at share works in
+    let read : border_word terms.chart.now s.words q hold.step j ≡ grid_held terms.net.now terms.chart.now.cut terms.start.now hold.step (border_cell terms.chart.now q j) =
+    border-read terms s id me.0 hold works.later q j working_now has inside in (
+      me.0,
+      keeps,
+      tt,
+      border-read-keeps terms s id me.1 me.0 hold works.later q j working_now,
+      record {
+        same = refl;
+        held = λ other p i h beside cleared within same.
+            let one : other ≡ terms = same-terms me.0 terms other of_field beside.region.of_field in
+            let is : h ≡ hold = same-hold me.0.holds hold h works.later beside.later works.holds beside.holds in
+            let also : HasRowWord (widths_of terms.chart.now) p (hold.step % 2) i =
+            row-word terms.chart.now p hold.step i (within-widths terms.chart.now p chart (rw one at beside.region.there)) (rw one at within) in
+            let own : HasRowWord (widths_of terms.chart.now) q (hold.step % 2) j = row-word terms.chart.now q hold.step j (within-widths terms.chart.now q chart there) inside in
+            let places : row_place (widths_of terms.chart.now) q (hold.step % 2) j ≡ row_place (widths_of terms.chart.now) p (hold.step % 2) i =
+            subst (λ (t : Terms). row_place (widths_of terms.chart.now) q (hold.step % 2) j ≡ row_place (widths_of t.chart.now) p (hold.step % 2) i) one
+            (subst (λ (x : Hold). row_place (widths_of terms.chart.now) q (hold.step % 2) j ≡ row_place (widths_of other.chart.now) p (x.step % 2) i) is same) in
+            let all = rows-same (widths_of terms.chart.now) q p (hold.step % 2) (hold.step % 2) j i own also places in
+            read ∙ ap (λ n. grid_held terms.net.now terms.chart.now.cut terms.start.now hold.step (border_cell terms.chart.now n j)) all.0 ∙
+            ap (λ n. grid_held terms.net.now terms.chart.now.cut terms.start.now hold.step (border_cell terms.chart.now p n)) all.2 ∙
+            ap (λ (x : Hold). grid_held terms.net.now terms.chart.now.cut terms.start.now x.step (border_cell terms.chart.now p i)) (sym is) ∙
+            ap (λ (t : Terms). grid_held t.net.now t.chart.now.cut t.start.now h.step (border_cell t.chart.now p i)) (sym one);
+      },
+    )

@@ -1,0 +1,73 @@
+use Rattle.std.specs.Prelude.{slice_index}
+use Rattle.std.specs.List.{Contains}
+use Rattle.std.proofs.Common.{◌≡◌, ◌≢◌, ℕ, ◌<◌, ◌≤◌, ◌+◌, List, [], ◌∷◌, length, true, refl, sym, ap, subst, ◌∙◌, arith, get_or}
+use Rattle.std.proofs.lemmas.List.{length-map}
+use Rattle.std.proofs.lemmas.List.Elements.{Contains-get_or}
+use Rattle.region_cut.specs.Chart.{list_at}
+use Rattle.region_step.specs.Advance.{HasHaloPut, HasRowsInBounds}
+use Rattle.region_step.specs.Opened.{halo_cells}
+use Rattle.region_step.specs.Region.{RegionValue}
+use Rattle.region_step.specs.Standing.{Stands}
+use Rattle.atomic_table.specs.Table.{rest}
+use Rattle.border_rows.specs.Words.{border_cell}
+use Rattle.border_rows.specs.declared.view.Hold.{Hold}
+use Rattle.border_rows.specs.declared.view.Terms.{Terms}
+use Rattle.border_rows.specs.declared.view.View.{View}
+use Rattle.region_slots.specs.FieldView.{FieldValue, IsTableFor}
+use Rattle.region_slots.specs.Turning.{IsTold, field_held}
+use Rattle.region_slots.proofs.Telling.{advanced-stands, can_advance, same-slot, told-step}
+use Rattle.region_slots.proofs.field.Field.advances.Goals as goal
+
+pub advance-requires-clause-in_time : goal.advance-requires-clause-in_time
+advance-requires-clause-in_time c =
+    let terms : Terms = c.args.self.now.terms in
+    let net : c.self.inside.net.now ≡ terms.net.now = sym c.self.invariant.0 ∙ ap (λ field. field.terms.net.now) c.self.view_is in
+    let chart : c.self.inside.chart.now ≡ terms.chart.now = sym c.self.invariant.1 ∙ ap (λ field. field.terms.chart.now) c.self.view_is in
+    let field : IsTableFor terms c.args.self.now.table = subst (λ (f : FieldValue). IsTableFor f.terms f.table) c.self.view_is c.self.invariant.3 in
+    let state : RegionValue = c.slot_mut-state.result.now in
+    let is : c.requires.slot.0 ≡ state = same-slot c.args.seat.now.me.1 (rest c.args.seat.now.me.1) (rest c.args.seat.now.me.1) c.args.region c.requires.slot.0 state c.requires.slot.1 c.slot_mut-state.ensures.value in
+    let told : IsTold terms c.args.region c.args.step (length (list_at terms.chart.now.halo c.args.region)) state = subst (IsTold terms c.args.region c.args.step (length (list_at terms.chart.now.halo c.args.region))) is c.requires.slot.2 in
+    let all : length (halo_cells terms.chart.now c.args.region) ≤ length (list_at terms.chart.now.halo c.args.region) = omega (arith, length-map (list_at terms.chart.now.halo c.args.region) (λ halo. halo.cell)) in
+    omega (arith, told-step terms c.args.region c.args.step (length (list_at terms.chart.now.halo c.args.region)) state told, c.requires.in_time, ap (λ n. n.steps) net)
+
+pub advance-requires-clause-in_bounds : goal.advance-requires-clause-in_bounds
+advance-requires-clause-in_bounds c =
+    let terms : Terms = c.args.self.now.terms in
+    let net : c.self.inside.net.now ≡ terms.net.now = sym c.self.invariant.0 ∙ ap (λ field. field.terms.net.now) c.self.view_is in
+    let chart : c.self.inside.chart.now ≡ terms.chart.now = sym c.self.invariant.1 ∙ ap (λ field. field.terms.chart.now) c.self.view_is in
+    let field : IsTableFor terms c.args.self.now.table = subst (λ (f : FieldValue). IsTableFor f.terms f.table) c.self.view_is c.self.invariant.3 in
+    let state : RegionValue = c.slot_mut-state.result.now in
+    let is : c.requires.slot.0 ≡ state = same-slot c.args.seat.now.me.1 (rest c.args.seat.now.me.1) (rest c.args.seat.now.me.1) c.args.region c.requires.slot.0 state c.requires.slot.1 c.slot_mut-state.ensures.value in
+    let told : IsTold terms c.args.region c.args.step (length (list_at terms.chart.now.halo c.args.region)) state = subst (IsTold terms c.args.region c.args.step (length (list_at terms.chart.now.halo c.args.region))) is c.requires.slot.2 in
+    let all : length (halo_cells terms.chart.now c.args.region) ≤ length (list_at terms.chart.now.halo c.args.region) = omega (arith, length-map (list_at terms.chart.now.halo c.args.region) (λ halo. halo.cell)) in
+    let can = can_advance terms c.args.self.now.table c.args.region c.args.step (length (list_at terms.chart.now.halo c.args.region)) state field c.requires.there c.requires.in_time c.requires.started told all in
+    rw (net, chart) can.0
+
+pub advance-requires-clause-halo : goal.advance-requires-clause-halo
+advance-requires-clause-halo c =
+    let terms : Terms = c.args.self.now.terms in
+    let net : c.self.inside.net.now ≡ terms.net.now = sym c.self.invariant.0 ∙ ap (λ field. field.terms.net.now) c.self.view_is in
+    let chart : c.self.inside.chart.now ≡ terms.chart.now = sym c.self.invariant.1 ∙ ap (λ field. field.terms.chart.now) c.self.view_is in
+    let field : IsTableFor terms c.args.self.now.table = subst (λ (f : FieldValue). IsTableFor f.terms f.table) c.self.view_is c.self.invariant.3 in
+    let state : RegionValue = c.slot_mut-state.result.now in
+    let is : c.requires.slot.0 ≡ state = same-slot c.args.seat.now.me.1 (rest c.args.seat.now.me.1) (rest c.args.seat.now.me.1) c.args.region c.requires.slot.0 state c.requires.slot.1 c.slot_mut-state.ensures.value in
+    let told : IsTold terms c.args.region c.args.step (length (list_at terms.chart.now.halo c.args.region)) state = subst (IsTold terms c.args.region c.args.step (length (list_at terms.chart.now.halo c.args.region))) is c.requires.slot.2 in
+    let all : length (halo_cells terms.chart.now c.args.region) ≤ length (list_at terms.chart.now.halo c.args.region) = omega (arith, length-map (list_at terms.chart.now.halo c.args.region) (λ halo. halo.cell)) in
+    let can = can_advance terms c.args.self.now.table c.args.region c.args.step (length (list_at terms.chart.now.halo c.args.region)) state field c.requires.there c.requires.in_time c.requires.started told all in
+    rw (net, chart) can.1
+
+pub returns-clause-advanced : goal.returns-clause-advanced
+returns-clause-advanced c =
+    let terms : Terms = c.args.self.now.terms in
+    let net : c.self.inside.net.now ≡ terms.net.now = sym c.self.invariant.0 ∙ ap (λ field. field.terms.net.now) c.self.view_is in
+    let chart : c.self.inside.chart.now ≡ terms.chart.now = sym c.self.invariant.1 ∙ ap (λ field. field.terms.chart.now) c.self.view_is in
+    let field : IsTableFor terms c.args.self.now.table = subst (λ (f : FieldValue). IsTableFor f.terms f.table) c.self.view_is c.self.invariant.3 in
+    let state : RegionValue = c.slot_mut-state.result.now in
+    let is : c.requires.slot.0 ≡ state = same-slot c.args.seat.now.me.1 (rest c.args.seat.now.me.1) (rest c.args.seat.now.me.1) c.args.region c.requires.slot.0 state c.requires.slot.1 c.slot_mut-state.ensures.value in
+    let told : IsTold terms c.args.region c.args.step (length (list_at terms.chart.now.halo c.args.region)) state = subst (IsTold terms c.args.region c.args.step (length (list_at terms.chart.now.halo c.args.region))) is c.requires.slot.2 in
+    let all : length (halo_cells terms.chart.now c.args.region) ≤ length (list_at terms.chart.now.halo c.args.region) = omega (arith, length-map (list_at terms.chart.now.halo c.args.region) (λ halo. halo.cell)) in (
+      c.advance.new.self,
+      refl,
+      advanced-stands terms c.self.inside.net.now c.self.inside.chart.now c.args.region c.args.step (length (list_at terms.chart.now.halo c.args.region)) state c.advance.new.self net chart told all c.advance.ensures.opened
+          (c.advance.ensures.grid terms.start.now terms.every c.args.region c.args.step c.requires.started),
+    )

@@ -1,0 +1,62 @@
+use Rattle.std.specs.Prelude.{slice_index}
+use Rattle.std.specs.List.{Contains}
+use Rattle.std.proofs.Common.{◌≡◌, ◌≢◌, ℕ, ◌<◌, ◌≤◌, ◌+◌, List, [], ◌∷◌, length, true, refl, sym, ap, subst, ◌∙◌, arith, get_or}
+use Rattle.std.proofs.lemmas.List.{length-map}
+use Rattle.std.proofs.lemmas.List.Elements.{Contains-get_or}
+use Rattle.region_cut.specs.Chart.{ChartLists, list_at}
+use Rattle.region_step.specs.Advance.{HasHaloPut, HasRowsInBounds}
+use Rattle.region_step.specs.Opened.{halo_cells}
+use Rattle.region_step.specs.Region.{RegionValue}
+use Rattle.region_step.specs.Standing.{Stands}
+use Rattle.atomic_table.specs.Table.{rest}
+use Rattle.border_rows.specs.Words.{border_cell}
+use Rattle.border_rows.specs.declared.view.Hold.{Hold}
+use Rattle.border_rows.specs.declared.view.Terms.{Terms}
+use Rattle.border_rows.specs.declared.view.View.{View}
+use Rattle.region_slots.specs.FieldView.{FieldValue, IsTableFor}
+use Rattle.region_slots.specs.Turning.{IsTold, field_held}
+use Rattle.border_rows.specs.Places.{IsOfNetwork, widths_of}
+use Rattle.border_rows.proofs.ChartWidths.{width_at-widths_of, words-fit}
+use Rattle.border_rows.proofs.ClaimKinds.{within-widths}
+use Rattle.border_rows.proofs.PlaceLaws.{base-le-words}
+use Rattle.region_slots.specs.FieldView.{IsWorkingAt}
+use Rattle.region_slots.specs.Turning.{wrote_many}
+use Rattle.region_slots.proofs.RowFilling.{written_to, wrote_many-more, wrote_many-none, wrote_many-works}
+use Rattle.region_slots.proofs.field.Field.fills.Goals as goal
+
+pub loop-j-init : goal.loop-j-init
+loop-j-init c =
+    let at = c.requires.at.1 in
+    (refl, refl, ap (λ view. (view, c.args.seat.now.me.1)) (wrote_many-none c.args.seat.now.me.0 at.hold at.works (c.requires.none.many at.hold at.works)))
+
+pub overflow_cast-j : goal.overflow_cast-j
+overflow_cast-j c =
+    let terms : Terms = c.args.self.now.terms in
+    let net : c.self.inside.net.now ≡ terms.net.now = sym c.self.invariant.0 ∙ ap (λ field. field.terms.net.now) c.self.view_is in
+    let chart : c.self.inside.chart.now ≡ terms.chart.now = sym c.self.invariant.1 ∙ ap (λ field. field.terms.chart.now) c.self.view_is in
+    let field : IsTableFor terms c.args.self.now.table = subst (λ (f : FieldValue). IsTableFor f.terms f.table) c.self.view_is c.self.invariant.3 in
+    let list = c.border-border.ensures.list ∙ ap (λ (lists : ChartLists). list_at lists.border c.args.region) chart in
+    let few = words-fit terms.chart.now field.chart record { net = terms.net.now; sound = field.sound; charted = field.charted } in
+    omega (arith, c.loop-j-test.true, ap length list, width_at-widths_of terms.chart.now c.args.region, few, base-le-words (widths_of terms.chart.now) c.args.region (within-widths terms.chart.now c.args.region field.chart c.requires.there))
+
+pub overflow_cast-j-in-loop-j : goal.overflow_cast-j-in-loop-j
+overflow_cast-j-in-loop-j c =
+    let terms : Terms = c.args.self.now.terms in
+    let net : c.self.inside.net.now ≡ terms.net.now = sym c.self.invariant.0 ∙ ap (λ field. field.terms.net.now) c.self.view_is in
+    let chart : c.self.inside.chart.now ≡ terms.chart.now = sym c.self.invariant.1 ∙ ap (λ field. field.terms.chart.now) c.self.view_is in
+    let field : IsTableFor terms c.args.self.now.table = subst (λ (f : FieldValue). IsTableFor f.terms f.table) c.self.view_is c.self.invariant.3 in
+    let list = c.border-border.ensures.list ∙ ap (λ (lists : ChartLists). list_at lists.border c.args.region) chart in
+    let few = words-fit terms.chart.now field.chart record { net = terms.net.now; sound = field.sound; charted = field.charted } in
+    omega (arith, c.loop-j-test.true, ap length list, width_at-widths_of terms.chart.now c.args.region, few, base-le-words (widths_of terms.chart.now) c.args.region (within-widths terms.chart.now c.args.region field.chart c.requires.there))
+
+pub writes-requires-clause-working : goal.writes-requires-clause-working
+writes-requires-clause-working c =
+    let at = c.requires.at.1 in
+    let view : c.holds_now-n.new.seat.me.0 ≡ wrote_many c.args.seat.now.me.0 c.loop-j.j = ap (λ m. m.0) (c.holds_now-n.ensures.same.2 ∙ c.loop-j.invariant.2) in (
+      written_to c.loop-j.j at.hold,
+      subst (λ (v : View). IsWorkingAt v (written_to c.loop-j.j at.hold)) (sym view) (wrote_many-works c.args.seat.now.me.0 at.hold c.loop-j.j at.works),
+      at.region,
+      ap (λ n. n + 1) at.step ∙ c.requires.at.2,
+      refl,
+      (λ q near. c.requires.cleared.all at.hold q at.works near),
+    )

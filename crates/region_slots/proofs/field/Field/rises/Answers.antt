@@ -1,0 +1,46 @@
+use Rattle.std.proofs.Common.{◌≡◌, ℕ, ◌+◌, true, List, [], ◌∷◌, refl, sym, ap, subst, ◌∙◌}
+use Rattle.region_step.specs.Standing.{Stands}
+use Rattle.atomic_table.specs.Table.{rest}
+use Rattle.border_rows.specs.Kinds.{published, with_first}
+use Rattle.border_rows.specs.Places.{width_at, widths_of}
+use Rattle.border_rows.specs.declared.view.Hold.{Hold}
+use Rattle.border_rows.specs.declared.view.View.{View}
+use Rattle.region_slots.specs.FieldView.{IsWorkingAt}
+use Rattle.region_slots.specs.Turning.{wrote_many}
+use Rattle.region_slots.proofs.RowFilling.{written_to, wrote_many-works}
+use Rattle.region_slots.proofs.field.Field.rises.Goals as goal
+
+pub publishes-requires-clause-working : goal.publishes-requires-clause-working
+publishes-requires-clause-working c =
+    let width : ℕ = width_at (widths_of c.args.self.now.terms.chart.now) c.args.region in
+    let at = c.requires.at in
+    let view : c.fills.new.seat.me.0 ≡ wrote_many c.args.seat.now.me.0 width =
+    ap (λ m. m.0) c.fills.ensures.written ∙ ap (λ (v : View). wrote_many v width) (ap (λ m. m.0) c.advances.ensures.advanced.1 ∙ ap (λ m. m.0) c.tells.ensures.told.1) in (
+      written_to width at.hold,
+      subst (λ (v : View). IsWorkingAt v (written_to width at.hold)) (sym view) (wrote_many-works c.args.seat.now.me.0 at.hold width at.works),
+      at.region,
+      ap (λ n. n + 1) at.step,
+      refl,
+      (λ q near. c.requires.cleared.all at.hold q at.works near),
+    )
+
+pub frees-requires-clause-state : goal.frees-requires-clause-state
+frees-requires-clause-state c =
+    let width : ℕ = width_at (widths_of c.args.self.now.terms.chart.now) c.args.region in
+    let at = c.requires.at in
+    let view : c.fills.new.seat.me.0 ≡ wrote_many c.args.seat.now.me.0 width =
+    ap (λ m. m.0) c.fills.ensures.written ∙ ap (λ (v : View). wrote_many v width) (ap (λ m. m.0) c.advances.ensures.advanced.1 ∙ ap (λ m. m.0) c.tells.ensures.told.1) in
+    let terms = c.args.self.now.terms in
+    let advanced = c.advances.ensures.advanced in
+    let r : ℕ = c.args.region in
+    let done : Hold → Hold = λ hold. record hold { published = true } in (
+      done (written_to width at.hold),
+      at.works.later,
+      advanced.0,
+      rest c.tells.new.seat.me.1,
+      ap (λ m. m.0.holds) c.publishes.ensures.risen ∙ ap (λ (v : View). (published v r (c.args.step + 1)).holds) view ∙ ap (λ holds. with_first done (with_first (written_to width) holds)) at.works.holds,
+      at.region,
+      at.works.known,
+      ap (λ m. m.1) c.publishes.ensures.risen ∙ ap (λ m. m.1) c.fills.ensures.written ∙ ap (λ m. m.1) advanced.1,
+      subst (λ n. Stands terms.net.now terms.chart.now terms.start.now terms.every r (n + 1) advanced.0) (sym at.step) advanced.2,
+    )

@@ -1,0 +1,5 @@
+use Rattle.region_slots.proofs.Filling.{AreFilled}
+use Rattle.region_slots.proofs.first_words.first_words.Given as goal
+
+abbrev pub invariant-loop-r : goal.invariant-loop-r
+invariant-loop-r l = AreFilled l.chart l.start l.words.items l.r

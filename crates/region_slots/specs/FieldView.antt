@@ -1,0 +1,57 @@
+-- What contracts see of a field and of a pass.
+use Rattle.std.specs.Prelude.{◌≡◌, ◌≢◌, ℕ, List, [], ◌∷◌, true, false}
+use Rattle.network_file.specs.Network.{IsNetwork}
+use Rattle.region_cut.specs.Chart.{IsChart, chart_of}
+use Rattle.region_cut.specs.LawfulSteps.{AreLawful}
+use Rattle.region_step.specs.Region.{RegionValue}
+use Rattle.region_step.specs.Start.{Fits}
+use Rattle.atomic_table.specs.Seated.{TableId}
+use Rattle.atomic_table.specs.declared.shared.Seat.{Seat}
+use Rattle.border_rows.specs.Places.{widths_of, words_of}
+use Rattle.border_rows.specs.declared.view.Hold.{Hold}
+use Rattle.border_rows.specs.declared.view.Terms.{Terms}
+use Rattle.border_rows.specs.declared.view.View.{View}
+
+-- a field: what it was opened with, and which table it is
+pub record FieldValue : Type 0 where
+  pub terms : Terms
+  pub table : TableId
+
+-- a pass: what it knows, and of which table it is
+pub record PassValue : Type 0 where
+  pub knows : View
+  pub id : ℕ
+  pub table : TableId
+
+-- a table for these terms
+pub record IsTableFor (terms : Terms) (table : TableId) : Type 0 where
+  pub sound : IsNetwork terms.net.now
+  pub charted : terms.chart.now ≡ chart_of terms.net.now terms.chart.now.cut
+  pub chart : IsChart terms.chart.now
+  pub words : table.words ≡ words_of (widths_of terms.chart.now)
+  pub fits : Fits terms.net.now terms.chart.now.cut terms.start.now
+  pub lawful : AreLawful terms.net.now terms.chart.now.cut terms.start.now.steps
+
+-- between calls a pass has a share, and holds nothing
+pub record IsIdle (view : View) (carried : List (ℕ × RegionValue)) : Type 0 where
+  pub share : view.share ≢ 0
+  pub holds : view.holds ≡ []
+  pub nothing : carried ≡ []
+
+-- the pass is one of the field's
+pub record IsPassOf (field : FieldValue) (pass : PassValue) : Type 0 where
+  pub table : pass.table ≡ field.table
+  pub terms : pass.knows.terms ≡ field.terms ∷ []
+
+-- a seat of the field that isn't spent
+pub record IsSeatOf (field : FieldValue) (seat : Seat RegionValue View) : Type 0 where
+  pub table : seat.table_id ≡ field.table
+  pub terms : seat.me.0.terms ≡ field.terms ∷ []
+  pub share : seat.me.0.share ≢ 0
+
+-- the region that a view holds last, at a step that it knows and has not published past
+pub record IsWorkingAt (view : View) (hold : Hold) : Type 0 where
+  pub later : List Hold
+  pub holds : view.holds ≡ hold ∷ later
+  pub known : hold.known ≡ true
+  pub early : hold.published ≡ false

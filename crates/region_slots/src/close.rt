@@ -1,0 +1,52 @@
+use crate::field::{Field, Pass};
+use region_step::Region;
+
+/// What a field comes to: the step of each region, and the regions at these steps.
+#[derive(Drop)]
+pub struct Closed {
+    pub steps: Vec<u64>,
+    pub regions: Vec<Region>,
+}
+
+impl<'a> Field<'a> {
+    ghost use Rattle.std.specs.Prelude.{◌≡◌, ◌<◌, ◌≤◌, ℕ, length, max, slice_index};
+    ghost use Rattle.region_cut.specs.Cuttings.{region_count};
+    ghost use Rattle.region_cut.specs.LawfulSteps.{AreLawful};
+    ghost use Rattle.region_step.specs.Standing.{AllStand};
+    ghost use Rattle.region_slots.specs.Closing.{steps_since};
+    ghost use Rattle.region_slots.specs.FieldView.{IsPassOf};
+
+    /// Closes the field with the pass that has all of its seats, and gives its regions. It takes no memory.
+    pub fn close(self, pass: Pass<'a>) -> Closed
+        requires belongs { IsPassOf self pass }
+        requires whole { pass.knows.share ≡ self.terms.seats }
+        ensures steps { length result.steps.items ≡ region_count self.entry.terms.chart.now.cut }
+        ensures regions { length result.regions.items ≡ region_count self.entry.terms.chart.now.cut }
+        ensures stand { AllStand self.entry.terms.net.now self.entry.terms.chart.now self.entry.terms.start.now self.entry.terms.every result.steps.items result.regions.items }
+        ensures lawful { AreLawful self.entry.terms.net.now self.entry.terms.chart.now.cut result.steps.items }
+        ensures started { (r : ℕ) → r < region_count self.entry.terms.chart.now.cut → slice_index self.entry.terms.start.now.steps r ≤ slice_index result.steps.items r }
+        ensures later { (r : ℕ) → r < region_count self.entry.terms.chart.now.cut → slice_index pass.entry.knows.seen r ≤ slice_index result.steps.items r }
+        ensures reached { (r : ℕ) → r < region_count self.entry.terms.chart.now.cut → slice_index result.steps.items r ≤ max (slice_index self.entry.terms.start.now.steps r) pass.entry.knows.reach }
+        ensures moves { steps_since self.entry.terms.start.now (region_count self.entry.terms.chart.now.cut) result.steps.items ≡ pass.entry.knows.moves }
+    {
+        let Field {
+            net: _,
+            chart,
+            places,
+            table,
+            mut steps,
+            mut regions,
+        } = self;
+        let Pass { seat } = pass;
+        let mut closed = table.close_with(seat);
+        let mut r = 0;
+        while r < chart.regions() {
+            let word = places.step(r);
+            steps.push_reserved(closed.word(word as usize));
+            regions.push_reserved(closed.take(r as usize));
+            r += 1;
+        }
+        closed.free();
+        Closed { steps, regions }
+    }
+}

@@ -1,0 +1,50 @@
+use crate::rule::Rule;
+use atomic_table::{Seat, Table};
+use border_rows::{Places, Terms, View};
+use network_file::Net;
+use region_cut::Chart;
+use region_step::Region;
+use std::alloc::Global;
+use std::marker::Model;
+
+/// Regions that any thread may take, advance by a step and give back.
+pub struct Field<'a> {
+    pub(crate) net: &'a Net,
+    pub(crate) chart: &'a Chart,
+    pub(crate) places: Places,
+    pub(crate) table: Table<Region, View<'a>, Terms<'a>, Rule, Global>,
+    // They are empty until it is closed, with room for one for each region.
+    pub(crate) steps: Vec<u64>,
+    pub(crate) regions: Vec<Region>,
+}
+
+impl<'a> Model for Field<'a> {
+    ghost use Rattle.std.specs.Prelude.{◌≡◌, ◌≤◌, [], vec_capacity};
+    ghost use Rattle.region_cut.specs.Cuttings.{region_count};
+    ghost use Rattle.border_rows.specs.Places.{widths_of};
+    ghost use Rattle.region_slots.specs.FieldView.{FieldValue, IsTableFor};
+
+    ghost Value = { FieldValue };
+
+    ghost view = { λ field. record { terms = field.table.shared.key; table = field.table.shared.table_id } };
+
+    ghost invariant = { λ field. (field.table.shared.key.net.now ≡ field.net.now) × (field.table.shared.key.chart.now ≡ field.chart.now)
+        × (field.places ≡ widths_of field.chart.now) × IsTableFor field.table.shared.key field.table.shared.table_id
+        × (field.steps.items ≡ []) × (region_count field.chart.now.cut ≤ vec_capacity field.steps)
+        × (field.regions.items ≡ []) × (region_count field.chart.now.cut ≤ vec_capacity field.regions) };
+}
+
+/// A caller's seat at a field.
+pub struct Pass<'a> {
+    pub(crate) seat: Seat<Region, View<'a>>,
+}
+
+impl<'a> Model for Pass<'a> {
+    ghost use Rattle.region_slots.specs.FieldView.{IsIdle, PassValue};
+
+    ghost Value = { PassValue };
+
+    ghost view = { λ pass. record { knows = pass.seat.me.0; id = pass.seat.id; table = pass.seat.table_id } };
+
+    ghost invariant = { λ pass. IsIdle pass.seat.me.0 pass.seat.me.1 };
+}
