@@ -1,9 +1,8 @@
 -- A try of a claim word.
 use Rattle.std.specs.Prelude.{slice_index, ◌==◌}
-use Rattle.std.proofs.Common.{◌≡◌, ◌≢◌, ℕ, ◌<◌, ◌≤◌, inl, inr, List, [], ◌∷◌, length, refl, sym, ap, subst, ◌∙◌, arith}
+use Rattle.std.proofs.Common.{◌≡◌, ◌≢◌, ℕ, ◌<◌, inl, inr, [], ◌∷◌, length, sym, ap, ◌∙◌, arith}
 use Rattle.std.proofs.lemmas.Bool.{cases_eq}
-use mathlib.Core.Option.{none, some}
-use lib.ListN.{get_elem?}
+use mathlib.Core.Option.{none}
 use Rattle.atomic_table.specs.Table.{Act, Allows, Valid, carried_after, keeps, step, stepped}
 use prog.Atomic.{either}
 use Rattle.atomic_table.proofs.Lists.{exchanged}
@@ -12,9 +11,7 @@ use Rattle.region_cut.specs.Cuttings.{region_count}
 use Rattle.region_step.specs.Region.{RegionValue}
 use Rattle.border_rows.specs.Kinds.{found_taken, taken}
 use Rattle.border_rows.specs.Places.{claim_place, widths_of}
-use Rattle.border_rows.specs.Standing.{FieldState, IsStanding}
-use Rattle.border_rows.specs.Views.{holders}
-use Rattle.border_rows.specs.Words.{claim_of}
+use Rattle.border_rows.specs.Standing.{IsStanding}
 use Rattle.border_rows.specs.declared.view.Terms.{Terms}
 use Rattle.border_rows.specs.declared.view.View.{View}
 use Rattle.border_rows.proofs.ClaimKinds.{found_taken-keeps, taken-keeps, whole_claim, within-widths}

@@ -1,7 +1,7 @@
 -- What the last state of a field says of its regions, where one seat has all shares and holds nothing.
-use Rattle.std.specs.Prelude.{max, slice_index, slice_index_or, sum_by}
-use Rattle.std.specs.List.{Contains, range_with_len, sum}
-use Rattle.std.proofs.Common.{◌≡◌, ◌≢◌, ℕ, zero, suc, ◌+◌, ◌-◌, ◌<◌, ◌≤◌, inl, inr, Bool, false, List, [], ◌∷◌, ◌++◌, length, take, get_or, set, refl, sym, ap, subst, ◌∙◌, arith}
+use Rattle.std.specs.Prelude.{max, slice_index, sum_by}
+use Rattle.std.specs.List.{range_with_len, sum}
+use Rattle.std.proofs.Common.{◌≡◌, ℕ, zero, suc, ◌+◌, ◌-◌, ◌<◌, ◌≤◌, inl, inr, Bool, false, List, [], ◌∷◌, ◌++◌, length, take, get_or, set, refl, sym, ap, subst, ◌∙◌, arith}
 use Rattle.std.proofs.lemmas.List.Sums.{sum-map, sum_by-cons}
 use mathlib.Core.Option.{some, some-injective}
 use lib.ListN.{get_elem?}
@@ -12,7 +12,7 @@ use Rattle.region_cut.specs.LawfulSteps.{AreLawful}
 use Rattle.region_step.specs.Region.{RegionValue}
 use Rattle.region_step.specs.Standing.{AllStand, Stands}
 use Rattle.region_step.proofs.Lists.{map_range_same}
-use Rattle.border_rows.specs.Standing.{FieldState, IsSpent, IsStanding, steps_made}
+use Rattle.border_rows.specs.Standing.{FieldState, IsStanding, steps_made}
 use Rattle.border_rows.specs.Words.{step_of, steps_of}
 use Rattle.border_rows.specs.declared.view.Terms.{Terms}
 use Rattle.border_rows.specs.declared.view.View.{View}

@@ -1,19 +1,16 @@
 -- A look at the step word of a neighbour of the region held last.
 use Rattle.std.specs.Prelude.{slice_index}
-use Rattle.std.proofs.Common.{◌≡◌, ◌≢◌, ℕ, ◌+◌, ◌<◌, ◌≤◌, inl, inr, true, List, [], ◌∷◌, refl, sym, ap, subst, ◌∙◌, arith}
+use Rattle.std.proofs.Common.{◌≡◌, ◌≢◌, ℕ, ◌<◌, ◌≤◌, inl, inr, true, List, [], ◌∷◌, refl, sym, ap, subst, ◌∙◌, arith}
 use Rattle.std.proofs.lemmas.Bool.{cases_eq, cases_lt}
-use mathlib.Core.Option.{none, some}
-use lib.ListN.{get_elem?}
-use Rattle.atomic_table.specs.Table.{Act, Allows, Valid, carried_after, keeps, step, stepped}
+use mathlib.Core.Option.{none}
+use Rattle.atomic_table.specs.Table.{Allows, keeps, step}
 use Rattle.region_cut.specs.Chart.{IsChart}
 use Rattle.region_cut.specs.Cuttings.{region_count}
 use Rattle.region_cut.specs.Joins.{are_neighbours}
-use Rattle.region_step.specs.Region.{RegionValue}
 use Rattle.border_rows.specs.Kinds.{cleared, found_short}
 use Rattle.border_rows.specs.Places.{step_place, widths_of}
-use Rattle.border_rows.specs.Standing.{FieldState, IsStanding}
+use Rattle.border_rows.specs.Standing.{IsStanding}
 use Rattle.border_rows.specs.Views.{IsHeld}
-use Rattle.border_rows.specs.Words.{step_of}
 use Rattle.border_rows.specs.declared.view.Hold.{Hold}
 use Rattle.border_rows.specs.declared.view.Terms.{Terms}
 use Rattle.border_rows.specs.declared.view.View.{View}

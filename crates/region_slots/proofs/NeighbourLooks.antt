@@ -1,14 +1,17 @@
 -- A view that looks at neighbours.
-use Rattle.std.specs.Prelude.{Option, Some, slice_index, slice_set}
+use Rattle.std.specs.Prelude.{Option, Some, max, slice_index, slice_set}
 use Rattle.std.specs.List.{Contains}
-use Rattle.std.proofs.Common.{◌≡◌, ◌≢◌, ℕ, zero, suc, ◌+◌, ◌<◌, ◌≤◌, inl, inr, List, [], ◌∷◌, length, refl, sym, ap, subst, ◌∙◌, arith}
+use Rattle.std.proofs.Common.{◌≡◌, ℕ, suc, ◌+◌, ◌<◌, ◌≤◌, inl, inr, true, List, ◌∷◌, length, refl, sym, ap, subst, ◌∙◌, arith}
 use Rattle.std.proofs.lemmas.Bool.{cases_eq, cases_lt}
 use Rattle.std.proofs.lemmas.List.{get_or-set_other, get_or-set_same, get_or_past, length-set}
-use Rattle.border_rows.specs.Kinds.{cleared, found_at, found_short, freed, later_of, taken, with_first}
+use Rattle.region_cut.specs.Cuttings.{region_count}
+use Rattle.region_cut.specs.Joins.{are_neighbours}
+use Rattle.border_rows.specs.Kinds.{cleared, found_at, found_short, freed, later_of, published, taken, with_first}
 use Rattle.border_rows.specs.declared.view.Hold.{Hold}
+use Rattle.border_rows.specs.declared.view.Terms.{Terms}
 use Rattle.border_rows.specs.declared.view.View.{View}
 use Rattle.region_slots.specs.FieldView.{IsWorkingAt}
-use Rattle.region_slots.specs.Turning.{HasFallenShort, HasLooked, IsBehind, IsLater}
+use Rattle.region_slots.specs.Turning.{HasFallenShort, HasLooked, IsBehind, IsLater, IsMoved, wrote_many}
 use Rattle.region_slots.proofs.Comparing.{same-hold}
 
 -- what was seen last is no less than what was seen before
@@ -147,4 +150,33 @@ turned-behind old view r q s step goal short by_one below past =
       below = omega (arith, by_one, below);
       own = omega (arith, by_one, past);
       before = omega (arith, short.before, later-set old.seen r step q past);
+    }
+
+-- a turn that takes its region through a step
+pub turned-moved : (terms : Terms) (old view : View) (hold : Hold) (r step goal width : ℕ) → HasLooked (found_at (taken old r) r step) view hold →
+    slice_index old.seen r ≤ step → step < goal → slice_index view.seen r ≤ step + 1 → length old.seen ≡ region_count terms.chart.now.cut → r < region_count terms.chart.now.cut →
+    ((q : ℕ) → are_neighbours terms.net.now.connectors terms.chart.now.cut r q ≡ true → step ≤ slice_index view.seen q) →
+    IsMoved terms old (freed (published (wrote_many view width) r (step + 1))) goal r (step + 1)
+turned-moved terms old view hold r step goal width has past below rise long there near =
+    let alike = has.still.alike in
+    let same_long : length view.seen ≡ length old.seen = alike.seen.long ∙ length-set old.seen r step in
+    record {
+      alike = record {
+        terms = alike.terms;
+        share = alike.share;
+        splits = alike.splits;
+        held_found = alike.held_found;
+        seen = record {
+          long = length-set view.seen r (step + 1) ∙ same_long;
+          later = λ p. omega (arith, alike.seen.later p, later-set old.seen r step p past, later-set view.seen r (step + 1) p rise);
+        };
+      };
+      found = record { short_found = has.found.short_found; last_short = has.found.last_short };
+      looks = has.looks;
+      moves = ap (λ n. n + 1) has.still.moves;
+      reach = ap (λ n. max n (step + 1)) has.still.reach;
+      below = omega (arith, below);
+      own = omega (arith, past);
+      seen = get_or-set_same view.seen r (step + 1) 0 (omega (arith, there, long, same_long));
+      around = λ q beside. omega (arith, near q beside, later-set view.seen r (step + 1) q rise);
     }

@@ -1,16 +1,13 @@
 -- A look at a border word of a cleared neighbour.
-use Rattle.std.specs.Prelude.{slice_index}
 use Rattle.std.specs.List.{Contains}
-use Rattle.std.proofs.Common.{◌≡◌, ◌≢◌, ℕ, ◌+◌, ◌%◌, ◌<◌, ◌≤◌, true, List, [], ◌∷◌, refl, sym, ap, subst, ◌∙◌, arith}
-use Rattle.std.proofs.Math.Nat.{mod-lt}
+use Rattle.std.proofs.Common.{◌≡◌, ◌≢◌, ℕ, ◌%◌, ◌<◌, true, [], ◌∷◌, refl, sym, ap, subst, ◌∙◌}
 use mathlib.Core.Option.{none, some}
 use lib.ListN.{get_elem?}
-use Rattle.atomic_table.specs.Table.{Act, Allows, Valid, carried_after, keeps, step, stepped}
+use Rattle.atomic_table.specs.Table.{Allows, keeps, step}
 use Rattle.region_cut.specs.Chart.{IsChart}
 use Rattle.region_cut.specs.Cuttings.{region_count}
 use Rattle.region_cut.specs.Joins.{are_neighbours}
 use Rattle.region_step.specs.Grid.{grid_held}
-use Rattle.region_step.specs.Region.{RegionValue}
 use Rattle.border_rows.specs.Places.{HasRowWord, row_place, width_at, widths_of}
 use Rattle.border_rows.specs.Standing.{FieldState, IsStanding}
 use Rattle.border_rows.specs.Words.{border_cell, border_word}
@@ -23,7 +20,7 @@ use Rattle.border_rows.proofs.PlaceLaws.{rows-same}
 use Rattle.border_rows.proofs.RowKinds.{IsWorking, border-read, border-read-keeps}
 use Rattle.border_rows.proofs.WordUpdates.{row-word}
 use Rattle.region_slots.specs.FieldView.{IsWorkingAt}
-use Rattle.region_slots.specs.Plays.{IsBeside, Mine, Read}
+use Rattle.region_slots.specs.Plays.{Mine, Read}
 use Rattle.region_slots.proofs.Claiming.{same-terms}
 use Rattle.region_slots.proofs.Comparing.{same-hold}
 

@@ -1,26 +1,23 @@
 -- A store of a border word, and of a step word.
 use Rattle.std.specs.Prelude.{slice_index}
-use Rattle.std.specs.List.{Contains}
-use Rattle.std.proofs.Common.{◌≡◌, ◌≢◌, ℕ, ◌+◌, ◌%◌, ◌<◌, ◌≤◌, true, List, [], ◌∷◌, refl, sym, ap, subst, ◌∙◌, arith}
-use mathlib.Core.Option.{none, some}
-use lib.ListN.{get_elem?}
-use Rattle.atomic_table.specs.Table.{Act, Allows, Valid, carried_after, keeps, step, stepped}
+use Rattle.std.proofs.Common.{◌≡◌, ◌≢◌, ℕ, ◌+◌, ◌%◌, ◌<◌, ◌≤◌, [], ◌∷◌, refl, sym, ap, subst, arith}
+use mathlib.Core.Option.{none}
+use Rattle.atomic_table.specs.Table.{Allows, keeps, step}
 use Rattle.region_cut.specs.Chart.{IsChart}
 use Rattle.region_cut.specs.Cuttings.{region_count}
 use Rattle.region_step.specs.Grid.{grid_held}
-use Rattle.region_step.specs.Region.{RegionValue}
 use Rattle.border_rows.specs.Kinds.{published, wrote}
 use Rattle.border_rows.specs.Places.{row_place, step_place, width_at, widths_of}
-use Rattle.border_rows.specs.Standing.{FieldState, IsStanding}
-use Rattle.border_rows.specs.Words.{border_cell}
+use Rattle.border_rows.specs.Standing.{IsStanding}
+use Rattle.border_rows.specs.Words.{border_cell, step_of}
 use Rattle.border_rows.specs.declared.view.Hold.{Hold}
 use Rattle.border_rows.specs.declared.view.Terms.{Terms}
-use Rattle.border_rows.specs.declared.view.View.{View}
-use Rattle.border_rows.proofs.RowKinds.{AllCleared, IsWorking, published-keeps, working-there, wrote-keeps}
+use Rattle.border_rows.proofs.RowKinds.{AllCleared, published-keeps, working-step, wrote-keeps}
 use Rattle.region_slots.specs.FieldView.{IsWorkingAt}
-use Rattle.region_slots.specs.Plays.{IsRegion, Mine, Published, Written}
+use Rattle.region_slots.specs.Plays.{Mine, Published, Written}
 use Rattle.region_slots.proofs.Claiming.{same-terms}
 use Rattle.region_slots.proofs.Comparing.{same-step}
+use Rattle.region_slots.proofs.Looking.{found-step}
 use Rattle.region_slots.proofs.Reading.{working}
 
 -- the next word of the row of the step to come may be written
@@ -53,5 +50,11 @@ publishing terms slots id me hold chart of_field share works all within full bel
         let one : other ≡ terms = same-terms me.0 terms other of_field region.of_field in
         let is : r ≡ hold.region = same-step terms hold.region r chart within (rw one at region.there) (rw one at same) in
         ap (λ p. (published me.0 p (hold.step + 1), me.1)) (sym is);
+    later = λ other r region same.
+        let one : other ≡ terms = same-terms me.0 terms other of_field region.of_field in
+        let is : r ≡ hold.region = same-step terms hold.region r chart within (rw one at region.there) (rw one at same) in
+        let own : step_of terms.chart.now s.words hold.region ≡ hold.step = working-step terms s id me.0 hold works.later (working terms s id me.0 hold chart standing at share works) in
+        let seen = (found-step terms s id hold.region me.0 standing at within).later in
+        subst (λ p. slice_index me.0.seen p ≤ hold.step + 1) (sym is) (omega (arith, seen, own));
   },
 )

@@ -74,6 +74,7 @@ pub record Written (step : Step RegionValue) (old : Mine) (found : ℕ) (new : M
 -- the step to come is published
 pub record Published (step : Step RegionValue) (old : Mine) (found : ℕ) (new : Mine) : Type 0 where
   pub risen : (terms : Terms) (r : ℕ) → IsRegion old.0 terms r → step.word ≡ step_place (widths_of terms.chart.now) r → new ≡ (published old.0 r found, old.1)
+  pub later : (terms : Terms) (r : ℕ) → IsRegion old.0 terms r → step.word ≡ step_place (widths_of terms.chart.now) r → slice_index old.0.seen r ≤ found
 
 -- the region held last is given back
 pub record Freed (step : Step RegionValue) (old : Mine) (found : ℕ) (new : Mine) : Type 0 where

@@ -1,7 +1,6 @@
 -- What the parts of a turn leave.
-use Rattle.std.specs.Prelude.{◌≡◌, ◌≢◌, ℕ, ◌+◌, ◌<◌, ◌≤◌, List, [], ◌∷◌, Some, None, true, false, length, max, slice_index, slice_index_or}
+use Rattle.std.specs.Prelude.{◌≡◌, ℕ, ◌+◌, ◌<◌, ◌≤◌, Some, None, true, length, max, slice_index, slice_index_or}
 use Rattle.std.specs.List.{Contains}
-use Rattle.region_cut.specs.Chart.{list_at}
 use Rattle.region_cut.specs.Joins.{are_neighbours}
 use Rattle.region_step.specs.Grid.{grid_held}
 use Rattle.region_step.specs.Laws.{grid_state}
@@ -9,7 +8,6 @@ use Rattle.region_step.specs.Opened.{IsIn, halo_cells}
 use Rattle.region_step.specs.Region.{RegionValue}
 use Rattle.border_rows.specs.Kinds.{later_of, raised, with_first}
 use Rattle.border_rows.specs.declared.view.Hold.{Hold}
-use Rattle.border_rows.specs.declared.view.Short.{Short}
 use Rattle.border_rows.specs.declared.view.Terms.{Terms}
 use Rattle.border_rows.specs.declared.view.View.{View}
 use Rattle.region_slots.specs.FieldView.{IsWorkingAt}

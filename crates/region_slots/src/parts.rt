@@ -148,6 +148,7 @@ impl<'a> Field<'a> {
         requires started { slice_index self.now.terms.start.now.steps region ≤ step }
         ensures same { (seat.new.id ≡ seat.old.id) × (seat.new.table_id ≡ seat.old.table_id) }
         ensures risen { seat.new.me ≡ (freed (published (wrote_many seat.old.me.0 (width_at (widths_of self.now.terms.chart.now) region)) region (step + 1)), rest seat.old.me.1) }
+        ensures later { slice_index seat.old.me.0.seen region ≤ step + 1 }
     {
         let net: &Net = self.net;
         let _steps = net.steps;

@@ -119,6 +119,7 @@ impl<'a> Field<'a> {
         requires in_time { step ≤ self.now.terms.net.now.steps }
         ensures same { (seat.new.id ≡ seat.old.id) × (seat.new.table_id ≡ seat.old.table_id) }
         ensures risen { seat.new.me ≡ (published seat.old.me.0 region step, seat.old.me.1) }
+        ensures later { slice_index seat.old.me.0.seen region ≤ step }
     {
         let word = self.places.step(region);
         self.table

@@ -1,20 +1,12 @@
-use Rattle.std.specs.Prelude.{slice_index}
-use Rattle.std.specs.List.{Contains}
-use Rattle.std.proofs.Common.{◌≡◌, ◌≢◌, ℕ, ◌<◌, ◌≤◌, ◌+◌, List, [], ◌∷◌, length, true, refl, sym, ap, subst, ◌∙◌, arith, get_or}
+use Rattle.std.proofs.Common.{◌≡◌, ◌≤◌, length, refl, sym, ap, subst, ◌∙◌, arith}
 use Rattle.std.proofs.lemmas.List.{length-map}
-use Rattle.std.proofs.lemmas.List.Elements.{Contains-get_or}
 use Rattle.region_cut.specs.Chart.{list_at}
-use Rattle.region_step.specs.Advance.{HasHaloPut, HasRowsInBounds}
 use Rattle.region_step.specs.Opened.{halo_cells}
 use Rattle.region_step.specs.Region.{RegionValue}
-use Rattle.region_step.specs.Standing.{Stands}
 use Rattle.atomic_table.specs.Table.{rest}
-use Rattle.border_rows.specs.Words.{border_cell}
-use Rattle.border_rows.specs.declared.view.Hold.{Hold}
 use Rattle.border_rows.specs.declared.view.Terms.{Terms}
-use Rattle.border_rows.specs.declared.view.View.{View}
 use Rattle.region_slots.specs.FieldView.{FieldValue, IsTableFor}
-use Rattle.region_slots.specs.Turning.{IsTold, field_held}
+use Rattle.region_slots.specs.Turning.{IsTold}
 use Rattle.region_slots.proofs.Telling.{advanced-stands, can_advance, same-slot, told-step}
 use Rattle.region_slots.proofs.field.Field.advances.Goals as goal
 

@@ -1,27 +1,15 @@
-use Rattle.std.specs.Prelude.{slice_index}
-use Rattle.std.specs.List.{Contains}
-use Rattle.std.proofs.Common.{◌≡◌, ◌≢◌, ℕ, ◌<◌, ◌≤◌, ◌+◌, List, [], ◌∷◌, length, true, refl, sym, ap, subst, ◌∙◌, arith, get_or}
-use Rattle.std.proofs.lemmas.List.{length-map}
-use Rattle.std.proofs.lemmas.List.Elements.{Contains-get_or}
+use Rattle.std.proofs.Common.{◌≡◌, ◌+◌, length, refl, sym, ap, subst, ◌∙◌, arith}
 use Rattle.region_cut.specs.Chart.{ChartLists, list_at}
-use Rattle.region_step.specs.Advance.{HasHaloPut, HasRowsInBounds}
-use Rattle.region_step.specs.Opened.{halo_cells}
-use Rattle.region_step.specs.Region.{RegionValue}
-use Rattle.region_step.specs.Standing.{Stands}
-use Rattle.atomic_table.specs.Table.{rest}
-use Rattle.border_rows.specs.Words.{border_cell}
-use Rattle.border_rows.specs.declared.view.Hold.{Hold}
 use Rattle.border_rows.specs.declared.view.Terms.{Terms}
 use Rattle.border_rows.specs.declared.view.View.{View}
 use Rattle.region_slots.specs.FieldView.{FieldValue, IsTableFor}
-use Rattle.region_slots.specs.Turning.{IsTold, field_held}
-use Rattle.border_rows.specs.Places.{IsOfNetwork, widths_of}
+use Rattle.border_rows.specs.Places.{widths_of}
 use Rattle.border_rows.proofs.ChartWidths.{width_at-widths_of, words-fit}
 use Rattle.border_rows.proofs.ClaimKinds.{within-widths}
 use Rattle.border_rows.proofs.PlaceLaws.{base-le-words}
 use Rattle.region_slots.specs.FieldView.{IsWorkingAt}
 use Rattle.region_slots.specs.Turning.{wrote_many}
-use Rattle.region_slots.proofs.RowFilling.{written_to, wrote_many-more, wrote_many-none, wrote_many-works}
+use Rattle.region_slots.proofs.RowFilling.{written_to, wrote_many-none, wrote_many-works}
 use Rattle.region_slots.proofs.field.Field.fills.Goals as goal
 
 pub loop-j-init : goal.loop-j-init

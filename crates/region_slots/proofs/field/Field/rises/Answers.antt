@@ -1,4 +1,5 @@
-use Rattle.std.proofs.Common.{◌≡◌, ℕ, ◌+◌, true, List, [], ◌∷◌, refl, sym, ap, subst, ◌∙◌}
+use Rattle.std.specs.Prelude.{slice_index}
+use Rattle.std.proofs.Common.{◌≡◌, ◌≤◌, ℕ, ◌+◌, true, refl, sym, ap, subst, ◌∙◌}
 use Rattle.region_step.specs.Standing.{Stands}
 use Rattle.atomic_table.specs.Table.{rest}
 use Rattle.border_rows.specs.Kinds.{published, with_first}
@@ -44,3 +45,10 @@ frees-requires-clause-state c =
       ap (λ m. m.1) c.publishes.ensures.risen ∙ ap (λ m. m.1) c.fills.ensures.written ∙ ap (λ m. m.1) advanced.1,
       subst (λ n. Stands terms.net.now terms.chart.now terms.start.now terms.every r (n + 1) advanced.0) (sym at.step) advanced.2,
     )
+
+pub returns-clause-later : goal.returns-clause-later
+returns-clause-later c =
+    let width : ℕ = width_at (widths_of c.args.self.now.terms.chart.now) c.args.region in
+    let view : c.fills.new.seat.me.0 ≡ wrote_many c.args.seat.now.me.0 width =
+    ap (λ m. m.0) c.fills.ensures.written ∙ ap (λ (v : View). wrote_many v width) (ap (λ m. m.0) c.advances.ensures.advanced.1 ∙ ap (λ m. m.0) c.tells.ensures.told.1) in
+    subst (λ (v : View). slice_index v.seen c.args.region ≤ c.args.step + 1) view c.publishes.ensures.later

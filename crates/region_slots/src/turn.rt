@@ -1,0 +1,81 @@
+use crate::field::{Field, Pass};
+use atomic_table::Seat;
+use border_rows::View;
+use ctm_ports::Gate;
+use region_step::Region;
+
+/// What came of a turn.
+pub enum Turn {
+    /// The region stands at this step now.
+    Moved { step: u64 },
+    /// Another seat had the region.
+    Held,
+    /// A neighbour stands at this step, one below the region's.
+    Behind { neighbour: u32, step: u64 },
+    /// The region stands at this step, the goal or past it.
+    Ended { step: u64 },
+}
+
+impl<'a> Field<'a> {
+    ghost use Rattle.std.specs.Prelude.{◌≡◌, ◌≢◌, ◌<◌, ◌≤◌, ℕ, [], slice_index};
+    ghost use Rattle.region_cut.specs.Cuttings.{region_count};
+    ghost use Rattle.border_rows.specs.Kinds.{found_taken, looked};
+    ghost use Rattle.region_slots.specs.FieldView.{IsIdle, IsPassOf, IsSeatOf};
+    ghost use Rattle.region_slots.specs.Turning.{IsBehind, IsMoved};
+    ghost use Rattle.region_slots.specs.declared.turn.Turn.TheVariants.{Behind, Ended, Held, Moved};
+
+    /// A turn on a region: it is taken, and where it stands below the goal and no neighbour stands a step lower it is
+    /// taken through its step. Then it is free again.
+    pub fn turn<G: Gate>(&self, pass: &mut Pass<'a>, region: u32, goal: u64, gate: &G) -> Turn
+        requires belongs { IsPassOf self.now pass.old }
+        requires there { region < region_count self.now.terms.chart.now.cut }
+        requires in_time { goal ≤ self.now.terms.net.now.steps }
+        ensures belongs { IsPassOf self.now pass.new × (pass.new.id ≡ pass.old.id) }
+        ensures held { result ≡ Held → pass.new.knows ≡ found_taken pass.old.knows region }
+        ensures never_whole { pass.old.knows.share ≡ self.now.terms.seats → result ≢ Held }
+        ensures ended { (s : ℕ) → result ≡ Ended s → (goal ≤ s) × (pass.new.knows ≡ looked pass.old.knows region s) × (slice_index pass.new.knows.seen region ≡ s) × (slice_index pass.old.knows.seen region ≤ s) }
+        ensures behind { (q s : ℕ) → result ≡ Behind q s → IsBehind pass.old.knows pass.new.knows goal region q s }
+        ensures moved { (s : ℕ) → result ≡ Moved s → IsMoved self.now.terms pass.old.knows pass.new.knows goal region s }
+    {
+        self.tries(&mut pass.seat, region, goal, gate)
+    }
+
+    // The same on a seat.
+    fn tries<G: Gate>(
+        &self,
+        seat: &mut Seat<Region, View<'a>>,
+        region: u32,
+        goal: u64,
+        gate: &G,
+    ) -> Turn
+        requires seat { IsSeatOf self.now seat.old }
+        requires idle { IsIdle seat.old.me.0 seat.old.me.1 }
+        requires there { region < region_count self.now.terms.chart.now.cut }
+        requires in_time { goal ≤ self.now.terms.net.now.steps }
+        ensures same { (seat.new.id ≡ seat.old.id) × (seat.new.table_id ≡ seat.old.table_id) }
+        ensures terms { seat.new.me.0.terms ≡ seat.old.me.0.terms }
+        ensures idle { IsIdle seat.new.me.0 seat.new.me.1 }
+        ensures held { result ≡ Held → seat.new.me.0 ≡ found_taken seat.old.me.0 region }
+        ensures never_whole { seat.old.me.0.share ≡ self.now.terms.seats → result ≢ Held }
+        ensures ended { (s : ℕ) → result ≡ Ended s → (goal ≤ s) × (seat.new.me.0 ≡ looked seat.old.me.0 region s) × (slice_index seat.new.me.0.seen region ≡ s) × (slice_index seat.old.me.0.seen region ≤ s) }
+        ensures behind { (q s : ℕ) → result ≡ Behind q s → IsBehind seat.old.me.0 seat.new.me.0 goal region q s }
+        ensures moved { (s : ℕ) → result ≡ Moved s → IsMoved self.now.terms seat.old.me.0 seat.new.me.0 goal region s }
+    {
+        if !self.takes(seat, region) {
+            return Turn::Held;
+        }
+        let step = self.learns(seat, region);
+        if goal <= step {
+            self.frees(seat, region);
+            return Turn::Ended { step };
+        }
+        gate.held(region, step);
+        if let Some((neighbour, s)) = self.clears(seat, region, step) {
+            self.frees(seat, region);
+            return Turn::Behind { neighbour, step: s };
+        }
+        self.rises(seat, region, step);
+        gate.freed(region, step + 1);
+        Turn::Moved { step: step + 1 }
+    }
+}
