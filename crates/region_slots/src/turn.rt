@@ -5,6 +5,7 @@ use ctm_ports::Gate;
 use region_step::Region;
 
 /// What came of a turn.
+#[derive(Clone, Copy, Debug, PartialEq, Eq)]
 pub enum Turn {
     /// The region stands at this step now.
     Moved { step: u64 },
