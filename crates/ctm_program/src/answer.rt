@@ -21,8 +21,8 @@ use ctm_ports::{ReadEnd, Source, read_up_to};
 use delay_report::report;
 use itoa::Buffer;
 use network_file::{MOST_BYTES, Net, NetFault, NetRefusal, convert};
-use region_cut::Chart;
-use region_sweeps::{cutting, last_regions};
+use region_cut::{Chart, cutting};
+use region_sweeps::last_regions;
 use signal_plan::NoMemory;
 use std::alloc::Global;
 

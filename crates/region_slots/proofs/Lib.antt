@@ -1,6 +1,7 @@
 pub mod Claiming
 pub mod Closing
 pub mod Comparing
+pub mod Counts
 pub mod Filling
 pub mod Looking
 pub mod NeighbourLooks

@@ -6,12 +6,14 @@ use Rattle.std.proofs.lemmas.Bool.{cases_eq, cases_lt}
 use Rattle.std.proofs.lemmas.List.{get_or-set_other, get_or-set_same, get_or_past, length-set}
 use Rattle.region_cut.specs.Cuttings.{region_count}
 use Rattle.region_cut.specs.Joins.{are_neighbours}
-use Rattle.border_rows.specs.Kinds.{cleared, found_at, found_short, freed, later_of, published, taken, with_first}
+use Rattle.border_rows.specs.Kinds.{cleared, found_at, found_short, found_taken, freed, later_of, looked, published, taken, with_first}
 use Rattle.border_rows.specs.declared.view.Hold.{Hold}
 use Rattle.border_rows.specs.declared.view.Terms.{Terms}
 use Rattle.border_rows.specs.declared.view.View.{View}
 use Rattle.region_slots.specs.FieldView.{IsWorkingAt}
-use Rattle.region_slots.specs.Turning.{HasFallenShort, HasLooked, IsBehind, IsLater, IsMoved, wrote_many}
+use Rattle.region_slots.specs.Turning.{HasFallenShort, HasLooked, IsBehind, IsLater, IsMoved, IsWithin, wrote_many}
+use Rattle.region_slots.specs.declared.turn.Turn.{Turn}
+use Rattle.region_slots.specs.declared.turn.Turn.TheVariants.{Behind, Ended, Held, Moved}
 use Rattle.region_slots.proofs.Comparing.{same-hold}
 
 -- what was seen last is no less than what was seen before
@@ -94,8 +96,8 @@ cleared-own view hold now q s was works =
     subst (λ (h : Hold). Contains h.cleared q) (sym is) (0, omega arith, refl)
 
 -- a neighbour is found a step lower
-pub falls-short : (old view : View) (hold : Hold) (r q s : ℕ) → HasLooked old view hold → slice_index view.seen q ≤ s → HasFallenShort old (found_short view r q s) r q s
-falls-short old view hold r q s has past =
+pub falls-short : (old view : View) (hold : Hold) (r q s : ℕ) → HasLooked old view hold → slice_index view.seen q ≤ s → q < length view.seen → HasFallenShort old (found_short view r q s) r q s
+falls-short old view hold r q s has past there =
     let alike = has.still.alike in
     record {
       still = record {
@@ -114,6 +116,7 @@ falls-short old view hold r q s has past =
       one_more = ap (λ n. n + 1) has.found.short_found;
       last = refl;
       before = omega (arith, alike.seen.later q, past);
+      after = get_or-set_same view.seen q s 0 there;
       now = has.now;
       works = record { later = has.works.later; holds = has.works.holds; known = has.works.known; early = has.works.early };
     }
@@ -125,11 +128,12 @@ pair-same q s p t same =
     (ap {A = ℕ × ℕ} (λ x. x.0) pairs, ap {A = ℕ × ℕ} (λ x. x.1) pairs)
 
 -- a turn that ends behind a neighbour
-pub turned-behind : (old view : View) (r q s step goal : ℕ) → HasFallenShort (found_at (taken old r) r step) view r q s → s + 1 ≡ step → step < goal → slice_index old.seen r ≤ step →
-    IsBehind old (freed view) goal r q s
-turned-behind old view r q s step goal short by_one below past =
+pub turned-behind : (terms : Terms) (old view : View) (r q s step goal : ℕ) → HasFallenShort (found_at (taken old r) r step) view r q s → s + 1 ≡ step → step < goal → slice_index old.seen r ≤ step →
+    r < length old.seen → are_neighbours terms.net.now.connectors terms.chart.now.cut r q ≡ true → IsBehind terms old (freed view) goal r q s
+turned-behind terms old view r q s step goal short by_one below past there beside =
     let alike = short.still.alike in
     record {
+      beside = beside;
       still = record {
         alike = record {
           terms = alike.terms;
@@ -148,8 +152,8 @@ turned-behind old view r q s step goal short by_one below past =
       one_more = short.one_more;
       last = short.last;
       below = omega (arith, by_one, below);
-      own = omega (arith, by_one, past);
-      before = omega (arith, short.before, later-set old.seen r step q past);
+      own = (omega (arith, by_one, past), omega (arith, by_one, get_or-set_same old.seen r step 0 there, alike.seen.later r));
+      other = (omega (arith, short.before, later-set old.seen r step q past), omega (arith, short.after));
     }
 
 -- a turn that takes its region through a step
@@ -179,4 +183,45 @@ turned-moved terms old view hold r step goal width has past below rise long ther
       own = omega (arith, past);
       seen = get_or-set_same view.seen r (step + 1) 0 (omega (arith, there, long, same_long));
       around = λ q beside. omega (arith, near q beside, later-set view.seen r (step + 1) q rise);
+    }
+
+-- whatever came of a turn
+pub turned-within : (terms : Terms) (old new : View) (goal r : ℕ) (answer : Turn) → (answer ≡ Held → new ≡ found_taken old r) →
+    ((s : ℕ) → answer ≡ Ended s → (goal ≤ s) × (new ≡ looked old r s) × (slice_index new.seen r ≡ s) × (slice_index old.seen r ≤ s)) →
+    ((q s : ℕ) → answer ≡ Behind q s → IsBehind terms old new goal r q s) → ((s : ℕ) → answer ≡ Moved s → IsMoved terms old new goal r s) → IsWithin old new goal
+turned-within terms old new goal r Held held ended behind moved =
+    let is = held refl in record {
+      share = ap (λ (v : View). v.share) is;
+      splits = ap (λ (v : View). v.splits) is;
+      seen = record { long = ap (λ (v : View). length v.seen) is; later = λ q. omega (arith, ap (λ (v : View). slice_index v.seen q) is) };
+      moves = omega (arith, ap (λ (v : View). v.moves) is);
+      risen = omega (arith, ap (λ (v : View). v.reach) is);
+      reach = omega (arith, ap (λ (v : View). v.reach) is);
+    }
+turned-within terms old new goal r (Ended s) held ended behind moved =
+    let at = ended s refl in record {
+      share = ap (λ (v : View). v.share) at.1;
+      splits = ap (λ (v : View). v.splits) at.1;
+      seen = record { long = ap (λ (v : View). length v.seen) at.1 ∙ length-set old.seen r s; later = λ q. omega (arith, ap (λ (v : View). slice_index v.seen q) at.1, later-set old.seen r s q at.3) };
+      moves = omega (arith, ap (λ (v : View). v.moves) at.1);
+      risen = omega (arith, ap (λ (v : View). v.reach) at.1);
+      reach = omega (arith, ap (λ (v : View). v.reach) at.1);
+    }
+turned-within terms old new goal r (Behind q s) held ended behind moved =
+    let is = behind q s refl in record {
+      share = is.still.alike.share;
+      splits = is.still.alike.splits;
+      seen = is.still.alike.seen;
+      moves = omega (arith, is.still.moves);
+      risen = omega (arith, is.still.reach);
+      reach = omega (arith, is.still.reach);
+    }
+turned-within terms old new goal r (Moved s) held ended behind moved =
+    let is = moved s refl in record {
+      share = is.alike.share;
+      splits = is.alike.splits;
+      seen = is.alike.seen;
+      moves = omega (arith, is.moves);
+      risen = omega (arith, is.reach);
+      reach = omega (arith, is.reach, is.below);
     }

@@ -24,11 +24,6 @@ use Rattle.border_rows.proofs.SeatKinds.{IsOpening, opening-stands}
 use Rattle.region_slots.specs.FirstWords.{IsLaidOut}
 use Rattle.region_slots.specs.Opening.{first_view}
 
--- what is pushed stands last
-pub pushed-at : {X : Type 0} (xs : List X) (x d : X) (k : ℕ) → k ≡ length xs → get_or (xs ++ x ∷ []) k d ≡ x
-pushed-at [] x d k last = ap (λ i. get_or (x ∷ []) i d) last
-pushed-at (y ∷ xs) x d k last = ap (λ i. get_or (y ∷ xs ++ x ∷ []) i d) last ∙ pushed-at xs x d (length xs) refl
-
 -- the border cells of a region have rows in any list of one for each cell
 pub border-within : {X : Type 0} (net : Network) (chart : ChartLists) (xs : List X) (r : ℕ) → IsNetwork net → chart ≡ chart_of net chart.cut → length xs ≡ length net.cells →
     r < region_count chart.cut → All (λ i. i < length xs) (list_at chart.border r)

@@ -1,7 +1,8 @@
 -- What contracts see of a field and of a pass.
-use Rattle.std.specs.Prelude.{◌≡◌, ◌≢◌, ℕ, List, [], ◌∷◌, true, false}
+use Rattle.std.specs.Prelude.{◌≡◌, ◌≢◌, ℕ, List, [], ◌∷◌, length, true, false}
 use Rattle.network_file.specs.Network.{IsNetwork}
 use Rattle.region_cut.specs.Chart.{IsChart, chart_of}
+use Rattle.region_cut.specs.Cuttings.{region_count}
 use Rattle.region_cut.specs.LawfulSteps.{AreLawful}
 use Rattle.region_step.specs.Region.{RegionValue}
 use Rattle.region_step.specs.Start.{Fits}
@@ -38,10 +39,17 @@ pub record IsIdle (view : View) (carried : List (ℕ × RegionValue)) : Type 0 w
   pub holds : view.holds ≡ []
   pub nothing : carried ≡ []
 
+-- a view that keeps what it has seen and found of each of so many regions
+pub record HasCounts (count : ℕ) (view : View) : Type 0 where
+  pub seen : length view.seen ≡ count
+  pub held_found : length view.held_found ≡ count
+  pub looks : length view.looks ≡ count
+
 -- the pass is one of the field's
 pub record IsPassOf (field : FieldValue) (pass : PassValue) : Type 0 where
   pub table : pass.table ≡ field.table
   pub terms : pass.knows.terms ≡ field.terms ∷ []
+  pub counts : HasCounts (region_count field.terms.chart.now.cut) pass.knows
 
 -- a seat of the field that isn't spent
 pub record IsSeatOf (field : FieldValue) (seat : Seat RegionValue View) : Type 0 where

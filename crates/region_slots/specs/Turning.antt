@@ -86,18 +86,20 @@ pub record HasFallenShort (old new : View) (r q s : ℕ) : Type 0 where
   pub one_more : new.short_found ≡ old.short_found + 1
   pub last : new.last_short ≡ record { region = r; neighbour = q; step = s }
   pub before : slice_index old.seen q ≤ s
+  pub after : slice_index new.seen q ≡ s
   pub now : Hold
   pub works : IsWorkingAt new now
 
 -- region r was found at a step below goal, and its neighbour q a step lower, at step s
-pub record IsBehind (old new : View) (goal r q s : ℕ) : Type 0 where
+pub record IsBehind (terms : Terms) (old new : View) (goal r q s : ℕ) : Type 0 where
+  pub beside : are_neighbours terms.net.now.connectors terms.chart.now.cut r q ≡ true
   pub still : IsStill old new
   pub looks : new.looks ≡ raised old.looks r
   pub one_more : new.short_found ≡ old.short_found + 1
   pub last : new.last_short ≡ record { region = r; neighbour = q; step = s }
   pub below : s + 1 < goal
-  pub own : slice_index old.seen r ≤ s + 1
-  pub before : slice_index old.seen q ≤ s
+  pub own : (slice_index old.seen r ≤ s + 1) × (s + 1 ≤ slice_index new.seen r)
+  pub other : (slice_index old.seen q ≤ s) × (s ≤ slice_index new.seen q)
 
 -- region r was taken through the step before s
 pub record IsMoved (terms : Terms) (old new : View) (goal r s : ℕ) : Type 0 where
@@ -110,3 +112,12 @@ pub record IsMoved (terms : Terms) (old new : View) (goal r s : ℕ) : Type 0 wh
   pub own : slice_index old.seen r + 1 ≤ s
   pub seen : slice_index new.seen r ≡ s
   pub around : (q : ℕ) → are_neighbours terms.net.now.connectors terms.chart.now.cut r q ≡ true → s ≤ slice_index new.seen q + 1
+
+-- what every turn keeps of a pass: its share, its splits, what it has seen, and that it has published nothing past goal
+pub record IsWithin (old new : View) (goal : ℕ) : Type 0 where
+  pub share : new.share ≡ old.share
+  pub splits : new.splits ≡ old.splits
+  pub seen : IsLater old new
+  pub moves : old.moves ≤ new.moves
+  pub risen : old.reach ≤ new.reach
+  pub reach : new.reach ≤ max old.reach goal

@@ -34,6 +34,18 @@ impl<'a> Model for Field<'a> {
         × (field.regions.items ≡ []) × (region_count field.chart.now.cut ≤ vec_capacity field.regions) };
 }
 
+impl<'a> Field<'a> {
+    ghost use Rattle.std.specs.Prelude.{◌≡◌};
+    ghost use Rattle.region_cut.specs.Cuttings.{region_count};
+
+    /// How many regions the field has.
+    pub fn regions(&self) -> u32
+        ensures { result ≡ region_count self.now.terms.chart.now.cut }
+    {
+        self.chart.regions()
+    }
+}
+
 /// A caller's seat at a field.
 pub struct Pass<'a> {
     pub(crate) seat: Seat<Region, View<'a>>,

@@ -1,6 +1,5 @@
 ghost use Rattle.std.specs.Prelude.{◌≡◌, IfOk};
 ghost use Rattle.region_cut.specs.Chart.{chart_of};
-ghost use Rattle.region_step.specs.Standing.{AllStand};
 ghost use Rattle.region_step.specs.Start.{Fits};
 
 use crate::field::{Field, Pass};
@@ -9,29 +8,9 @@ use atomic_table::Table;
 use border_rows::{Places, Terms};
 use network_file::Net;
 use region_cut::Chart;
-use region_step::{Region, Start};
+use region_step::{Start, open_regions};
 use signal_plan::NoMemory;
 use std::alloc::Global;
-
-// All regions of a start, each at the step where it starts.
-fn first_regions(
-    alloc: Global,
-    net: &Net,
-    chart: &Chart,
-    start: &Start,
-    every: u64,
-) -> Result<Vec<Region>, NoMemory>
-    requires chart { chart.now ≡ chart_of net.now chart.now.cut }
-    requires fits { Fits net.now chart.now.cut start.now }
-    ensures { IfOk result (λ regions. AllStand net.now chart.now start.now every start.now.steps regions.items) }
-{
-    let _cells = &net.cells;
-    let mut regions = Vec::new(alloc);
-    for r in 0..chart.regions() {
-        regions.push(Region::open(alloc, net, chart, start, r, every)?)?;
-    }
-    Ok(regions)
-}
 
 impl<'a> Field<'a> {
     ghost use Rattle.std.specs.Prelude.{◌≤◌};
@@ -63,7 +42,7 @@ impl<'a> Field<'a> {
         let closed = Vec::with_capacity(alloc, count)?;
         let places = Places::new(alloc, chart)?;
         let words = first_words(alloc, &places, chart, start)?;
-        let regions = first_regions(alloc, net, chart, start, every)?;
+        let regions = open_regions(alloc, net, chart, start, every)?;
         let terms = Terms {
             net,
             chart,

@@ -121,7 +121,8 @@ impl<'a> Field<'a> {
         ensures same { (seat.new.id ≡ seat.old.id) × (seat.new.table_id ≡ seat.old.table_id) × (seat.new.me.1 ≡ seat.old.me.1) }
         ensures cleared { result ≡ None → ((hold : Hold) → IsWorkingAt seat.old.me.0 hold → HasLooked seat.old.me.0 seat.new.me.0 hold) × IsCleared self.now.terms seat.new.me.0
             × ((q : ℕ) → are_neighbours self.now.terms.net.now.connectors self.now.terms.chart.now.cut region q ≡ true → step ≤ slice_index seat.new.me.0.seen q) }
-        ensures short { (q s : ℕ) → result ≡ Some (q, s) → HasFallenShort seat.old.me.0 seat.new.me.0 region q s × (s + 1 ≡ step) × IsAt seat.new.me.0 region step }
+        ensures short { (q s : ℕ) → result ≡ Some (q, s) → HasFallenShort seat.old.me.0 seat.new.me.0 region q s × (s + 1 ≡ step) × IsAt seat.new.me.0 region step
+            × (are_neighbours self.now.terms.net.now.connectors self.now.terms.chart.now.cut region q ≡ true) }
     {
         let _regions = self.chart.regions();
         let neighbours = self.chart.neighbours(region);

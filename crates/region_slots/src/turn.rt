@@ -22,7 +22,7 @@ impl<'a> Field<'a> {
     ghost use Rattle.region_cut.specs.Cuttings.{region_count};
     ghost use Rattle.border_rows.specs.Kinds.{found_taken, looked};
     ghost use Rattle.region_slots.specs.FieldView.{IsIdle, IsPassOf, IsSeatOf};
-    ghost use Rattle.region_slots.specs.Turning.{IsBehind, IsMoved};
+    ghost use Rattle.region_slots.specs.Turning.{IsBehind, IsMoved, IsWithin};
     ghost use Rattle.region_slots.specs.declared.turn.Turn.TheVariants.{Behind, Ended, Held, Moved};
 
     /// A turn on a region: it is taken, and where it stands below the goal and no neighbour stands a step lower it is
@@ -32,10 +32,11 @@ impl<'a> Field<'a> {
         requires there { region < region_count self.now.terms.chart.now.cut }
         requires in_time { goal ≤ self.now.terms.net.now.steps }
         ensures belongs { IsPassOf self.now pass.new × (pass.new.id ≡ pass.old.id) }
+        ensures keeps { IsWithin pass.old.knows pass.new.knows goal }
         ensures held { result ≡ Held → pass.new.knows ≡ found_taken pass.old.knows region }
         ensures never_whole { pass.old.knows.share ≡ self.now.terms.seats → result ≢ Held }
         ensures ended { (s : ℕ) → result ≡ Ended s → (goal ≤ s) × (pass.new.knows ≡ looked pass.old.knows region s) × (slice_index pass.new.knows.seen region ≡ s) × (slice_index pass.old.knows.seen region ≤ s) }
-        ensures behind { (q s : ℕ) → result ≡ Behind q s → IsBehind pass.old.knows pass.new.knows goal region q s }
+        ensures behind { (q s : ℕ) → result ≡ Behind q s → IsBehind self.now.terms pass.old.knows pass.new.knows goal region q s }
         ensures moved { (s : ℕ) → result ≡ Moved s → IsMoved self.now.terms pass.old.knows pass.new.knows goal region s }
     {
         self.tries(&mut pass.seat, region, goal, gate)
@@ -59,7 +60,7 @@ impl<'a> Field<'a> {
         ensures held { result ≡ Held → seat.new.me.0 ≡ found_taken seat.old.me.0 region }
         ensures never_whole { seat.old.me.0.share ≡ self.now.terms.seats → result ≢ Held }
         ensures ended { (s : ℕ) → result ≡ Ended s → (goal ≤ s) × (seat.new.me.0 ≡ looked seat.old.me.0 region s) × (slice_index seat.new.me.0.seen region ≡ s) × (slice_index seat.old.me.0.seen region ≤ s) }
-        ensures behind { (q s : ℕ) → result ≡ Behind q s → IsBehind seat.old.me.0 seat.new.me.0 goal region q s }
+        ensures behind { (q s : ℕ) → result ≡ Behind q s → IsBehind self.now.terms seat.old.me.0 seat.new.me.0 goal region q s }
         ensures moved { (s : ℕ) → result ≡ Moved s → IsMoved self.now.terms seat.old.me.0 seat.new.me.0 goal region s }
     {
         if !self.takes(seat, region) {

@@ -6,6 +6,7 @@ mod carry;
 mod cell_rows;
 mod change;
 mod note;
+mod open_regions;
 mod opening;
 mod place;
 mod recording;
@@ -17,6 +18,7 @@ mod tie;
 mod wiring;
 
 pub use note::Note;
+pub use open_regions::open_regions;
 pub use recording::is_recorded;
 pub use region::Region;
 pub use start::Start;

@@ -68,11 +68,6 @@ stand-risen net chart every steps after regions told r region stand one_each wit
       ];
     }
 
--- what was pushed last
-pub pushed-at : {X : Type 0} (xs : List X) (x d : X) (k : ℕ) → k ≡ length xs → get_or (xs ++ x ∷ []) k d ≡ x
-pushed-at [] x d k last = ap (λ i. get_or (x ∷ []) i d) last
-pushed-at (y ∷ xs) x d k last = ap (λ i. get_or (y ∷ xs ++ x ∷ []) i d) last ∙ pushed-at xs x d (length xs) refl
-
 -- equal steps, for each region
 pub steps-are : (steps : List ℕ) (n t : ℕ) → length steps ≡ n → ((q : ℕ) → q < n → slice_index steps q ≡ t) → steps ≡ replicate n t
 steps-are steps n t long each =

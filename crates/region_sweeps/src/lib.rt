@@ -5,15 +5,11 @@
 //! one at a time, in any order.
 #![tactic(auto)]
 
-mod cut;
 mod halo;
-mod opening;
 mod run;
 mod sweep;
 #[cfg(test)]
 mod tests;
 
-pub use cut::cutting;
-pub use opening::open_regions;
 pub use run::last_regions;
 pub use sweep::step_region;

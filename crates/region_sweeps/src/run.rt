@@ -4,11 +4,10 @@ ghost use Rattle.region_cut.specs.Cuttings.{region_count};
 ghost use Rattle.region_step.specs.Standing.{AllStand};
 ghost use Rattle.region_step.specs.Start.{zero_start};
 
-use crate::opening::open_regions;
 use crate::sweep::sweep;
 use network_file::Net;
 use region_cut::Chart;
-use region_step::{Region, Start};
+use region_step::{Region, Start, open_regions};
 use signal_plan::NoMemory;
 use std::alloc::Global;
 

@@ -3,10 +3,10 @@ ghost use Rattle.network_file.specs.declared.limits.TheConstants.{MOST_REGIONS};
 ghost use Rattle.region_cut.specs.Chart.{chart_of};
 ghost use Rattle.region_step.specs.Opened.{IsOf};
 
-use crate::{cutting, last_regions};
+use crate::last_regions;
 use flow_model::{Row, first_rows, plain_step};
 use network_file::{MOST_BYTES, MOST_REGIONS, Net};
-use region_cut::Chart;
+use region_cut::{Chart, cutting};
 use region_step::{Note, Region};
 use signal_plan::NoMemory;
 use std::alloc::{AllocError, Global};

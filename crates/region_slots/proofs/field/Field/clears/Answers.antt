@@ -49,15 +49,21 @@ returns-then-s-step-clause-same c =
 
 pub returns-then-s-step-clause-short : goal.returns-then-s-step-clause-short
 returns-then-s-step-clause-short c = λ p t is.
+    let terms : Terms = c.args.self.now.terms in
+    let chart : c.self.inside.chart.now ≡ terms.chart.now = sym c.self.invariant.1 ∙ ap (λ field. field.terms.chart.now) c.self.view_is in
+    let field : IsTableFor terms c.args.self.now.table = subst (λ (f : FieldValue). IsTableFor f.terms f.table) c.self.view_is c.self.invariant.3 in
+    let list : c.neighbours-neighbours.result.now ≡ list_at terms.chart.now.neighbours c.args.region = c.neighbours-neighbours.ensures.list ∙ ap (λ (lists : ChartLists). list_at lists.neighbours c.args.region) chart in
     let at = c.requires.at in
     let has = c.loop-k.invariant.3 at.hold at.works in
     let q : ℕ = get_or c.neighbours-neighbours.result.now c.loop-k.k 0 in
+    let listed : Contains (list_at terms.chart.now.neighbours c.args.region) q = subst (λ l. Contains l q) list (Contains-get_or c.neighbours-neighbours.result.now c.loop-k.k 0 c.loop-k-test.true) in
+    let near : are_neighbours terms.net.now.connectors terms.chart.now.cut c.args.region q ≡ true = listed-near terms c.args.self.now.table c.args.region q field c.requires.there listed in
     let s : ℕ = c.compares-s.result in
     let told = c.compares-s.ensures.short has.now has.works (omega (arith, c.if-s-step.true, has.step, at.step)) in
     let view : c.compares-s.new.seat.me.0 ≡ found_short c.loop-k.seat.me.0 c.args.region q s =
     ap (λ m. m.0) told.0 ∙ ap (λ r. found_short c.loop-k.seat.me.0 r q s) (has.region ∙ at.region) in
     let short : HasFallenShort c.args.seat.now.me.0 (found_short c.loop-k.seat.me.0 c.args.region q s) c.args.region q s =
-    falls-short c.args.seat.now.me.0 c.loop-k.seat.me.0 at.hold c.args.region q s has c.compares-s.ensures.later in
+    falls-short c.args.seat.now.me.0 c.loop-k.seat.me.0 at.hold c.args.region q s has c.compares-s.ensures.later (omega (arith, (neighbours-there terms.net.now terms.chart.now c.args.region q near).1, has.still.alike.seen.long, c.requires.long)) in
     let there : IsAt (found_short c.loop-k.seat.me.0 c.args.region q s) c.args.region c.args.step =
     record {
       hold = has.now;
@@ -67,10 +73,11 @@ returns-then-s-step-clause-short c = λ p t is.
     } in
     let one : q ≡ p = (pair-same q s p t is).0 in
     let two : s ≡ t = (pair-same q s p t is).1 in
-    subst (λ n. HasFallenShort c.args.seat.now.me.0 c.compares-s.new.seat.me.0 c.args.region p n × (n + 1 ≡ c.args.step) × IsAt c.compares-s.new.seat.me.0 c.args.region c.args.step) two
-    (subst (λ n. HasFallenShort c.args.seat.now.me.0 c.compares-s.new.seat.me.0 c.args.region n s × (s + 1 ≡ c.args.step) × IsAt c.compares-s.new.seat.me.0 c.args.region c.args.step) one
-    (subst (λ (v : View). HasFallenShort c.args.seat.now.me.0 v c.args.region q s × (s + 1 ≡ c.args.step) × IsAt v c.args.region c.args.step) (sym view)
-    (short, omega (arith, told.1, has.step, at.step), there)))
+    let beside : ℕ → Type 0 = λ n. are_neighbours terms.net.now.connectors terms.chart.now.cut c.args.region n ≡ true in
+    subst (λ n. HasFallenShort c.args.seat.now.me.0 c.compares-s.new.seat.me.0 c.args.region p n × (n + 1 ≡ c.args.step) × IsAt c.compares-s.new.seat.me.0 c.args.region c.args.step × beside p) two
+    (subst (λ n. HasFallenShort c.args.seat.now.me.0 c.compares-s.new.seat.me.0 c.args.region n s × (s + 1 ≡ c.args.step) × IsAt c.compares-s.new.seat.me.0 c.args.region c.args.step × beside n) one
+    (subst (λ (v : View). HasFallenShort c.args.seat.now.me.0 v c.args.region q s × (s + 1 ≡ c.args.step) × IsAt v c.args.region c.args.step × beside q) (sym view)
+    (short, omega (arith, told.1, has.step, at.step), there, near)))
 
 pub loop-k-preserved : goal.loop-k-preserved
 loop-k-preserved c =

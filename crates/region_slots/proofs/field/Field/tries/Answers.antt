@@ -159,11 +159,12 @@ returns-in-Some-clause-behind g c = λ q s is.
     let short = c.clears.ensures.short n p c.in-Some.is in
     let fallen : HasFallenShort (found_at (taken old r) r c.learns-step.result) c.clears.new.seat.me.0 r n p = subst (λ (v : View). HasFallenShort v c.clears.new.seat.me.0 r n p) view short.0 in
     let past : slice_index old.seen r ≤ c.learns-step.result = subst (λ m. slice_index m.0.seen r ≤ c.learns-step.result) mine c.learns-step.ensures.later in
-    let behind = turned-behind old c.clears.new.seat.me.0 r n p c.learns-step.result c.args.goal fallen short.1 c.if-goal-step.false past in
+    let terms : Terms = c.args.self.now.terms in
+    let behind = turned-behind terms old c.clears.new.seat.me.0 r n p c.learns-step.result c.args.goal fallen short.1 c.if-goal-step.false past (omega (arith, c.takes.ensures.long, c.requires.there)) short.3 in
     let same = behind-same n p q s is in
-    subst (λ t. IsBehind old c.frees-in-Some.new.seat.me.0 c.args.goal r q t) same.1
-    (subst (λ t. IsBehind old c.frees-in-Some.new.seat.me.0 c.args.goal r t p) same.0
-    (subst (λ (v : View). IsBehind old v c.args.goal r n p) (sym (ap (λ m. m.0) c.frees-in-Some.ensures.given)) behind))
+    subst (λ t. IsBehind terms old c.frees-in-Some.new.seat.me.0 c.args.goal r q t) same.1
+    (subst (λ t. IsBehind terms old c.frees-in-Some.new.seat.me.0 c.args.goal r t p) same.0
+    (subst (λ (v : View). IsBehind terms old v c.args.goal r n p) (sym (ap (λ m. m.0) c.frees-in-Some.ensures.given)) behind))
 
 pub returns-in-Some-clause-terms : goal.returns-in-Some-clause-terms
 returns-in-Some-clause-terms g c =

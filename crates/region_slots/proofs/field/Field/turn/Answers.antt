@@ -14,7 +14,7 @@ returns-clause-ended g c = λ s is.
 pub returns-clause-behind : goal.returns-clause-behind
 returns-clause-behind g c = λ q s is.
     let knows = ap (λ pass. pass.knows) c.pass.view_is in
-    subst (λ (v : View). IsBehind v c.tries.new.seat.me.0 c.args.goal c.args.region q s) knows (c.tries.ensures.behind q s is)
+    subst (λ (v : View). IsBehind c.args.self.now.terms v c.tries.new.seat.me.0 c.args.goal c.args.region q s) knows (c.tries.ensures.behind q s is)
 
 pub returns-clause-moved : goal.returns-clause-moved
 returns-clause-moved g c = λ s is.

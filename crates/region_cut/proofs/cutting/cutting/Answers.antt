@@ -5,7 +5,7 @@ use Rattle.network_file.specs.Network.{IsNetwork}
 use Rattle.region_cut.specs.CutFaults.{cut_of}
 use Rattle.region_cut.specs.declared.fault.CutFault.{CutFault}
 use Rattle.region_cut.proofs.CutFaults.{cut_of-IsCutting}
-use Rattle.region_sweeps.proofs.cut.cutting.Goals as goal
+use Rattle.region_cut.proofs.cutting.cutting.Goals as goal
 
 same-ok : (answer : Result (List ℕ) CutFault) (a b : List ℕ) → answer ≡ Ok a → answer ≡ Ok b → a ≡ b
 same-ok answer a b first second = cc

@@ -3,8 +3,8 @@ use Rattle.std.proofs.Common.{◌≡◌, inl, inr, [], ◌∷◌, ◌++◌, leng
 use Rattle.std.proofs.lemmas.Bool.{cases_lt}
 use Rattle.std.proofs.lemmas.List.{get_or_append_left, length-append}
 use Rattle.region_step.specs.Standing.{Stands}
-use Rattle.region_slots.proofs.Openings.{pushed-at}
-use Rattle.region_slots.proofs.open.first_regions.Goals as goal
+use Rattle.region_step.proofs.Lists.{pushed-at}
+use Rattle.region_step.proofs.open_regions.open_regions.Goals as goal
 
 pub loop-r-preserved : goal.loop-r-preserved
 loop-r-preserved c =

@@ -2,8 +2,9 @@ ghost use Rattle.std.specs.Prelude.{◌≡◌, ◌≢◌, ◌≤◌, IfOk, lengt
 ghost use Rattle.region_cut.specs.Cuttings.{even_cutting};
 ghost use Rattle.network_file.specs.declared.limits.TheConstants.{MOST_REGIONS};
 
+use crate::cut::Cut;
+use crate::fault::CutRefusal;
 use network_file::Net;
-use region_cut::{Cut, CutRefusal};
 use signal_plan::NoMemory;
 use std::alloc::Global;
 

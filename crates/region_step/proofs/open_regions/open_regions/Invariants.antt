@@ -2,7 +2,7 @@ use Rattle.std.specs.Prelude.{slice_index, slice_index_or}
 use Rattle.std.proofs.Common.{◌≡◌, ℕ, ◌<◌, length}
 use Rattle.region_step.specs.Region.{RegionValue}
 use Rattle.region_step.specs.Standing.{Stands}
-use Rattle.region_sweeps.proofs.opening.open_regions.Given as goal
+use Rattle.region_step.proofs.open_regions.open_regions.Given as goal
 
 abbrev pub invariant-loop-r : goal.invariant-loop-r
 invariant-loop-r l = (length l.regions.items ≡ l.r) ×

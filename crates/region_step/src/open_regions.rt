@@ -3,9 +3,10 @@ ghost use Rattle.region_cut.specs.Chart.{chart_of};
 ghost use Rattle.region_step.specs.Standing.{AllStand};
 ghost use Rattle.region_step.specs.Start.{Fits};
 
+use crate::region::Region;
+use crate::start::Start;
 use network_file::Net;
 use region_cut::Chart;
-use region_step::{Region, Start};
 use signal_plan::NoMemory;
 use std::alloc::Global;
 

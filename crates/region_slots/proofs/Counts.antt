@@ -1,0 +1,74 @@
+-- What a view has seen and found is kept of each region.
+use Rattle.std.specs.Prelude.{max, slice_index}
+use Rattle.std.specs.List.{range_with_len}
+use Rattle.std.proofs.Common.{◌≡◌, ℕ, ◌+◌, ◌≤◌, List, length, refl, sym, ap, subst, ◌∙◌}
+use Rattle.std.proofs.lemmas.List.{length-map, length-set}
+use Rattle.std.proofs.lemmas.List.FromFn.{length-range_with_len}
+use Rattle.border_rows.specs.Kinds.{found_taken, kept, looked, none_of, shared_off, together, united}
+use Rattle.border_rows.specs.declared.view.Terms.{Terms}
+use Rattle.border_rows.specs.declared.view.View.{View}
+use Rattle.region_slots.specs.FieldView.{HasCounts}
+use Rattle.region_slots.specs.Opening.{first_view}
+use Rattle.region_slots.specs.Turning.{IsBehind, IsMoved}
+use Rattle.region_slots.specs.declared.turn.Turn.{Turn}
+use Rattle.region_slots.specs.declared.turn.Turn.TheVariants.{Behind, Ended, Held, Moved}
+
+pub counts-first : (terms : Terms) (count : ℕ) → length terms.start.now.steps ≡ count → HasCounts count (first_view terms)
+counts-first terms count each = record {
+  seen = each;
+  held_found = length-map terms.start.now.steps (λ s. 0) ∙ each;
+  looks = length-map terms.start.now.steps (λ s. 0) ∙ each;
+}
+
+pub counts-kept : (count : ℕ) (view : View) → HasCounts count view → HasCounts count (kept view)
+counts-kept count view has = record { seen = has.seen; held_found = has.held_found; looks = has.looks }
+
+pub counts-shared_off : (count : ℕ) (view : View) → HasCounts count view → HasCounts count (shared_off view)
+counts-shared_off count view has = record {
+  seen = has.seen;
+  held_found = length-map view.held_found (λ n. 0) ∙ has.held_found;
+  looks = length-map view.looks (λ n. 0) ∙ has.looks;
+}
+
+length-together : (f : ℕ → ℕ → ℕ) (xs ys : List ℕ) → length (together f xs ys) ≡ length xs
+length-together f xs ys = length-map (range_with_len 0 (length xs)) (λ r. f (slice_index xs r) (slice_index ys r)) ∙ length-range_with_len 0 (length xs)
+
+pub counts-united : (count : ℕ) (view other : View) → HasCounts count view → HasCounts count (united view other)
+counts-united count view other has = record {
+  seen = length-together max view.seen other.seen ∙ has.seen;
+  held_found = length-together (λ a b. a + b) view.held_found other.held_found ∙ has.held_found;
+  looks = length-together (λ a b. a + b) view.looks other.looks ∙ has.looks;
+}
+
+pub counts-looked : (count r s : ℕ) (view : View) → HasCounts count view → HasCounts count (looked view r s)
+counts-looked count r s view has = record {
+  seen = length-set view.seen r s ∙ has.seen;
+  held_found = has.held_found;
+  looks = length-set view.looks r (slice_index view.looks r + 1) ∙ has.looks;
+}
+
+counts-found_taken : (count r : ℕ) (view : View) → HasCounts count view → HasCounts count (found_taken view r)
+counts-found_taken count r view has = record {
+  seen = has.seen;
+  held_found = length-set view.held_found r (slice_index view.held_found r + 1) ∙ has.held_found;
+  looks = has.looks;
+}
+
+-- whatever came of a turn
+pub turned-counts : (terms : Terms) (count : ℕ) (old new : View) (goal r : ℕ) (answer : Turn) → (answer ≡ Held → new ≡ found_taken old r) →
+    ((s : ℕ) → answer ≡ Ended s → (goal ≤ s) × (new ≡ looked old r s) × (slice_index new.seen r ≡ s) × (slice_index old.seen r ≤ s)) →
+    ((q s : ℕ) → answer ≡ Behind q s → IsBehind terms old new goal r q s) → ((s : ℕ) → answer ≡ Moved s → IsMoved terms old new goal r s) → HasCounts count old → HasCounts count new
+turned-counts terms count old new goal r Held held ended behind moved has = subst (HasCounts count) (sym (held refl)) (counts-found_taken count r old has)
+turned-counts terms count old new goal r (Ended s) held ended behind moved has = subst (HasCounts count) (sym (ended s refl).1) (counts-looked count r s old has)
+turned-counts terms count old new goal r (Behind q s) held ended behind moved has =
+    let is = behind q s refl in record {
+      seen = is.still.alike.seen.long ∙ has.seen;
+      held_found = ap length is.still.alike.held_found ∙ has.held_found;
+      looks = ap length is.looks ∙ length-set old.looks r (slice_index old.looks r + 1) ∙ has.looks;
+    }
+turned-counts terms count old new goal r (Moved s) held ended behind moved has =
+    let is = moved s refl in record {
+      seen = is.alike.seen.long ∙ has.seen;
+      held_found = ap length is.alike.held_found ∙ has.held_found;
+      looks = ap length is.looks ∙ length-set old.looks r (slice_index old.looks r + 1) ∙ has.looks;
+    }
