@@ -1,9 +1,7 @@
 ghost use Rattle.std.specs.Prelude.{◌≡◌, ◌≢◌, ◌+◌, ◌<◌, ◌≤◌, ◌⊎◌, ℕ, List, None, Ok, IfOk, IfErr, OnOk, length};
 ghost use Rattle.ctm_ports.specs.Count.{Rose};
 ghost use Rattle.ctm_ports.specs.ReadEnd.{LosesAtMost};
-ghost use Rattle.command_words.specs.Settings.{IsAllowed};
 ghost use Rattle.command_words.specs.Words.{IsInRange};
-ghost use Rattle.command_words.specs.declared.setting.Setting.TheVariants.{Regions};
 ghost use Rattle.network_file.specs.Reading.{network_of};
 ghost use Rattle.ctm_program.specs.Answer.{IsTextOf, answer_of, answer_with, recorded_values, requested};
 ghost use Rattle.ctm_program.specs.Ending.{IsInputOf, IsOfWords, IsReadWhole, status_in};
@@ -17,21 +15,24 @@ use crate::record_limit::records_too_much;
 use crate::refusal::Refusal;
 use crate::status::Status;
 use command_words::{Mode, Request, read_words};
-use ctm_ports::{ReadEnd, Source, read_up_to};
+use ctm_ports::{Gate, ReadEnd, Source, read_up_to};
 use delay_report::report;
 use itoa::Buffer;
 use network_file::{MOST_BYTES, Net, NetFault, NetRefusal, convert};
+use network_run::last_regions;
 use region_cut::{Chart, cutting};
-use region_sweeps::last_regions;
 use signal_plan::NoMemory;
 use std::alloc::Global;
+use std::thread::Threads;
 
 /// The text that answers the words over the input that the source gives, or why there is none.
 #[tactic(auto, unfolding(crate::specs::Answer::answer_of))]
-pub(crate) fn answer<S: Source>(
+pub(crate) fn answer<R: Threads + Sync, S: Source, G: Gate>(
+    rt: &R,
     alloc: Global,
     words: &[String],
     source: &mut S,
+    gate: &G,
 ) -> Result<Vec<u8>, Refusal>
     ensures words { status_at_end result ≡ Status.Words → requested words.now ≡ None }
     ensures words_refused { requested words.now ≡ None → IsOfWords (status_at_end result) }
@@ -49,7 +50,7 @@ pub(crate) fn answer<S: Source>(
         Err(refusal) => return Err(Refusal::from(refusal)),
     };
     match read_up_to(alloc, source, MOST_BYTES) {
-        ReadEnd::Whole(input) => text_of(alloc, request, &input),
+        ReadEnd::Whole(input) => text_of(rt, alloc, request, &input, gate),
         ReadEnd::TooLong => Err(Refusal::LargeInput),
         ReadEnd::Failed => Err(Refusal::ReadFault),
         ReadEnd::NoMemory => Err(Refusal::NoMemory),
@@ -57,7 +58,13 @@ pub(crate) fn answer<S: Source>(
 }
 
 // The text that answers a request over an input, or why there is none.
-fn text_of(alloc: Global, request: Request, input: &[u8]) -> Result<Vec<u8>, Refusal>
+fn text_of<R: Threads + Sync, G: Gate>(
+    rt: &R,
+    alloc: Global,
+    request: Request,
+    input: &[u8],
+    gate: &G,
+) -> Result<Vec<u8>, Refusal>
     requires few_bytes { length input.now ≤ MOST_BYTES }
     requires in_range { IsInRange request }
     ensures text { IfOk result (λ text. IsTextOf (answer_with request input.now (network_of input.now)) text.items
@@ -68,7 +75,7 @@ fn text_of(alloc: Global, request: Request, input: &[u8]) -> Result<Vec<u8>, Ref
 {
     match request.mode {
         Mode::Run => match Net::read(alloc, input) {
-            Ok(net) => reported(alloc, &net, request),
+            Ok(net) => reported(rt, alloc, &net, request, gate),
             Err(refusal) => Err(refused(alloc, refusal)),
         },
         Mode::Check => match Net::read(alloc, input) {
@@ -83,7 +90,13 @@ fn text_of(alloc: Global, request: Request, input: &[u8]) -> Result<Vec<u8>, Ref
 }
 
 // The report of a network that is taken through all its steps, unless too much would be recorded.
-fn reported(alloc: Global, net: &Net, request: Request) -> Result<Vec<u8>, Refusal>
+fn reported<R: Threads + Sync, G: Gate>(
+    rt: &R,
+    alloc: Global,
+    net: &Net,
+    request: Request,
+    gate: &G,
+) -> Result<Vec<u8>, Refusal>
     requires in_range { IsInRange request }
     requires runs { request.mode ≡ Mode.Run }
     ensures text { IfOk result (λ text. (text.items ≡ report_of net.now request.every)
@@ -95,18 +108,25 @@ fn reported(alloc: Global, net: &Net, request: Request) -> Result<Vec<u8>, Refus
     if records_too_much(net, every) {
         return Err(Refusal::LargeRecord);
     }
-    Ok(run_report(alloc, net, request.regions, every)?)
+    Ok(run_report(rt, alloc, net, request, gate)?)
 }
 
-// The report of a network that is taken through all its steps in so many regions.
-fn run_report(alloc: Global, net: &Net, regions: u32, every: u64) -> Result<Vec<u8>, NoMemory>
-    requires { IsAllowed Regions regions }
-    ensures { IfOk result (λ text. text.items ≡ report_of net.now every) }
+// The report of a network that is taken through all its steps by workers, in regions.
+fn run_report<R: Threads + Sync, G: Gate>(
+    rt: &R,
+    alloc: Global,
+    net: &Net,
+    request: Request,
+    gate: &G,
+) -> Result<Vec<u8>, NoMemory>
+    requires { IsInRange request }
+    ensures { IfOk result (λ text. text.items ≡ report_of net.now request.every) }
 {
     let _steps = net.steps;
-    let cut = cutting(alloc, net, regions)?;
+    let every = u64::from(request.every);
+    let cut = cutting(alloc, net, request.regions)?;
     let chart = Chart::new(alloc, net, cut)?;
-    let regions = last_regions(alloc, net, &chart, every)?;
+    let regions = last_regions(rt, alloc, net, &chart, every, request.workers, gate)?;
     let text = report(alloc, net, &chart, &regions, every)?;
     Ok(text)
 }

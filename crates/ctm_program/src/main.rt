@@ -5,8 +5,8 @@
 //! - `top_call` has the call that the program makes, over any source and sinks; its contract is the theorem from the
 //!   words and the bytes of the input to the bytes on standard output.
 //! - `answer` finds the text or the refusal: it has the words read, reads the input, and does what the mode asks. For
-//!   `run` it has `region_sweeps` take the network through its steps, in regions, and `delay_report` print what came of
-//!   it, unless it would record more than `record_limit` says; for `check` it has `counts`.
+//!   `run` it has `network_run` take the network through its steps, by workers and in regions, and `delay_report` print
+//!   what came of it, unless it would record more than `record_limit` says; for `check` it has `counts`.
 //! - `status` has the exit status of each ending, `refusal` the line that goes with it.
 //! - `main` stands at the edge: the real streams, the words of `command_line`, and the `ending`.
 #![tactic(auto)]

@@ -16,8 +16,8 @@ use std::alloc::Global;
 use std::thread::Threads;
 
 /// Runs the program: does what the words ask for, over the network that the source gives, and writes the text of it
-/// on `out`, or says on `err` why there is none (docs/FORMAT.md). The words are those after the program's name. The
-/// threads of `rt` and the gate serve modes that are yet to come.
+/// on `out`, or says on `err` why there is none (docs/FORMAT.md). The words are those after the program's name. Workers
+/// run in threads of `rt`, and the gate is told when they take a region and give it back.
 pub fn ctm<R: Threads + Sync, S: Source, O: Sink, E: Sink, G: Gate>(
     rt: &R,
     alloc: Global,
@@ -53,7 +53,7 @@ pub fn ctm<R: Threads + Sync, S: Source, O: Sink, E: Sink, G: Gate>(
     ensures at_end { result ≡ Status.Done → IsReadWhole (requested words.now) (S.left source.new) }
     ensures bounded { LosesAtMost (S.left source.old) (S.left source.new) (MOST_BYTES + 1) }
 {
-    match run(alloc, words, source, out) {
+    match run(rt, alloc, words, source, out, gate) {
         Ok(()) => Status::Done,
         Err(refusal) => tell(&refusal, err),
     }
@@ -71,11 +71,13 @@ pub(crate) fn tell<E: Sink>(refusal: &Refusal, err: &mut E) -> Status
 }
 
 // The call without what it says on `err`.
-fn run<S: Source, O: Sink>(
+fn run<R: Threads + Sync, S: Source, O: Sink, G: Gate>(
+    rt: &R,
     alloc: Global,
     words: &[String],
     source: &mut S,
     out: &mut O,
+    gate: &G,
 ) -> Result<(), Refusal>
     ensures answered { (input : List ℕ) × (text : List ℕ) × IsInputOf (requested words.now) (S.left source.old) input
         × IsTextOf (answer_of words.now input) text
@@ -91,7 +93,7 @@ fn run<S: Source, O: Sink>(
     ensures at_end { status_at_end result ≡ Status.Done → IsReadWhole (requested words.now) (S.left source.new) }
     ensures bounded { LosesAtMost (S.left source.old) (S.left source.new) (MOST_BYTES + 1) }
 {
-    match answer(alloc, words, source) {
+    match answer(rt, alloc, words, source, gate) {
         Ok(text) => match write_all(out, &text) {
             Written::All => Ok(()),
             Written::Failed => Err(Refusal::WriteFault),

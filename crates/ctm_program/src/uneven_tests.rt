@@ -4,13 +4,14 @@ ghost use Rattle.region_step.specs.Opened.{IsOf};
 ghost use Rattle.region_step.specs.Standing.{AllStand};
 ghost use Rattle.region_step.specs.Start.{zero_start};
 
+use ctm_ports::OpenGate;
 use delay_report::Ledger;
 use fixed_flow::{Text48, put_wide};
 use flow_ledger::Books;
 use network_file::Net;
 use region_cut::{Chart, cutting};
-use region_step::{Region, Start, open_regions};
-use region_sweeps::step_region;
+use region_slots::{Closed, Field};
+use region_step::{Region, Start};
 use signal_plan::NoMemory;
 use std::alloc::Global;
 use std::process::Abort;
@@ -23,25 +24,18 @@ const FILE: &[u8] =
     b"ctm,2\nsteps,3\ngate,in,2,0\nroad,a,6,2,1,2,0\nexit,out,2\nlink,in,a\nlink,a,out\n\
 demand,in,0,1,4\nregion,in,0\nregion,a,1\nregion,out,1\n";
 
-// Regions, and the step of each.
-#[derive(Drop)]
-struct Standing {
-    steps: Vec<u64>,
-    regions: Vec<Region>,
-}
-
-// The regions of a network from step 0 on, after these rises.
-fn raised(alloc: Global, net: &Net, chart: &Chart, order: &[u32]) -> Result<Standing, NoMemory>
+// What a field of a network comes to that is closed after turns on these regions.
+fn closed_after(alloc: Global, net: &Net, chart: &Chart, order: &[u32]) -> Result<Closed, NoMemory>
     requires { chart.now ≡ chart_of net.now chart.now.cut }
-    ensures { IfOk result (λ raised. AllStand net.now chart.now (zero_start net.now chart.now.cut) 0 raised.steps.items raised.regions.items) }
+    ensures { IfOk result (λ closed. AllStand net.now chart.now (zero_start net.now chart.now.cut) 0 closed.steps.items closed.regions.items) }
 {
+    let goal = net.steps;
     let start = Start::zero(alloc, net, chart)?;
-    let mut regions = open_regions(alloc, net, chart, &start, 0)?;
-    let mut steps = start.steps;
+    let (field, mut pass) = Field::open(alloc, net, chart, &start, 0, 1)?;
     for r in order {
-        step_region(net, chart, &mut steps, &mut regions, *r % chart.regions());
+        field.turn(&mut pass, *r % chart.regions(), goal, &OpenGate);
     }
-    Ok(Standing { steps, regions })
+    Ok(field.close(pass))
 }
 
 // What each cell held a step before its region's step, region by region.
@@ -64,7 +58,7 @@ fn befores<R: Abort>(
     Ok(held)
 }
 
-// The same after these rises.
+// The same after these turns.
 fn befores_after<R: Abort>(
     rt: &R,
     alloc: Global,
@@ -74,18 +68,18 @@ fn befores_after<R: Abort>(
 ) -> Result<Vec<u64>, Fail>
     requires { chart.now ≡ chart_of net.now chart.now.cut }
 {
-    let raised = raised(alloc, net, chart, order)?;
-    befores(rt, alloc, chart, &raised.regions)
+    let closed = closed_after(alloc, net, chart, order)?;
+    befores(rt, alloc, chart, &closed.regions)
 }
 
-// The ledger after these rises.
+// The ledger after these turns.
 fn ledger_after(alloc: Global, net: &Net, chart: &Chart, order: &[u32]) -> Result<Ledger, NoMemory>
     requires chart { chart.now ≡ chart_of net.now chart.now.cut }
     requires one_each { length chart.now.cut ≡ length net.now.cells }
     ensures { IfOk result (λ ledger. length ledger ≡ length net.now.cells) }
 {
-    let raised = raised(alloc, net, chart, order)?;
-    let ledger = Ledger::new(alloc, net, chart, &raised.regions)?;
+    let closed = closed_after(alloc, net, chart, order)?;
+    let ledger = Ledger::new(alloc, net, chart, &closed.regions)?;
     Ok(ledger)
 }
 

@@ -16,8 +16,6 @@ mod plays;
 mod rule;
 mod share;
 mod steps;
-#[cfg(test)]
-mod tests;
 mod turn;
 
 pub use close::Closed;

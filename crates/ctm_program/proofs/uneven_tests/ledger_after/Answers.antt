@@ -4,4 +4,4 @@ use Rattle.ctm_program.proofs.uneven_tests.ledger_after.Goals as goal
 
 pub new-requires-clause-rows : goal.new-requires-clause-rows
 new-requires-clause-rows c =
-    rw c.deref.ensures.value (stand-rows c.args.net.now c.args.chart.now (zero_start c.args.net.now c.args.chart.now.cut) 0 _ _ c.in_ok-raised.ensures)
+    rw c.deref.ensures.value (stand-rows c.args.net.now c.args.chart.now (zero_start c.args.net.now c.args.chart.now.cut) 0 _ _ c.in_ok-closed.ensures)

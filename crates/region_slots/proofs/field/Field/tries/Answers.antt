@@ -1,4 +1,4 @@
-use Rattle.std.proofs.Common.{◌≡◌, ℕ, ◌+◌, List, refl, sym, ap, subst, ◌∙◌}
+use Rattle.std.proofs.Common.{◌≡◌, ℕ, ◌+◌, List, refl, sym, ap, subst, ◌∙◌, arith}
 use Rattle.atomic_table.specs.Table.{rest}
 use Rattle.border_rows.specs.Places.{width_at, widths_of}
 use Rattle.region_slots.specs.Turning.{wrote_many}

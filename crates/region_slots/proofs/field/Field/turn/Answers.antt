@@ -1,9 +1,33 @@
 use Rattle.std.specs.Prelude.{slice_index}
-use Rattle.std.proofs.Common.{◌≡◌, ◌≤◌, ap, subst}
+use Rattle.std.proofs.Common.{◌≡◌, ◌≤◌, ap, subst, sym, ◌∙◌}
+use Rattle.region_cut.specs.Cuttings.{region_count}
 use Rattle.border_rows.specs.Kinds.{looked}
 use Rattle.border_rows.specs.declared.view.View.{View}
-use Rattle.region_slots.specs.Turning.{IsBehind, IsMoved}
+use Rattle.region_slots.specs.FieldView.{HasCounts}
+use Rattle.region_slots.specs.Turning.{IsBehind, IsMoved, IsWithin}
+use Rattle.region_slots.proofs.Counts.{turned-counts}
+use Rattle.region_slots.proofs.NeighbourLooks.{turned-within}
 use Rattle.region_slots.proofs.field.Field.turn.Goals as goal
+
+pub returns-clause-belongs : goal.returns-clause-belongs
+returns-clause-belongs g c =
+    let knows : c.pass.inside.seat.me.0 ≡ c.args.pass.now.knows = ap (λ pass. pass.knows) c.pass.view_is in
+    let came = c.tries.ensures in (
+      record {
+        table = came.same.1 ∙ ap (λ pass. pass.table) c.pass.view_is ∙ c.requires.belongs.table;
+        terms = came.terms ∙ ap (λ (v : View). v.terms) knows ∙ c.requires.belongs.terms;
+        counts = turned-counts c.args.self.now.terms (region_count c.args.self.now.terms.chart.now.cut) c.pass.inside.seat.me.0 c.tries.new.seat.me.0 c.args.goal c.args.region c.tries.result
+            came.held came.ended came.behind came.moved (subst (HasCounts (region_count c.args.self.now.terms.chart.now.cut)) (sym knows) c.requires.belongs.counts);
+      },
+      came.same.0 ∙ ap (λ pass. pass.id) c.pass.view_is,
+    )
+
+pub returns-clause-keeps : goal.returns-clause-keeps
+returns-clause-keeps g c =
+    let knows : c.pass.inside.seat.me.0 ≡ c.args.pass.now.knows = ap (λ pass. pass.knows) c.pass.view_is in
+    let came = c.tries.ensures in
+    subst (λ (v : View). IsWithin v c.tries.new.seat.me.0 c.args.goal) knows
+    (turned-within c.args.self.now.terms c.pass.inside.seat.me.0 c.tries.new.seat.me.0 c.args.goal c.args.region c.tries.result came.held came.ended came.behind came.moved)
 
 pub returns-clause-ended : goal.returns-clause-ended
 returns-clause-ended g c = λ s is.

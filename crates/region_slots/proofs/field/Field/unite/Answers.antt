@@ -1,4 +1,9 @@
-use Rattle.std.proofs.Common.{◌≡◌, ◌∷◌, [], arith, ap, sym, ◌∙◌}
+use Rattle.std.proofs.Common.{◌≡◌, ◌∷◌, [], arith, ap, sym, subst, ◌∙◌, rules}
+use Rattle.region_cut.specs.Cuttings.{region_count}
+use Rattle.border_rows.specs.Kinds.{united}
+use Rattle.border_rows.specs.declared.view.View.{View}
+use Rattle.region_slots.specs.FieldView.{HasCounts}
+use Rattle.region_slots.proofs.Counts.{counts-united}
 use Rattle.region_slots.proofs.Sharing.{bounding, some-word, uniting}
 use Rattle.region_slots.proofs.field.Field.unite.Goals as goal
 
@@ -27,3 +32,13 @@ load-requires c =
       omega (arith, some-word terms c.self.invariant.3.chart, c.self.invariant.3.words),
       bounding terms c.self.inside.table.shared.table_id.slots c.join_seat.new.seat.id 0 c.join_seat.new.seat.me of_field,
     )
+
+pub returns-clause-belongs : goal.returns-clause-belongs
+returns-clause-belongs c =
+    let terms = c.args.self.now.terms in
+    let knows : c.load.new.seat.me.0 ≡ united c.args.pass.now.knows c.args.other.knows = search rules in
+    record {
+      table = search rules;
+      terms = ap (λ (v : View). v.terms) knows ∙ c.requires.belongs.terms;
+      counts = subst (HasCounts (region_count terms.chart.now.cut)) (sym knows) (counts-united (region_count terms.chart.now.cut) c.args.pass.now.knows c.args.other.knows c.requires.belongs.counts);
+    }

@@ -1,0 +1,14 @@
+-- The members of a run.
+use Rattle.std.specs.Prelude.{◌≡◌, ℕ, ◌<◌, List, length, slice_index_or}
+use Rattle.region_slots.specs.FieldView.{FieldValue}
+use Rattle.worker_claim.specs.Members.{IsMemberOf}
+use Rattle.worker_claim.specs.declared.member.Member.{Member}
+
+-- a member of the field with one seat
+pub record IsEnlisted (field : FieldValue) (member : Member) : Type 0 where
+  pub member : IsMemberOf field member
+  pub share : member.pass.knows.share ≡ 1
+
+-- all of them are
+abbrev pub AreEnlisted : FieldValue → List Member → Type 0
+AreEnlisted field members = (k : ℕ) (d : Member) → k < length members → IsEnlisted field (slice_index_or members k d)

@@ -1,0 +1,47 @@
+ghost use Rattle.std.specs.Prelude.{◌≡◌, ◌+◌, ◌≤◌, [], length, vec_capacity};
+ghost use Rattle.region_slots.specs.FieldView.{IsPassOf};
+ghost use Rattle.network_run.specs.Enlisted.{AreEnlisted};
+
+use region_slots::{Field, Pass};
+use worker_claim::Member;
+
+/// Shares a pass off for each worker. Their sweeps begin at regions far from each other.
+pub(crate) fn enlist<'a>(
+    field: &Field<'a>,
+    pass: &mut Pass<'a>,
+    members: &mut Vec<Member<'a>>,
+    workers: u32,
+)
+    requires belongs { IsPassOf field.now pass.old }
+    requires seats { pass.old.knows.share ≡ workers + 1 }
+    requires nobody { members.old.items ≡ [] }
+    requires room { workers ≤ vec_capacity members.old }
+    ensures belongs { IsPassOf field.now pass.new }
+    ensures seat { pass.new.knows.share ≡ 1 }
+    ensures many { length members.new.items ≡ workers }
+    ensures enlisted { AreEnlisted field.now members.new.items }
+{
+    let regions = u64::from(field.regions());
+    for j in 0..workers {
+        let first = u64::from(j) * regions / u64::from(workers);
+        let other = field.share(pass);
+        members.push_reserved(Member::new(other, first as u32));
+    }
+}
+
+/// Unites a pass with those of all members.
+pub(crate) fn dismiss<'a>(field: &Field<'a>, pass: &mut Pass<'a>, members: Vec<Member<'a>>)
+    requires belongs { IsPassOf field.now pass.old }
+    requires enlisted { AreEnlisted field.now members.items }
+    ensures belongs { IsPassOf field.now pass.new }
+    ensures seats { pass.new.knows.share ≡ pass.old.knows.share + length members.items }
+{
+    for member in members {
+        let Member {
+            pass: other,
+            first: _,
+            driven: _,
+        } = member;
+        field.unite(pass, other);
+    }
+}

@@ -1,0 +1,45 @@
+ghost use Rattle.std.specs.Prelude.{◌≡◌, ◌+◌, ◌<◌, ◌≤◌, ◌^◌, IfOk, replicate};
+ghost use Rattle.region_cut.specs.Chart.{chart_of};
+ghost use Rattle.region_cut.specs.Cuttings.{region_count};
+ghost use Rattle.region_step.specs.Standing.{AllStand};
+ghost use Rattle.region_step.specs.Start.{zero_start};
+
+use crate::members::{dismiss, enlist};
+use crate::rounds::drive_rounds;
+use ctm_ports::Gate;
+use network_file::Net;
+use region_cut::Chart;
+use region_slots::{Closed, Field};
+use region_step::{Region, Start};
+use signal_plan::NoMemory;
+use std::alloc::Global;
+use std::thread::Threads;
+use worker_claim::finish;
+
+/// The regions of a chart at the last step, taken there from step 0 by so many workers. Each is recorded at each step that
+/// `every` divides and at the last one, never where `every` is 0. All memory is taken before the first step.
+pub fn last_regions<R: Threads + Sync, G: Gate>(
+    rt: &R,
+    alloc: Global,
+    net: &Net,
+    chart: &Chart,
+    every: u64,
+    workers: u32,
+    gate: &G,
+) -> Result<Vec<Region>, NoMemory>
+    requires chart { chart.now ≡ chart_of net.now chart.now.cut }
+    requires workers { workers + 1 < 2 ^ 32 }
+    ensures { IfOk result (λ regions. AllStand net.now chart.now (zero_start net.now chart.now.cut) every
+        (replicate (region_count chart.now.cut) net.now.steps) regions.items) }
+{
+    let steps = net.steps;
+    let start = Start::zero(alloc, net, chart)?;
+    let mut members = Vec::with_capacity(alloc, workers as usize)?;
+    let (field, mut pass) = Field::open(alloc, net, chart, &start, every, workers + 1)?;
+    enlist(&field, &mut pass, &mut members, workers);
+    drive_rounds(rt, &field, &mut members, steps, gate);
+    dismiss(&field, &mut pass, members);
+    finish(&field, &mut pass, steps, gate);
+    let Closed { steps: _, regions } = field.close(pass);
+    Ok(regions)
+}

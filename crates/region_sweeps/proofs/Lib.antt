@@ -1,3 +1,0 @@
-pub mod BorderCells
-pub mod HaloTold
-pub mod Sweeping

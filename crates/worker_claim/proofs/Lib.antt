@@ -1,0 +1,3 @@
+pub mod Nearing
+pub mod Sweeping
+pub mod Turning

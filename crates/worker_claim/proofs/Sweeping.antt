@@ -1,0 +1,95 @@
+-- Sweeps, one after the other.
+use Rattle.std.specs.Prelude.{IsTrue, slice_index}
+use Rattle.std.proofs.Common.{◌≡◌, ◌≢◌, ℕ, ◌+◌, ◌*◌, ◌<◌, ◌≤◌, inl, inr, false, refl, sym, ap, ◌∙◌, arith}
+use Rattle.std.proofs.lemmas.Bool.{cases_eq, cases_lt}
+use Rattle.region_cut.specs.Cuttings.{region_count}
+use Rattle.border_rows.specs.declared.view.Terms.{Terms}
+use Rattle.border_rows.specs.declared.view.View.{View}
+use Rattle.worker_claim.specs.Driving.{HasSwept}
+use Rattle.worker_claim.specs.Turns.{HasTurned, IsCounted, none, turns_of}
+use Rattle.worker_claim.specs.declared.driven.Driven.{Driven}
+use Rattle.worker_claim.proofs.Turning.{AreAdded, Came, came-later, came-more, counted-more, within-more, within-none}
+
+-- turns on the regions from one on, and then on those before it
+pub record IsSweep (terms : Terms) (old new : View) (goal : ℕ) (driven : Driven) : Type 0 where
+  pub counted : IsCounted terms old new goal driven
+  pub turns : turns_of driven ≡ region_count terms.chart.now.cut
+  pub each : (r : ℕ) → r < region_count terms.chart.now.cut → Came terms old new goal r driven
+  pub all : IsTrue driven.all → driven.ended ≡ region_count terms.chart.now.cut
+  pub not_all : driven.all ≡ false → driven.ended ≢ region_count terms.chart.now.cut
+
+pub round-sweep : (terms : Terms) (old view new : View) (first goal : ℕ) (one other both : Driven) → first ≤ region_count terms.chart.now.cut → AreAdded one other both →
+    HasTurned terms old view first (region_count terms.chart.now.cut) goal one → HasTurned terms view new 0 first goal other →
+    (IsTrue both.all → both.ended ≡ region_count terms.chart.now.cut) → (both.all ≡ false → both.ended ≢ region_count terms.chart.now.cut) → IsSweep terms old new goal both
+round-sweep terms old view new first goal one other both there added before after all not_all = record {
+  counted = counted-more terms old view new goal one other both added before.counted after.counted;
+  turns = omega (arith, before.turns, after.turns, added.moved, added.held, added.behind, added.ended);
+  each = λ r within. elim (cases_lt r first) [
+    | inl early ↦ came-later terms old view new goal r one other both added before.counted.keeps (after.each r (omega arith) early)
+    | inr late ↦ came-more terms old view new goal r one other both added after.counted.keeps (before.each r (omega (arith, late)) within)
+  ];
+  all = all;
+  not_all = not_all;
+}
+
+pub round-swept : (terms : Terms) (old view new : View) (first goal : ℕ) (one other both : Driven) → HasTurned terms old view first (region_count terms.chart.now.cut) goal one → HasTurned terms view new 0 first goal other →
+    IsSweep terms old new goal both → HasSwept (region_count terms.chart.now.cut) goal 1 old new both
+round-swept terms old view new first goal one other both before after sweep = record {
+  keeps = sweep.counted.keeps;
+  tried = λ r within. elim (cases_lt r first) [
+    | inl early ↦ omega (arith, before.others r (inl early), after.tried r (omega arith) early)
+    | inr late ↦ omega (arith, before.tried r (omega (arith, late)) within, after.others r (inr (omega (arith, late))))
+  ];
+  turns = omega (arith, sweep.turns);
+  moved = sweep.counted.moved;
+  held = sweep.counted.held;
+  behind = sweep.counted.behind;
+  ended = sweep.counted.ended;
+  all = λ is.
+      let whole = sweep.all is in (
+        omega (arith, whole),
+        λ r within. elim (sweep.each r within) [
+          | inl reached ↦ reached
+          | inr rest ↦ elim rest [
+            | inl some ↦ absurd (some (omega (arith, whole, sweep.turns)))
+            | inr short ↦ absurd (short.0 (omega (arith, whole, sweep.turns)))
+          ]
+        ],
+      );
+  not_all = λ is nothing. absurd (sweep.not_all is (omega (arith, nothing, sweep.turns)));
+}
+
+-- no sweep yet
+pub swept-none : (view : View) (count goal : ℕ) → HasSwept count goal 0 view view none
+swept-none view count goal = record {
+  keeps = within-none view goal;
+  tried = λ r within. omega arith;
+  turns = omega arith;
+  moved = omega arith;
+  held = omega arith;
+  behind = omega arith;
+  ended = λ some. absurd (some refl);
+  all = λ is. absurd cc;
+  not_all = λ is nothing. refl;
+}
+
+-- one sweep more
+pub swept-more : (old view new : View) (count goal made : ℕ) (one other both : Driven) → AreAdded one other both → one.all ≡ false → both.all ≡ other.all →
+    HasSwept count goal made old view one → HasSwept count goal 1 view new other → HasSwept count goal (made + 1) old new both
+swept-more old view new count goal made one other both added going last before after = record {
+  keeps = within-more old view new goal before.keeps after.keeps;
+  tried = λ r within. omega (arith, before.tried r within, after.tried r within);
+  turns = omega (arith, before.turns, after.turns, added.moved, added.held, added.behind, added.ended);
+  moved = omega (arith, before.moved, after.moved, added.moved);
+  held = omega (arith, before.held, after.held, added.held);
+  behind = omega (arith, before.behind, after.behind, added.behind);
+  ended = λ some. elim (cases_eq one.ended 0) [
+    | inl none ↦ after.ended (λ also. some (omega (arith, none, also, added.ended)))
+    | inr first ↦ let is = before.ended first in (is.0, is.1, omega (arith, is.2, after.keeps.seen.later is.0))
+  ];
+  all = λ is. let whole = after.all (rw last at is) in (omega (arith, whole.0, added.ended), whole.1);
+  not_all = λ is nothing.
+      let first : one.ended ≡ 0 = before.not_all going (omega (arith, nothing, added.moved, added.held, added.behind)) in
+      let then : other.ended ≡ 0 = after.not_all (sym last ∙ is) (omega (arith, nothing, added.moved, added.held, added.behind)) in
+      omega (arith, first, then, added.ended);
+}

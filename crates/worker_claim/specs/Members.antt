@@ -1,0 +1,17 @@
+-- The members of a crew.
+use Rattle.std.specs.Prelude.{◌≡◌, ℕ, ◌<◌, ◌≤◌}
+use Rattle.region_cut.specs.Cuttings.{region_count}
+use Rattle.region_slots.specs.FieldView.{FieldValue, IsPassOf}
+use Rattle.worker_claim.specs.Driving.{HasDriven}
+use Rattle.worker_claim.specs.declared.member.Member.{Member}
+
+-- a member with a pass of the field, whose sweeps begin at one of its regions
+pub record IsMemberOf (field : FieldValue) (member : Member) : Type 0 where
+  pub belongs : IsPassOf field member.pass
+  pub there : member.first < region_count field.terms.chart.now.cut
+
+-- what a drive leaves of a member
+pub record IsDriven (field : FieldValue) (goal sweeps : ℕ) (old new : Member) : Type 0 where
+  pub belongs : IsPassOf field new.pass
+  pub same : (new.pass.id ≡ old.pass.id) × (new.first ≡ old.first)
+  pub driven : HasDriven (region_count field.terms.chart.now.cut) goal sweeps old.pass.knows new.pass.knows new.driven

@@ -1,0 +1,41 @@
+ghost use Rattle.std.specs.Prelude.{◌≡◌, ◌<◌, ◌≤◌};
+ghost use Rattle.region_cut.specs.Cuttings.{region_count};
+ghost use Rattle.region_slots.specs.FieldView.{IsPassOf};
+ghost use Rattle.worker_claim.specs.Driving.{HasDriven};
+
+use crate::driven::Driven;
+use crate::sweep::sweep;
+use ctm_ports::Gate;
+use region_slots::{Field, Pass};
+
+/// Makes so many sweeps with a pass, or fewer where all turns of one find their region at the goal or past it. A sweep is
+/// one turn on each region, in order of number from `first` on and round.
+pub fn drive<'a, G: Gate>(
+    field: &Field<'a>,
+    pass: &mut Pass<'a>,
+    goal: u64,
+    sweeps: u32,
+    first: u32,
+    gate: &G,
+) -> Driven
+    requires belongs { IsPassOf field.now pass.old }
+    requires there { first < region_count field.now.terms.chart.now.cut }
+    requires in_time { goal ≤ field.now.terms.net.now.steps }
+    ensures belongs { IsPassOf field.now pass.new × (pass.new.id ≡ pass.old.id) }
+    ensures driven { HasDriven (region_count field.now.terms.chart.now.cut) goal sweeps pass.old.knows pass.new.knows result }
+{
+    let mut driven = Driven::none();
+    let mut made = 0;
+    while made < sweeps && !driven.all {
+        let swept = sweep(field, pass, goal, first, gate);
+        driven = Driven {
+            moved: driven.moved + swept.moved,
+            held: driven.held + swept.held,
+            behind: driven.behind + swept.behind,
+            ended: driven.ended + swept.ended,
+            all: swept.all,
+        };
+        made += 1;
+    }
+    driven
+}

@@ -1,0 +1,45 @@
+ghost use Rattle.std.specs.Prelude.{◌≡◌, ◌+◌, ◌<◌, ◌^◌};
+ghost use Rattle.worker_claim.specs.Turns.{counted, none, turns_of};
+
+use region_slots::Turn;
+
+/// How many turns came to each answer, and whether all turns of the last sweep found their region at the goal or past it.
+#[derive(Clone, Copy, Debug, Drop, PartialEq, Eq)]
+pub struct Driven {
+    pub moved: u64,
+    pub held: u64,
+    pub behind: u64,
+    pub ended: u64,
+    pub all: bool,
+}
+
+impl Driven {
+    /// No turn.
+    pub(crate) fn none() -> Driven
+        ensures { result ≡ none }
+    {
+        Driven {
+            moved: 0,
+            held: 0,
+            behind: 0,
+            ended: 0,
+            all: false,
+        }
+    }
+
+    /// Counts one turn more.
+    pub(crate) fn count(&mut self, turn: Turn)
+        requires { turns_of self.old + 1 < 2 ^ 64 }
+        ensures { self.new ≡ counted self.old turn }
+    {
+        match turn {
+            Turn::Moved { step: _ } => self.moved += 1,
+            Turn::Held => self.held += 1,
+            Turn::Behind {
+                neighbour: _,
+                step: _,
+            } => self.behind += 1,
+            Turn::Ended { step: _ } => self.ended += 1,
+        }
+    }
+}

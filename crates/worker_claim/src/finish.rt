@@ -1,0 +1,25 @@
+ghost use Rattle.std.specs.Prelude.{◌≡◌, ◌≤◌};
+ghost use Rattle.region_cut.specs.Cuttings.{region_count};
+ghost use Rattle.region_slots.specs.FieldView.{IsPassOf};
+ghost use Rattle.region_slots.specs.Turning.{IsWithin};
+ghost use Rattle.worker_claim.specs.Driving.{AllReach};
+
+use crate::sweep::sweep;
+use ctm_ports::Gate;
+use region_slots::{Field, Pass};
+
+/// Brings each region to the goal, or leaves it past it, with the pass that has all of the field's seats. Nobody else can
+/// hold a region then, and the lowest region below the goal has no lower neighbour, so that each sweep moves one.
+pub fn finish<'a, G: Gate>(field: &Field<'a>, pass: &mut Pass<'a>, goal: u64, gate: &G)
+    requires belongs { IsPassOf field.now pass.old }
+    requires whole { pass.old.knows.share ≡ field.now.terms.seats }
+    requires in_time { goal ≤ field.now.terms.net.now.steps }
+    ensures belongs { IsPassOf field.now pass.new × (pass.new.id ≡ pass.old.id) }
+    ensures keeps { IsWithin pass.old.knows pass.new.knows goal }
+    ensures done { AllReach (region_count field.now.terms.chart.now.cut) goal pass.new.knows }
+{
+    let mut all = false;
+    while !all {
+        all = sweep(field, pass, goal, 0, gate).all;
+    }
+}

@@ -1,0 +1,19 @@
+//! Workers at a shared field: each goes round the regions with a pass of its own and takes a turn on each of them.
+//!
+//! `drive` makes a number of sweeps with one pass, `crew` has several members drive at once, each in a thread of its own
+//! where one can be made, and `finish` brings all regions to the goal with the pass that has all seats. No call takes
+//! memory.
+#![tactic(auto)]
+
+mod crew;
+mod drive;
+mod driven;
+mod finish;
+mod member;
+mod sweep;
+
+pub use crew::crew;
+pub use drive::drive;
+pub use driven::Driven;
+pub use finish::finish;
+pub use member::Member;
