@@ -23,11 +23,11 @@ const FILE: &str = "ctm,2; steps,3; gate,in,2,0; road,a,6,2,1,2,0; exit,out,2; l
 demand,in,0,1,4; region,in,0; region,a,1; region,out,1";
 
 // What comes of turns on these regions with these goals, one after the other.
-fn take_turns<'a, R: Abort>(
+fn take_turns<R: Abort>(
     rt: &R,
     alloc: Global,
-    field: &Field<'a>,
-    pass: &mut Pass<'a>,
+    field: &Field,
+    pass: &mut Pass,
     last: u64,
     turns: &[(u32, u64)],
 ) -> Result<Vec<Turn>, Fail>
@@ -95,10 +95,10 @@ fn a_shared_pass_ends_at_once_where_nothing_is_to_be_done(rt: HostRuntime) -> Re
 }
 
 // So many turns, each on a region and by a member that are drawn.
-fn wander<'a, R: Abort>(
+fn wander<R: Abort>(
     rt: &R,
-    field: &Field<'a>,
-    members: &mut [Member<'a>],
+    field: &Field,
+    members: &mut [Member],
     last: u64,
     draws: u32,
     seed: u32,

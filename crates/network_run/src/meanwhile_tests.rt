@@ -9,7 +9,7 @@ use std::sync::Mutex;
 // A turn that a pass of one seat takes once it is told to.
 pub(crate) struct Meanwhile<'f, 'a> {
     pub(crate) field: &'f Field<'a>,
-    pub(crate) pass: Pass<'a>,
+    pub(crate) pass: Pass,
     pub(crate) region: u32,
     pub(crate) goal: u64,
     pub(crate) answer: Option<Turn>,

@@ -6,10 +6,10 @@ use region_slots::{Field, Pass};
 use worker_claim::Member;
 
 /// Shares a pass off for each worker. Their sweeps begin at regions far from each other.
-pub(crate) fn enlist<'a>(
-    field: &Field<'a>,
-    pass: &mut Pass<'a>,
-    members: &mut Vec<Member<'a>>,
+pub(crate) fn enlist(
+    field: &Field,
+    pass: &mut Pass,
+    members: &mut Vec<Member>,
     workers: u32,
 )
     requires belongs { IsPassOf field.now pass.old }
@@ -30,7 +30,7 @@ pub(crate) fn enlist<'a>(
 }
 
 /// Unites a pass with those of all members.
-pub(crate) fn dismiss<'a>(field: &Field<'a>, pass: &mut Pass<'a>, members: Vec<Member<'a>>)
+pub(crate) fn dismiss(field: &Field, pass: &mut Pass, members: Vec<Member>)
     requires belongs { IsPassOf field.now pass.old }
     requires enlisted { AreEnlisted field.now members.items }
     ensures belongs { IsPassOf field.now pass.new }

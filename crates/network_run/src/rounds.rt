@@ -10,10 +10,10 @@ use worker_claim::{Member, crew};
 const SWEEPS: u32 = 4096;
 
 /// Has the crew drive in rounds, until a member has found all regions at the goal or none has moved one.
-pub(crate) fn drive_rounds<'a, R: Threads + Sync, G: Gate>(
+pub(crate) fn drive_rounds<R: Threads + Sync, G: Gate>(
     rt: &R,
-    field: &Field<'a>,
-    members: &mut [Member<'a>],
+    field: &Field,
+    members: &mut [Member],
     goal: u64,
     gate: &G,
 )

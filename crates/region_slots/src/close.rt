@@ -17,7 +17,7 @@ impl<'a> Field<'a> {
     ghost use Rattle.region_slots.specs.FieldView.{IsPassOf};
 
     /// Closes the field with the pass that has all of its seats, and gives its regions. It takes no memory.
-    pub fn close(self, pass: Pass<'a>) -> Closed
+    pub fn close(self, pass: Pass) -> Closed
         requires belongs { IsPassOf self pass }
         requires whole { pass.knows.share ≡ self.terms.seats }
         ensures steps { length result.steps.items ≡ region_count self.entry.terms.chart.now.cut }
@@ -25,9 +25,9 @@ impl<'a> Field<'a> {
         ensures stand { AllStand self.entry.terms.net.now self.entry.terms.chart.now self.entry.terms.start.now self.entry.terms.every result.steps.items result.regions.items }
         ensures lawful { AreLawful self.entry.terms.net.now self.entry.terms.chart.now.cut result.steps.items }
         ensures started { (r : ℕ) → r < region_count self.entry.terms.chart.now.cut → slice_index self.entry.terms.start.now.steps r ≤ slice_index result.steps.items r }
-        ensures later { (r : ℕ) → r < region_count self.entry.terms.chart.now.cut → slice_index pass.entry.knows.seen r ≤ slice_index result.steps.items r }
-        ensures reached { (r : ℕ) → r < region_count self.entry.terms.chart.now.cut → slice_index result.steps.items r ≤ max (slice_index self.entry.terms.start.now.steps r) pass.entry.knows.reach }
-        ensures moves { steps_since self.entry.terms.start.now (region_count self.entry.terms.chart.now.cut) result.steps.items ≡ pass.entry.knows.moves }
+        ensures later { (r : ℕ) → r < region_count self.entry.terms.chart.now.cut → slice_index pass.knows.seen r ≤ slice_index result.steps.items r }
+        ensures reached { (r : ℕ) → r < region_count self.entry.terms.chart.now.cut → slice_index result.steps.items r ≤ max (slice_index self.entry.terms.start.now.steps r) pass.knows.reach }
+        ensures moves { steps_since self.entry.terms.start.now (region_count self.entry.terms.chart.now.cut) result.steps.items ≡ pass.knows.moves }
     {
         let Field {
             net: _,

@@ -12,7 +12,7 @@ pub struct Field<'a> {
     pub(crate) net: &'a Net,
     pub(crate) chart: &'a Chart,
     pub(crate) places: Places,
-    pub(crate) table: Table<Region, View<'a>, Terms<'a>, Rule, Global>,
+    pub(crate) table: Table<Region, View<'static>, Terms<'a>, Rule, Global>,
     // They are empty until it is closed, with room for one for each region.
     pub(crate) steps: Vec<u64>,
     pub(crate) regions: Vec<Region>,
@@ -46,12 +46,13 @@ impl<'a> Field<'a> {
     }
 }
 
-/// A caller's seat at a field.
-pub struct Pass<'a> {
-    pub(crate) seat: Seat<Region, View<'a>>,
+/// A caller's seat at a field. It lends nothing of the field, and one that is dropped takes its share with it.
+#[derive(Drop)]
+pub struct Pass {
+    pub(crate) seat: Seat<Region, View<'static>>,
 }
 
-impl<'a> Model for Pass<'a> {
+impl Model for Pass {
     ghost use Rattle.region_slots.specs.FieldView.{IsIdle, PassValue};
 
     ghost Value = { PassValue };

@@ -8,7 +8,7 @@ impl<'a> Field<'a> {
     ghost use Rattle.region_slots.specs.FieldView.{IsPassOf};
 
     /// The step that a region has published. It is looked at in this call.
-    pub fn look(&self, pass: &mut Pass<'a>, region: u32) -> u64
+    pub fn look(&self, pass: &mut Pass, region: u32) -> u64
         requires belongs { IsPassOf self.now pass.old }
         requires there { region < region_count self.now.terms.chart.now.cut }
         ensures knows { pass.new.knows ≡ looked pass.old.knows region result }

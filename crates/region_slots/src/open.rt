@@ -27,7 +27,7 @@ impl<'a> Field<'a> {
         start: &'a Start,
         every: u64,
         seats: u32,
-    ) -> Result<(Field<'a>, Pass<'a>), NoMemory>
+    ) -> Result<(Field<'a>, Pass), NoMemory>
         requires chart { chart.now ≡ chart_of net.now chart.now.cut }
         requires fits { Fits net.now chart.now.cut start.now }
         requires lawful { AreLawful net.now chart.now.cut start.now.steps }

@@ -22,7 +22,7 @@ impl<'a> Field<'a> {
     ghost use Rattle.region_slots.specs.Turning.{HasWritten, IsAt, IsCleared, IsTold, field_held, wrote_many, HasFallenShort, HasLooked};
 
     /// Tells the region in the seat's slot what a cell of its halo holds.
-    fn puts(&self, seat: &mut Seat<Region, View<'a>>, region: u32, j: u32, n: u64)
+    fn puts(&self, seat: &mut Seat<Region, View<'static>>, region: u32, j: u32, n: u64)
         requires seat { IsSeatOf self.now seat.old }
         requires slot { (state : RegionValue) × (seat.old.me.1 ≡ (region, state) ∷ rest seat.old.me.1) × (j < length state.state.put) }
         ensures same { (seat.new.id ≡ seat.old.id) × (seat.new.table_id ≡ seat.old.table_id) }
@@ -35,7 +35,7 @@ impl<'a> Field<'a> {
     }
 
     /// Tells the region in the seat's slot, whose neighbours are cleared, what each cell of its halo holds.
-    pub(crate) fn tells(&self, seat: &mut Seat<Region, View<'a>>, region: u32, step: u64)
+    pub(crate) fn tells(&self, seat: &mut Seat<Region, View<'static>>, region: u32, step: u64)
         requires seat { IsSeatOf self.now seat.old }
         requires there { region < region_count self.now.terms.chart.now.cut }
         requires at { IsAt seat.old.me.0 region step }
@@ -56,7 +56,7 @@ impl<'a> Field<'a> {
     }
 
     /// Takes the region in the seat's slot, whose halo is told, through its step.
-    pub(crate) fn advances(&self, seat: &mut Seat<Region, View<'a>>, region: u32, step: u64)
+    pub(crate) fn advances(&self, seat: &mut Seat<Region, View<'static>>, region: u32, step: u64)
         requires seat { IsSeatOf self.now seat.old }
         requires there { region < region_count self.now.terms.chart.now.cut }
         requires in_time { step < self.now.terms.net.now.steps }
@@ -72,7 +72,7 @@ impl<'a> Field<'a> {
     }
 
     /// What a border cell of the region in the seat's slot holds.
-    fn holds_now(&self, seat: &mut Seat<Region, View<'a>>, region: u32, step: u64, j: u32) -> u64
+    fn holds_now(&self, seat: &mut Seat<Region, View<'static>>, region: u32, step: u64, j: u32) -> u64
         requires seat { IsSeatOf self.now seat.old }
         requires there { region < region_count self.now.terms.chart.now.cut }
         requires inside { j < length (list_at self.now.terms.chart.now.border region) }
@@ -87,7 +87,7 @@ impl<'a> Field<'a> {
     }
 
     /// Writes the row of the step to come, at which the region in the seat's slot stands already.
-    pub(crate) fn fills(&self, seat: &mut Seat<Region, View<'a>>, region: u32, step: u64)
+    pub(crate) fn fills(&self, seat: &mut Seat<Region, View<'static>>, region: u32, step: u64)
         requires seat { IsSeatOf self.now seat.old }
         requires there { region < region_count self.now.terms.chart.now.cut }
         requires at { (t : ℕ) × IsAt seat.old.me.0 region t × (t + 1 ≡ step) }
@@ -110,7 +110,7 @@ impl<'a> Field<'a> {
     /// Looks at the neighbours of the region held last, and gives the first that stands a step lower, with its step.
     pub(crate) fn clears(
         &self,
-        seat: &mut Seat<Region, View<'a>>,
+        seat: &mut Seat<Region, View<'static>>,
         region: u32,
         step: u64,
     ) -> Option<(u32, u64)>
@@ -137,7 +137,7 @@ impl<'a> Field<'a> {
     }
 
     /// Takes the region held last, whose neighbours are cleared, through its step, publishes it and gives it back.
-    pub(crate) fn rises(&self, seat: &mut Seat<Region, View<'a>>, region: u32, step: u64)
+    pub(crate) fn rises(&self, seat: &mut Seat<Region, View<'static>>, region: u32, step: u64)
         requires seat { IsSeatOf self.now seat.old }
         requires there { region < region_count self.now.terms.chart.now.cut }
         requires in_time { step < self.now.terms.net.now.steps }

@@ -8,7 +8,7 @@ use region_step::Region;
 /// The rule of the field's table.
 pub(crate) struct Rule;
 
-impl<'a> TableRule<Region, View<'a>, Terms<'a>> for Rule {
+impl<'a> TableRule<Region, View<'static>, Terms<'a>> for Rule {
     ghost holds = { λ terms field. IsStanding terms field };
 
     ghost first = { λ terms. first_view terms };

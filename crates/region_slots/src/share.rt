@@ -8,7 +8,7 @@ impl<'a> Field<'a> {
     ghost use Rattle.region_slots.specs.FieldView.{IsPassOf};
 
     /// Shares a seat off a pass that has two or more.
-    pub fn share(&self, pass: &mut Pass<'a>) -> Pass<'a>
+    pub fn share(&self, pass: &mut Pass) -> Pass
         requires belongs { IsPassOf self.now pass.old }
         requires shares { 2 ≤ pass.old.knows.share }
         ensures keeps { pass.new.knows ≡ kept pass.old.knows }
@@ -23,10 +23,10 @@ impl<'a> Field<'a> {
 
     /// Makes two passes one. Where it has all of the field's seats, no pass has seen a region past its start and past the
     /// last step that was published.
-    pub fn unite(&self, pass: &mut Pass<'a>, other: Pass<'a>)
+    pub fn unite(&self, pass: &mut Pass, other: Pass)
         requires belongs { IsPassOf self.now pass.old }
         requires also { IsPassOf self.now other }
-        ensures knows { pass.new.knows ≡ united pass.old.knows other.entry.knows }
+        ensures knows { pass.new.knows ≡ united pass.old.knows other.knows }
         ensures same { (pass.new.id ≡ pass.old.id) × (pass.new.table ≡ pass.old.table) }
         ensures belongs { IsPassOf self.now pass.new }
         ensures whole { pass.new.knows.share ≡ self.now.terms.seats → (r : ℕ) → r < region_count self.now.terms.chart.now.cut →

@@ -27,7 +27,7 @@ impl<'a> Field<'a> {
 
     /// A turn on a region: it is taken, and where it stands below the goal and no neighbour stands a step lower it is
     /// taken through its step. Then it is free again.
-    pub fn turn<G: Gate>(&self, pass: &mut Pass<'a>, region: u32, goal: u64, gate: &G) -> Turn
+    pub fn turn<G: Gate>(&self, pass: &mut Pass, region: u32, goal: u64, gate: &G) -> Turn
         requires belongs { IsPassOf self.now pass.old }
         requires there { region < region_count self.now.terms.chart.now.cut }
         requires in_time { goal ≤ self.now.terms.net.now.steps }
@@ -45,7 +45,7 @@ impl<'a> Field<'a> {
     // The same on a seat.
     fn tries<G: Gate>(
         &self,
-        seat: &mut Seat<Region, View<'a>>,
+        seat: &mut Seat<Region, View<'static>>,
         region: u32,
         goal: u64,
         gate: &G,

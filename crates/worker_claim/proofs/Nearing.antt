@@ -1,13 +1,13 @@
 -- A sweep with the whole share brings the regions nearer to the goal, as long as one stands below it.
 use Rattle.std.specs.Prelude.{slice_index}
 use Rattle.std.specs.List.{range_with_len, sum_by}
-use Rattle.std.proofs.Common.{◌≡◌, ◌≢◌, ◌⊎◌, ℕ, zero, suc, ◌+◌, ◌-◌, ◌<◌, ◌≤◌, inl, inr, false, refl, sym, ap, subst, arith}
-use Rattle.std.proofs.lemmas.Bool.{cases_eq, cases_lt}
+use Rattle.std.proofs.Common.{◌≡◌, ◌⊎◌, ℕ, zero, suc, ◌+◌, ◌-◌, ◌<◌, ◌≤◌, inl, inr, false, refl, sym, subst, arith}
+use Rattle.std.proofs.lemmas.Bool.{cases_eq}
 use Rattle.std.proofs.lemmas.List.Sums.{sum_by-cons}
 use Rattle.region_cut.specs.Cuttings.{region_count}
 use Rattle.border_rows.specs.declared.view.Terms.{Terms}
 use Rattle.border_rows.specs.declared.view.View.{View}
-use Rattle.worker_claim.specs.Driving.{AllReach, steps_left}
+use Rattle.worker_claim.specs.Driving.{steps_left}
 use Rattle.worker_claim.specs.Turns.{IsShort}
 use Rattle.worker_claim.specs.declared.driven.Driven.{Driven}
 use Rattle.worker_claim.proofs.Sweeping.{IsSweep}
@@ -41,23 +41,18 @@ same-or-less f g a (suc n) no_more =
 abbrev AllStay : (count goal : ℕ) (old new : View) → Type 0
 AllStay count goal old new = (r : ℕ) → r < count → goal - slice_index new.seen r ≡ goal - slice_index old.seen r
 
--- then none that was found short has a lower one that wasn't found so, down to the lowest
+-- Then none has stayed below the goal: one that was found short was so of a lower one, down to the lowest.
 all-reach : (terms : Terms) (old new : View) (goal : ℕ) (driven : Driven) (n r : ℕ) → IsSweep terms old new goal driven → driven.moved + driven.held ≡ 0 → AllStay (region_count terms.chart.now.cut) goal old new →
-    r < region_count terms.chart.now.cut → slice_index old.seen r ≤ n → goal ≤ slice_index new.seen r
-
-not-short : (terms : Terms) (old new : View) (goal : ℕ) (driven : Driven) (n r : ℕ) → IsSweep terms old new goal driven → driven.moved + driven.held ≡ 0 → AllStay (region_count terms.chart.now.cut) goal old new →
-    r < region_count terms.chart.now.cut → slice_index old.seen r ≤ n → (short : IsShort terms old new goal r) → goal ≤ slice_index new.seen short.q
-not-short terms old new goal driven zero r sweep nothing stay within low short = absurd (omega (arith, low, short.below, short.own.1, stay r within))
-not-short terms old new goal driven (suc n) r sweep nothing stay within low short =
-    all-reach terms old new goal driven n short.q sweep nothing stay short.there (omega (arith, low, short.below, short.own.0, short.own.1, short.other.0, short.other.1, stay r within))
-
-all-reach terms old new goal driven n r sweep nothing stay within low = elim (sweep.each r within) [
+    r < region_count terms.chart.now.cut → slice_index old.seen r < n → goal ≤ slice_index new.seen r
+all-reach terms old new goal driven zero r sweep nothing stay within low = absurd (omega (arith, low))
+all-reach terms old new goal driven (suc n) r sweep nothing stay within low = elim (sweep.each r within) [
   | inl reached ↦ reached
   | inr rest ↦ elim rest [
     | inl some ↦ absurd (some nothing)
     | inr is ↦
         let short : IsShort terms old new goal r = is.1 in
-        let reached = not-short terms old new goal driven n r sweep nothing stay within low short in
+        let reached = all-reach terms old new goal driven n short.q sweep nothing stay short.there
+        (omega (arith, low, short.below, short.own.0, short.own.1, short.other.0, short.other.1, stay r within)) in
         absurd (omega (arith, reached, short.below, short.other.0, short.other.1, stay short.q short.there))
   ]
 ]
@@ -79,7 +74,7 @@ nearer terms old new goal driven sweep whole below =
               | inr some ↦
                   let is = sweep.counted.short some in
                   let short : IsShort terms old new goal is.0 = is.2 in
-                  let reached = not-short terms old new goal driven (slice_index old.seen is.0) is.0 sweep (omega (arith, still, held)) stay is.1 (omega arith) short in
+                  let reached = all-reach terms old new goal driven (slice_index old.seen short.q + 1) short.q sweep (omega (arith, still, held)) stay short.there (omega arith) in
                   absurd (omega (arith, reached, short.below, short.other.0, short.other.1, stay short.q short.there))
             ]
             | inr some ↦ let is = sweep.counted.risen some in absurd (omega (arith, is.2, is.3, stay is.0 is.1))

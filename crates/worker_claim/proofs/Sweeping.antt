@@ -1,7 +1,7 @@
 -- Sweeps, one after the other.
-use Rattle.std.specs.Prelude.{IsTrue, slice_index}
-use Rattle.std.proofs.Common.{◌≡◌, ◌≢◌, ℕ, ◌+◌, ◌*◌, ◌<◌, ◌≤◌, inl, inr, false, refl, sym, ap, ◌∙◌, arith}
-use Rattle.std.proofs.lemmas.Bool.{cases_eq, cases_lt}
+use Rattle.std.specs.Prelude.{IsTrue}
+use Rattle.std.proofs.Common.{◌≡◌, ◌≢◌, ℕ, ◌+◌, ◌<◌, ◌≤◌, inl, inr, false, nat_eq, refl, sym, ◌∙◌, arith}
+use Rattle.std.proofs.lemmas.Bool.{cases_eq, cases_lt, eqb-false, eqb-true}
 use Rattle.region_cut.specs.Cuttings.{region_count}
 use Rattle.border_rows.specs.declared.view.Terms.{Terms}
 use Rattle.border_rows.specs.declared.view.View.{View}
@@ -31,6 +31,22 @@ round-sweep terms old view new first goal one other both there added before afte
   all = all;
   not_all = not_all;
 }
+
+-- and both counts added up
+abbrev pub both : (regions : ℕ) (one other : Driven) → Driven
+both regions one other = record {
+  moved = one.moved + other.moved;
+  held = one.held + other.held;
+  behind = one.behind + other.behind;
+  ended = one.ended + other.ended;
+  all = nat_eq (one.ended + other.ended) regions;
+}
+
+pub added-up : (terms : Terms) (old view new : View) (first goal regions : ℕ) (one other : Driven) → first ≤ region_count terms.chart.now.cut → regions ≡ region_count terms.chart.now.cut →
+    HasTurned terms old view first (region_count terms.chart.now.cut) goal one → HasTurned terms view new 0 first goal other → IsSweep terms old new goal (both regions one other)
+added-up terms old view new first goal regions one other there is before after =
+    round-sweep terms old view new first goal one other (both regions one other) there record { moved = refl; held = refl; behind = refl; ended = refl } before after
+    (λ all. eqb-true (one.ended + other.ended) regions all ∙ is) (λ not_all same. eqb-false (one.ended + other.ended) regions not_all (same ∙ sym is))
 
 pub round-swept : (terms : Terms) (old view new : View) (first goal : ℕ) (one other both : Driven) → HasTurned terms old view first (region_count terms.chart.now.cut) goal one → HasTurned terms view new 0 first goal other →
     IsSweep terms old new goal both → HasSwept (region_count terms.chart.now.cut) goal 1 old new both

@@ -15,7 +15,7 @@ abbrev pub none : Driven
 none = record { moved = 0; held = 0; behind = 0; ended = 0; all = false }
 
 -- one turn more
-pub counted : Driven → Turn → Driven
+unfoldable pub counted : Driven → Turn → Driven
 counted driven (Moved s) = record driven { moved = driven.moved + 1 }
 counted driven Held = record driven { held = driven.held + 1 }
 counted driven (Behind q s) = record driven { behind = driven.behind + 1 }

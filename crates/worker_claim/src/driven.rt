@@ -28,6 +28,7 @@ impl Driven {
     }
 
     /// Counts one turn more.
+    #[tactic(auto, unfolding(crate::specs::Turns::counted))]
     pub(crate) fn count(&mut self, turn: Turn)
         requires { turns_of self.old + 1 < 2 ^ 64 }
         ensures { self.new ≡ counted self.old turn }

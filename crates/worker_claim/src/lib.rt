@@ -5,15 +5,15 @@
 //! memory.
 #![tactic(auto)]
 
-mod crew;
-mod drive;
 mod driven;
-mod finish;
+mod driving;
+mod finishing;
 mod member;
+mod members;
 mod sweep;
 
-pub use crew::crew;
-pub use drive::drive;
 pub use driven::Driven;
-pub use finish::finish;
+pub use driving::drive;
+pub use finishing::finish;
 pub use member::Member;
+pub use members::crew;

@@ -1,22 +1,22 @@
-use crate::drive::drive;
+use crate::driving::drive;
 use crate::driven::Driven;
 use ctm_ports::Gate;
 use region_slots::{Field, Pass};
 
 /// A member of a crew: a pass, the region at which its sweeps begin, and what came of its last drive.
-pub struct Member<'a> {
-    pub pass: Pass<'a>,
+pub struct Member {
+    pub pass: Pass,
     pub first: u32,
     pub driven: Driven,
 }
 
-impl<'a> Member<'a> {
+impl Member {
     ghost use Rattle.std.specs.Prelude.{◌≡◌, ◌≤◌};
     ghost use Rattle.worker_claim.specs.Members.{IsDriven, IsMemberOf};
     ghost use Rattle.worker_claim.specs.Turns.{none};
 
     /// A member that hasn't driven yet.
-    pub fn new(pass: Pass<'a>, first: u32) -> Member<'a>
+    pub fn new(pass: Pass, first: u32) -> Member
         ensures { result ≡ record { pass = pass; first = first; driven = none } }
     {
         Member {
@@ -27,7 +27,7 @@ impl<'a> Member<'a> {
     }
 
     /// Drives with the member's pass.
-    pub(crate) fn drive<G: Gate>(&mut self, field: &Field<'a>, goal: u64, sweeps: u32, gate: &G)
+    pub(crate) fn drive<G: Gate>(&mut self, field: &Field, goal: u64, sweeps: u32, gate: &G)
         requires member { IsMemberOf field.now self.old }
         requires in_time { goal ≤ field.now.terms.net.now.steps }
         ensures { IsDriven field.now goal sweeps self.old self.new }

@@ -9,9 +9,9 @@ use ctm_ports::Gate;
 use region_slots::{Field, Pass};
 
 /// One turn on each region, in order of number from `first` on and round.
-pub(crate) fn sweep<'a, G: Gate>(
-    field: &Field<'a>,
-    pass: &mut Pass<'a>,
+pub(crate) fn sweep<G: Gate>(
+    field: &Field,
+    pass: &mut Pass,
     goal: u64,
     first: u32,
     gate: &G,
@@ -38,9 +38,9 @@ pub(crate) fn sweep<'a, G: Gate>(
 }
 
 // One turn on each region from one number to below another.
-fn turns<'a, G: Gate>(
-    field: &Field<'a>,
-    pass: &mut Pass<'a>,
+fn turns<G: Gate>(
+    field: &Field,
+    pass: &mut Pass,
     goal: u64,
     from: u32,
     to: u32,

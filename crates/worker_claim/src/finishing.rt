@@ -10,7 +10,7 @@ use region_slots::{Field, Pass};
 
 /// Brings each region to the goal, or leaves it past it, with the pass that has all of the field's seats. Nobody else can
 /// hold a region then, and the lowest region below the goal has no lower neighbour, so that each sweep moves one.
-pub fn finish<'a, G: Gate>(field: &Field<'a>, pass: &mut Pass<'a>, goal: u64, gate: &G)
+pub fn finish<G: Gate>(field: &Field, pass: &mut Pass, goal: u64, gate: &G)
     requires belongs { IsPassOf field.now pass.old }
     requires whole { pass.old.knows.share ≡ field.now.terms.seats }
     requires in_time { goal ≤ field.now.terms.net.now.steps }

@@ -10,9 +10,9 @@ use region_slots::{Field, Pass};
 
 /// Makes so many sweeps with a pass, or fewer where all turns of one find their region at the goal or past it. A sweep is
 /// one turn on each region, in order of number from `first` on and round.
-pub fn drive<'a, G: Gate>(
-    field: &Field<'a>,
-    pass: &mut Pass<'a>,
+pub fn drive<G: Gate>(
+    field: &Field,
+    pass: &mut Pass,
     goal: u64,
     sweeps: u32,
     first: u32,
@@ -24,6 +24,7 @@ pub fn drive<'a, G: Gate>(
     ensures belongs { IsPassOf field.now pass.new × (pass.new.id ≡ pass.old.id) }
     ensures driven { HasDriven (region_count field.now.terms.chart.now.cut) goal sweeps pass.old.knows pass.new.knows result }
 {
+    let _regions = field.regions();
     let mut driven = Driven::none();
     let mut made = 0;
     while made < sweeps && !driven.all {
