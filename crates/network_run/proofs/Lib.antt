@@ -1,0 +1,2 @@
+pub mod Enlisting
+pub mod Ending

@@ -6,7 +6,7 @@ use Rattle.worker_claim.specs.declared.member.Member.{Member}
 
 -- a member of the field with one seat
 pub record IsEnlisted (field : FieldValue) (member : Member) : Type 0 where
-  pub member : IsMemberOf field member
+  pub belongs : IsMemberOf field member
   pub share : member.pass.knows.share ≡ 1
 
 -- all of them are

@@ -138,7 +138,7 @@ fn wandered<R: Abort>(
     let (field, mut pass) = Field::open(alloc, net, chart, &start, 0, workers + 1)?;
     enlist(&field, &mut pass, &mut members, workers);
     wander(rt, &field, &mut members, last, 40, seed)?;
-    dismiss(&field, &mut pass, members);
+    dismiss(&field, &mut pass, &mut members);
     finish(&field, &mut pass, last, &OpenGate);
     let Closed { steps: _, regions } = field.close(pass);
     rows_of(rt, alloc, net, chart, &regions)

@@ -1,4 +1,4 @@
-ghost use Rattle.std.specs.Prelude.{◌≡◌, ◌+◌, ◌≤◌, [], length, vec_capacity};
+ghost use Rattle.std.specs.Prelude.{◌≡◌, ◌+◌, ◌*◌, ◌/◌, ◌<◌, ◌≤◌, [], length, vec_capacity};
 ghost use Rattle.region_slots.specs.FieldView.{IsPassOf};
 ghost use Rattle.network_run.specs.Enlisted.{AreEnlisted};
 
@@ -21,22 +21,32 @@ pub(crate) fn enlist(
     ensures many { length members.new.items ≡ workers }
     ensures enlisted { AreEnlisted field.now members.new.items }
 {
-    let regions = u64::from(field.regions());
+    let regions = field.regions();
     for j in 0..workers {
-        let first = u64::from(j) * regions / u64::from(workers);
+        let first = first_region(j, regions, workers);
         let other = field.share(pass);
-        members.push_reserved(Member::new(other, first as u32));
+        members.push_reserved(Member::new(other, first));
     }
 }
 
-/// Unites a pass with those of all members.
-pub(crate) fn dismiss(field: &Field, pass: &mut Pass, members: Vec<Member>)
-    requires belongs { IsPassOf field.now pass.old }
-    requires enlisted { AreEnlisted field.now members.items }
-    ensures belongs { IsPassOf field.now pass.new }
-    ensures seats { pass.new.knows.share ≡ pass.old.knows.share + length members.items }
+// The region at which the sweeps of member `j` of so many begin.
+fn first_region(j: u32, regions: u32, workers: u32) -> u32
+    requires one_of { j < workers }
+    requires some { 1 ≤ regions }
+    ensures is { result ≡ j * regions / workers }
+    ensures there { result < regions }
 {
-    for member in members {
+    (u64::from(j) * u64::from(regions) / u64::from(workers)) as u32
+}
+
+/// Unites a pass with those of all members.
+pub(crate) fn dismiss(field: &Field, pass: &mut Pass, members: &mut Vec<Member>)
+    requires belongs { IsPassOf field.now pass.old }
+    requires enlisted { AreEnlisted field.now members.old.items }
+    ensures belongs { IsPassOf field.now pass.new }
+    ensures seats { pass.new.knows.share ≡ pass.old.knows.share + length members.old.items }
+{
+    while let Some(member) = members.pop() {
         let Member {
             pass: other,
             first: _,

@@ -38,7 +38,7 @@ pub fn last_regions<R: Threads + Sync, G: Gate>(
     let (field, mut pass) = Field::open(alloc, net, chart, &start, every, workers + 1)?;
     enlist(&field, &mut pass, &mut members, workers);
     drive_rounds(rt, &field, &mut members, steps, gate);
-    dismiss(&field, &mut pass, members);
+    dismiss(&field, &mut pass, &mut members);
     finish(&field, &mut pass, steps, gate);
     let Closed { steps: _, regions } = field.close(pass);
     Ok(regions)

@@ -4,6 +4,7 @@ use ctm_ports::Gate;
 use region_slots::{Field, Pass};
 
 /// A member of a crew: a pass, the region at which its sweeps begin, and what came of its last drive.
+#[derive(Drop)]
 pub struct Member {
     pub pass: Pass,
     pub first: u32,
