@@ -1,5 +1,6 @@
-ghost use Rattle.std.specs.Prelude.{◌≡◌, ◌≤◌, length};
-ghost use Rattle.network_run.specs.Enlisted.{AreEnlisted};
+ghost use Rattle.std.specs.Prelude.{◌≡◌, ◌⊎◌, ◌-◌, ◌*◌, ◌^◌, ◌≤◌, IsTrue, length, min};
+ghost use Rattle.region_cut.specs.Cuttings.{region_count};
+ghost use Rattle.network_run.specs.Enlisted.{AreEnlisted, IsOver};
 
 use ctm_ports::Gate;
 use region_slots::Field;
@@ -9,30 +10,35 @@ use worker_claim::{Member, crew};
 // How many sweeps a member makes in a round, at most.
 const SWEEPS: u32 = 4096;
 
-/// Has the crew drive in rounds, until a member has found all regions at the goal or none has moved one.
+/// Has the crew drive in rounds, until a member has found all regions at the goal, or none has moved one, or there were as
+/// many rounds as there are steps to take. It gives their number.
 pub(crate) fn drive_rounds<R: Threads + Sync, G: Gate>(
     rt: &R,
     field: &Field,
     members: &mut [Member],
     goal: u64,
     gate: &G,
-)
+) -> u64
     requires enlisted { AreEnlisted field.now members.old }
     requires in_time { goal ≤ field.now.terms.net.now.steps }
     ensures many { length members.new ≡ length members.old }
     ensures enlisted { AreEnlisted field.now members.new }
+    ensures over { IsOver members.new ⊎ (result ≡ min (region_count field.now.terms.chart.now.cut * goal) (2 ^ 64 - 1)) }
 {
     let most = u64::from(field.regions()).saturating_mul(goal);
-    for _ in 0..most {
+    for round in 0..most {
         crew(rt, field, members, goal, SWEEPS, gate);
         if is_over(members) {
-            return;
+            return round + 1;
         }
     }
+    most
 }
 
 // Whether a member has found all regions at the goal, or none has moved one.
-fn is_over(members: &[Member]) -> bool {
+fn is_over(members: &[Member]) -> bool
+    ensures { IsTrue result → IsOver members.now }
+{
     members.iter().any(|member| member.driven.all)
         || members.iter().all(|member| member.driven.moved == 0)
 }
