@@ -3,7 +3,7 @@ use Rattle.std.specs.Prelude.{ℕ, Bool, true, false, List, Option, Some, None, 
 use Rattle.command_words.specs.declared.mode.Mode.{Mode}
 use Rattle.command_words.specs.declared.mode.Mode.TheVariants.{Run, Check, Convert}
 use Rattle.command_words.specs.declared.setting.Setting.{Setting}
-use Rattle.command_words.specs.declared.setting.Setting.TheVariants.{Regions, Every}
+use Rattle.command_words.specs.declared.setting.Setting.TheVariants.{Regions, Workers, Every}
 
 -- the mode that a word names
 abbrev pub mode_named : List ℕ → Option Mode
@@ -16,6 +16,7 @@ mode_named word =
 -- whether a mode has an option
 abbrev pub takes_option : Mode → Setting → Bool
 takes_option Run Regions = true
+takes_option Run Workers = true
 takes_option Run Every = true
 takes_option Run other = false
 takes_option Check option = false

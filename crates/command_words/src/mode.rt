@@ -32,7 +32,7 @@ impl Mode {
         ensures { result ≡ takes_option self setting }
     {
         match (self, setting) {
-            (Mode::Run, Setting::Regions | Setting::Every) => true,
+            (Mode::Run, Setting::Regions | Setting::Workers | Setting::Every) => true,
             (Mode::Run, _) => false,
             (Mode::Check, _) => false,
             (Mode::Convert, _) => false,

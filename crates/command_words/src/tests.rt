@@ -102,7 +102,7 @@ fn a_run_has_regions(rt: HostRuntime) -> Result<(), Fail> {
         ("--regions 3", None, "there is a mode beside it"),
         ("run --regions 3 check", None, "and one only"),
         (
-            "run --regions 3 --workers 1",
+            "run --regions 3 --shots 1",
             None,
             "with no option that a run hasn't",
         ),
@@ -110,6 +110,26 @@ fn a_run_has_regions(rt: HostRuntime) -> Result<(), Fail> {
         let run = plain(Mode::Run);
         let want = regions
             .map(|regions| Request { regions, ..run })
+            .ok_or(WordsRefusal::Refused);
+        assert!(rt; read(rt.alloc(), words)? == want, "{shows}: {words}");
+    }
+    Ok(())
+}
+
+#[test]
+fn a_run_has_workers(rt: HostRuntime) -> Result<(), Fail> {
+    for (words, workers, shows) in [
+        ("run --workers 2", Some(2), "a run has workers"),
+        ("--workers=16 run", Some(16), "16 at most"),
+        ("run --workers 1", Some(1), "one at least"),
+        ("run --workers 0", None, "none are too few"),
+        ("run --workers 17", None, "and 17 too many"),
+        ("run --workers 2 --workers 2", None, "they stand once"),
+        ("check --workers 2", None, "a check has none"),
+    ] {
+        let run = plain(Mode::Run);
+        let want = workers
+            .map(|workers| Request { workers, ..run })
             .ok_or(WordsRefusal::Refused);
         assert!(rt; read(rt.alloc(), words)? == want, "{shows}: {words}");
     }
@@ -138,9 +158,10 @@ fn a_run_is_recorded_every_so_many_steps(rt: HostRuntime) -> Result<(), Fail> {
 
 #[test]
 fn the_options_of_a_run_stand_beside_each_other(rt: HostRuntime) -> Result<(), Fail> {
-    let request = read(rt.alloc(), "run --every 5 --regions 3")?;
+    let request = read(rt.alloc(), "run --every 5 --workers 2 --regions 3")?;
     let want = Request {
         regions: 3,
+        workers: 2,
         every: 5,
         ..plain(Mode::Run)
     };

@@ -2,10 +2,6 @@
 //! through their steps in rounds, and one of them finishes.
 #![tactic(auto)]
 
-#[cfg(test)]
-mod field_tests;
-#[cfg(test)]
-mod meanwhile_tests;
 mod members;
 mod rounds;
 mod run;

@@ -8,6 +8,7 @@ use std::alloc::Global;
 use std::marker::Model;
 
 /// Regions that any thread may take, advance by a step and give back.
+#[derive(Drop)]
 pub struct Field<'a> {
     pub(crate) net: &'a Net,
     pub(crate) chart: &'a Chart,
