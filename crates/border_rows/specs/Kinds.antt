@@ -82,6 +82,7 @@ shared_off view = record view {
   splits = 0;
   held_found = none_of view.held_found;
   short_found = 0;
+  last_short = record { region = 0; neighbour = 0; step = 0 };
   looks = none_of view.looks;
   holds = [];
 }

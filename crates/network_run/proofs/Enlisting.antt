@@ -1,12 +1,11 @@
 -- Members who join, drive and leave.
-use Rattle.std.specs.Prelude.{slice_index_or}
-use Rattle.std.proofs.Common.{◌≡◌, ℕ, ◌+◌, ◌*◌, ◌/◌, ◌<◌, ◌≤◌, inl, inr, List, [], ◌∷◌, ◌++◌, length, get_or, sym, ap, subst, ◌∙◌, arith}
-use Rattle.std.proofs.lemmas.Bool.{cases_lt}
-use Rattle.std.proofs.lemmas.List.{get_or_append_left, length-append}
+use Rattle.std.proofs.Common.{ℕ, ◌*◌, ◌/◌, ◌<◌, ◌≤◌, inl, inr, List, [], ◌∷◌, ◌++◌, length, get_or, set, sym, ap, subst, ◌∙◌, arith}
+use Rattle.std.proofs.lemmas.Bool.{cases_eq, cases_lt}
+use Rattle.std.proofs.lemmas.List.{get_or-set_other, get_or-set_same, get_or_append_left, length-append, length-set}
 use Rattle.std.proofs.lemmas.Nat.{div_below, row_fits}
 use Rattle.region_slots.specs.FieldView.{FieldValue}
 use Rattle.region_step.proofs.Lists.{pushed-at}
-use Rattle.worker_claim.specs.Members.{AreDriven, AreMembersOf, IsDriven, IsMemberOf}
+use Rattle.worker_claim.specs.Members.{AreDriven, AreMembersOf, IsDriven}
 use Rattle.worker_claim.specs.declared.member.Member.{Member}
 use Rattle.network_run.specs.Enlisted.{AreEnlisted, IsEnlisted}
 
@@ -34,3 +33,10 @@ enlisted-driven field goal sweeps old new all driven = λ k d within.
       belongs = record { belongs = is.belongs; there = omega (arith, is.same.1, was.belongs.there) };
       share = is.driven.3.keeps.share ∙ was.share;
     }
+
+-- one of them has taken a turn
+pub enlisted-set : (field : FieldValue) (members : List Member) (i : ℕ) (member : Member) → AreEnlisted field members → IsEnlisted field member → AreEnlisted field (set members i member)
+enlisted-set field members i member all one = λ k d within. elim (cases_eq k i) [
+  | inl same ↦ subst (IsEnlisted field) (sym (ap (λ j. get_or (set members i member) j d) same ∙ get_or-set_same members i member d (omega (arith, within, same, length-set members i member)))) one
+  | inr other ↦ subst (IsEnlisted field) (sym (get_or-set_other members i k member d other)) (all k d (omega (arith, within, length-set members i member)))
+]

@@ -2,6 +2,8 @@
 //! through their steps in rounds, and one of them finishes.
 #![tactic(auto)]
 
+#[cfg(test)]
+mod field_tests;
 mod members;
 mod rounds;
 mod run;

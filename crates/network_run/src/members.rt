@@ -6,12 +6,7 @@ use region_slots::{Field, Pass};
 use worker_claim::Member;
 
 /// Shares a pass off for each worker. Their sweeps begin at regions far from each other.
-pub(crate) fn enlist(
-    field: &Field,
-    pass: &mut Pass,
-    members: &mut Vec<Member>,
-    workers: u32,
-)
+pub(crate) fn enlist(field: &Field, pass: &mut Pass, members: &mut Vec<Member>, workers: u32)
     requires belongs { IsPassOf field.now pass.old }
     requires seats { pass.old.knows.share ≡ workers + 1 }
     requires nobody { members.old.items ≡ [] }

@@ -16,7 +16,7 @@ use std::test::Fail;
 use std::thread::Threads;
 
 // Networks of the cells a, b, c and d. In the texts below `; ` stands for a line end.
-const NETWORKS: [&str; 5] = [
+pub(crate) const NETWORKS: [&str; 5] = [
     // a ring
     "ctm,2; steps,9; road,a,10,3,1,2,7.5; road,b,8,2,1,1,8; road,c,9,4,2,3,0; road,d,6,2.5,1,3,1.25; \
 link,a,b; link,b,c; link,c,d; link,d,a",
@@ -35,7 +35,7 @@ signal,b,4,1,0,2; limit,c,2,7,0.5; limit,d,4,6,0; demand,a,0,9,0.333333",
 ];
 
 // The regions of a, b, c and d.
-const CUTTINGS: [[u32; 4]; 8] = [
+pub(crate) const CUTTINGS: [[u32; 4]; 8] = [
     [0, 0, 0, 0],
     [0, 0, 1, 1],
     [0, 1, 0, 1],
@@ -47,14 +47,14 @@ const CUTTINGS: [[u32; 4]; 8] = [
 ];
 
 // The network of a text.
-fn network<R: Abort>(rt: &R, alloc: Global, text: &str) -> Result<Net, Fail> {
+pub(crate) fn network<R: Abort>(rt: &R, alloc: Global, text: &str) -> Result<Net, Fail> {
     let file = text.replace(alloc, "; ", "\n")?;
     assert!(rt; file.len() <= MOST_BYTES);
     Ok(Net::read(alloc, file.as_bytes())?)
 }
 
 // The text of a network with the regions of its cells.
-fn cut_text(alloc: Global, text: &str, regions: [u32; 4]) -> Result<String, AllocError> {
+pub(crate) fn cut_text(alloc: Global, text: &str, regions: [u32; 4]) -> Result<String, AllocError> {
     let [a, b, c, d] = regions;
     format!(in alloc; "{text}; region,a,{a}; region,b,{b}; region,c,{c}; region,d,{d}")
 }
@@ -72,7 +72,7 @@ fn blank_rows(alloc: Global, net: &Net) -> Result<Vec<Row>, NoMemory>
 }
 
 // The rows at each step, one step of the whole network after the other.
-fn whole_steps(alloc: Global, net: &Net) -> Result<Vec<Vec<Row>>, NoMemory> {
+pub(crate) fn whole_steps(alloc: Global, net: &Net) -> Result<Vec<Vec<Row>>, NoMemory> {
     let mut steps = Vec::new(alloc);
     let mut now = blank_rows(alloc, net)?;
     first_rows(net, &mut now);
@@ -87,7 +87,7 @@ fn whole_steps(alloc: Global, net: &Net) -> Result<Vec<Vec<Row>>, NoMemory> {
 }
 
 // The rows of regions, in the order of the file.
-fn rows_of<R: Abort>(
+pub(crate) fn rows_of<R: Abort>(
     rt: &R,
     alloc: Global,
     net: &Net,
@@ -135,7 +135,7 @@ fn notes<R: Abort>(
 }
 
 // The chart of a run in so many regions.
-fn charted(alloc: Global, net: &Net, regions: u32) -> Result<Chart, NoMemory>
+pub(crate) fn charted(alloc: Global, net: &Net, regions: u32) -> Result<Chart, NoMemory>
     requires some { 1 ≤ regions }
     requires few { regions ≤ MOST_REGIONS }
     ensures { IfOk result (λ chart. chart ≡ chart_of net.now chart.cut) }
@@ -159,7 +159,12 @@ fn last_rows<R: Abort + Threads + Sync>(
 }
 
 // Compares the trail of each region with the notes of whole steps.
-fn compare_trails<R: Abort + Threads + Sync>(rt: &R, alloc: Global, net: &Net, every: u64) -> Result<(), Fail> {
+fn compare_trails<R: Abort + Threads + Sync>(
+    rt: &R,
+    alloc: Global,
+    net: &Net,
+    every: u64,
+) -> Result<(), Fail> {
     let steps = whole_steps(alloc, net)?;
     let chart = charted(alloc, net, 1)?;
     let regions = last_regions(rt, alloc, net, &chart, every, 2, &OpenGate)?;

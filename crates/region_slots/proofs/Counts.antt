@@ -1,13 +1,15 @@
 -- What a view has seen and found is kept of each region.
-use Rattle.std.specs.Prelude.{max, slice_index}
+use Rattle.std.specs.Prelude.{max, slice_index, slice_set}
 use Rattle.std.specs.List.{range_with_len}
-use Rattle.std.proofs.Common.{◌≡◌, ℕ, ◌+◌, ◌≤◌, List, length, refl, sym, ap, subst, ◌∙◌}
-use Rattle.std.proofs.lemmas.List.{length-map, length-set}
-use Rattle.std.proofs.lemmas.List.FromFn.{length-range_with_len}
-use Rattle.border_rows.specs.Kinds.{found_taken, kept, looked, none_of, shared_off, together, united}
+use Rattle.std.proofs.Common.{◌≡◌, ℕ, ◌+◌, ◌≤◌, inl, inr, List, length, refl, sym, ap, subst, ◌∙◌, arith}
+use Rattle.std.proofs.lemmas.Bool.{cases_eq, cases_lt}
+use Rattle.std.proofs.lemmas.List.{get_or-set_other, get_or-set_same, get_or_past, length-map, length-set}
+use Rattle.std.proofs.lemmas.List.FromFn.{get_or-map-range_with_len, length-range_with_len}
+use Rattle.region_cut.specs.Cuttings.{region_count}
+use Rattle.border_rows.specs.Kinds.{found_taken, kept, looked, shared_off, together, united}
 use Rattle.border_rows.specs.declared.view.Terms.{Terms}
 use Rattle.border_rows.specs.declared.view.View.{View}
-use Rattle.region_slots.specs.FieldView.{HasCounts}
+use Rattle.region_slots.specs.FieldView.{HasCounts, HasSeenInTime}
 use Rattle.region_slots.specs.Opening.{first_view}
 use Rattle.region_slots.specs.Turning.{IsBehind, IsMoved}
 use Rattle.region_slots.specs.declared.turn.Turn.{Turn}
@@ -39,6 +41,23 @@ counts-united count view other has = record {
   held_found = length-together (λ a b. a + b) view.held_found other.held_found ∙ has.held_found;
   looks = length-together (λ a b. a + b) view.looks other.looks ∙ has.looks;
 }
+
+-- what two views have seen lies within the field's steps, and so does the greater of both
+pub united-in-time : (terms : Terms) (view other : View) → HasCounts (region_count terms.chart.now.cut) view → HasSeenInTime terms view → HasSeenInTime terms other → HasSeenInTime terms (united view other)
+united-in-time terms view other has seen also = λ r there.
+    let is : slice_index (united view other).seen r ≡ max (slice_index view.seen r) (slice_index other.seen r) =
+    get_or-map-range_with_len (λ q. max (slice_index view.seen q) (slice_index other.seen q)) 0 (length view.seen) r r 0 (omega (arith, there, has.seen)) (omega arith) in
+    omega (arith, is, seen r there, also r there)
+
+-- what was looked at does too
+pub looked-in-time : (terms : Terms) (view : View) (r s : ℕ) → HasSeenInTime terms view → s ≤ terms.net.now.steps → HasSeenInTime terms (looked view r s)
+looked-in-time terms view r s seen now = λ q there. elim (cases_eq q r) [
+  | inl same ↦ elim (cases_lt r (length view.seen)) [
+    | inl within ↦ omega (arith, ap (slice_index (looked view r s).seen) same, get_or-set_same view.seen r s 0 within, now)
+    | inr past ↦ omega (arith, ap (slice_index (looked view r s).seen) same, get_or_past (slice_set view.seen r s) r 0 (omega (arith, past, length-set view.seen r s)))
+  ]
+  | inr other ↦ omega (arith, get_or-set_other view.seen r q s 0 other, seen q there)
+]
 
 pub counts-looked : (count r s : ℕ) (view : View) → HasCounts count view → HasCounts count (looked view r s)
 counts-looked count r s view has = record {

@@ -21,7 +21,7 @@ use Rattle.border_rows.proofs.LookKinds.{found_at-keeps, looked-keeps, steps_of-
 use Rattle.border_rows.proofs.PlaceLaws.{steps-differ}
 use Rattle.border_rows.proofs.ViewUpdates.{Contains-elem}
 use Rattle.region_slots.specs.Plays.{Freed, IsRegion, Learned, Looked, Mine}
-use Rattle.region_slots.proofs.Claiming.{same-terms}
+use Rattle.region_slots.proofs.Claiming.{same-terms, seen-in-time}
 
 -- a step word is of one region
 pub same-step : (terms : Terms) (r q : ℕ) → IsChart terms.chart.now → r < region_count terms.chart.now.cut → q < region_count terms.chart.now.cut →
@@ -96,14 +96,14 @@ learning terms slots id r me later chart within of_field share taken = λ s stan
       },
     )
 
-pub freeing : (terms : Terms) (slots id r : ℕ) (me : Mine) (hold : Hold) (later : List Hold) (state : RegionValue) (others : List (ℕ × RegionValue)) → IsChart terms.chart.now →
+pub freeing : (terms : Terms) (slots id r : ℕ) (me : Mine) (hold : Hold) (later : List Hold) (state : RegionValue) (others : List (ℕ × RegionValue)) → IsChart terms.chart.now → me.0.terms ≡ terms ∷ [] →
     me.0.share ≢ 0 → me.0.holds ≡ hold ∷ later → hold.region ≡ r → hold.known ≡ true → me.1 ≡ (r, state) ∷ others →
     Stands terms.net.now terms.chart.now terms.start.now terms.every r (if hold.published then hold.step + 1 else hold.step) state →
     Allows (IsStanding terms) slots id me (claim_place (widths_of terms.chart.now) r) (λ _. 0) (λ _. Freed (step slots (claim_place (widths_of terms.chart.now) r) 0 0 none) me 0)
-freeing terms slots id r me hold later state others chart share has own knows carries stands = λ s standing long at small. (
+freeing terms slots id r me hold later state others chart of_field share has own knows carries stands = λ s standing long at small. (
   freed me.0,
   gives,
   tt,
   freed_known-keeps terms s id r me.0 hold later state me.1 others standing chart at share has own knows carries stands,
-  record { given = refl },
+  record { given = refl; in_time = λ other q region. seen-in-time terms s id me.0 standing at of_field other q region },
 )

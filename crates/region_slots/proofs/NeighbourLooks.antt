@@ -6,7 +6,7 @@ use Rattle.std.proofs.lemmas.Bool.{cases_eq, cases_lt}
 use Rattle.std.proofs.lemmas.List.{get_or-set_other, get_or-set_same, get_or_past, length-set}
 use Rattle.region_cut.specs.Cuttings.{region_count}
 use Rattle.region_cut.specs.Joins.{are_neighbours}
-use Rattle.border_rows.specs.Kinds.{cleared, found_at, found_short, found_taken, freed, later_of, looked, published, taken, with_first}
+use Rattle.border_rows.specs.Kinds.{cleared, found_at, found_short, found_taken, freed, later_of, looked, published, raised, taken, with_first}
 use Rattle.border_rows.specs.declared.view.Hold.{Hold}
 use Rattle.border_rows.specs.declared.view.Terms.{Terms}
 use Rattle.border_rows.specs.declared.view.View.{View}
@@ -185,6 +185,10 @@ turned-moved terms old view hold r step goal width has past below rise long ther
       around = λ q beside. omega (arith, near q beside, later-set view.seen r (step + 1) q rise);
     }
 
+-- one more of region r lowers no count
+later-raised : (counts : List ℕ) (r q : ℕ) → slice_index counts q ≤ slice_index (raised counts r) q
+later-raised counts r q = later-set counts r (slice_index counts r + 1) q (omega arith)
+
 -- whatever came of a turn
 pub turned-within : (terms : Terms) (old new : View) (goal r : ℕ) (answer : Turn) → (answer ≡ Held → new ≡ found_taken old r) →
     ((s : ℕ) → answer ≡ Ended s → (goal ≤ s) × (new ≡ looked old r s) × (slice_index new.seen r ≡ s) × (slice_index old.seen r ≤ s)) →
@@ -197,6 +201,9 @@ turned-within terms old new goal r Held held ended behind moved =
       moves = omega (arith, ap (λ (v : View). v.moves) is);
       risen = omega (arith, ap (λ (v : View). v.reach) is);
       reach = omega (arith, ap (λ (v : View). v.reach) is);
+      held_found = λ q. omega (arith, ap (λ (v : View). slice_index v.held_found q) is, later-raised old.held_found r q);
+      short_found = omega (arith, ap (λ (v : View). v.short_found) is);
+      looks = λ q. omega (arith, ap (λ (v : View). slice_index v.looks q) is);
     }
 turned-within terms old new goal r (Ended s) held ended behind moved =
     let at = ended s refl in record {
@@ -206,6 +213,9 @@ turned-within terms old new goal r (Ended s) held ended behind moved =
       moves = omega (arith, ap (λ (v : View). v.moves) at.1);
       risen = omega (arith, ap (λ (v : View). v.reach) at.1);
       reach = omega (arith, ap (λ (v : View). v.reach) at.1);
+      held_found = λ q. omega (arith, ap (λ (v : View). slice_index v.held_found q) at.1);
+      short_found = omega (arith, ap (λ (v : View). v.short_found) at.1);
+      looks = λ q. omega (arith, ap (λ (v : View). slice_index v.looks q) at.1, later-raised old.looks r q);
     }
 turned-within terms old new goal r (Behind q s) held ended behind moved =
     let is = behind q s refl in record {
@@ -215,6 +225,9 @@ turned-within terms old new goal r (Behind q s) held ended behind moved =
       moves = omega (arith, is.still.moves);
       risen = omega (arith, is.still.reach);
       reach = omega (arith, is.still.reach);
+      held_found = λ q. omega (arith, ap (λ counts. slice_index counts q) is.still.alike.held_found);
+      short_found = omega (arith, is.one_more);
+      looks = λ q. omega (arith, ap (λ counts. slice_index counts q) is.looks, later-raised old.looks r q);
     }
 turned-within terms old new goal r (Moved s) held ended behind moved =
     let is = moved s refl in record {
@@ -224,4 +237,7 @@ turned-within terms old new goal r (Moved s) held ended behind moved =
       moves = omega (arith, is.moves);
       risen = omega (arith, is.reach);
       reach = omega (arith, is.reach, is.below);
+      held_found = λ q. omega (arith, ap (λ counts. slice_index counts q) is.alike.held_found);
+      short_found = omega (arith, is.found.short_found);
+      looks = λ q. omega (arith, ap (λ counts. slice_index counts q) is.looks, later-raised old.looks r q);
     }

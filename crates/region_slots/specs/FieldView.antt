@@ -1,5 +1,5 @@
 -- What contracts see of a field and of a pass.
-use Rattle.std.specs.Prelude.{◌≡◌, ◌≢◌, ℕ, List, [], ◌∷◌, length, true, false}
+use Rattle.std.specs.Prelude.{◌≡◌, ◌≢◌, ℕ, ◌<◌, ◌≤◌, List, [], ◌∷◌, length, slice_index, true, false}
 use Rattle.network_file.specs.Network.{IsNetwork}
 use Rattle.region_cut.specs.Chart.{IsChart, chart_of}
 use Rattle.region_cut.specs.Cuttings.{region_count}
@@ -45,11 +45,16 @@ pub record HasCounts (count : ℕ) (view : View) : Type 0 where
   pub held_found : length view.held_found ≡ count
   pub looks : length view.looks ≡ count
 
+-- what a view has seen of the regions of a field lies within its steps
+abbrev pub HasSeenInTime : Terms → View → Type 0
+HasSeenInTime terms view = (r : ℕ) → r < region_count terms.chart.now.cut → slice_index view.seen r ≤ terms.net.now.steps
+
 -- the pass is one of the field's
 pub record IsPassOf (field : FieldValue) (pass : PassValue) : Type 0 where
   pub table : pass.table ≡ field.table
   pub terms : pass.knows.terms ≡ field.terms ∷ []
   pub counts : HasCounts (region_count field.terms.chart.now.cut) pass.knows
+  pub in_time : HasSeenInTime field.terms pass.knows
 
 -- a seat of the field that isn't spent
 pub record IsSeatOf (field : FieldValue) (seat : Seat RegionValue View) : Type 0 where

@@ -37,8 +37,10 @@ pub record Claimed (step : Step RegionValue) (old : Mine) (found : ℕ) (new : M
   pub free : (terms : Terms) (r : ℕ) → IsRegion old.0 terms r → step.word ≡ claim_place (widths_of terms.chart.now) r → found ≡ 0 → new ≡ (taken old.0 r, old.1)
   pub held : (terms : Terms) (r : ℕ) → IsRegion old.0 terms r → step.word ≡ claim_place (widths_of terms.chart.now) r → found ≢ 0 →
       (new ≡ (found_taken old.0 r, old.1)) × (found ≡ 1)
+  pub others : (terms : Terms) (r : ℕ) → IsRegion old.0 terms r → step.word ≡ claim_place (widths_of terms.chart.now) r → (hold : Hold) → Contains old.0.holds hold → hold.region ≢ r
   pub whole : (terms : Terms) (r : ℕ) → IsRegion old.0 terms r → step.word ≡ claim_place (widths_of terms.chart.now) r → old.0.share ≡ terms.seats → old.0.holds ≡ [] → found ≡ 0
   pub long : (terms : Terms) (r : ℕ) → IsRegion old.0 terms r → length old.0.seen ≡ region_count terms.chart.now.cut
+  pub in_time : (terms : Terms) (r : ℕ) → IsRegion old.0 terms r → slice_index old.0.seen r ≤ terms.net.now.steps
 
 -- a look at a region's step word
 pub record Looked (step : Step RegionValue) (old : Mine) (found : ℕ) (new : Mine) : Type 0 where
@@ -79,6 +81,7 @@ pub record Published (step : Step RegionValue) (old : Mine) (found : ℕ) (new :
 -- the region held last is given back
 pub record Freed (step : Step RegionValue) (old : Mine) (found : ℕ) (new : Mine) : Type 0 where
   pub given : new ≡ (freed old.0, rest old.1)
+  pub in_time : (terms : Terms) (r : ℕ) → IsRegion old.0 terms r → slice_index old.0.seen r ≤ terms.net.now.steps
 
 -- a look at any word: with the whole share no region was seen past its start and past the reach
 pub record Bounded (step : Step RegionValue) (old : Mine) (found : ℕ) (new : Mine) : Type 0 where

@@ -121,3 +121,6 @@ pub record IsWithin (old new : View) (goal : ℕ) : Type 0 where
   pub moves : old.moves ≤ new.moves
   pub risen : old.reach ≤ new.reach
   pub reach : new.reach ≤ max old.reach goal
+  pub held_found : (q : ℕ) → slice_index old.held_found q ≤ slice_index new.held_found q
+  pub short_found : old.short_found ≤ new.short_found
+  pub looks : (q : ℕ) → slice_index old.looks q ≤ slice_index new.looks q

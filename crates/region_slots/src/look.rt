@@ -14,7 +14,7 @@ impl<'a> Field<'a> {
         ensures knows { pass.new.knows ≡ looked pass.old.knows region result }
         ensures later { slice_index pass.old.knows.seen region ≤ result }
         ensures in_time { result ≤ self.now.terms.net.now.steps }
-        ensures belongs { IsPassOf self.now pass.new }
+        ensures belongs { IsPassOf self.now pass.new × (pass.new.id ≡ pass.old.id) }
     {
         let word = self.places.step(region);
         self.table

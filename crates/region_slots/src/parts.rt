@@ -18,7 +18,7 @@ impl<'a> Field<'a> {
     ghost use Rattle.atomic_table.specs.Table.{rest};
     ghost use Rattle.border_rows.specs.Places.{width_at, widths_of};
     ghost use Rattle.border_rows.specs.Words.{border_cell};
-    ghost use Rattle.region_slots.specs.FieldView.{IsSeatOf, IsWorkingAt};
+    ghost use Rattle.region_slots.specs.FieldView.{HasSeenInTime, IsSeatOf, IsWorkingAt};
     ghost use Rattle.region_slots.specs.Turning.{HasWritten, IsAt, IsCleared, IsTold, field_held, wrote_many, HasFallenShort, HasLooked};
 
     /// Tells the region in the seat's slot what a cell of its halo holds.
@@ -72,7 +72,13 @@ impl<'a> Field<'a> {
     }
 
     /// What a border cell of the region in the seat's slot holds.
-    fn holds_now(&self, seat: &mut Seat<Region, View<'static>>, region: u32, step: u64, j: u32) -> u64
+    fn holds_now(
+        &self,
+        seat: &mut Seat<Region, View<'static>>,
+        region: u32,
+        step: u64,
+        j: u32,
+    ) -> u64
         requires seat { IsSeatOf self.now seat.old }
         requires there { region < region_count self.now.terms.chart.now.cut }
         requires inside { j < length (list_at self.now.terms.chart.now.border region) }
@@ -150,6 +156,7 @@ impl<'a> Field<'a> {
         ensures same { (seat.new.id ≡ seat.old.id) × (seat.new.table_id ≡ seat.old.table_id) }
         ensures risen { seat.new.me ≡ (freed (published (wrote_many seat.old.me.0 (width_at (widths_of self.now.terms.chart.now) region)) region (step + 1)), rest seat.old.me.1) }
         ensures later { slice_index seat.old.me.0.seen region ≤ step + 1 }
+        ensures in_time { HasSeenInTime self.now.terms seat.new.me.0 }
     {
         let net: &Net = self.net;
         let _steps = net.steps;

@@ -18,16 +18,18 @@ impl<'a> Field<'a> {
     ghost use Rattle.border_rows.specs.Places.{width_at, widths_of};
     ghost use Rattle.border_rows.specs.Words.{border_cell};
     ghost use Rattle.border_rows.specs.declared.view.Hold.{Hold};
-    ghost use Rattle.region_slots.specs.FieldView.{IsSeatOf, IsWorkingAt};
+    ghost use Rattle.region_slots.specs.FieldView.{HasSeenInTime, IsSeatOf, IsWorkingAt};
 
     /// Tries to take a region, and gives whether the seat has it now.
     pub(crate) fn takes(&self, seat: &mut Seat<Region, View<'static>>, region: u32) -> bool
         requires seat { IsSeatOf self.now seat.old }
         requires there { region < region_count self.now.terms.chart.now.cut }
+        requires others { (hold : Hold) → Contains seat.old.me.0.holds hold → hold.region ≢ region }
         ensures same { (seat.new.id ≡ seat.old.id) × (seat.new.table_id ≡ seat.old.table_id) }
         ensures taken { IsTrue result → seat.new.me ≡ (taken seat.old.me.0 region, seat.old.me.1) }
         ensures held { result ≡ false → seat.new.me ≡ (found_taken seat.old.me.0 region, seat.old.me.1) }
         ensures long { length seat.old.me.0.seen ≡ region_count self.now.terms.chart.now.cut }
+        ensures in_time { HasSeenInTime self.now.terms seat.old.me.0 }
         ensures never_whole { seat.old.me.0.share ≡ self.now.terms.seats → seat.old.me.0.holds ≡ [] → IsTrue result }
     {
         let word = self.places.claim(region);
@@ -136,6 +138,7 @@ impl<'a> Field<'a> {
             × Stands self.now.terms.net.now self.now.terms.chart.now self.now.terms.start.now self.now.terms.every region (if hold.published then hold.step + 1 else hold.step) state }
         ensures same { (seat.new.id ≡ seat.old.id) × (seat.new.table_id ≡ seat.old.table_id) }
         ensures given { seat.new.me ≡ (freed seat.old.me.0, rest seat.old.me.1) }
+        ensures in_time { HasSeenInTime self.now.terms seat.old.me.0 }
     {
         let word = self.places.claim(region);
         self.table.shared.store::<Free>(seat, word as usize, 0);

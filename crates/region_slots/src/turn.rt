@@ -21,7 +21,7 @@ impl<'a> Field<'a> {
     ghost use Rattle.std.specs.Prelude.{◌≡◌, ◌≢◌, ◌<◌, ◌≤◌, ℕ, [], slice_index};
     ghost use Rattle.region_cut.specs.Cuttings.{region_count};
     ghost use Rattle.border_rows.specs.Kinds.{found_taken, looked};
-    ghost use Rattle.region_slots.specs.FieldView.{IsIdle, IsPassOf, IsSeatOf};
+    ghost use Rattle.region_slots.specs.FieldView.{HasSeenInTime, IsIdle, IsPassOf, IsSeatOf};
     ghost use Rattle.region_slots.specs.Turning.{IsBehind, IsMoved, IsWithin};
     ghost use Rattle.region_slots.specs.declared.turn.Turn.TheVariants.{Behind, Ended, Held, Moved};
 
@@ -57,6 +57,7 @@ impl<'a> Field<'a> {
         ensures same { (seat.new.id ≡ seat.old.id) × (seat.new.table_id ≡ seat.old.table_id) }
         ensures terms { seat.new.me.0.terms ≡ seat.old.me.0.terms }
         ensures idle { IsIdle seat.new.me.0 seat.new.me.1 }
+        ensures seen_in_time { HasSeenInTime self.now.terms seat.new.me.0 }
         ensures held { result ≡ Held → seat.new.me.0 ≡ found_taken seat.old.me.0 region }
         ensures never_whole { seat.old.me.0.share ≡ self.now.terms.seats → result ≢ Held }
         ensures ended { (s : ℕ) → result ≡ Ended s → (goal ≤ s) × (seat.new.me.0 ≡ looked seat.old.me.0 region s) × (slice_index seat.new.me.0.seen region ≡ s) × (slice_index seat.old.me.0.seen region ≤ s) }

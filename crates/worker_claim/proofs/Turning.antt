@@ -27,6 +27,9 @@ within-none view goal = record {
   moves = omega arith;
   risen = omega arith;
   reach = omega arith;
+  held_found = λ q. omega arith;
+  short_found = omega arith;
+  looks = λ q. omega arith;
 }
 
 pub within-more : (old view new : View) (goal : ℕ) → IsWithin old view goal → IsWithin view new goal → IsWithin old new goal
@@ -37,6 +40,9 @@ within-more old view new goal before after = record {
   moves = omega (arith, before.moves, after.moves);
   risen = omega (arith, before.risen, after.risen);
   reach = omega (arith, before.reach, after.reach);
+  held_found = λ q. omega (arith, before.held_found q, after.held_found q);
+  short_found = omega (arith, before.short_found, after.short_found);
+  looks = λ q. omega (arith, before.looks q, after.looks q);
 }
 
 -- a count of region r is one higher, and the others are as they were

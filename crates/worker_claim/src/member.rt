@@ -1,5 +1,5 @@
-use crate::driving::drive;
 use crate::driven::Driven;
+use crate::driving::drive;
 use ctm_ports::Gate;
 use region_slots::{Field, Pass};
 

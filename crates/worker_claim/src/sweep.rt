@@ -38,14 +38,7 @@ pub(crate) fn sweep<G: Gate>(
 }
 
 // One turn on each region from one number to below another.
-fn turns<G: Gate>(
-    field: &Field,
-    pass: &mut Pass,
-    goal: u64,
-    from: u32,
-    to: u32,
-    gate: &G,
-) -> Driven
+fn turns<G: Gate>(field: &Field, pass: &mut Pass, goal: u64, from: u32, to: u32, gate: &G) -> Driven
     requires belongs { IsPassOf field.now pass.old }
     requires some { from ≤ to }
     requires there { to ≤ region_count field.now.terms.chart.now.cut }

@@ -1,5 +1,5 @@
-use Rattle.std.specs.Prelude.{replicate, slice_index}
-use Rattle.std.proofs.Common.{◌≡◌, ℕ, ◌<◌, ◌≤◌, List, length, sym, ap, subst, ◌∙◌, arith}
+use Rattle.std.specs.Prelude.{replicate}
+use Rattle.std.proofs.Common.{◌≡◌, ℕ, List, length, ap, subst, arith}
 use Rattle.std.proofs.lemmas.List.{with_items_is}
 use Rattle.region_cut.specs.Cuttings.{region_count}
 use Rattle.region_step.specs.Region.{RegionValue}

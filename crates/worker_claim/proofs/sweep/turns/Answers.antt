@@ -17,6 +17,6 @@ loop-region-preserved g c =
       came.belongs.0,
       came.belongs.1 ∙ c.loop-region.invariant.1,
       subst (λ (d : Driven). HasTurned terms c.args.pass.now.knows new c.args.from (c.loop-region.region + 1) c.args.goal d) (sym c.count.ensures)
-      (turned-more terms c.args.pass.now.knows old new c.args.from c.loop-region.region (c.loop-region.region + 1) c.args.goal c.loop-region.driven (counted none c.turn-turn.result)
-      (counted c.loop-region.driven c.turn-turn.result) (counted-added c.loop-region.driven c.turn-turn.result) c.loop-region.invariant.2 one),
+          (turned-more terms c.args.pass.now.knows old new c.args.from c.loop-region.region (c.loop-region.region + 1) c.args.goal c.loop-region.driven (counted none c.turn-turn.result)
+          (counted c.loop-region.driven c.turn-turn.result) (counted-added c.loop-region.driven c.turn-turn.result) c.loop-region.invariant.2 one),
     )

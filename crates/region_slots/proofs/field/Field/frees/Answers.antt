@@ -18,5 +18,8 @@ store-requires c =
       there,
       rw place
           (freeing terms c.self.inside.table.shared.table_id.slots c.args.seat.now.id c.args.region c.args.seat.now.me hold later state others table.chart
-          c.requires.seat.share has own knows carries (rw same_terms stands)),
+          (rw same_terms c.requires.seat.terms) c.requires.seat.share has own knows carries (rw same_terms stands)),
     )
+
+pub returns-clause-in_time : goal.returns-clause-in_time
+returns-clause-in_time c = λ r there. c.store.ensures.2.in_time c.args.self.now.terms r record { of_field = c.requires.seat.terms; there = there }

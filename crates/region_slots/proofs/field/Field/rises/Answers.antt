@@ -6,7 +6,7 @@ use Rattle.border_rows.specs.Kinds.{published, with_first}
 use Rattle.border_rows.specs.Places.{width_at, widths_of}
 use Rattle.border_rows.specs.declared.view.Hold.{Hold}
 use Rattle.border_rows.specs.declared.view.View.{View}
-use Rattle.region_slots.specs.FieldView.{IsWorkingAt}
+use Rattle.region_slots.specs.FieldView.{HasSeenInTime, IsWorkingAt}
 use Rattle.region_slots.specs.Turning.{wrote_many}
 use Rattle.region_slots.proofs.RowFilling.{written_to, wrote_many-works}
 use Rattle.region_slots.proofs.field.Field.rises.Goals as goal
@@ -52,3 +52,6 @@ returns-clause-later c =
     let view : c.fills.new.seat.me.0 ≡ wrote_many c.args.seat.now.me.0 width =
     ap (λ m. m.0) c.fills.ensures.written ∙ ap (λ (v : View). wrote_many v width) (ap (λ m. m.0) c.advances.ensures.advanced.1 ∙ ap (λ m. m.0) c.tells.ensures.told.1) in
     subst (λ (v : View). slice_index v.seen c.args.region ≤ c.args.step + 1) view c.publishes.ensures.later
+
+pub returns-clause-in_time : goal.returns-clause-in_time
+returns-clause-in_time c = subst (HasSeenInTime c.args.self.now.terms) (sym (ap (λ m. m.0) c.frees.ensures.given)) c.frees.ensures.in_time

@@ -15,8 +15,11 @@ compare_exchange-found-requires c =
     let there : c.claim-word.result < c.self.inside.table.shared.table_id.words = omega (arith, c.claim-word.ensures.there, ap words_of places, table.words) in (
       c.requires.seat.table ∙ sym same_table,
       there,
-      rw place (claiming terms c.self.inside.table.shared.table_id.slots c.args.seat.now.id c.args.region c.args.seat.now.me table.chart (rw same_terms c.requires.there) (rw same_terms c.requires.seat.terms) c.requires.seat.share),
+      rw place (claiming terms c.self.inside.table.shared.table_id.slots c.args.seat.now.id c.args.region c.args.seat.now.me table.chart (rw same_terms c.requires.there) (rw same_terms c.requires.seat.terms) c.requires.seat.share c.requires.others),
     )
 
 pub returns-clause-long : goal.returns-clause-long
 returns-clause-long c = c.compare_exchange-found.ensures.2.long c.args.self.now.terms c.args.region record { of_field = c.requires.seat.terms; there = c.requires.there }
+
+pub returns-clause-in_time : goal.returns-clause-in_time
+returns-clause-in_time c = λ r there. c.compare_exchange-found.ensures.2.in_time c.args.self.now.terms r record { of_field = c.requires.seat.terms; there = there }

@@ -1,6 +1,7 @@
 use Rattle.std.proofs.Common.{◌≡◌, ℕ, ◌+◌, List, refl, sym, ap, subst, ◌∙◌, arith}
 use Rattle.atomic_table.specs.Table.{rest}
 use Rattle.border_rows.specs.Places.{width_at, widths_of}
+use Rattle.region_slots.specs.FieldView.{HasSeenInTime}
 use Rattle.region_slots.specs.Turning.{wrote_many}
 use Rattle.border_rows.specs.Kinds.{found_at, freed, fresh, known_at, later_of, published, taken}
 use Rattle.border_rows.specs.declared.view.Hold.{Hold}
@@ -208,3 +209,6 @@ returns-clause-moved g c = λ s is.
     c.requires.there (c.clears.ensures.cleared c.in_default.is).2 in
     subst (λ t. IsMoved terms old c.rises.new.seat.me.0 c.args.goal r t) (moved-same (step + 1) s is)
     (subst (λ (v : View). IsMoved terms old v c.args.goal r (step + 1)) (sym (ap (λ m. m.0) c.rises.ensures.risen)) moved)
+
+pub returns-in-Some-clause-seen_in_time : goal.returns-in-Some-clause-seen_in_time
+returns-in-Some-clause-seen_in_time g c = subst (HasSeenInTime c.args.self.now.terms) (sym (ap (λ m. m.0) c.frees-in-Some.ensures.given)) c.frees-in-Some.ensures.in_time

@@ -18,6 +18,7 @@ returns-clause-belongs g c =
         terms = came.terms ∙ ap (λ (v : View). v.terms) knows ∙ c.requires.belongs.terms;
         counts = turned-counts c.args.self.now.terms (region_count c.args.self.now.terms.chart.now.cut) c.pass.inside.seat.me.0 c.tries.new.seat.me.0 c.args.goal c.args.region c.tries.result
             came.held came.ended came.behind came.moved (subst (HasCounts (region_count c.args.self.now.terms.chart.now.cut)) (sym knows) c.requires.belongs.counts);
+        in_time = came.seen_in_time;
       },
       came.same.0 ∙ ap (λ pass. pass.id) c.pass.view_is,
     )

@@ -2,8 +2,8 @@ use Rattle.std.proofs.Common.{◌≡◌, ◌∷◌, [], arith, ap, sym, subst, �
 use Rattle.region_cut.specs.Cuttings.{region_count}
 use Rattle.border_rows.specs.Kinds.{united}
 use Rattle.border_rows.specs.declared.view.View.{View}
-use Rattle.region_slots.specs.FieldView.{HasCounts}
-use Rattle.region_slots.proofs.Counts.{counts-united}
+use Rattle.region_slots.specs.FieldView.{HasCounts, HasSeenInTime}
+use Rattle.region_slots.proofs.Counts.{counts-united, united-in-time}
 use Rattle.region_slots.proofs.Sharing.{bounding, some-word, uniting}
 use Rattle.region_slots.proofs.field.Field.unite.Goals as goal
 
@@ -41,4 +41,5 @@ returns-clause-belongs c =
       table = search rules;
       terms = ap (λ (v : View). v.terms) knows ∙ c.requires.belongs.terms;
       counts = subst (HasCounts (region_count terms.chart.now.cut)) (sym knows) (counts-united (region_count terms.chart.now.cut) c.args.pass.now.knows c.args.other.knows c.requires.belongs.counts);
+      in_time = subst (HasSeenInTime terms) (sym knows) (united-in-time terms c.args.pass.now.knows c.args.other.knows c.requires.belongs.counts c.requires.belongs.in_time c.requires.also.in_time);
     }
