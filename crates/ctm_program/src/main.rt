@@ -20,6 +20,8 @@ mod refusal;
 mod status;
 #[cfg(test)]
 mod tests;
+#[cfg(test)]
+mod threads_tests;
 mod top_call;
 #[cfg(test)]
 mod uneven_tests;

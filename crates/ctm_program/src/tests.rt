@@ -1,5 +1,5 @@
 use crate::top_call::ctm;
-use ctm_ports::{MemSink, MemSource, OpenGate, SureSink, SureSource};
+use ctm_ports::{Gate, MemSink, MemSource, OpenGate, SureSink, SureSource};
 use std::alloc::{AllocError, Global};
 use std::test::Fail;
 use std::thread::Threads;
@@ -37,7 +37,7 @@ signal,m7,2,1,0,1; limit,x1,0,2,1; limit,m4,1,4,2; limit,x5,2,5,1; demand,g1,0,2
 demand,g3,2,3,0.25; turn,m3,0,2,1,3; turn,m4,1,3,2,1; turn,m5,2,5,1,1";
 
 // The lines of a text in which `; ` stands for a line end.
-fn lines(alloc: Global, text: &str) -> Result<Vec<u8>, AllocError> {
+pub(crate) fn lines(alloc: Global, text: &str) -> Result<Vec<u8>, AllocError> {
     let mut lines = text.replace(alloc, "; ", "\n")?.into_bytes();
     lines.push(b'\n')?;
     Ok(lines)
@@ -45,7 +45,7 @@ fn lines(alloc: Global, text: &str) -> Result<Vec<u8>, AllocError> {
 
 // The exit status of a call, and what it wrote.
 #[derive(Debug, Drop)]
-struct Ended {
+pub(crate) struct Ended {
     status: u8,
     out: SureSink,
     err: SureSink,
@@ -53,7 +53,7 @@ struct Ended {
 
 impl Ended {
     // Whether the call gave this text.
-    fn gave(&self, text: &[u8]) -> bool {
+    pub(crate) fn gave(&self, text: &[u8]) -> bool {
         self.status == 0 && self.out.bytes() == text && self.err.bytes().is_empty()
     }
 
@@ -70,6 +70,17 @@ fn call<R: Threads + Sync>(
     words: &str,
     input: Vec<u8>,
 ) -> Result<Ended, AllocError> {
+    call_past(rt, alloc, words, input, &OpenGate)
+}
+
+// The same with a gate.
+pub(crate) fn call_past<R: Threads + Sync, G: Gate>(
+    rt: &R,
+    alloc: Global,
+    words: &str,
+    input: Vec<u8>,
+    gate: &G,
+) -> Result<Ended, AllocError> {
     let mut all = Vec::new(alloc);
     for word in words.split(' ') {
         all.push(String::from_str(alloc, word)?)?;
@@ -77,7 +88,7 @@ fn call<R: Threads + Sync>(
     let mut source = SureSource::new(input);
     let mut out = SureSink::new(alloc);
     let mut err = SureSink::new(alloc);
-    let status = ctm(rt, alloc, &all, &mut source, &mut out, &mut err, &OpenGate).number();
+    let status = ctm(rt, alloc, &all, &mut source, &mut out, &mut err, gate).number();
     Ok(Ended { status, out, err })
 }
 

@@ -7,6 +7,7 @@ use crate::driven::Driven;
 use crate::sweep::sweep;
 use ctm_ports::Gate;
 use region_slots::{Field, Pass};
+use std::thread::yield_now;
 
 /// Makes so many sweeps with a pass, or fewer where all turns of one find their region at the goal or past it. A sweep is
 /// one turn on each region, in order of number from `first` on and round.
@@ -37,6 +38,10 @@ pub fn drive<G: Gate>(
             all: swept.all,
         };
         made += 1;
+        // Whoever holds what this one waits for may be waiting for a processor.
+        if swept.moved == 0 && !swept.all {
+            yield_now();
+        }
     }
     driven
 }

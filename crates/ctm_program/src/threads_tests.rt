@@ -1,0 +1,89 @@
+use crate::tests::{call_past, lines};
+use ctm_ports::Gate;
+use std::sync::atomic::{AtomicU64, Ordering};
+use std::test::Fail;
+
+// A gate, two roads and an exit, each a region of its own where there are four.
+const CHAIN: &str =
+    "ctm,1; steps,4; gate,g,2,8; road,a,6,2,1,1,0; road,b,6,2,1,1,0; exit,x,2; link,g,a; link,a,b; link,b,x";
+
+const CHAIN_REPORT: &str = "report,4,4; cell,g,0.000000,0.000000,8.000000,12.000000; \
+cell,a,2.000000,8.000000,6.000000,0.000000; cell,b,2.000000,6.000000,4.000000,0.000000; \
+cell,x,4.000000,4.000000,0.000000,0.000000; total,0.000000,0.000000,4.000000,12.000000";
+
+// A gate at which the worker that holds region 0 at step 0 and the one that holds region 2 at step 1 wait for each other, so
+// that one worker alone waits in vain. It notes which region was held at which step.
+#[derive(Drop)]
+struct Meeting {
+    first: AtomicU64,
+    second: AtomicU64,
+    met: AtomicU64,
+    // For each region a bit for each step, set by whoever holds it.
+    noted: [AtomicU64; 4],
+}
+
+impl Meeting {
+    fn new() -> Meeting {
+        Meeting {
+            first: AtomicU64::new(0),
+            second: AtomicU64::new(0),
+            met: AtomicU64::new(0),
+            noted: [
+                AtomicU64::new(0),
+                AtomicU64::new(0),
+                AtomicU64::new(0),
+                AtomicU64::new(0),
+            ],
+        }
+    }
+
+    // Comes to the meeting, and waits for the other for a while.
+    fn meet(&self, own: &AtomicU64, other: &AtomicU64) {
+        own.store(1, Ordering::SeqCst);
+        for _ in 0..1_000_000_000 {
+            if other.load(Ordering::SeqCst) != 0 {
+                self.met.fetch_add(1, Ordering::SeqCst);
+                return;
+            }
+        }
+    }
+}
+
+impl Gate for Meeting {
+    fn held(&self, region: u32, step: u64) {
+        if region < 4 && step < 4 {
+            let noted = &self.noted[region as usize];
+            noted.store(noted.load(Ordering::SeqCst) | 1 << step, Ordering::SeqCst);
+        }
+        match (region, step) {
+            (0, 0) => self.meet(&self.first, &self.second),
+            (2, 1) => self.meet(&self.second, &self.first),
+            _ => {}
+        }
+    }
+
+    fn freed(&self, region: u32, step: u64) {}
+
+    fn watched(&self, done: bool) {}
+}
+
+#[test]
+fn two_workers_work_at_once(rt: HostRuntime) -> Result<(), Fail> {
+    let gate = Meeting::new();
+    let file = lines(rt.alloc(), CHAIN)?;
+    let ended = call_past(&rt, rt.alloc(), "run --regions 4 --workers 2", file, &gate)?;
+    assert!(rt; ended.gave(&lines(rt.alloc(), CHAIN_REPORT)?));
+    assert_eq!(rt;
+        gate.met.load(Ordering::SeqCst),
+        2,
+        "each waited for the other"
+    );
+    for noted in &gate.noted {
+        assert_eq!(rt;
+            noted.load(Ordering::SeqCst),
+            0b1111,
+            "each region was held at each step"
+        );
+    }
+    Ok(())
+}
