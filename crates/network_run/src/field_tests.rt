@@ -1,10 +1,12 @@
 ghost use Rattle.std.specs.Prelude.{◌≡◌, ◌+◌, ◌<◌, ◌≤◌, ◌^◌, ℕ, List, IfOk, length};
 ghost use Rattle.region_cut.specs.Chart.{chart_of};
+ghost use Rattle.region_cut.specs.Cuttings.{region_count};
 ghost use Rattle.region_slots.specs.FieldView.{IsPassOf};
 ghost use Rattle.region_step.specs.Standing.{AllStand};
 ghost use Rattle.region_step.specs.Start.{zero_start};
 ghost use Rattle.network_run.specs.Enlisted.{AreEnlisted, IsEnlisted};
 
+use crate::meanwhile_tests::turns_at_once;
 use crate::members::{dismiss, enlist};
 use crate::tests::{CUTTINGS, NETWORKS, charted, cut_text, network, rows_of, whole_steps};
 use ctm_ports::OpenGate;
@@ -15,12 +17,17 @@ use region_step::{Region, Start};
 use signal_plan::NoMemory;
 use std::alloc::Global;
 use std::test::Fail;
-use worker_claim::{Member, finish};
+use std::thread::Threads;
+use worker_claim::{Driven, Member, drive, finish};
 
 // A gate, a road and an exit, of which the road and the exit are one region.
 const FILE: &str =
     "ctm,2; steps,3; gate,in,2,0; road,a,6,2,1,2,0; exit,out,2; link,in,a; link,a,out; \
 demand,in,0,1,4; region,in,0; region,a,1; region,out,1";
+
+// The same in one region.
+const ONE_REGION: &str =
+    "ctm,1; steps,3; gate,in,2,0; road,a,6,2,1,2,0; exit,out,2; link,in,a; link,a,out; demand,in,0,1,4";
 
 // What comes of turns on these regions with these goals, one after the other. Regions and goals past the last are brought
 // back.
@@ -190,5 +197,74 @@ fn a_shared_pass_sees_what_the_other_has_published(rt: HostRuntime) -> Result<()
     assert_eq!(rt; (before, after), (0, 1));
     assert_eq!(rt; ended, Turn::Ended { step: 0 });
     assert_eq!(rt; steps.as_slice(), [1, 0].as_slice());
+    Ok(())
+}
+
+// What a turn on region 0 comes to, and one on another region that another pass takes while region 0 is held.
+fn meanwhile<R: Threads + Sync>(
+    rt: &R,
+    alloc: Global,
+    net: &Net,
+    chart: &Chart,
+    region: u32,
+) -> Result<(Turn, Turn), NoMemory>
+    requires chart { chart.now ≡ chart_of net.now chart.now.cut }
+    requires there { region < region_count chart.now.cut }
+{
+    let goal = net.steps;
+    let start = Start::zero(alloc, net, chart)?;
+    let (field, mut pass) = Field::open(alloc, net, chart, &start, 0, 2)?;
+    let mut other = field.share(&mut pass);
+    Ok(turns_at_once(rt, &field, &mut pass, &mut other, region, goal))
+}
+
+#[test]
+fn a_region_that_is_held_is_held_for_others_alone(rt: HostRuntime) -> Result<(), Fail> {
+    let net = network(&rt, rt.alloc(), FILE)?;
+    let chart = charted(rt.alloc(), &net, 1)?;
+    assert!(rt; chart.regions() == 2);
+    let moved = Turn::Moved { step: 1 };
+    assert_eq!(rt;
+        meanwhile(&rt, rt.alloc(), &net, &chart, 0)?,
+        (moved, Turn::Held)
+    );
+    assert_eq!(rt;
+        meanwhile(&rt, rt.alloc(), &net, &chart, 1)?,
+        (moved, moved)
+    );
+    Ok(())
+}
+
+// What comes of so many sweeps with one pass.
+fn driven(alloc: Global, net: &Net, chart: &Chart, sweeps: u32) -> Result<Driven, NoMemory>
+    requires chart { chart.now ≡ chart_of net.now chart.now.cut }
+{
+    let goal = net.steps;
+    let start = Start::zero(alloc, net, chart)?;
+    let (field, mut pass) = Field::open(alloc, net, chart, &start, 0, 1)?;
+    Ok(drive(&field, &mut pass, goal, sweeps, 0, &OpenGate))
+}
+
+// In the last sweep alone all turns found their region at the goal.
+#[test]
+fn a_drive_ends_where_all_regions_are_at_the_goal(rt: HostRuntime) -> Result<(), Fail> {
+    let net = network(&rt, rt.alloc(), ONE_REGION)?;
+    let chart = charted(rt.alloc(), &net, 1)?;
+    let all = Driven {
+        moved: 3,
+        held: 0,
+        behind: 0,
+        ended: 1,
+        all: true,
+    };
+    assert_eq!(rt; driven(rt.alloc(), &net, &chart, 4)?, all);
+    assert_eq!(rt; driven(rt.alloc(), &net, &chart, 9)?, all);
+    let going = Driven {
+        moved: 2,
+        ended: 0,
+        all: false,
+        ..all
+    };
+    assert_eq!(rt; driven(rt.alloc(), &net, &chart, 2)?, going);
     Ok(())
 }

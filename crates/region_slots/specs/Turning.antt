@@ -43,7 +43,7 @@ pub record IsLater (old new : View) : Type 0 where
   pub long : length new.seen ≡ length old.seen
   pub later : (q : ℕ) → slice_index old.seen q ≤ slice_index new.seen q
 
--- what no part of a turn changes
+-- what no part of a turn changes once the region is taken
 pub record IsAlike (old new : View) : Type 0 where
   pub terms : new.terms ≡ old.terms
   pub share : new.share ≡ old.share

@@ -21,8 +21,8 @@ impl<'a> Field<'a> {
         Pass { seat }
     }
 
-    /// Makes two passes one. Where it has all of the field's seats, no pass has seen a region past its start and past the
-    /// last step that was published.
+    /// Makes two passes one. Where it has all of the field's seats then, it has seen no region past both its start and its
+    /// reach.
     pub fn unite(&self, pass: &mut Pass, other: Pass)
         requires belongs { IsPassOf self.now pass.old }
         requires also { IsPassOf self.now other }

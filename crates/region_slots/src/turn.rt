@@ -7,13 +7,13 @@ use region_step::Region;
 /// What came of a turn.
 #[derive(Clone, Copy, Debug, PartialEq, Eq)]
 pub enum Turn {
-    /// The region stands at this step now.
+    /// This turn published this step of the region.
     Moved { step: u64 },
     /// Another seat had the region.
     Held,
-    /// A neighbour stands at this step, one below the region's.
+    /// A neighbour stood at this step, one below the region's, when it was looked at.
     Behind { neighbour: u32, step: u64 },
-    /// The region stands at this step, the goal or past it.
+    /// The region stood at this step, the goal or past it.
     Ended { step: u64 },
 }
 
