@@ -1,0 +1,114 @@
+use flow_ledger::{Books, books, flight};
+use flow_model::{Row, first_rows};
+use network_file::Net;
+use region_cut::Chart;
+use region_step::Region;
+use signal_plan::NoMemory;
+use std::alloc::Global;
+use std::marker::Model;
+
+/// Room for a snapshot: the step of each region, and for each cell its row there and what it held a step before.
+#[derive(Debug, Drop)]
+pub struct ShotRoom {
+    steps: Vec<u64>,
+    rows: Vec<Row>,
+    earlier: Vec<u64>,
+}
+
+impl Model for ShotRoom {
+    ghost use Rattle.snapshot.specs.Rooms.{RoomValue};
+
+    ghost Value = { RoomValue };
+
+    ghost view = { λ room. record { steps = room.steps.items; rows = room.rows.items; earlier = room.earlier.items } };
+}
+
+impl ShotRoom {
+    ghost use Rattle.std.specs.Prelude.{◌≡◌, ◌<◌, IfOk, length};
+    ghost use Rattle.flow_ledger.specs.Books.{books_of};
+    ghost use Rattle.flow_ledger.specs.Flight.{flight_of};
+    ghost use Rattle.region_step.specs.Opened.{IsOf};
+    ghost use Rattle.snapshot.specs.Rooms.{IsRoomFor, ShowsRegion, StaysBeside, first_room};
+
+    /// A room that shows all regions at step 0.
+    pub fn new(alloc: Global, net: &Net, chart: &Chart) -> Result<ShotRoom, NoMemory>
+        requires one_each { length chart.now.cut ≡ length net.now.cells }
+        ensures first { IfOk result (λ room. room ≡ first_room net.now chart.now) }
+        ensures room { IfOk result (IsRoomFor chart.now) }
+    {
+        let cells = net.cells.len();
+        let steps = vec![in alloc; 0; chart.regions() as usize]?;
+        let earlier = vec![in alloc; 0; cells]?;
+        let mut rows = vec![in alloc; Row {
+            n: 0,
+            come: 0,
+            gone: 0,
+            wait: 0
+        }; cells]?;
+        first_rows(net, &mut rows);
+        Ok(ShotRoom {
+            steps,
+            rows,
+            earlier,
+        })
+    }
+
+    /// Shows a region at its step.
+    pub fn fill(&mut self, chart: &Chart, region: &Region)
+        requires room { IsRoomFor chart.now self.old }
+        requires region { IsOf chart.now region.now }
+        ensures room { IsRoomFor chart.now self.new }
+        ensures shows { ShowsRegion chart.now self.new region.now }
+        ensures others { StaysBeside chart.now self.old self.new region.now.state.number }
+    {
+        let _regions = chart.regions();
+        let cells = chart.cells(region.number());
+        for p in 0..cells.len() {
+            let i = cells[p] as usize;
+            let place = p as u32;
+            self.rows[i] = region.row(place);
+            self.earlier[i] = region.before(place);
+        }
+        self.steps[region.number() as usize] = region.step();
+    }
+
+    /// The step of each region.
+    pub fn steps(&self) -> &[u64]
+        ensures { result.now ≡ self.now.steps }
+    {
+        &self.steps
+    }
+
+    /// The rows of all cells, in the order of the file, each at its region's step.
+    pub fn rows(&self) -> &[Row]
+        ensures { result.now ≡ self.now.rows }
+    {
+        &self.rows
+    }
+
+    /// What each cell held a step before, in parts; 0 at step 0.
+    pub fn earlier(&self) -> &[u64]
+        ensures { result.now ≡ self.now.earlier }
+    {
+        &self.earlier
+    }
+
+    /// The books of these rows.
+    pub fn books(&self, net: &Net) -> Books
+        requires { length self.now.rows ≡ length net.now.cells }
+        ensures { result ≡ books_of net.now self.now.rows }
+    {
+        let _steps = net.steps;
+        books(net, &self.rows)
+    }
+
+    /// The flight of connector `k` by these rows, in parts: negative where the cells downstream are ahead.
+    pub fn flight(&self, net: &Net, k: u32) -> i128
+        requires one_each { length self.now.rows ≡ length net.now.cells }
+        requires has_connector { k < length net.now.connectors }
+        ensures { result ≡ flight_of net.now self.now.rows k }
+    {
+        let _steps = net.steps;
+        flight(net, &self.rows, k)
+    }
+}
