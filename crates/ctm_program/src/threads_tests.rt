@@ -9,7 +9,7 @@ const CHAIN: &str =
 
 const CHAIN_REPORT: &str = "report,4,4; cell,g,0.000000,0.000000,8.000000,12.000000; \
 cell,a,2.000000,8.000000,6.000000,0.000000; cell,b,2.000000,6.000000,4.000000,0.000000; \
-cell,x,4.000000,4.000000,0.000000,0.000000; total,0.000000,0.000000,4.000000,12.000000";
+cell,x,4.000000,4.000000,0.000000,0.000000; total,4.000000,0.000000,4.000000,12.000000";
 
 // A gate at which the worker that holds region 0 at step 0 and the one that holds region 2 at step 1 wait for each other, so
 // that one worker alone waits in vain. It notes which region was held at which step.
