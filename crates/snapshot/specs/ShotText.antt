@@ -1,0 +1,58 @@
+-- The text of a shot (docs/FORMAT.md, "Shots").
+use Rattle.std.specs.Prelude.{ℕ, Bool, ◌++◌, ◌==◌, List, not, codes, decimal, flat_map, length, slice_index}
+use Rattle.std.specs.List.{filter, list_any, range_with_len}
+use Rattle.network_file.specs.Connectors.{cells_of, connector_at}
+use Rattle.network_file.specs.Network.{Network}
+use Rattle.network_file.specs.declared.cell.Cell.{Cell}
+use Rattle.network_file.specs.declared.connector.Connector.{Connector}
+use Rattle.flow_model.specs.State.{row_at}
+use Rattle.flow_model.specs.declared.row.Row.{Row}
+use Rattle.flow_ledger.specs.Books.{books_of}
+use Rattle.flow_ledger.specs.Flight.{flight_of}
+use Rattle.flow_ledger.specs.declared.network_books.Books.{Books}
+use Rattle.region_cut.specs.Cuttings.{region_at}
+use Rattle.line_fields.specs.Fields.{lines_of, name_at, row_fields, signed_field}
+
+-- `shot,number,inside,flight,initial,entered,left`
+unfoldable pub books_line : (number : ℕ) → Books → List ℕ
+books_line number books =
+    codes "shot," ++ decimal number ++ signed_field books.inside ++ signed_field books.flight ++ signed_field books.initial
+    ++ signed_field books.entered ++ signed_field books.left ++ codes "\n"
+
+-- `region,r,step`
+unfoldable pub region_line : (r step : ℕ) → List ℕ
+region_line r step = codes "region," ++ decimal r ++ codes "," ++ decimal step ++ codes "\n"
+
+-- `flight,k,amount`
+unfoldable pub flight_line : Network → List Row → (k : ℕ) → List ℕ
+flight_line net rows k = codes "flight," ++ decimal k ++ signed_field (flight_of net rows k) ++ codes "\n"
+
+-- `row,name,n,come,gone,wait`
+unfoldable pub row_line : (name : List ℕ) → Row → List ℕ
+row_line name row = codes "row," ++ row_fields name row ++ codes "\n"
+
+-- one line for each region
+unfoldable pub region_lines : (steps : List ℕ) → List ℕ
+region_lines steps = lines_of (λ r. region_line r (slice_index steps r)) (length steps)
+
+-- the connector touches cells of more than one region
+abbrev pub crosses : (cut : List ℕ) → Connector → Bool
+crosses cut connector =
+    list_any (λ i. list_any (λ j. not (region_at cut i == region_at cut j)) (cells_of connector)) (cells_of connector)
+
+-- those that do, in the order of the file
+abbrev pub crossing : Network → (cut : List ℕ) → List ℕ
+crossing net cut = filter (λ k. crosses cut (connector_at net.connectors k)) (range_with_len 0 (length net.connectors))
+
+-- and one for each of them
+unfoldable pub flight_lines : Network → (cut : List ℕ) → List Row → List ℕ
+flight_lines net cut rows = flat_map (flight_line net rows) (crossing net cut)
+
+-- and one for each cell
+unfoldable pub row_lines : List Cell → List Row → List ℕ
+row_lines cells rows = lines_of (λ i. row_line (name_at cells i) (row_at rows i)) (length cells)
+
+-- shot `number` of a network cut so, by the steps of its regions and the rows of its cells
+unfoldable pub shot_lines : Network → (cut : List ℕ) → (number : ℕ) → (steps : List ℕ) → List Row → List ℕ
+shot_lines net cut number steps rows =
+    books_line number (books_of net rows) ++ region_lines steps ++ flight_lines net cut rows ++ row_lines net.cells rows

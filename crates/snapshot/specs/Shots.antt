@@ -1,0 +1,49 @@
+-- The shots of a run that is watched, and what holds of each of them.
+use Rattle.std.specs.Prelude.{◌≡◌, ℕ, ◌+◌, ◌*◌, ◌/◌, ◌<◌, ◌≤◌, List, ◌+ℤ◌, ◌-ℤ◌, flat_map, length, map, slice_index}
+use Rattle.std.specs.List.{range_with_len}
+use Rattle.network_file.specs.Network.{Network}
+use Rattle.flow_model.specs.Bounds.{KeepsRooms}
+use Rattle.flow_model.specs.State.{row_at, state_at}
+use Rattle.flow_model.specs.declared.row.Row.{Row}
+use Rattle.flow_ledger.specs.Books.{books_of}
+use Rattle.flow_ledger.specs.declared.network_books.Books.{Books}
+use Rattle.region_cut.specs.Chart.{list_at}
+use Rattle.region_cut.specs.Cuttings.{region_at, region_count}
+use Rattle.region_cut.specs.LawfulSteps.{AreLawful}
+use Rattle.snapshot.specs.ShotText.{shot_lines}
+
+-- goal i of so many shots: the goals divide the steps evenly, rounded down
+abbrev pub goal_of : (steps shots i : ℕ) → ℕ
+goal_of steps shots i = i * steps / shots
+
+-- each cell's row of the plain recurrences at the step of its region
+unfoldable pub rows_at : Network → (cut steps : List ℕ) → List Row
+rows_at net cut steps = map (λ i. row_at (state_at net (slice_index steps (region_at cut i))) i) (range_with_len 0 (length net.cells))
+
+-- no vehicle is lost and none made: what is inside and what is under way are what was there at first and what entered,
+-- less what left
+abbrev pub IsBalanced : Books → Type 0
+IsBalanced books = books.inside +ℤ books.flight ≡ books.initial +ℤ books.entered -ℤ books.left
+
+-- steps at which a shot may show the regions between two goals
+pub record IsShotBetween (net : Network) (cut : List ℕ) (from to : ℕ) (steps : List ℕ) : Type 0 where
+  -- neighbouring regions stand at most one step apart
+  pub lawful : AreLawful net cut steps
+  -- none stands before the one goal or past the other
+  pub between : (r : ℕ) → r < region_count cut → (from ≤ slice_index steps r) × (slice_index steps r ≤ to)
+  -- the books balance with what is under way
+  pub balanced : IsBalanced (books_of net (rows_at net cut steps))
+  -- no road holds more than its room
+  pub rooms : KeepsRooms net (rows_at net cut steps)
+
+-- the text of shot i, whose rows are those of the plain recurrences, each at its own region's step
+abbrev pub shot_of : Network → (cut : List ℕ) → (number : ℕ) → (steps : List ℕ) → List ℕ
+shot_of net cut number steps = shot_lines net cut number steps (rows_at net cut steps)
+
+-- the first shots, `count` of `shots` that are taken in all
+pub record AreShots (net : Network) (cut : List ℕ) (shots count : ℕ) (text : List ℕ) : Type 0 where
+  -- the steps of the regions in each of them
+  pub steps : List (List ℕ)
+  pub one_each : length steps ≡ count
+  pub each : (i : ℕ) → i < count → IsShotBetween net cut (goal_of net.steps shots i) (goal_of net.steps shots (i + 1)) (list_at steps i)
+  pub text : text ≡ flat_map (λ i. shot_of net cut (i + 1) (list_at steps i)) (range_with_len 0 count)
