@@ -1,4 +1,2 @@
 pub mod Rooms
-pub mod ShotText
-pub mod Shots
 pub mod Snapshots
