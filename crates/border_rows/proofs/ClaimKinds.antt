@@ -451,19 +451,25 @@ whole_holds terms s id view v old is all empty has = elim (whole_spent terms s i
   | inr gone ↦ gone.holds
 ]
 
--- no region has a holder then
-pub whole_holders : (terms : Terms) (s : FieldState) (id r : ℕ) (view : View) → IsStanding terms s → get_elem? s.views id ≡ some view → view.share ≡ terms.seats → view.holds ≡ [] →
-    holders s.views r ≡ 0
-whole_holders terms s id r view old is all empty =
-    none-sum (λ (v : View). times_held v.holds r) s.views (λ v has. ap (λ l. times_held l r) (whole_holds terms s id view v old is all empty has))
-
--- and no view knows a region's step
+-- no view knows a region's step then
 pub whole_knowers : (terms : Terms) (s : FieldState) (id r : ℕ) (view : View) → IsStanding terms s → get_elem? s.views id ≡ some view → view.share ≡ terms.seats → view.holds ≡ [] →
     knowers s.views r ≡ 0
 whole_knowers terms s id r view old is all empty =
     none-sum (λ (v : View). times_known v.holds r) s.views (λ v has. ap (λ l. times_known l r) (whole_holds terms s id view v old is all empty has))
 
--- it finds no claim word taken
-pub whole_claim : (terms : Terms) (s : FieldState) (id r : ℕ) (view : View) → IsStanding terms s → get_elem? s.views id ≡ some view → view.share ≡ terms.seats → view.holds ≡ [] →
-    r < region_count terms.chart.now.cut → claim_of terms.chart.now s.words r ≡ 0
-whole_claim terms s id r view old is all empty within = old.claims.counted r within ∙ whole_holders terms s id r view old is all empty
+-- where no hold is of a region, it stands among them never
+not_held : (holds : List Hold) (r : ℕ) → ((hold : Hold) → Contains holds hold → hold.region ≢ r) → times_held holds r ≡ 0
+not_held [] r others = refl
+not_held (hold ∷ holds) r others =
+    times_held-other hold holds r (others hold (0, omega arith, refl)) ∙ not_held holds r (λ h has. others h (suc has.0, omega (arith, has.1), has.2))
+
+-- the seat with all shares finds no claim word taken but of the regions that it holds itself
+pub whole_claim : (terms : Terms) (s : FieldState) (id r : ℕ) (view : View) → IsStanding terms s → get_elem? s.views id ≡ some view → view.share ≡ terms.seats →
+    ((hold : Hold) → Contains view.holds hold → hold.region ≢ r) → r < region_count terms.chart.now.cut → claim_of terms.chart.now s.words r ≡ 0
+whole_claim terms s id r view old is all others within =
+    old.claims.counted r within ∙
+    none-sum (λ (v : View). times_held v.holds r) s.views
+    (λ v has. elim (whole_spent terms s id view v old is all has) [
+      | inl own ↦ ap (λ (x : View). times_held x.holds r) own ∙ not_held view.holds r others
+      | inr gone ↦ ap (λ l. times_held l r) gone.holds
+    ])

@@ -3,7 +3,7 @@ use Rattle.std.specs.Prelude.{◌≡◌, ℕ, List, [], Option, Ok, Err, IfSome,
 use Rattle.std.specs.Io.KnownBytes.{Appends, IsAtEnd}
 use Rattle.command_words.specs.declared.request.Request.{Request}
 use Rattle.ctm_ports.specs.Written.{AppendsPrefix}
-use Rattle.ctm_program.specs.Answer.{Answer}
+use Rattle.ctm_program.specs.Answer.{Answer, IsTextOf}
 use Rattle.ctm_program.specs.Lines.{read_fault_line, write_fault_line, no_memory_line}
 use Rattle.ctm_program.specs.declared.status.Status.{Status}
 use Rattle.ctm_program.specs.declared.status.Status.TheVariants.{Done, Words, Network, TooLarge, ReadFault, WriteFault, NoMemory}
@@ -48,6 +48,16 @@ line_after answer TooLarge = line_in answer
 line_after answer ReadFault = read_fault_line
 line_after answer WriteFault = write_fault_line
 line_after answer NoMemory = no_memory_line
+
+-- the text that a call writes: the task's, and none where it failed before it wrote any
+abbrev pub IsWritten : Answer → Status → List ℕ → Type 0
+IsWritten answer Done text = IsTextOf answer text
+IsWritten answer Words text = text ≡ []
+IsWritten answer Network text = text ≡ []
+IsWritten answer TooLarge text = text ≡ []
+IsWritten answer ReadFault text = text ≡ []
+IsWritten answer WriteFault text = IsTextOf answer text
+IsWritten answer NoMemory text = (text ≡ []) ⊎ IsTextOf answer text
 
 -- out got nothing but the text: all of it where the call is done, and else a prefix
 pub record Reported (text : List ℕ) (status : Status) (old new : Option (List ℕ)) : Type 0 where

@@ -30,6 +30,9 @@ large_input_line = codes "ctm: too large: input\n"
 abbrev pub large_record_line : List ℕ
 large_record_line = codes "ctm: too large: record\n"
 
+abbrev pub large_shots_line : List ℕ
+large_shots_line = codes "ctm: too large: shots\n"
+
 abbrev pub read_fault_line : List ℕ
 read_fault_line = codes "ctm: read fault\n"
 

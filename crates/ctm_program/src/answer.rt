@@ -7,13 +7,14 @@ ghost use Rattle.ctm_program.specs.Answer.{IsTextOf, answer_of, answer_with, rec
 ghost use Rattle.ctm_program.specs.Ending.{IsInputOf, IsOfWords, IsReadWhole, status_in};
 ghost use Rattle.ctm_program.specs.Lines.{network_line};
 ghost use Rattle.delay_report.specs.Report.{report_of};
-ghost use Rattle.ctm_program.specs.declared.record_limit.TheConstants.{MOST_RECORDED};
+ghost use Rattle.ctm_program.specs.declared.text_limits.TheConstants.{MOST_RECORDED};
 ghost use Rattle.ctm_program.specs.Refusing.{IsNetRefusal, IsRefusalOf, status_at_end};
 
 use crate::counts::counts;
-use crate::record_limit::records_too_much;
 use crate::refusal::Refusal;
 use crate::status::Status;
+use crate::text_limits::records_too_much;
+use crate::watch_text::watched;
 use command_words::{Mode, Request, read_words};
 use ctm_ports::{Gate, ReadEnd, Source, read_up_to};
 use delay_report::report;
@@ -76,6 +77,10 @@ fn text_of<R: Threads + Sync, G: Gate>(
     match request.mode {
         Mode::Run => match Net::read(alloc, input) {
             Ok(net) => reported(rt, alloc, &net, request, gate),
+            Err(refusal) => Err(refused(alloc, refusal)),
+        },
+        Mode::Watch => match Net::read(alloc, input) {
+            Ok(net) => watched(rt, alloc, &net, request, gate),
             Err(refusal) => Err(refused(alloc, refusal)),
         },
         Mode::Check => match Net::read(alloc, input) {

@@ -15,6 +15,8 @@ pub(crate) enum Refusal {
     LargeInput,
     /// A run would record more values than it may.
     LargeRecord,
+    /// A run's shots would show more rows than they may.
+    LargeShots,
     ReadFault,
     WriteFault,
     NoMemory,
@@ -27,7 +29,9 @@ impl Refusal {
         match self {
             Refusal::Words => Status::Words,
             Refusal::Network(_) => Status::Network,
-            Refusal::LargeInput | Refusal::LargeRecord => Status::TooLarge,
+            Refusal::LargeInput | Refusal::LargeRecord | Refusal::LargeShots => {
+                Status::TooLarge
+            }
             Refusal::ReadFault => Status::ReadFault,
             Refusal::WriteFault => Status::WriteFault,
             Refusal::NoMemory => Status::NoMemory,
@@ -43,6 +47,7 @@ impl Refusal {
             Refusal::Network(line) => line,
             Refusal::LargeInput => b"ctm: too large: input\n",
             Refusal::LargeRecord => b"ctm: too large: record\n",
+            Refusal::LargeShots => b"ctm: too large: shots\n",
             Refusal::ReadFault => b"ctm: read fault\n",
             Refusal::WriteFault => b"ctm: write fault\n",
             Refusal::NoMemory => b"ctm: no memory\n",

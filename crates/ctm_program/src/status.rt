@@ -10,7 +10,8 @@ pub enum Status {
     Words = 2,
     /// The input is no network.
     Network = 3,
-    /// The input has more than 16,777,216 bytes, or a run would record more than 4,000,000 values.
+    /// The input has more than 16,777,216 bytes, or a run would record more than 4,000,000 values, or its shots show more
+    /// than 4,000,000 rows.
     TooLarge = 4,
     /// A read of the input failed.
     ReadFault = 5,

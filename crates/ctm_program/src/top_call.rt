@@ -4,8 +4,8 @@ ghost use Rattle.ctm_ports.specs.Count.{Rose};
 ghost use Rattle.ctm_ports.specs.ReadEnd.{LosesAtMost};
 ghost use Rattle.ctm_ports.specs.Written.{AppendsPrefix};
 ghost use Rattle.network_file.specs.declared.limits.TheConstants.{MOST_BYTES};
-ghost use Rattle.ctm_program.specs.Answer.{IsTextOf, answer_of, requested};
-ghost use Rattle.ctm_program.specs.Ending.{IsComplete, IsInputOf, IsReadWhole, IsOfWords, IsStatusOf, KeepsOut, Reported, Told, line_after};
+ghost use Rattle.ctm_program.specs.Answer.{answer_of, requested};
+ghost use Rattle.ctm_program.specs.Ending.{IsComplete, IsInputOf, IsReadWhole, IsOfWords, IsStatusOf, IsWritten, KeepsOut, Reported, Told, line_after};
 ghost use Rattle.ctm_program.specs.Refusing.{line_of, status_at_end, status_of};
 
 use crate::answer::answer;
@@ -27,11 +27,12 @@ pub fn ctm<R: Threads + Sync, S: Source, O: Sink, E: Sink, G: Gate>(
     err: &mut E,
     gate: &G,
 ) -> Status
-    // There is an input, which is what the source has left where it tells it, and a text of the answer to it, of which
-    // all this holds. The last line: a task is done, but for faults that were counted in this call and want of memory.
+    // There is an input, which is what the source has left where it tells it, and a text, of which all this holds: it is
+    // one of the answer to the input where any of it is written, and all of it is on out where the call is done. The last
+    // line: a task is done, but for faults that were counted in this call and want of memory.
     ensures answered { (input : List ℕ) × (text : List ℕ) × IsInputOf (requested words.now) (S.left source.old) input
-        × IsTextOf (answer_of words.now input) text
         × IsStatusOf (answer_of words.now input) result
+        × IsWritten (answer_of words.now input) result text
         × Reported text result (O.taken out.old) (O.taken out.new)
         × Told (answer_of words.now input) result (E.taken err.old) (E.taken err.new)
         (Rose (E.faults err.old) (E.faults err.new) ⊎ Rose (E.wants err.old) (E.wants err.new))
@@ -80,8 +81,8 @@ fn run<R: Threads + Sync, S: Source, O: Sink, G: Gate>(
     gate: &G,
 ) -> Result<(), Refusal>
     ensures answered { (input : List ℕ) × (text : List ℕ) × IsInputOf (requested words.now) (S.left source.old) input
-        × IsTextOf (answer_of words.now input) text
         × IsStatusOf (answer_of words.now input) (status_at_end result)
+        × IsWritten (answer_of words.now input) (status_at_end result) text
         × Reported text (status_at_end result) (O.taken out.old) (O.taken out.new)
         × IfErr result (λ refusal. line_of refusal ≡ line_after (answer_of words.now input) (status_of refusal)) }
     ensures words { status_at_end result ≡ Status.Words → requested words.now ≡ None }

@@ -98,10 +98,10 @@ fn a_region_waits_for_the_one_behind_it(rt: HostRuntime) -> Result<(), Fail> {
 
 // So many turns, each on a region and by a member that are drawn.
 fn wander(field: &Field, members: &mut [Member], last: u64, draws: u32, seed: u32)
-    requires enlisted { AreEnlisted field.now members.old }
+    requires enlisted { AreEnlisted field.now last members.old }
     requires in_time { last ≤ field.now.terms.net.now.steps }
     ensures many { length members.new ≡ length members.old }
-    ensures enlisted { AreEnlisted field.now members.new }
+    ensures enlisted { AreEnlisted field.now last members.new }
 {
     if members.is_empty() {
         return;
@@ -116,9 +116,9 @@ fn wander(field: &Field, members: &mut [Member], last: u64, draws: u32, seed: u3
 
 // A turn by a member on a region that is drawn.
 fn step_member(field: &Field, member: &mut Member, last: u64, draw: u32)
-    requires enlisted { IsEnlisted field.now member.old }
+    requires enlisted { IsEnlisted field.now last member.old }
     requires in_time { last ≤ field.now.terms.net.now.steps }
-    ensures enlisted { IsEnlisted field.now member.new }
+    ensures enlisted { IsEnlisted field.now last member.new }
 {
     let region = draw % field.regions();
     field.turn(&mut member.pass, region, last, &OpenGate);

@@ -1,5 +1,5 @@
 //! A run of a network by workers, each in a thread of its own: they share a field of the network's regions, take them
-//! through their steps in rounds, and the caller finishes what they leave.
+//! through their steps in rounds, and the caller finishes what they leave. A run that is watched is shown in between.
 #![tactic(auto)]
 
 #[cfg(test)]
@@ -11,5 +11,8 @@ mod rounds;
 mod run;
 #[cfg(test)]
 mod tests;
+mod watch;
+mod watched_run;
 
 pub use run::last_regions;
+pub use watched_run::{Watched, watched_regions};

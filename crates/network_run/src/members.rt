@@ -1,6 +1,6 @@
-ghost use Rattle.std.specs.Prelude.{◌≡◌, ◌+◌, ◌*◌, ◌/◌, ◌<◌, ◌≤◌, [], length, vec_capacity};
+ghost use Rattle.std.specs.Prelude.{◌≡◌, ◌≢◌, ◌+◌, ◌*◌, ◌/◌, ◌<◌, ◌≤◌, ℕ, [], length, slice_index, vec_capacity};
 ghost use Rattle.region_slots.specs.FieldView.{IsPassOf};
-ghost use Rattle.network_run.specs.Enlisted.{AreEnlisted};
+ghost use Rattle.network_run.specs.Enlisted.{AreEnlisted, IsReached};
 
 use region_slots::{Field, Pass};
 use worker_claim::Member;
@@ -13,8 +13,10 @@ pub(crate) fn enlist(field: &Field, pass: &mut Pass, members: &mut Vec<Member>, 
     requires room { workers ≤ vec_capacity members.old }
     ensures belongs { IsPassOf field.now pass.new }
     ensures seat { pass.new.knows.share ≡ 1 }
+    ensures same { (pass.new.knows.seen ≡ pass.old.knows.seen) × (pass.new.knows.reach ≡ pass.old.knows.reach) }
     ensures many { length members.new.items ≡ workers }
-    ensures enlisted { AreEnlisted field.now members.new.items }
+    ensures room { workers ≤ vec_capacity members.new }
+    ensures enlisted { (most : ℕ) → pass.old.knows.reach ≤ most → AreEnlisted field.now most members.new.items }
 {
     let regions = field.regions();
     for j in 0..workers {
@@ -37,9 +39,16 @@ fn first_region(j: u32, regions: u32, workers: u32) -> u32
 /// Unites a pass with those of all members.
 pub(crate) fn dismiss(field: &Field, pass: &mut Pass, members: &mut Vec<Member>)
     requires belongs { IsPassOf field.now pass.old }
-    requires enlisted { AreEnlisted field.now members.old.items }
+    requires enlisted { (most : ℕ) × AreEnlisted field.now most members.old.items }
     ensures belongs { IsPassOf field.now pass.new }
     ensures seats { pass.new.knows.share ≡ pass.old.knows.share + length members.old.items }
+    ensures nobody { members.new.items ≡ [] }
+    ensures room { vec_capacity members.new ≡ vec_capacity members.old }
+    ensures later { (r : ℕ) → slice_index pass.old.knows.seen r ≤ slice_index pass.new.knows.seen r }
+    ensures reach { (most : ℕ) → pass.old.knows.reach ≤ most → AreEnlisted field.now most members.old.items → pass.new.knows.reach ≤ most }
+
+    // What the field tells the last that is united.
+    ensures reached { length members.old.items ≢ 0 → pass.new.knows.share ≡ field.now.terms.seats → IsReached field.now.terms pass.new.knows }
 {
     while let Some(member) = members.pop() {
         let Member {

@@ -7,8 +7,8 @@ use region_slots::Field;
 use std::thread::Threads;
 use worker_claim::{Member, crew};
 
-// How many sweeps a member makes in a round, at most.
-const SWEEPS: u32 = 4096;
+/// How many sweeps a member makes in a round, at most.
+pub(crate) const SWEEPS: u32 = 4096;
 
 /// Has the crew drive in rounds, until a member has found all regions at the goal, or none has moved one, or there were as
 /// many rounds as there are steps to take. It gives their number.
@@ -19,10 +19,10 @@ pub(crate) fn drive_rounds<R: Threads + Sync, G: Gate>(
     goal: u64,
     gate: &G,
 ) -> u64
-    requires enlisted { AreEnlisted field.now members.old }
+    requires enlisted { AreEnlisted field.now goal members.old }
     requires in_time { goal ≤ field.now.terms.net.now.steps }
     ensures many { length members.new ≡ length members.old }
-    ensures enlisted { AreEnlisted field.now members.new }
+    ensures enlisted { AreEnlisted field.now goal members.new }
     ensures over { IsOver members.new ⊎ (result ≡ min (region_count field.now.terms.chart.now.cut * goal) (2 ^ 64 - 1)) }
 {
     let most = u64::from(field.regions()).saturating_mul(goal);
@@ -35,8 +35,8 @@ pub(crate) fn drive_rounds<R: Threads + Sync, G: Gate>(
     most
 }
 
-// Whether a member has found all regions at the goal, or none has moved one.
-fn is_over(members: &[Member]) -> bool
+/// Whether a member has found all regions at the goal, or none has moved one.
+pub(crate) fn is_over(members: &[Member]) -> bool
     ensures { IsTrue result → IsOver members.now }
 {
     members.iter().any(|member| member.driven.all)

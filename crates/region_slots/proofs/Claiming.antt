@@ -68,7 +68,7 @@ claiming terms slots id r me chart within of_field share others = λ s standing 
       record {
         free = λ other q region same zero_found. let is = is_r other q region same in ap (λ p. (taken me.0 p, me.1)) (sym is.1);
         held = λ other q region same some_found. absurd (some_found free);
-        whole = λ other q region same all idle. free;
+        whole = λ other q region same all. free;
         others = λ other q region same hold has own. others hold has (own ∙ (is_r other q region same).1);
         long = long_seen;
         in_time = λ other q region. seen-in-time terms s id me.0 standing at of_field other q region;
@@ -84,8 +84,8 @@ claiming terms slots id r me chart within of_field share others = λ s standing 
         held = λ other q region same some_found.
             let is = is_r other q region same in
             (ap (λ p. (found_taken me.0 p, me.1)) (sym is.1), omega (arith, held, standing.claims.counted r within, standing.claims.one r));
-        whole = λ other q region same all idle.
-            let is = is_r other q region same in absurd (held (whole_claim terms s id r me.0 standing at (rw is.0 at all) idle within));
+        whole = λ other q region same all.
+            let is = is_r other q region same in absurd (held (whole_claim terms s id r me.0 standing at (rw is.0 at all) others within));
         others = λ other q region same hold has own. others hold has (own ∙ (is_r other q region same).1);
         long = long_seen;
         in_time = λ other q region. seen-in-time terms s id me.0 standing at of_field other q region;

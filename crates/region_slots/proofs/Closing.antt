@@ -51,7 +51,7 @@ none-sum f (x ∷ xs) none =
     omega (arith, first, later, sum_by-cons f x xs)
 
 -- the moves of the seat with all shares are those of all views
-whole_moves : (terms : Terms) (s : FieldState) (id : ℕ) (view : View) → IsStanding terms s → get_elem? s.views id ≡ some view → view.share ≡ terms.seats →
+pub whole_moves : (terms : Terms) (s : FieldState) (id : ℕ) (view : View) → IsStanding terms s → get_elem? s.views id ≡ some view → view.share ≡ terms.seats →
     sum_by (λ v. v.moves) s.views ≡ view.moves
 whole_moves terms s id view old is all =
     let gone : View = record view { moves = 0 } in
@@ -63,7 +63,7 @@ whole_moves terms s id view old is all =
     omega (arith, rest, none)
 
 -- no region stands past its start and past the reach of the seat with all shares
-whole_reach : (terms : Terms) (s : FieldState) (id r : ℕ) (view : View) → IsStanding terms s → get_elem? s.views id ≡ some view → view.share ≡ terms.seats →
+pub whole_reach : (terms : Terms) (s : FieldState) (id r : ℕ) (view : View) → IsStanding terms s → get_elem? s.views id ≡ some view → view.share ≡ terms.seats →
     r < region_count terms.chart.now.cut → step_of terms.chart.now s.words r ≤ max (slice_index terms.start.now.steps r) view.reach
 whole_reach terms s id r view old is all within = elim (old.counts.reach r within) [
   | inl low ↦ omega (arith, low)
@@ -85,7 +85,7 @@ pub record IsClosed (terms : Terms) (view : View) (steps : List ℕ) (regions : 
   pub moves : steps_since terms.start.now (region_count terms.chart.now.cut) steps ≡ view.moves
 
 -- the steps since the start are those that were made
-since-made : (terms : Terms) (words : List ℕ) →
+pub since-made : (terms : Terms) (words : List ℕ) →
     steps_since terms.start.now (region_count terms.chart.now.cut) (steps_of terms.chart.now words) ≡ steps_made terms.chart.now terms.start.now words
 since-made terms words =
     let count : ℕ = region_count terms.chart.now.cut in

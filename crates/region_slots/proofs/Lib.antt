@@ -1,13 +1,17 @@
 pub mod Claiming
 pub mod Closing
 pub mod Comparing
+pub mod Copying
 pub mod Counts
 pub mod Filling
+pub mod Gathering
 pub mod Looking
 pub mod NeighbourLooks
 pub mod Openings
 pub mod Reading
 pub mod RowFilling
 pub mod Sharing
+pub mod Shown
 pub mod Telling
+pub mod Together
 pub mod Writing

@@ -3,6 +3,7 @@ use Rattle.std.specs.Prelude.{◌≡◌, ◌≢◌, ℕ, ◌+◌, ◌%◌, ◌<�
 use Rattle.std.specs.List.{Contains}
 use Rattle.region_cut.specs.Cuttings.{region_count}
 use Rattle.region_cut.specs.Joins.{are_neighbours}
+use Rattle.region_cut.specs.LawfulSteps.{AreLawful}
 use Rattle.region_step.specs.Grid.{grid_held}
 use Rattle.region_step.specs.Region.{RegionValue}
 use Rattle.region_step.specs.Standing.{Stands}
@@ -13,6 +14,13 @@ use Rattle.border_rows.specs.Words.{border_cell}
 use Rattle.border_rows.specs.declared.view.Hold.{Hold}
 use Rattle.border_rows.specs.declared.view.Terms.{Terms}
 use Rattle.border_rows.specs.declared.view.View.{View}
+use Rattle.region_slots.specs.Shooting.{IsWhole}
+
+-- the view holds each region at the step that it has seen of it, and has not published past it
+pub record HoldsAll (terms : Terms) (view : View) : Type 0 where
+  pub long : length view.seen ≡ region_count terms.chart.now.cut
+  pub each : (r : ℕ) → r < region_count terms.chart.now.cut →
+      (hold : Hold) × Contains view.holds hold × (hold.region ≡ r) × (hold.known ≡ true) × (hold.published ≡ false) × (hold.step ≡ slice_index view.seen r)
 
 abbrev pub Mine : Type 0
 Mine = Me RegionValue View
@@ -38,7 +46,7 @@ pub record Claimed (step : Step RegionValue) (old : Mine) (found : ℕ) (new : M
   pub held : (terms : Terms) (r : ℕ) → IsRegion old.0 terms r → step.word ≡ claim_place (widths_of terms.chart.now) r → found ≢ 0 →
       (new ≡ (found_taken old.0 r, old.1)) × (found ≡ 1)
   pub others : (terms : Terms) (r : ℕ) → IsRegion old.0 terms r → step.word ≡ claim_place (widths_of terms.chart.now) r → (hold : Hold) → Contains old.0.holds hold → hold.region ≢ r
-  pub whole : (terms : Terms) (r : ℕ) → IsRegion old.0 terms r → step.word ≡ claim_place (widths_of terms.chart.now) r → old.0.share ≡ terms.seats → old.0.holds ≡ [] → found ≡ 0
+  pub whole : (terms : Terms) (r : ℕ) → IsRegion old.0 terms r → step.word ≡ claim_place (widths_of terms.chart.now) r → old.0.share ≡ terms.seats → found ≡ 0
   pub long : (terms : Terms) (r : ℕ) → IsRegion old.0 terms r → length old.0.seen ≡ region_count terms.chart.now.cut
   pub in_time : (terms : Terms) (r : ℕ) → IsRegion old.0 terms r → slice_index old.0.seen r ≤ terms.net.now.steps
 
@@ -87,3 +95,10 @@ pub record Freed (step : Step RegionValue) (old : Mine) (found : ℕ) (new : Min
 pub record Bounded (step : Step RegionValue) (old : Mine) (found : ℕ) (new : Mine) : Type 0 where
   pub same : new ≡ old
   pub whole : (terms : Terms) (r : ℕ) → IsRegion old.0 terms r → old.0.share ≡ terms.seats → slice_index old.0.seen r ≤ max (slice_index terms.start.now.steps r) old.0.reach
+
+-- a look at any word while the seat holds all regions: they stand together at the steps that it has seen
+pub record Gathered (step : Step RegionValue) (old : Mine) (found : ℕ) (new : Mine) : Type 0 where
+  pub same : new ≡ old
+  pub lawful : (terms : Terms) (r : ℕ) → IsRegion old.0 terms r → HoldsAll terms old.0 → AreLawful terms.net.now terms.chart.now.cut old.0.seen
+  pub started : (terms : Terms) (r : ℕ) → IsRegion old.0 terms r → HoldsAll terms old.0 → slice_index terms.start.now.steps r ≤ slice_index old.0.seen r
+  pub whole : (terms : Terms) (r : ℕ) → IsRegion old.0 terms r → HoldsAll terms old.0 → old.0.share ≡ terms.seats → IsWhole terms old.0 old.0.seen

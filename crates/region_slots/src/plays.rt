@@ -1,5 +1,5 @@
 ghost use Rattle.border_rows.specs.Kinds.{kept, shared_off, spent, united};
-ghost use Rattle.region_slots.specs.Plays.{Bounded, Claimed, Compared, Freed, Learned, Looked, Published, Read, Written};
+ghost use Rattle.region_slots.specs.Plays.{Bounded, Claimed, Compared, Freed, Gathered, Learned, Looked, Published, Read, Written};
 
 use atomic_table::{Join, Play, Split};
 use border_rows::View;
@@ -66,6 +66,13 @@ pub(crate) struct Bound;
 
 impl Play<Region, View<'static>> for Bound {
     ghost then = { λ step old found new. Bounded step old found new };
+}
+
+/// A look that tells that the regions which the seat holds stand together.
+pub(crate) struct Gather;
+
+impl Play<Region, View<'static>> for Gather {
+    ghost then = { λ step old found new. Gathered step old found new };
 }
 
 /// A seat of share 1 is shared off.

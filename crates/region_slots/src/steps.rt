@@ -30,7 +30,7 @@ impl<'a> Field<'a> {
         ensures held { result ≡ false → seat.new.me ≡ (found_taken seat.old.me.0 region, seat.old.me.1) }
         ensures long { length seat.old.me.0.seen ≡ region_count self.now.terms.chart.now.cut }
         ensures in_time { HasSeenInTime self.now.terms seat.old.me.0 }
-        ensures never_whole { seat.old.me.0.share ≡ self.now.terms.seats → seat.old.me.0.holds ≡ [] → IsTrue result }
+        ensures never_whole { seat.old.me.0.share ≡ self.now.terms.seats → IsTrue result }
     {
         let word = self.places.claim(region);
         let found = self

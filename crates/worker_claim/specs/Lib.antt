@@ -1,3 +1,4 @@
 pub mod Driving
 pub mod Members
 pub mod Turns
+pub mod Watching

@@ -6,5 +6,5 @@ use Rattle.network_run.proofs.field_tests.wander.Goals as goal
 pub loop-preserved : goal.loop-preserved
 loop-preserved c = (
   length-set c.loop.members _ c.step_member.new.member ∙ c.loop.invariant.0,
-  enlisted-set c.args.field.now c.loop.members _ c.step_member.new.member c.loop.invariant.1 c.step_member.ensures.enlisted,
+  enlisted-set c.args.field.now c.args.last c.loop.members _ c.step_member.new.member c.loop.invariant.1 c.step_member.ensures.enlisted,
 )

@@ -5,4 +5,4 @@ use Rattle.network_run.proofs.field_tests.wandered.Goals as goal
 pub dismiss-requires-clause-enlisted : goal.dismiss-requires-clause-enlisted
 dismiss-requires-clause-enlisted c =
     let long : length c.wander.new.members ≡ c.enlist.new.members.len = omega (arith, c.wander.ensures.many, ap length c.deref_mut.ensures.value, c.enlist.new.members.ok.0) in
-    rw (with_items_is c.enlist.new.members c.wander.new.members long) c.wander.ensures.enlisted
+    (_, rw (with_items_is c.enlist.new.members c.wander.new.members long) c.wander.ensures.enlisted)

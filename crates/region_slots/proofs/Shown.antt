@@ -1,0 +1,71 @@
+-- A room that shows all regions which stand together is a lawful snapshot.
+use Rattle.std.specs.Prelude.{slice_index}
+use Rattle.std.proofs.Common.{◌≡◌, ℕ, ◌<◌, ◌≤◌, List, [], length, refl, sym, ap, subst, ◌∙◌, arith}
+use Rattle.std.proofs.lemmas.List.{ext_get_or}
+use Rattle.atomic_table.specs.Seated.{TableId}
+use Rattle.region_cut.specs.Cuttings.{region_at, region_count}
+use Rattle.region_cut.specs.LawfulSteps.{AreLawful}
+use Rattle.region_cut.proofs.Membership.{region_at-there}
+use Rattle.region_step.specs.Grid.{grid_before, grid_row}
+use Rattle.snapshot.specs.Rooms.{IsRoomFor, RoomValue}
+use Rattle.snapshot.specs.Snapshots.{IsSnapshot}
+use Rattle.snapshot.proofs.Showing.{shown-before, shown-row, shown-step}
+use Rattle.border_rows.specs.declared.view.Terms.{Terms}
+use Rattle.border_rows.specs.declared.view.View.{View}
+use Rattle.region_slots.specs.Closing.{steps_since}
+use Rattle.region_slots.specs.FieldView.{IsTableFor}
+use Rattle.region_slots.specs.Gathering.{HasGathered}
+use Rattle.region_slots.specs.Plays.{Mine}
+use Rattle.region_slots.specs.Shooting.{HasShot, IsWhole}
+use Rattle.region_slots.proofs.Copying.{AreShown}
+use Rattle.region_slots.proofs.Gathering.{unmoved-freed}
+
+-- it shows the steps that were seen
+pub shown-steps : (terms : Terms) (seen : List ℕ) (room : RoomValue) → length seen ≡ region_count terms.chart.now.cut → IsRoomFor terms.chart.now room → AreShown terms seen 0 room → room.steps ≡ seen
+shown-steps terms seen room long fits shown =
+    ext_get_or 0 room.steps seen (fits.steps ∙ sym long)
+    (λ r within.
+    let (state, stands, shows) = shown r (omega arith) (omega (arith, within, fits.steps)) in
+    shown-step terms.net.now terms.chart.now terms.start.now terms.every r (slice_index seen r) state room stands shows)
+
+shown-snapshot : (terms : Terms) (table : TableId) (seen : List ℕ) (room : RoomValue) → IsTableFor terms table → IsRoomFor terms.chart.now room → AreShown terms seen 0 room →
+    AreLawful terms.net.now terms.chart.now.cut seen → ((r : ℕ) → r < region_count terms.chart.now.cut → slice_index terms.start.now.steps r ≤ slice_index seen r) →
+    IsSnapshot terms.net.now terms.chart.now.cut terms.start.now room
+shown-snapshot terms table seen room field fits shown lawful started =
+    let cut : List ℕ = terms.chart.now.cut in
+    let steps : room.steps ≡ seen = shown-steps terms seen room lawful.one_each fits shown in
+    let step : (r : ℕ) → slice_index seen r ≡ slice_index room.steps r = λ r. ap (λ l. slice_index l r) (sym steps) in
+    record {
+      lawful = subst (AreLawful terms.net.now cut) (sym steps) lawful;
+      started = λ r there. omega (arith, started r there, step r);
+      rows = λ i there.
+          let r : ℕ = region_at cut i in
+          let (state, stands, shows) = shown r (omega arith) (region_at-there cut i) in
+          shown-row terms.net.now terms.chart.now terms.start.now terms.every r (slice_index seen r) i state room field.sound field.charted (region_at-there cut i) stands shows there refl ∙
+          ap (λ t. grid_row terms.net.now cut terms.start.now t i) (step r);
+      earlier = λ i there.
+          let r : ℕ = region_at cut i in
+          let (state, stands, shows) = shown r (omega arith) (region_at-there cut i) in
+          shown-before terms.net.now terms.chart.now terms.start.now terms.every r (slice_index seen r) i state room field.sound field.charted (region_at-there cut i) stands shows there refl ∙
+          ap (λ t. grid_before terms.net.now cut terms.start.now t i) (step r);
+    }
+
+pub has-shot : (terms : Terms) (table : TableId) (old : View) (me : Mine) (room : RoomValue) → IsTableFor terms table → HasGathered terms old (region_count terms.chart.now.cut) me →
+    AreLawful terms.net.now terms.chart.now.cut me.0.seen → ((r : ℕ) → r < region_count terms.chart.now.cut → slice_index terms.start.now.steps r ≤ slice_index me.0.seen r) →
+    IsRoomFor terms.chart.now room → AreShown terms me.0.seen 0 room → HasShot terms old (record me.0 { holds = [] }) room
+has-shot terms table old me room field has lawful started fits shown =
+    let steps : room.steps ≡ me.0.seen = shown-steps terms me.0.seen room lawful.one_each fits shown in
+    record {
+      unmoved = unmoved-freed old me.0 has.unmoved;
+      snapshot = shown-snapshot terms table me.0.seen room field fits shown lawful started;
+      seen = sym steps;
+      later = λ r there. omega (arith, has.unmoved.seen.later r, ap (λ l. slice_index l r) steps);
+      looks = has.looks;
+    }
+
+-- what the whole share knows of the steps
+pub whole-shown : (terms : Terms) (view : View) (seen steps : List ℕ) → steps ≡ seen → IsWhole terms view seen → IsWhole terms (record view { holds = [] }) steps
+whole-shown terms view seen steps same whole = record {
+  moves = ap (steps_since terms.start.now (region_count terms.chart.now.cut)) same ∙ whole.moves;
+  reached = λ r there. omega (arith, whole.reached r there, ap (λ l. slice_index l r) same);
+}

@@ -1,0 +1,54 @@
+-- What a shot finds of a field, and what it leaves of a pass.
+use Rattle.std.specs.Prelude.{◌≡◌, ℕ, ◌+◌, ◌<◌, ◌≤◌, List, max, slice_index}
+use Rattle.region_cut.specs.Cuttings.{region_count}
+use Rattle.snapshot.specs.Rooms.{IsRoomFor, RoomValue}
+use Rattle.snapshot.specs.Snapshots.{IsSnapshot}
+use Rattle.border_rows.specs.declared.view.Terms.{Terms}
+use Rattle.border_rows.specs.declared.view.View.{View}
+use Rattle.region_slots.specs.Closing.{steps_since}
+use Rattle.region_slots.specs.Turning.{HasFound, IsLater}
+use Rattle.region_slots.specs.declared.shot.Shot.{Shot}
+use Rattle.region_slots.specs.declared.shot.Shot.TheVariants.{Busy, Taken}
+
+-- what every shot keeps of a pass: nothing was published, no neighbour was found a step lower, and nothing is forgotten
+pub record IsUnmoved (old new : View) : Type 0 where
+  pub terms : new.terms ≡ old.terms
+  pub share : new.share ≡ old.share
+  pub splits : new.splits ≡ old.splits
+  pub moves : new.moves ≡ old.moves
+  pub reach : new.reach ≡ old.reach
+  pub found : HasFound old new
+  pub seen : IsLater old new
+  pub held_found : (q : ℕ) → slice_index old.held_found q ≤ slice_index new.held_found q
+  pub looks : (q : ℕ) → slice_index old.looks q ≤ slice_index new.looks q
+
+-- the room shows a lawful snapshot, whose steps were all looked at in this call and are what the pass has seen now, no less
+-- than before
+pub record HasShot (terms : Terms) (old new : View) (room : RoomValue) : Type 0 where
+  pub unmoved : IsUnmoved old new
+  pub snapshot : IsSnapshot terms.net.now terms.chart.now.cut terms.start.now room
+  pub seen : new.seen ≡ room.steps
+  pub later : (r : ℕ) → r < region_count terms.chart.now.cut → slice_index old.seen r ≤ slice_index room.steps r
+  pub looks : (r : ℕ) → r < region_count terms.chart.now.cut → slice_index new.looks r ≡ slice_index old.looks r + 1
+
+-- the steps of all regions as the whole share finds them: they are its moves since the start, and none lies past both the
+-- start and its reach
+pub record IsWhole (terms : Terms) (view : View) (steps : List ℕ) : Type 0 where
+  pub moves : steps_since terms.start.now (region_count terms.chart.now.cut) steps ≡ view.moves
+  pub reached : (r : ℕ) → r < region_count terms.chart.now.cut → slice_index steps r ≤ max (slice_index terms.start.now.steps r) view.reach
+
+-- region r was found taken at each of the tries
+pub record IsBusy (terms : Terms) (old new : View) (r tries : ℕ) : Type 0 where
+  pub unmoved : IsUnmoved old new
+  pub there : r < region_count terms.chart.now.cut
+  pub held_found : slice_index new.held_found r ≡ slice_index old.held_found r + tries
+
+-- what came of a shot, by its answer
+pub record IsShotOf (terms : Terms) (tries : ℕ) (old new : View) (before after : RoomValue) (shot : Shot) : Type 0 where
+  pub room : IsRoomFor terms.chart.now after
+  pub taken : shot ≡ Taken → HasShot terms old new after
+  pub busy : (r : ℕ) → shot ≡ Busy r → IsBusy terms old new r tries
+  pub unchanged : (r : ℕ) → shot ≡ Busy r → after ≡ before
+  -- the whole share finds no region taken, and shows the present state of the field
+  pub never_busy : old.share ≡ terms.seats → shot ≡ Taken
+  pub whole : old.share ≡ terms.seats → IsWhole terms new after.steps
