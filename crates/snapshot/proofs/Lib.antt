@@ -1,2 +1,3 @@
 pub mod Filling
 pub mod FlightLines
+pub mod ShotLaws
