@@ -12,7 +12,7 @@ use Rattle.std.proofs.lemmas.List.Filters.{length-filter_both}
 use Rattle.std.proofs.lemmas.List.FromFn.{length-range_with_len}
 use Rattle.region_step.specs.Recording.{is_recorded, recorded}
 use Rattle.delay_report.specs.Report.{recorded_count}
-use Rattle.delay_report.proofs.Lines.{range_more}
+use Rattle.line_fields.proofs.Lines.{range_more}
 
 -- those before step t
 abbrev pub before : (steps every t : ℕ) → List ℕ

@@ -1,13 +1,11 @@
 -- The report of a run, by the rows of all cells at the last step and by what was noted of them at the recorded steps.
-use Rattle.std.specs.Prelude.{ℕ, List, [], ◌++◌, length, codes, decimal, flat_map, slice_get, sum_by}
-use Rattle.std.specs.List.{range_with_len}
-use Rattle.std.specs.Option.{option_map_or}
-use Rattle.fixed_flow.specs.Printed.{amount_text}
+use Rattle.std.specs.Prelude.{ℕ, List, ◌++◌, length, codes, flat_map, sum_by}
 use Rattle.network_file.specs.Network.{Network}
 use Rattle.network_file.specs.declared.cell.Cell.{Cell}
 use Rattle.flow_model.specs.State.{row_at, state_at}
 use Rattle.flow_model.specs.declared.row.Row.{Row}
 use Rattle.flow_ledger.specs.Books.{entered_of, inside_of, left_of}
+use Rattle.line_fields.specs.Fields.{amount_field, count_field, lines_of, name_at, row_fields}
 use Rattle.region_step.specs.Recording.{note_of, recorded}
 use Rattle.region_step.specs.declared.note.Note.{Note}
 
@@ -15,22 +13,17 @@ use Rattle.region_step.specs.declared.note.Note.{Note}
 abbrev pub recorded_count : (steps every : ℕ) → ℕ
 recorded_count steps every = length (recorded steps every 0 steps)
 
--- a comma and an amount
-abbrev pub amount_field : ℕ → List ℕ
-amount_field parts = codes "," ++ amount_text parts
-
 -- `report,T,cells`
 unfoldable pub report_line : Network → List ℕ
-report_line net = codes "report," ++ decimal net.steps ++ codes "," ++ decimal (length net.cells) ++ codes "\n"
+report_line net = codes "report" ++ count_field net.steps ++ count_field (length net.cells) ++ codes "\n"
 
 -- `at,t,name,n,gone`
 unfoldable pub note_line : (t : ℕ) → (name : List ℕ) → Note → List ℕ
-note_line t name note = codes "at," ++ decimal t ++ codes "," ++ name ++ amount_field note.n ++ amount_field note.gone ++ codes "\n"
+note_line t name note = codes "at" ++ count_field t ++ codes "," ++ name ++ amount_field note.n ++ amount_field note.gone ++ codes "\n"
 
 -- `cell,name,n,come,gone,wait`
 unfoldable pub cell_line : (name : List ℕ) → Row → List ℕ
-cell_line name row =
-    codes "cell," ++ name ++ amount_field row.n ++ amount_field row.come ++ amount_field row.gone ++ amount_field row.wait ++ codes "\n"
+cell_line name row = codes "cell," ++ row_fields name row ++ codes "\n"
 
 -- the waits of all cells, parts times steps
 unfoldable pub delay_of : List Row → ℕ
@@ -43,14 +36,6 @@ totals net rows = amount_field (inside_of net rows) ++ amount_field (entered_of 
 -- `total,inside,entered,left,delay`
 unfoldable pub total_line : Network → List Row → List ℕ
 total_line net rows = codes "total" ++ totals net rows ++ codes "\n"
-
--- the name of cell i
-abbrev pub name_at : List Cell → (i : ℕ) → List ℕ
-name_at cells i = option_map_or (λ cell. cell.name) (slice_get cells i) []
-
--- one line for each of the first cells, so many of them, in the order of the file
-unfoldable pub lines_of : (ℕ → List ℕ) → (cells : ℕ) → List ℕ
-lines_of line cells = flat_map line (range_with_len 0 cells)
 
 -- the lines of one recorded step, by what was noted of each cell
 abbrev pub step_lines : List Cell → (note : ℕ → Note) → (t : ℕ) → List ℕ

@@ -1,8 +1,8 @@
 ghost use Rattle.std.specs.Prelude.{◌≡◌, ◌++◌, length, OnOk};
 ghost use Rattle.delay_report.specs.Report.{cell_line, cell_lines};
 
-use crate::amounts::put_amount;
 use flow_model::Row;
+use line_fields::put_row_fields;
 use network_file::Cell;
 use signal_plan::NoMemory;
 
@@ -26,11 +26,7 @@ fn put_cell_line(text: &mut Vec<u8>, cell: &Cell, row: &Row) -> Result<(), NoMem
     ensures { OnOk result (text.new.items ≡ text.old.items ++ cell_line cell.now.name row.now) }
 {
     text.extend_from_slice(b"cell,")?;
-    text.extend_from_slice(cell.name.bytes())?;
-    put_amount(text, row.n)?;
-    put_amount(text, row.come)?;
-    put_amount(text, row.gone)?;
-    put_amount(text, row.wait)?;
+    put_row_fields(text, cell.name.bytes(), row)?;
     text.extend_from_slice(b"\n")?;
     Ok(())
 }

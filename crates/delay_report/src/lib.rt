@@ -5,7 +5,6 @@
 //! step and the totals.
 #![tactic(auto)]
 
-mod amounts;
 mod by_cell;
 mod cell_lines;
 mod cell_places;

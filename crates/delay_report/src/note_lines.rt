@@ -6,9 +6,8 @@ ghost use Rattle.delay_report.specs.Report.{note_line, note_lines, step_lines};
 ghost use Rattle.region_step.specs.Recording.{recorded};
 ghost use Rattle.region_step.specs.declared.note.Note.{Note as NoteValue};
 
-use crate::amounts::put_amount;
 use crate::by_cell::ByCell;
-use itoa::Buffer;
+use line_fields::{put_amount, put_count};
 use network_file::{Cell, Net};
 use region_step::{Note, is_recorded};
 use signal_plan::NoMemory;
@@ -64,9 +63,8 @@ fn put_step_lines(
 fn put_note_line(text: &mut Vec<u8>, t: u64, cell: &Cell, note: Note) -> Result<(), NoMemory>
     ensures { OnOk result (text.new.items ≡ text.old.items ++ note_line t cell.now.name note) }
 {
-    let mut digits = Buffer::new();
-    text.extend_from_slice(b"at,")?;
-    text.extend_from_slice(digits.format(t).as_bytes())?;
+    text.extend_from_slice(b"at")?;
+    put_count(text, t)?;
     text.extend_from_slice(b",")?;
     text.extend_from_slice(cell.name.bytes())?;
     put_amount(text, note.n)?;

@@ -1,10 +1,10 @@
 ghost use Rattle.std.specs.Prelude.{◌≡◌, ◌++◌, length, OnOk};
 ghost use Rattle.delay_report.specs.Report.{total_line, totals};
 
-use crate::amounts::put_sum;
 use crate::delay::delay;
 use flow_ledger::books;
 use flow_model::Row;
+use line_fields::put_signed;
 use network_file::Net;
 use signal_plan::NoMemory;
 
@@ -26,9 +26,9 @@ fn put_totals(text: &mut Vec<u8>, net: &Net, rows: &[Row]) -> Result<(), NoMemor
 {
     let _steps = net.steps;
     let books = books(net, rows);
-    put_sum(text, books.inside)?;
-    put_sum(text, books.entered)?;
-    put_sum(text, books.left)?;
-    put_sum(text, delay(rows) as i128)?;
+    put_signed(text, books.inside)?;
+    put_signed(text, books.entered)?;
+    put_signed(text, books.left)?;
+    put_signed(text, delay(rows) as i128)?;
     Ok(())
 }

@@ -15,7 +15,7 @@ use crate::cell_lines::put_cell_lines;
 use crate::cell_places::cell_places;
 use crate::note_lines::put_note_lines;
 use crate::total_line::put_total_line;
-use itoa::Buffer;
+use line_fields::put_count;
 use network_file::Net;
 use region_cut::Chart;
 use region_step::Region;
@@ -68,11 +68,9 @@ pub fn report(
 fn put_report_line(text: &mut Vec<u8>, net: &Net) -> Result<(), NoMemory>
     ensures { OnOk result (text.new.items ≡ text.old.items ++ report_line net.now) }
 {
-    let mut digits = Buffer::new();
-    text.extend_from_slice(b"report,")?;
-    text.extend_from_slice(digits.format(net.steps).as_bytes())?;
-    text.extend_from_slice(b",")?;
-    text.extend_from_slice(digits.format(net.cells.len()).as_bytes())?;
+    text.extend_from_slice(b"report")?;
+    put_count(text, net.steps)?;
+    put_count(text, net.cells.len() as u64)?;
     text.extend_from_slice(b"\n")?;
     Ok(())
 }

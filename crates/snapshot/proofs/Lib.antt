@@ -1,2 +1,4 @@
 pub mod Filling
+pub mod FlightLines
+pub mod ShotLaws
 pub mod Showing

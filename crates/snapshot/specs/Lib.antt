@@ -1,2 +1,4 @@
 pub mod Rooms
+pub mod ShotText
+pub mod Shots
 pub mod Snapshots

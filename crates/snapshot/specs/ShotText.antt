@@ -1,5 +1,5 @@
 -- The text of a shot (docs/FORMAT.md, "Shots").
-use Rattle.std.specs.Prelude.{ℕ, Bool, ◌++◌, ◌==◌, List, not, codes, decimal, flat_map, length, slice_index}
+use Rattle.std.specs.Prelude.{ℕ, Bool, ◌++◌, ◌==◌, List, not, codes, flat_map, length, slice_index}
 use Rattle.std.specs.List.{filter, list_any, range_with_len}
 use Rattle.network_file.specs.Connectors.{cells_of, connector_at}
 use Rattle.network_file.specs.Network.{Network}
@@ -10,22 +10,22 @@ use Rattle.flow_model.specs.declared.row.Row.{Row}
 use Rattle.flow_ledger.specs.Books.{books_of}
 use Rattle.flow_ledger.specs.Flight.{flight_of}
 use Rattle.flow_ledger.specs.declared.network_books.Books.{Books}
+use Rattle.line_fields.specs.Fields.{count_field, lines_of, name_at, row_fields, signed_field}
 use Rattle.region_cut.specs.Cuttings.{region_at}
-use Rattle.line_fields.specs.Fields.{lines_of, name_at, row_fields, signed_field}
 
 -- `shot,number,inside,flight,initial,entered,left`
 unfoldable pub books_line : (number : ℕ) → Books → List ℕ
 books_line number books =
-    codes "shot," ++ decimal number ++ signed_field books.inside ++ signed_field books.flight ++ signed_field books.initial
+    codes "shot" ++ count_field number ++ signed_field books.inside ++ signed_field books.flight ++ signed_field books.initial
     ++ signed_field books.entered ++ signed_field books.left ++ codes "\n"
 
 -- `region,r,step`
 unfoldable pub region_line : (r step : ℕ) → List ℕ
-region_line r step = codes "region," ++ decimal r ++ codes "," ++ decimal step ++ codes "\n"
+region_line r step = codes "region" ++ count_field r ++ count_field step ++ codes "\n"
 
 -- `flight,k,amount`
 unfoldable pub flight_line : Network → List Row → (k : ℕ) → List ℕ
-flight_line net rows k = codes "flight," ++ decimal k ++ signed_field (flight_of net rows k) ++ codes "\n"
+flight_line net rows k = codes "flight" ++ count_field k ++ signed_field (flight_of net rows k) ++ codes "\n"
 
 -- `row,name,n,come,gone,wait`
 unfoldable pub row_line : (name : List ℕ) → Row → List ℕ

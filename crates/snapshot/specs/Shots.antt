@@ -46,4 +46,4 @@ pub record AreShots (net : Network) (cut : List ℕ) (shots count : ℕ) (text :
   pub steps : List (List ℕ)
   pub one_each : length steps ≡ count
   pub each : (i : ℕ) → i < count → IsShotBetween net cut (goal_of net.steps shots i) (goal_of net.steps shots (i + 1)) (list_at steps i)
-  pub text : text ≡ flat_map (λ i. shot_of net cut (i + 1) (list_at steps i)) (range_with_len 0 count)
+  pub lines : text ≡ flat_map (λ i. shot_of net cut (i + 1) (list_at steps i)) (range_with_len 0 count)

@@ -1,8 +1,9 @@
 use Rattle.std.specs.Prelude.{slice_index}
 use Rattle.std.proofs.Common.{◌≡◌, ℕ, ◌<◌, List, ◌++◌, length}
 use Rattle.region_step.specs.declared.note.Note.{Note}
+use Rattle.line_fields.specs.Fields.{lines_of, name_at}
 use Rattle.delay_report.specs.Regions.{AreNotesOf}
-use Rattle.delay_report.specs.Report.{lines_of, name_at, note_line}
+use Rattle.delay_report.specs.Report.{note_line}
 use Rattle.delay_report.proofs.note_lines.put_step_lines.Given as goal
 
 -- the lines of the cells before i

@@ -3,7 +3,8 @@ use Rattle.std.proofs.Common.{◌≡◌, ◌<◌, ◌^◌, ℕ, List, ◌++◌, 
 use Rattle.network_file.specs.Network.{IsNetwork}
 use Rattle.region_cut.proofs.ConnectorCells.{few_cells}
 use Rattle.flow_ledger.specs.Books.{books_of, entered_of, inside_of, left_of}
-use Rattle.delay_report.specs.Report.{amount_field, delay_of, totals}
+use Rattle.line_fields.specs.Fields.{amount_field}
+use Rattle.delay_report.specs.Report.{delay_of, totals}
 use Rattle.delay_report.proofs.total_line.put_totals.Goals as goal
 
 four : (text a b c d : List ℕ) → (((text ++ a) ++ b) ++ c) ++ d ≡ text ++ (((a ++ b) ++ c) ++ d)
@@ -16,13 +17,13 @@ returns c =
     let whole_inside : to_z w128 (of_z w128 c.books-books.result.inside) ≡ c.books-books.result.inside = search rules in
     let whole_entered : to_z w128 (of_z w128 c.books-books.result.entered) ≡ c.books-books.result.entered = search rules in
     let whole_left : to_z w128 (of_z w128 c.books-books.result.left) ≡ c.books-books.result.left = search rules in
-    let inside = c.in_ok-put_sum.ensures (inside_of c.args.net.now c.args.rows.now) (whole_inside ∙ ap (λ books. books.inside) books) in
-    let entered = c.in_ok-put_sum-2.ensures (entered_of c.args.net.now c.args.rows.now) (whole_entered ∙ ap (λ books. books.entered) books) in
-    let left = c.in_ok-put_sum-3.ensures (left_of c.args.net.now c.args.rows.now) (whole_left ∙ ap (λ books. books.left) books) in
+    let inside = c.in_ok-put_signed.ensures.amount (inside_of c.args.net.now c.args.rows.now) (whole_inside ∙ ap (λ books. books.inside) books) in
+    let entered = c.in_ok-put_signed-2.ensures.amount (entered_of c.args.net.now c.args.rows.now) (whole_entered ∙ ap (λ books. books.entered) books) in
+    let left = c.in_ok-put_signed-3.ensures.amount (left_of c.args.net.now c.args.rows.now) (whole_left ∙ ap (λ books. books.left) books) in
     let few : length c.args.rows.now < 2 ^ 32 = omega (arith, c.requires, few_cells c.args.net.now (subst IsNetwork c.net.view_is c.net.invariant)) in
     let small : c.delay.result < 2 ^ 127 = omega (arith, c.delay.ensures.most, few) in
     let whole_delay : to_z w128 c.delay.result ≡ pos c.delay.result = search (small, rules) in
-    let delay = c.in_ok-put_sum-4.ensures (delay_of c.args.rows.now) (whole_delay ∙ ap pos c.delay.ensures.sum) in
+    let delay = c.in_ok-put_signed-4.ensures.amount (delay_of c.args.rows.now) (whole_delay ∙ ap pos c.delay.ensures.sum) in
     let begun = left ∙ ap (λ text. text ++ amount_field (left_of c.args.net.now c.args.rows.now)) (entered ∙ ap (λ text. text ++ amount_field (entered_of c.args.net.now c.args.rows.now)) inside) in
     delay ∙ ap (λ text. text ++ amount_field (delay_of c.args.rows.now)) begun ∙
     four c.args.text.now.items (amount_field (inside_of c.args.net.now c.args.rows.now)) (amount_field (entered_of c.args.net.now c.args.rows.now))

@@ -1,0 +1,100 @@
+-- The rows of a shot, and the shots of a run one after the other.
+use Rattle.std.specs.Prelude.{slice_index}
+use Rattle.std.proofs.Common.{◌≡◌, ℕ, ◌+◌, ◌<◌, ◌≤◌, inl, inr, List, [], ◌∷◌, ◌++◌, length, refl, sym, ap, subst, ◌∙◌, arith}
+use Rattle.std.proofs.Math.ListN.{get_or-append}
+use Rattle.std.proofs.Math.Seq.{get_or-append_seam}
+use Rattle.std.proofs.lemmas.Bool.{cases_eq}
+use Rattle.std.proofs.lemmas.List.{ext_get_or, length-append}
+use Rattle.std.proofs.lemmas.List.FromFn.{get_or-map-range_with_len, length-map-range_with_len}
+use Rattle.network_file.specs.Network.{IsNetwork, Network}
+use Rattle.flow_model.specs.Rows.{empty_row}
+use Rattle.flow_model.specs.State.{row_at, state_at}
+use Rattle.flow_model.proofs.CellKinds.{road_at-there}
+use Rattle.flow_model.proofs.States.{state_at-in_bounds}
+use Rattle.flow_ledger.specs.UnevenSteps.{StandAt}
+use Rattle.flow_ledger.proofs.BooksLaws.{books-law}
+use Rattle.line_fields.specs.Fields.{lines_of}
+use Rattle.line_fields.proofs.Lines.{lines_of-more, lines_of-same}
+use Rattle.region_cut.specs.Chart.{ChartLists, list_at}
+use Rattle.region_cut.specs.Cuttings.{region_at, region_count}
+use Rattle.region_cut.specs.LawfulSteps.{AreLawful}
+use Rattle.region_cut.proofs.Membership.{region_at-there}
+use Rattle.region_step.specs.Start.{zero_start}
+use Rattle.region_step.proofs.Grids.{are_the_recurrences}
+use Rattle.region_step.proofs.StartLaws.{zero_start-lawful, zero_start-true, zeros}
+use Rattle.snapshot.specs.Rooms.{IsRoomFor, RoomValue}
+use Rattle.snapshot.specs.Shots.{AreShots, IsShotBetween, goal_of, rows_at, shot_of}
+use Rattle.snapshot.specs.Snapshots.{IsSnapshot}
+
+-- one row for each cell
+
+pub length-rows_at : (net : Network) (cut steps : List ℕ) → length (rows_at net cut steps) ≡ length net.cells
+unfolding rows_at
+length-rows_at net cut steps = length-map-range_with_len (λ i. row_at (state_at net (slice_index steps (region_at cut i))) i) 0 (length net.cells)
+
+pub row_at-rows_at : (net : Network) (cut steps : List ℕ) (i : ℕ) → i < length net.cells → row_at (rows_at net cut steps) i ≡ row_at (state_at net (slice_index steps (region_at cut i))) i
+unfolding rows_at
+row_at-rows_at net cut steps i there = get_or-map-range_with_len (λ j. row_at (state_at net (slice_index steps (region_at cut j))) j) 0 (length net.cells) i i empty_row there (omega arith)
+
+-- each is of the step of its region
+pub rows_at-stand : (net : Network) (cut steps : List ℕ) → AreLawful net cut steps → StandAt net (λ i. slice_index steps (region_at cut i)) (rows_at net cut steps)
+rows_at-stand net cut steps lawful = record {
+  in_time = λ i there. lawful.in_time (region_at cut i) 0 (omega (arith, region_at-there cut i, lawful.one_each));
+  each = λ i there. row_at-rows_at net cut steps i there;
+}
+
+-- lawful steps between two goals are those of a shot
+pub shot-between : (net : Network) (cut : List ℕ) (from to : ℕ) (steps : List ℕ) → IsNetwork net → AreLawful net cut steps →
+    ((r : ℕ) → r < region_count cut → (from ≤ slice_index steps r) × (slice_index steps r ≤ to)) → IsShotBetween net cut from to steps
+shot-between net cut from to steps sound lawful between =
+    let stand = rows_at-stand net cut steps lawful in
+    record {
+      lawful = lawful;
+      between = between;
+      balanced = books-law net (rows_at net cut steps) sound (λ i. slice_index steps (region_at cut i)) stand;
+      rooms = record {
+        each = λ i road.
+            let there = road_at-there net.cells i road in
+            let bounds = (state_at-in_bounds net sound (slice_index steps (region_at cut i)) (stand.in_time i there)).each i there in
+            omega (arith, ap (λ row. row.n) (stand.each i there), bounds.held.road road);
+      };
+    }
+
+-- a room that shows regions that began at step 0 shows the rows of the recurrences
+pub shown-rows : (net : Network) (chart : ChartLists) (room : RoomValue) → IsNetwork net → length chart.cut ≡ length net.cells → IsRoomFor chart room →
+    IsSnapshot net chart.cut (zero_start net chart.cut) room → room.rows ≡ rows_at net chart.cut room.steps
+shown-rows net chart room sound one_each fits shows =
+    let cut : List ℕ = chart.cut in
+    let recurrences = are_the_recurrences net cut (zero_start net cut) sound (zero_start-lawful net cut) (zero_start-true net cut) in
+    ext_get_or empty_row room.rows (rows_at net cut room.steps) (fits.rows ∙ one_each ∙ sym (length-rows_at net cut room.steps))
+    (λ i within.
+    let there : i < length net.cells = omega (arith, within, fits.rows, one_each) in
+    shows.rows i there ∙ recurrences (slice_index room.steps (region_at cut i)) i there (omega (arith, zeros (region_count cut) (region_at cut i))) ∙
+    sym (row_at-rows_at net cut room.steps i there))
+
+-- before the first shot
+pub shots-none : (net : Network) (cut : List ℕ) (shots : ℕ) → AreShots net cut shots 0 []
+shots-none net cut shots = record { steps = []; one_each = refl; each = λ i none. absurd (omega (arith, none)); lines = refl }
+
+-- one shot more
+pub shots-more : (net : Network) (cut : List ℕ) (shots k : ℕ) (text steps : List ℕ) → AreShots net cut shots k text →
+    IsShotBetween net cut (goal_of net.steps shots k) (goal_of net.steps shots (k + 1)) steps → AreShots net cut shots (k + 1) (text ++ shot_of net cut (k + 1) steps)
+unfolding lines_of
+shots-more net cut shots k text steps are next =
+    let all : List (List ℕ) = are.steps ++ steps ∷ [] in
+    let line : List (List ℕ) → ℕ → List ℕ = λ taken i. shot_of net cut (i + 1) (list_at taken i) in
+    let front : (i : ℕ) → i < k → list_at are.steps i ≡ list_at all i = λ i before. sym (get_or-append are.steps (steps ∷ []) [] i (omega (arith, before, are.one_each))) in
+    let last : steps ≡ list_at all k = sym (get_or-append_seam are.steps steps [] []) ∙ ap (list_at all) are.one_each in
+    record {
+      steps = all;
+      one_each = length-append are.steps (steps ∷ []) ∙ ap (λ n. n + 1) are.one_each;
+      each = λ i within. elim (cases_eq i k) [
+        | inl is ↦ subst (λ j. IsShotBetween net cut (goal_of net.steps shots j) (goal_of net.steps shots (j + 1)) (list_at all j)) (sym is)
+            (subst (IsShotBetween net cut (goal_of net.steps shots k) (goal_of net.steps shots (k + 1))) last next)
+        | inr other ↦
+            let before : i < k = omega (arith, within, other) in
+            subst (IsShotBetween net cut (goal_of net.steps shots i) (goal_of net.steps shots (i + 1))) (front i before) (are.each i before)
+      ];
+      lines = ap (λ begun. begun ++ shot_of net cut (k + 1) steps) (are.lines ∙ lines_of-same (line are.steps) (line all) k (λ i before. ap (shot_of net cut (i + 1)) (front i before))) ∙
+          ap (λ taken. lines_of (line all) k ++ shot_of net cut (k + 1) taken) last ∙ sym (lines_of-more (line all) k);
+    }

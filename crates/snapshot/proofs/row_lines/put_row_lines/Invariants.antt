@@ -1,0 +1,9 @@
+use Rattle.std.proofs.Common.{◌≡◌, ◌++◌}
+use Rattle.flow_model.specs.State.{row_at}
+use Rattle.line_fields.specs.Fields.{lines_of, name_at}
+use Rattle.snapshot.specs.ShotText.{row_line}
+use Rattle.snapshot.proofs.row_lines.put_row_lines.Given as goal
+
+-- the lines of the cells before i
+abbrev pub invariant-loop-i : goal.invariant-loop-i
+invariant-loop-i l = l.text.items ≡ l.initial.text.items ++ lines_of (λ i. row_line (name_at l.cells i) (row_at l.rows i)) l.i
