@@ -48,7 +48,7 @@ pub(crate) fn dismiss(field: &Field, pass: &mut Pass, members: &mut Vec<Member>)
     ensures reach { (most : ℕ) → pass.old.knows.reach ≤ most → AreEnlisted field.now most members.old.items → pass.new.knows.reach ≤ most }
 
     // What the field tells the last that is united.
-    ensures reached { length members.old.items ≢ 0 → pass.new.knows.share ≡ field.now.terms.seats → IsReached field.now.terms pass.new.knows }
+    ensures reached { pass.new.knows.share ≢ pass.old.knows.share → pass.new.knows.share ≡ field.now.terms.seats → IsReached field.now.terms pass.new.knows }
 {
     while let Some(member) = members.pop() {
         let Member {

@@ -1,9 +1,11 @@
-ghost use Rattle.std.specs.Prelude.{◌≡◌, ◌+◌, ◌<◌, ◌≤◌, ℕ, [], max, slice_index, vec_capacity};
+ghost use Rattle.std.specs.Prelude.{◌≡◌, ◌+◌, ◌<◌, ◌≤◌, ℕ, [], length, max, slice_index, vec_capacity};
 ghost use Rattle.region_cut.specs.Cuttings.{region_count};
 ghost use Rattle.snapshot.specs.Rooms.{IsRoomFor};
 ghost use Rattle.snapshot.specs.Snapshots.{IsSnapshot};
 ghost use Rattle.region_slots.specs.FieldView.{IsPassOf};
 ghost use Rattle.worker_claim.specs.Driving.{AllReach};
+ghost use Rattle.worker_claim.specs.Watching.{IsWatched};
+ghost use Rattle.network_run.specs.Enlisted.{AreEnlisted};
 
 use crate::members::{dismiss, enlist};
 use crate::rounds::{SWEEPS, drive_rounds, is_over};
@@ -49,13 +51,37 @@ pub(crate) fn watch_to<R: Threads + Sync, G: Gate>(
         × (slice_index room.new.steps r ≤ max (slice_index field.now.terms.start.now.steps r) goal) }
 {
     enlist(field, pass, members, workers);
-    let shot = crew_watch(rt, field, pass, room, TRIES, members, goal, SWEEPS, gate);
-    if !is_over(members) {
-        drive_rounds(rt, field, members, goal, gate);
-    }
+    let shot = drive_watched(rt, field, pass, room, members, goal, gate);
     dismiss(field, pass, members);
     finish(field, pass, goal, gate);
     if let Shot::Busy { region: _ } = shot {
         field.shot(pass, room, 1);
     }
+}
+
+// Has the crew drive in rounds, as `drive_rounds` does, the first of them beside a shot.
+fn drive_watched<R: Threads + Sync, G: Gate>(
+    rt: &R,
+    field: &Field,
+    watcher: &mut Pass,
+    room: &mut ShotRoom,
+    members: &mut [Member],
+    goal: u64,
+    gate: &G,
+) -> Shot
+    requires watcher { IsPassOf field.now watcher.old }
+    requires room { IsRoomFor field.now.terms.chart.now room.old }
+    requires enlisted { AreEnlisted field.now goal members.old }
+    requires in_time { goal ≤ field.now.terms.net.now.steps }
+    ensures watched { (tries : ℕ) × IsWatched field.now tries watcher.old watcher.new room.old room.new result }
+    ensures many { length members.new ≡ length members.old }
+    ensures enlisted { AreEnlisted field.now goal members.new }
+{
+    let shot = crew_watch(
+        rt, field, watcher, room, TRIES, members, goal, SWEEPS, gate,
+    );
+    if !is_over(members) {
+        drive_rounds(rt, field, members, goal, gate);
+    }
+    shot
 }

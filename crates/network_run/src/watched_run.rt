@@ -1,20 +1,24 @@
-ghost use Rattle.std.specs.Prelude.{◌≡◌, ◌+◌, ◌<◌, ◌≤◌, ◌^◌, IfOk, length, replicate};
+ghost use Rattle.std.specs.Prelude.{◌≡◌, ◌+◌, ◌<◌, ◌≤◌, ◌^◌, IfOk, IsOk, [], length, replicate, vec_capacity};
 ghost use Rattle.region_cut.specs.Chart.{chart_of};
 ghost use Rattle.region_cut.specs.Cuttings.{region_count};
 ghost use Rattle.region_step.specs.Standing.{AllStand};
 ghost use Rattle.region_step.specs.Start.{zero_start};
+ghost use Rattle.snapshot.specs.Rooms.{IsRoomFor};
 ghost use Rattle.snapshot.specs.Shots.{AreShots, goal_of};
+ghost use Rattle.region_slots.specs.FieldView.{IsPassOf};
+ghost use Rattle.worker_claim.specs.Driving.{AllReach};
 
 use crate::watch::watch_to;
 use ctm_ports::Gate;
 use network_file::Net;
 use region_cut::Chart;
-use region_slots::{Closed, Field};
+use region_slots::{Closed, Field, Pass};
 use region_step::{Region, Start};
 use signal_plan::NoMemory;
 use snapshot::{ShotRoom, shot_text};
 use std::alloc::Global;
 use std::thread::Threads;
+use worker_claim::Member;
 
 /// What comes of a run that is watched.
 #[derive(Drop)]
@@ -40,7 +44,7 @@ pub fn watched_regions<R: Threads + Sync, G: Gate>(
     requires chart { chart.now ≡ chart_of net.now chart.now.cut }
     requires one_each { length chart.now.cut ≡ length net.now.cells }
     requires workers { (1 ≤ workers) × (workers + 1 < 2 ^ 32) }
-    requires shots { 1 ≤ shots }
+    requires shots { (1 ≤ shots) × (shots + 1 < 2 ^ 32) }
     ensures shots { IfOk result (λ watched. AreShots net.now chart.now.cut shots shots watched.shots.items) }
     ensures stand { IfOk result (λ watched. AllStand net.now chart.now (zero_start net.now chart.now.cut) every
         (replicate (region_count chart.now.cut) net.now.steps) watched.regions.items) }
@@ -48,18 +52,56 @@ pub fn watched_regions<R: Threads + Sync, G: Gate>(
     let start = Start::zero(alloc, net, chart)?;
     let mut members = Vec::with_capacity(alloc, workers as usize)?;
     let mut room = ShotRoom::new(alloc, net, chart)?;
-    let mut text = Vec::new(alloc);
     let (field, mut pass) = Field::open(alloc, net, chart, &start, every, workers + 1)?;
-    for i in 0..shots {
-        let goal = goal_at(net, shots, i + 1);
-        watch_to(rt, &field, &mut pass, &mut members, &mut room, workers, goal, gate);
-        shot_text(net, chart, &room, i + 1, &mut text)?;
-    }
+    let mut text = Vec::new(alloc);
+    take_shots(
+        rt, net, chart, &field, &mut pass, &mut members, &mut room, workers, shots, gate, &mut text,
+    )?;
     let Closed { steps: _, regions } = field.close(pass);
     Ok(Watched {
         shots: text,
         regions,
     })
+}
+
+// Takes all regions of a field to the last step, and appends the text of so many shots on the way.
+fn take_shots<R: Threads + Sync, G: Gate>(
+    rt: &R,
+    net: &Net,
+    chart: &Chart,
+    field: &Field,
+    pass: &mut Pass,
+    members: &mut Vec<Member>,
+    room: &mut ShotRoom,
+    workers: u32,
+    shots: u32,
+    gate: &G,
+    text: &mut Vec<u8>,
+) -> Result<(), NoMemory>
+    requires network { (field.now.terms.net.now ≡ net.now) × (field.now.terms.chart.now ≡ chart.now) }
+    requires start { field.now.terms.start.now ≡ zero_start net.now chart.now.cut }
+    requires one_each { length chart.now.cut ≡ length net.now.cells }
+    requires shots { (1 ≤ shots) × (shots + 1 < 2 ^ 32) }
+    requires belongs { IsPassOf field.now pass.old }
+    requires seats { (pass.old.knows.share ≡ workers + 1) × (pass.old.knows.share ≡ field.now.terms.seats) }
+    requires some { 1 ≤ workers }
+    requires nobody { members.old.items ≡ [] }
+    requires places { workers ≤ vec_capacity members.old }
+    requires room { IsRoomFor chart.now room.old }
+    requires reach { pass.old.knows.reach ≡ 0 }
+    requires nothing { text.old.items ≡ [] }
+    ensures belongs { IsOk result → IsPassOf field.now pass.new }
+    ensures share { IsOk result → pass.new.knows.share ≡ pass.old.knows.share }
+    ensures last { IsOk result → AllReach (region_count chart.now.cut) net.now.steps pass.new.knows }
+    ensures shots { IsOk result → AreShots net.now chart.now.cut shots shots text.new.items }
+{
+    let _steps = net.steps;
+    for i in 0..shots {
+        let goal = goal_at(net, shots, i + 1);
+        watch_to(rt, field, pass, members, room, workers, goal, gate);
+        shot_text(net, chart, room, i + 1, text)?;
+    }
+    Ok(())
 }
 
 // Goal `i` of so many shots.

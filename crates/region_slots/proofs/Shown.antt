@@ -18,7 +18,6 @@ use Rattle.region_slots.specs.Gathering.{HasGathered}
 use Rattle.region_slots.specs.Plays.{Mine}
 use Rattle.region_slots.specs.Shooting.{HasShot, IsWhole}
 use Rattle.region_slots.proofs.Copying.{AreShown}
-use Rattle.region_slots.proofs.Gathering.{unmoved-freed}
 
 -- it shows the steps that were seen
 pub shown-steps : (terms : Terms) (seen : List ℕ) (room : RoomValue) → length seen ≡ region_count terms.chart.now.cut → IsRoomFor terms.chart.now room → AreShown terms seen 0 room → room.steps ≡ seen
@@ -56,7 +55,6 @@ pub has-shot : (terms : Terms) (table : TableId) (old : View) (me : Mine) (room 
 has-shot terms table old me room field has lawful started fits shown =
     let steps : room.steps ≡ me.0.seen = shown-steps terms me.0.seen room lawful.one_each fits shown in
     record {
-      unmoved = unmoved-freed old me.0 has.unmoved;
       snapshot = shown-snapshot terms table me.0.seen room field fits shown lawful started;
       seen = sym steps;
       later = λ r there. omega (arith, has.unmoved.seen.later r, ap (λ l. slice_index l r) steps);

@@ -25,7 +25,6 @@ pub record IsUnmoved (old new : View) : Type 0 where
 -- the room shows a lawful snapshot, whose steps were all looked at in this call and are what the pass has seen now, no less
 -- than before
 pub record HasShot (terms : Terms) (old new : View) (room : RoomValue) : Type 0 where
-  pub unmoved : IsUnmoved old new
   pub snapshot : IsSnapshot terms.net.now terms.chart.now.cut terms.start.now room
   pub seen : new.seen ≡ room.steps
   pub later : (r : ℕ) → r < region_count terms.chart.now.cut → slice_index old.seen r ≤ slice_index room.steps r
@@ -39,13 +38,13 @@ pub record IsWhole (terms : Terms) (view : View) (steps : List ℕ) : Type 0 whe
 
 -- region r was found taken at each of the tries
 pub record IsBusy (terms : Terms) (old new : View) (r tries : ℕ) : Type 0 where
-  pub unmoved : IsUnmoved old new
   pub there : r < region_count terms.chart.now.cut
   pub held_found : slice_index new.held_found r ≡ slice_index old.held_found r + tries
 
 -- what came of a shot, by its answer
 pub record IsShotOf (terms : Terms) (tries : ℕ) (old new : View) (before after : RoomValue) (shot : Shot) : Type 0 where
   pub room : IsRoomFor terms.chart.now after
+  pub unmoved : IsUnmoved old new
   pub taken : shot ≡ Taken → HasShot terms old new after
   pub busy : (r : ℕ) → shot ≡ Busy r → IsBusy terms old new r tries
   pub unchanged : (r : ℕ) → shot ≡ Busy r → after ≡ before

@@ -10,7 +10,7 @@ invariant-loop-member l = IsPassOf l.field l.pass × (l.pass.knows.share + lengt
     (vec_capacity l.members ≡ vec_capacity l.initial.members) × ((most : ℕ) → AreEnlisted l.field most l.initial.members.items → AreEnlisted l.field most l.members.items) ×
     ((r : ℕ) → slice_index l.initial.pass.knows.seen r ≤ slice_index l.pass.knows.seen r) ×
     ((most : ℕ) → l.initial.pass.knows.reach ≤ most → AreEnlisted l.field most l.initial.members.items → l.pass.knows.reach ≤ most) ×
-    (length l.members.items ≢ length l.initial.members.items → l.pass.knows.share ≡ l.field.terms.seats → IsReached l.field.terms l.pass.knows)
+    (l.pass.knows.share ≢ l.initial.pass.knows.share → l.pass.knows.share ≡ l.field.terms.seats → IsReached l.field.terms l.pass.knows)
 
 abbrev pub decreases-loop-member : goal.decreases-loop-member
 decreases-loop-member l = length l.members.items

@@ -12,7 +12,7 @@ use Rattle.network_run.proofs.run.last_regions.Goals as goal
 pub dismiss-requires-clause-enlisted : goal.dismiss-requires-clause-enlisted
 dismiss-requires-clause-enlisted g c =
     let long : length c.drive_rounds.new.members ≡ c.enlist.new.members.len = omega (arith, c.drive_rounds.ensures.many, ap length c.deref_mut.ensures.value, c.enlist.new.members.ok.0) in
-    (_, rw (with_items_is c.enlist.new.members c.drive_rounds.new.members long) c.drive_rounds.ensures.enlisted)
+    (c.args.net.now.steps, rw (with_items_is c.enlist.new.members c.drive_rounds.new.members long) c.drive_rounds.ensures.enlisted)
 
 -- all regions of a field at the last step
 abbrev AtLast : Terms → List RegionValue → Type 0

@@ -6,7 +6,7 @@ use Rattle.border_rows.specs.declared.view.View.{View}
 use Rattle.region_slots.specs.FieldView.{FieldValue, HasCounts, HasSeenInTime, IsIdle, IsTableFor}
 use Rattle.region_slots.specs.Gathering.{HasGathered, HasStopped}
 use Rattle.region_slots.specs.Plays.{Mine}
-use Rattle.region_slots.specs.Shooting.{HasShot, IsBusy, IsWhole}
+use Rattle.region_slots.specs.Shooting.{HasShot, IsBusy, IsUnmoved, IsWhole}
 use Rattle.region_slots.specs.declared.shot.Shot.TheVariants.{Busy, Taken}
 use Rattle.region_slots.proofs.Copying.{AreShown, IsShown}
 use Rattle.region_slots.proofs.Gathering.{counts-freed, seat-kept, unmoved-freed}
@@ -56,12 +56,12 @@ returns-in-Some-clause-shot c =
     let stopped = c.gathers.ensures.stopped r c.in-Some.is in
     let view : c.gives_back.new.seat.me.0 ≡ record c.gathers.new.seat.me.0 { holds = [] } = ap (λ m. m.0) c.gives_back.ensures.given in
     let busy : IsBusy terms old (record c.gathers.new.seat.me.0 { holds = [] }) r c.args.tries = record {
-      unmoved = unmoved-freed old c.gathers.new.seat.me.0 stopped.unmoved;
       there = c.gathers.ensures.there r c.in-Some.is;
       held_found = stopped.held_found;
     } in
     record {
       room = c.requires.room;
+      unmoved = subst (IsUnmoved old) (sym view) (unmoved-freed old c.gathers.new.seat.me.0 stopped.unmoved);
       taken = λ is. absurd cc;
       busy = λ q is. subst (λ p. IsBusy terms old c.gives_back.new.seat.me.0 p c.args.tries) (busy-same r q is) (subst (λ v. IsBusy terms old v r c.args.tries) (sym view) busy);
       unchanged = λ q is. refl;
@@ -84,6 +84,7 @@ returns-clause-shot c =
     let shot : HasShot terms old (record me.0 { holds = [] }) c.shows.new.room = has-shot terms c.args.self.now.table old me c.shows.new.room field has together.lawful together.started c.shows.ensures.room shown in
     record {
       room = c.shows.ensures.room;
+      unmoved = subst (IsUnmoved old) (sym view) (unmoved-freed old me.0 has.unmoved);
       taken = λ is. subst (λ v. HasShot terms old v c.shows.new.room) (sym view) shot;
       busy = λ q is. absurd cc;
       unchanged = λ q is. absurd cc;
