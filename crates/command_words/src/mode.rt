@@ -8,6 +8,8 @@ use crate::setting::Setting;
 pub enum Mode {
     /// Takes the network through its steps and writes the report.
     Run,
+    /// Takes the network through its steps, and writes shots of it on the way and then the report.
+    Watch,
     /// Reads the network and writes its counts.
     Check,
     /// Writes the network again, in the newest form of the file.
@@ -21,6 +23,7 @@ impl Mode {
     {
         match word {
             "run" => Some(Mode::Run),
+            "watch" => Some(Mode::Watch),
             "check" => Some(Mode::Check),
             "convert" => Some(Mode::Convert),
             _ => None,
@@ -34,6 +37,9 @@ impl Mode {
         match (self, setting) {
             (Mode::Run, Setting::Regions | Setting::Workers | Setting::Every) => true,
             (Mode::Run, _) => false,
+            (Mode::Watch, Setting::Regions | Setting::Workers | Setting::Every) => true,
+            (Mode::Watch, Setting::Shots) => true,
+            (Mode::Watch, _) => false,
             (Mode::Check, _) => false,
             (Mode::Convert, _) => false,
         }

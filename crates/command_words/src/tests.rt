@@ -28,7 +28,8 @@ fn plain(mode: Mode) -> Request {
 fn words_give_a_request_or_are_refused(rt: HostRuntime) -> Result<(), Fail> {
     for (words, mode, shows) in [
         ("run", Some(Mode::Run), "a network is run"),
-        ("check", Some(Mode::Check), "a network is checked"),
+        ("watch", Some(Mode::Watch), "one is watched"),
+        ("check", Some(Mode::Check), "one is checked"),
         ("convert", Some(Mode::Convert), "one is converted"),
         ("-- run", Some(Mode::Run), "dashes may stand before"),
         ("run --", Some(Mode::Run), "and behind"),
@@ -38,9 +39,10 @@ fn words_give_a_request_or_are_refused(rt: HostRuntime) -> Result<(), Fail> {
         ("Run", None, "a mode is in lower case"),
         ("ru", None, "and whole"),
         ("help", None, "help is no mode"),
-        ("run check", None, "there is one mode"),
+        ("run watch", None, "there is one mode"),
         ("run run", None, "even where it is the same"),
-        ("run --shots 2", None, "a run has few options"),
+        ("run --shots 2", None, "a run has no shots"),
+        ("watch --size 2", None, "a watch makes no network"),
         ("run --workers 17", None, "whatever the value of others"),
         ("check --regions 3", None, "a check has none"),
         ("--every 1 check", None, "wherever it stands"),
@@ -157,6 +159,29 @@ fn a_run_is_recorded_every_so_many_steps(rt: HostRuntime) -> Result<(), Fail> {
 }
 
 #[test]
+fn a_watch_has_shots(rt: HostRuntime) -> Result<(), Fail> {
+    for (words, shots, shows) in [
+        ("watch", Some(4), "four where it isn't said"),
+        ("watch --shots 2", Some(2), "as many as are said"),
+        ("--shots=64 watch", Some(64), "64 at most"),
+        ("watch --shots 1", Some(1), "one at least"),
+        ("watch --shots 0", None, "none are too few"),
+        ("watch --shots 65", None, "and 65 too many"),
+        ("watch --shots", None, "the option has a value"),
+        ("watch --shots 2 --shots 2", None, "it stands once"),
+        ("check --shots 2", None, "a check has none"),
+        ("convert --shots 2", None, "nor has a conversion"),
+    ] {
+        let watch = plain(Mode::Watch);
+        let want = shots
+            .map(|shots| Request { shots, ..watch })
+            .ok_or(WordsRefusal::Refused);
+        assert!(rt; read(rt.alloc(), words)? == want, "{shows}: {words}");
+    }
+    Ok(())
+}
+
+#[test]
 fn the_options_of_a_run_stand_beside_each_other(rt: HostRuntime) -> Result<(), Fail> {
     let request = read(rt.alloc(), "run --every 5 --workers 2 --regions 3")?;
     let want = Request {
@@ -166,6 +191,13 @@ fn the_options_of_a_run_stand_beside_each_other(rt: HostRuntime) -> Result<(), F
         ..plain(Mode::Run)
     };
     assert!(rt; request == Ok(want));
+    let text = "watch --every 5 --shots 7 --workers 2 --regions 3";
+    let watch = Request {
+        mode: Mode::Watch,
+        shots: 7,
+        ..want
+    };
+    assert!(rt; read(rt.alloc(), text)? == Ok(watch));
     Ok(())
 }
 
