@@ -1,3 +1,4 @@
 pub mod Filling
 pub mod FlightLines
+pub mod RunLaws
 pub mod ShotLaws
