@@ -1,10 +1,7 @@
 -- The counts of a network, as `check` writes them.
-use Rattle.std.specs.Prelude.{ℕ, List, [], ◌++◌, ◌==◌, if◌then◌else◌, length, codes, decimal}
+use Rattle.std.specs.Prelude.{ℕ, List, [], ◌++◌, ◌==◌, if◌then◌else◌, length, codes}
 use Rattle.network_file.specs.Network.{Network}
-
--- a comma and a count
-abbrev pub count_field : ℕ → List ℕ
-count_field count = codes "," ++ decimal count
+use Rattle.line_fields.specs.Fields.{count_field}
 
 -- `network,cells,connectors,T,signals,limits,demands`, and in format 2 `network2,..,turns`
 unfoldable pub counts_line : Network → List ℕ

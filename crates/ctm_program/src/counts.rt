@@ -1,7 +1,8 @@
 ghost use Rattle.std.specs.Prelude.{◌≡◌, ◌++◌, ◌==◌, [], codes, if◌then◌else◌, length, IfOk, OnOk};
-ghost use Rattle.ctm_program.specs.Counts.{count_field, counts_line};
+ghost use Rattle.line_fields.specs.Fields.{count_field};
+ghost use Rattle.ctm_program.specs.Counts.{counts_line};
 
-use itoa::Buffer;
+use line_fields::put_count;
 use network_file::Net;
 use signal_plan::NoMemory;
 use std::alloc::Global;
@@ -44,15 +45,5 @@ fn put_turns(text: &mut Vec<u8>, net: &Net) -> Result<(), NoMemory>
     if net.format == 2 {
         put_count(text, u64::from(net.plan.turns()))?;
     }
-    Ok(())
-}
-
-// Appends a comma and a count.
-fn put_count(text: &mut Vec<u8>, count: u64) -> Result<(), NoMemory>
-    ensures { OnOk result (text.new.items ≡ text.old.items ++ count_field count) }
-{
-    let mut digits = Buffer::new();
-    text.extend_from_slice(b",")?;
-    text.extend_from_slice(digits.format(count).as_bytes())?;
     Ok(())
 }

@@ -3,9 +3,9 @@ ghost use Rattle.region_cut.specs.Chart.{chart_of};
 ghost use Rattle.region_step.specs.Opened.{IsOf};
 ghost use Rattle.region_step.specs.Standing.{AllStand};
 ghost use Rattle.region_step.specs.Start.{zero_start};
+ghost use Rattle.snapshot.specs.Rooms.{IsRoomFor};
 
 use ctm_ports::OpenGate;
-use delay_report::Ledger;
 use fixed_flow::{Text48, put_wide};
 use flow_ledger::Books;
 use network_file::Net;
@@ -13,6 +13,7 @@ use region_cut::{Chart, cutting};
 use region_slots::{Closed, Field};
 use region_step::{Region, Start};
 use signal_plan::NoMemory;
+use snapshot::ShotRoom;
 use std::alloc::Global;
 use std::process::Abort;
 use std::test::Fail;
@@ -72,15 +73,27 @@ fn befores_after<R: Abort>(
     befores(rt, alloc, chart, &closed.regions)
 }
 
-// The ledger after these turns.
-fn ledger_after(alloc: Global, net: &Net, chart: &Chart, order: &[u32]) -> Result<Ledger, NoMemory>
+// Shows each of these regions.
+fn fill(room: &mut ShotRoom, chart: &Chart, regions: &[Region])
+    requires room { IsRoomFor chart.now room.old }
+    requires regions { All (IsOf chart.now) regions.now }
+    ensures { IsRoomFor chart.now room.new }
+{
+    for region in regions {
+        room.fill(chart, region);
+    }
+}
+
+// What a room shows after these turns.
+fn room_after(alloc: Global, net: &Net, chart: &Chart, order: &[u32]) -> Result<ShotRoom, NoMemory>
     requires chart { chart.now ≡ chart_of net.now chart.now.cut }
     requires one_each { length chart.now.cut ≡ length net.now.cells }
-    ensures { IfOk result (λ ledger. length ledger ≡ length net.now.cells) }
+    ensures { IfOk result (IsRoomFor chart.now) }
 {
     let closed = closed_after(alloc, net, chart, order)?;
-    let ledger = Ledger::new(alloc, net, chart, &closed.regions)?;
-    Ok(ledger)
+    let mut room = ShotRoom::new(alloc, net, chart)?;
+    fill(&mut room, chart, &closed.regions);
+    Ok(room)
 }
 
 // The steps 2 and 1, and then 1 and 2.
@@ -91,20 +104,30 @@ fn what_is_under_way_has_the_sign_of_the_region_ahead(rt: HostRuntime) -> Result
     let chart = Chart::new(rt.alloc(), &net, cut)?;
     assert!(rt; net.connectors.len() == 2);
     for (order, inside, flight, text) in [
-        ([0, 1, 0], 2, 2, b"2.000000".as_slice()),
-        ([0, 1, 1], 6, -2, b"-2.000000".as_slice()),
+        (
+            [0, 1, 0],
+            2 * VEHICLES,
+            2 * VEHICLES,
+            b"2.000000".as_slice(),
+        ),
+        (
+            [0, 1, 1],
+            6 * VEHICLES,
+            -2 * VEHICLES,
+            b"-2.000000".as_slice(),
+        ),
     ] {
-        let ledger = ledger_after(rt.alloc(), &net, &chart, &order)?;
+        let room = room_after(rt.alloc(), &net, &chart, &order)?;
         let want = Books {
-            inside: inside * VEHICLES,
-            flight: flight * VEHICLES,
+            inside,
+            flight,
             initial: 0,
             entered: 4 * VEHICLES,
             left: 0,
         };
-        assert_eq!(rt; ledger.books(&net), want);
+        assert_eq!(rt; room.books(&net), want);
         let mut amount = Text48::new();
-        put_wide(ledger.flight(&net, 0), &mut amount);
+        put_wide(room.flight(&net, 0), &mut amount);
         assert_eq!(rt; amount.bytes(), text);
     }
     Ok(())

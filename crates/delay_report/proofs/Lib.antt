@@ -1,5 +1,4 @@
 pub mod ByRegion
 pub mod Lines
 pub mod RecordedSteps
-pub mod RunLaws
 pub mod Standing

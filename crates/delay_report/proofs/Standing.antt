@@ -1,18 +1,14 @@
 -- What regions that stand where a start brought them have of their cells.
 use Rattle.std.specs.Prelude.{flat_map, replicate, slice_index, slice_index_or, sum_by}
-use Rattle.std.specs.List.{range_with_len}
 use Rattle.std.proofs.Common.{◌≡◌, ℕ, ◌<◌, ◌≤◌, ◌+◌, ◌*◌, inl, inr, List, [], ◌∷◌, ◌++◌, length, map, refl, sym, ap, subst, ◌∙◌, arith}
 use Rattle.std.proofs.Math.Nat.{add-mul}
 use Rattle.std.proofs.lemmas.Bool.{cases_eq}
 use Rattle.std.proofs.lemmas.List.{get_or-replicate, length-map}
 use Rattle.std.proofs.lemmas.List.Concat.{length-flat_map}
-use Rattle.std.proofs.lemmas.List.FromFn.{get_or-map-range_with_len, length-map-range_with_len}
 use Rattle.std.proofs.lemmas.List.Sums.{sum_by-cons}
 use Rattle.std.proofs.lemmas.Simd.{map-map}
 use Rattle.network_file.specs.Network.{IsNetwork, Network}
-use Rattle.flow_model.specs.Rows.{empty_row}
 use Rattle.flow_model.specs.State.{row_at, state_at}
-use Rattle.flow_model.specs.declared.row.Row.{Row}
 use Rattle.flow_model.proofs.States.{length-state_at}
 use Rattle.region_cut.specs.Chart.{ChartLists, chart_of, list_at}
 use Rattle.region_cut.specs.Cuttings.{region_at, region_count}
@@ -32,7 +28,7 @@ use Rattle.region_step.proofs.Steps.{zero_start-at}
 use Rattle.delay_report.specs.Report.{recorded_count}
 use Rattle.delay_report.specs.Regions.{AreEnded, AreNotesOf, AreRowsOf, HaveNotes, HaveRows}
 use Rattle.delay_report.specs.Report.{state_note}
-use Rattle.delay_report.specs.RunLaws.{AreAtTheEnd, step_of}
+use Rattle.delay_report.specs.Ended.{AreAtTheEnd}
 use Rattle.delay_report.proofs.RecordedSteps.{recorded-none}
 
 -- the trail of a region of a start
@@ -71,33 +67,6 @@ stand-rows net chart start every steps regions stand = record {
       ap (λ state. length state.rows) here.state ∙ ap length (grid_state-rows net chart start every r (slice_index steps r)) ∙
       length-map (list_at chart.cells r) (grid_row net chart.cut start (slice_index steps r));
 }
-
--- the rows of all cells, if these are their regions' rows
-pub stand-rows_of : (net : Network) (chart : ChartLists) (start : StartLists) (every : ℕ) (steps : List ℕ) (regions : List RegionValue) (rows : List Row) → IsNetwork net → chart ≡ chart_of net chart.cut →
-    AllStand net chart start every steps regions → length rows ≡ length chart.cut →
-    ((i : ℕ) → i < length net.cells → grid_row net chart.cut start (step_of chart.cut steps i) i ≡ row_at rows i) → AreRowsOf chart regions rows
-stand-rows_of net chart start every steps regions rows sound is stand one_each are = record {
-  one_each = one_each;
-  each = λ r region within.
-      let here = stand.each r region (omega (arith, within, stand.one_each)) in
-      let lists = ground net chart.cut chart r sound is within in
-      ap (λ state. state.rows) here.state ∙ grid_state-rows net chart start every r (slice_index steps r) ∙
-      map_same (grid_row net chart.cut start (slice_index steps r)) (row_at rows) (list_at chart.cells r)
-      (λ i has.
-      let own = lists.own i has in
-      ap (λ q. grid_row net chart.cut start (slice_index steps q) i) (sym own.1) ∙ are i own.0);
-}
-
--- the row of each cell where its region stands
-abbrev pub rows_at : Network → (cut : List ℕ) → StartLists → (steps : List ℕ) → List Row
-rows_at net cut start steps = map (λ i. grid_row net cut start (step_of cut steps i) i) (range_with_len 0 (length net.cells))
-
-pub stand-rows_at : (net : Network) (chart : ChartLists) (start : StartLists) (every : ℕ) (steps : List ℕ) (regions : List RegionValue) → IsNetwork net → chart ≡ chart_of net chart.cut →
-    length chart.cut ≡ length net.cells → AllStand net chart start every steps regions → AreRowsOf chart regions (rows_at net chart.cut start steps)
-stand-rows_at net chart start every steps regions sound is one_each stand =
-    let row : ℕ → Row = λ i. grid_row net chart.cut start (step_of chart.cut steps i) i in
-    stand-rows_of net chart start every steps regions (rows_at net chart.cut start steps) sound is stand (length-map-range_with_len row 0 (length net.cells) ∙ sym one_each)
-    (λ i there. sym (get_or-map-range_with_len row 0 (length net.cells) i i empty_row there (omega arith)))
 
 -- at the last step, with notes of it and of all recorded steps
 

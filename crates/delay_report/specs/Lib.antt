@@ -1,4 +1,4 @@
+pub mod Ended
 pub mod Regions
 pub mod Report
-pub mod RunLaws
 pub mod Places

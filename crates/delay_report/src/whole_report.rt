@@ -5,10 +5,10 @@ ghost use Rattle.region_cut.specs.Chart.{chart_of};
 ghost use Rattle.region_step.specs.Recording.{recorded};
 ghost use Rattle.region_step.specs.Start.{StartLists};
 ghost use Rattle.region_step.specs.declared.note.Note.{Note as NoteValue};
+ghost use Rattle.delay_report.specs.Ended.{AreAtTheEnd};
 ghost use Rattle.delay_report.specs.Report.{recorded_count};
 ghost use Rattle.delay_report.specs.Regions.{AreEnded, AreNotesOf, AreRowsOf, HaveNotes, HaveRows};
 ghost use Rattle.delay_report.specs.Report.{report_line, report_of, report_with};
-ghost use Rattle.delay_report.specs.RunLaws.{AreAtTheEnd};
 
 use crate::by_cell::ByCell;
 use crate::cell_lines::put_cell_lines;

@@ -23,6 +23,7 @@ use Rattle.region_step.specs.Start.{zero_start}
 use Rattle.region_step.proofs.Grids.{are_the_recurrences}
 use Rattle.region_step.proofs.StartLaws.{zero_start-lawful, zero_start-true, zeros}
 use Rattle.snapshot.specs.Rooms.{IsRoomFor, RoomValue}
+use Rattle.snapshot.specs.RunLaws.{step_of}
 use Rattle.snapshot.specs.Shots.{AreShots, IsShotBetween, goal_of, rows_at, shot_of}
 use Rattle.snapshot.specs.Snapshots.{IsSnapshot}
 
@@ -30,14 +31,14 @@ use Rattle.snapshot.specs.Snapshots.{IsSnapshot}
 
 pub length-rows_at : (net : Network) (cut steps : List ℕ) → length (rows_at net cut steps) ≡ length net.cells
 unfolding rows_at
-length-rows_at net cut steps = length-map-range_with_len (λ i. row_at (state_at net (slice_index steps (region_at cut i))) i) 0 (length net.cells)
+length-rows_at net cut steps = length-map-range_with_len (λ i. row_at (state_at net (step_of cut steps i)) i) 0 (length net.cells)
 
-pub row_at-rows_at : (net : Network) (cut steps : List ℕ) (i : ℕ) → i < length net.cells → row_at (rows_at net cut steps) i ≡ row_at (state_at net (slice_index steps (region_at cut i))) i
+pub row_at-rows_at : (net : Network) (cut steps : List ℕ) (i : ℕ) → i < length net.cells → row_at (rows_at net cut steps) i ≡ row_at (state_at net (step_of cut steps i)) i
 unfolding rows_at
-row_at-rows_at net cut steps i there = get_or-map-range_with_len (λ j. row_at (state_at net (slice_index steps (region_at cut j))) j) 0 (length net.cells) i i empty_row there (omega arith)
+row_at-rows_at net cut steps i there = get_or-map-range_with_len (λ i. row_at (state_at net (step_of cut steps i)) i) 0 (length net.cells) i i empty_row there (omega arith)
 
 -- each is of the step of its region
-pub rows_at-stand : (net : Network) (cut steps : List ℕ) → AreLawful net cut steps → StandAt net (λ i. slice_index steps (region_at cut i)) (rows_at net cut steps)
+pub rows_at-stand : (net : Network) (cut steps : List ℕ) → AreLawful net cut steps → StandAt net (step_of cut steps) (rows_at net cut steps)
 rows_at-stand net cut steps lawful = record {
   in_time = λ i there. lawful.in_time (region_at cut i) 0 (omega (arith, region_at-there cut i, lawful.one_each));
   each = λ i there. row_at-rows_at net cut steps i there;
@@ -51,11 +52,11 @@ shot-between net cut from to steps sound lawful between =
     record {
       lawful = lawful;
       between = between;
-      balanced = books-law net (rows_at net cut steps) sound (λ i. slice_index steps (region_at cut i)) stand;
+      balanced = books-law net (rows_at net cut steps) sound (step_of cut steps) stand;
       rooms = record {
         each = λ i road.
             let there = road_at-there net.cells i road in
-            let bounds = (state_at-in_bounds net sound (slice_index steps (region_at cut i)) (stand.in_time i there)).each i there in
+            let bounds = (state_at-in_bounds net sound (step_of cut steps i) (stand.in_time i there)).each i there in
             omega (arith, ap (λ row. row.n) (stand.each i there), bounds.held.road road);
       };
     }
@@ -69,7 +70,7 @@ shown-rows net chart room sound one_each fits shows =
     ext_get_or empty_row room.rows (rows_at net cut room.steps) (fits.rows ∙ one_each ∙ sym (length-rows_at net cut room.steps))
     (λ i within.
     let there : i < length net.cells = omega (arith, within, fits.rows, one_each) in
-    shows.rows i there ∙ recurrences (slice_index room.steps (region_at cut i)) i there (omega (arith, zeros (region_count cut) (region_at cut i))) ∙
+    shows.rows i there ∙ recurrences (step_of cut room.steps i) i there (omega (arith, zeros (region_count cut) (region_at cut i))) ∙
     sym (row_at-rows_at net cut room.steps i there))
 
 -- before the first shot

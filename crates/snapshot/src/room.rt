@@ -25,10 +25,12 @@ impl Model for ShotRoom {
 
 impl ShotRoom {
     ghost use Rattle.std.specs.Prelude.{◌≡◌, ◌<◌, IfOk, length};
+    ghost use Rattle.network_file.specs.Connectors.{connector_at};
     ghost use Rattle.flow_ledger.specs.Books.{books_of};
     ghost use Rattle.flow_ledger.specs.Flight.{flight_of};
     ghost use Rattle.region_step.specs.Opened.{IsOf};
     ghost use Rattle.snapshot.specs.Rooms.{IsRoomFor, ShowsRegion, StaysBeside, first_room};
+    ghost use Rattle.snapshot.specs.RunLaws.{Balances, IsLinkFlow, IsStepFlow};
 
     /// A room that shows all regions at step 0.
     pub fn new(alloc: Global, net: &Net, chart: &Chart) -> Result<ShotRoom, NoMemory>
@@ -96,7 +98,11 @@ impl ShotRoom {
     /// The books of these rows.
     pub fn books(&self, net: &Net) -> Books
         requires { length self.now.rows ≡ length net.now.cells }
-        ensures { result ≡ books_of net.now self.now.rows }
+        ensures books { result ≡ books_of net.now self.now.rows }
+
+        // Whatever the steps: what is inside and what is under way are what was there at first and what entered, less what
+        // left.
+        ensures balances { Balances net.now self.now.rows result }
     {
         let _steps = net.steps;
         books(net, &self.rows)
@@ -106,7 +112,11 @@ impl ShotRoom {
     pub fn flight(&self, net: &Net, k: u32) -> i128
         requires one_each { length self.now.rows ≡ length net.now.cells }
         requires has_connector { k < length net.now.connectors }
-        ensures { result ≡ flight_of net.now self.now.rows k }
+        ensures flight { result ≡ flight_of net.now self.now.rows k }
+
+        // It is what one step carries between cells of which some have taken it and others not.
+        ensures step_flow { IsStepFlow net.now self.now.rows (connector_at net.now.connectors k) result }
+        ensures link_flow { IsLinkFlow net.now self.now.rows (connector_at net.now.connectors k) result }
     {
         let _steps = net.steps;
         flight(net, &self.rows, k)

@@ -18,7 +18,7 @@ use Rattle.region_cut.proofs.Meetings.{neighbours-from, touches-touches_region}
 use Rattle.region_cut.proofs.Membership.{region_at-there}
 use Rattle.region_step.specs.Start.{StartLists}
 use Rattle.region_step.proofs.Grids.{are_the_recurrences}
-use Rattle.delay_report.specs.RunLaws.{AreReached, AreRowsAt, IsLeastStep, IsLinkFlow, IsStepFlow, step_of}
+use Rattle.snapshot.specs.RunLaws.{AreReached, AreRowsAt, IsLeastStep, IsLinkFlow, IsStepFlow, step_of}
 
 -- the rows are those of the recurrences, each at its region's step
 pub stand_at : (net : Network) (cut : List ℕ) (start : StartLists) (steps : List ℕ) (rows : List Row) → IsNetwork net → AreRowsAt net cut start steps rows → StandAt net (step_of cut steps) rows

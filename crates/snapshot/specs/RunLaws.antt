@@ -1,5 +1,5 @@
 -- What holds of the rows of regions that stand at steps of their own, from a true start.
-use Rattle.std.specs.Prelude.{◌≡◌, ◌≢◌, ℕ, ◌+◌, ◌<◌, ◌≤◌, All, List, ℤ, pos, neg_ℤ, ◌+ℤ◌, ◌-ℤ◌, length, replicate, slice_index, sum_by}
+use Rattle.std.specs.Prelude.{◌≡◌, ℕ, ◌+◌, ◌<◌, ◌≤◌, All, List, ℤ, pos, neg_ℤ, ◌-ℤ◌, length, slice_index, sum_by}
 use Rattle.std.specs.List.{Contains}
 use Rattle.network_file.specs.Connectors.{cells_of, downstream_of, upstream_of}
 use Rattle.network_file.specs.Network.{Network}
@@ -10,13 +10,11 @@ use Rattle.flow_model.specs.State.{occupancy, row_at, state_at}
 use Rattle.flow_model.specs.declared.row.Row.{Row}
 use Rattle.flow_ledger.specs.FlightLaw.{ahead, enters, leaves}
 use Rattle.flow_ledger.specs.declared.network_books.Books.{Books}
-use Rattle.region_cut.specs.Chart.{ChartLists}
-use Rattle.region_cut.specs.Cuttings.{region_at, region_count}
+use Rattle.region_cut.specs.Cuttings.{region_at}
 use Rattle.region_cut.specs.LawfulSteps.{AreLawful}
 use Rattle.region_step.specs.Grid.{grid_row}
-use Rattle.region_step.specs.Region.{RegionValue}
-use Rattle.region_step.specs.Standing.{AllStand}
 use Rattle.region_step.specs.Start.{IsTrueStart, StartLists}
+use Rattle.snapshot.specs.Shots.{IsBalanced}
 
 -- the step of cell i is that of its region
 abbrev pub step_of : (cut steps : List ℕ) → (i : ℕ) → ℕ
@@ -34,19 +32,9 @@ pub record AreRowsAt (net : Network) (cut : List ℕ) (start : StartLists) (step
   pub reached : AreReached net cut start steps
   pub each : (i : ℕ) → i < length net.cells → row_at rows i ≡ grid_row net cut start (step_of cut steps i) i
 
--- the regions of a true start with lawful steps, at the last step: recorded from step 0 on, if at all
-pub record AreAtTheEnd (net : Network) (chart : ChartLists) (start : StartLists) (every : ℕ) (regions : List RegionValue) : Type 0 where
-  pub true_start : IsTrueStart net chart.cut start
-  pub lawful : AreLawful net chart.cut start.steps
-  pub from_zero : every ≢ 0 → (q : ℕ) → slice_index start.steps q ≡ 0
-  pub stand : AllStand net chart start every (replicate (region_count chart.cut) net.steps) regions
-
--- no vehicle is lost and none made: what is inside and what is under way are what was there at first and what entered,
--- less what left
+-- whatever the steps, the books balance
 abbrev pub Balances : Network → List Row → Books → Type 0
-Balances net rows books =
-    (cut : List ℕ) (start : StartLists) (steps : List ℕ) → AreRowsAt net cut start steps rows →
-    books.inside +ℤ books.flight ≡ books.initial +ℤ books.entered -ℤ books.left
+Balances net rows books = (cut : List ℕ) (start : StartLists) (steps : List ℕ) → AreRowsAt net cut start steps rows → IsBalanced books
 
 -- m is the least step at which a cell of the connector stands
 pub record IsLeastStep (cut steps : List ℕ) (connector : Connector) (m : ℕ) : Type 0 where
