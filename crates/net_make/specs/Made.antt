@@ -64,7 +64,7 @@ connector_line size i = if has_off_ramp size i then diverge_line i else if has_o
 unfoldable pub last_link : (size : ℕ) → List ℕ
 last_link size = codes "link,m" ++ decimal (size - 1) ++ codes ",out"
 
--- 1 to 3 vehicles in a step, by the number drawn
+-- 1 to 3 vehicles in a step, by the number that is drawn
 unfoldable pub main_demand : (drawn : ℕ) → List ℕ
 main_demand drawn = codes "demand,g,0,20," ++ amount_text (1_000_000 + drawn % 2_000_001)
 
@@ -80,7 +80,8 @@ signal_line drawn i = codes "signal,m" ++ decimal i ++ codes ",6," ++ decimal (d
 unfoldable pub incident_line : (drawn size : ℕ) → List ℕ
 incident_line drawn size = codes "limit,m" ++ decimal (drawn % size) ++ codes ",10,20,1"
 
--- The draws go to the lines in their order: the first to the gate, then one to each on-ramp, to each signal and to the incident.
+-- The draws go to the lines in their order, none is skipped: the first to the gate, then one to each on-ramp, one to each signal,
+-- and the last to the incident.
 
 -- of the on-ramp at main cell i
 abbrev pub ramp_draw : (seed i : ℕ) → ℕ
@@ -90,25 +91,30 @@ ramp_draw seed i = draw seed (1 + length (on_ramps i))
 abbrev pub signal_draw : (size seed i : ℕ) → ℕ
 signal_draw size seed i = draw seed (1 + length (on_ramps size) + length (signals i))
 
+-- of the incident
 abbrev pub incident_draw : (size seed : ℕ) → ℕ
 incident_draw size seed = draw seed (1 + length (on_ramps size) + length (signals size))
 
+-- the header, the steps and the gate of the corridor
 unfoldable pub head : (size : ℕ) → List (List ℕ)
 head size = codes "ctm,1" ∷ steps_line size ∷ codes "gate,g,2,0" ∷ []
 
--- the cells behind the gate
+-- the main cells with their ramps, and the exit
 unfoldable pub cells : (size : ℕ) → List (List ℕ)
 cells size = flat_map (cell_lines size) (main_cells size) ++ codes "exit,out,4" ∷ []
 
+-- from the gate through all main cells to the exit
 unfoldable pub connectors : (size : ℕ) → List (List ℕ)
 connectors size = codes "link,g,m0" ∷ map (connector_line size) (main_cells (size - 1)) ++ last_link size ∷ []
 
+-- of the gate, and of the on-ramps
 unfoldable pub demands : (size seed : ℕ) → List (List ℕ)
 demands size seed = main_demand (draw seed 0) ∷ map (λ i. ramp_demand (ramp_draw seed i) i) (on_ramps size)
 
 unfoldable pub signal_lines : (size seed : ℕ) → List (List ℕ)
 signal_lines size seed = map (λ i. signal_line (signal_draw size seed i) i) (signals size)
 
+-- none where there is but one main cell
 unfoldable pub incident : (size seed : ℕ) → List (List ℕ)
 incident size seed = line_where (nat_le 2 size) (incident_line (incident_draw size seed) size)
 
