@@ -1,0 +1,2 @@
+pub mod DrawOrder
+pub mod LineOrder

@@ -1,0 +1,77 @@
+ghost use Rattle.std.specs.Prelude.{◌≡◌, ◌+◌, ◌^◌, ◌<◌, ◌≤◌, ◌++◌, OnOk};
+ghost use Rattle.net_make.specs.Made.{connectors, connector_line, diverge_line, ended, last_link, link_line, merge_line, text_of};
+
+use crate::features::{has_off_ramp, has_on_ramp};
+use crate::numbers::put_number;
+use signal_plan::NoMemory;
+
+/// Appends the connectors, from the corridor's gate to its exit.
+pub(crate) fn put_connectors(text: &mut Vec<u8>, size: u32) -> Result<(), NoMemory>
+    requires { 1 ≤ size }
+    ensures { OnOk result (text.new.items ≡ text.old.items ++ text_of (connectors size)) }
+{
+    text.extend_from_slice(b"link,g,m0\n")?;
+    for i in 0..size - 1 {
+        put_connector(text, size, i)?;
+    }
+    put_last_link(text, size)?;
+    Ok(())
+}
+
+#[tactic(auto, unfolding(crate::specs::Made::last_link))]
+fn put_last_link(text: &mut Vec<u8>, size: u32) -> Result<(), NoMemory>
+    requires { 1 ≤ size }
+    ensures { OnOk result (text.new.items ≡ text.old.items ++ ended (last_link size)) }
+{
+    put_number(text, b"link,m", size - 1)?;
+    text.extend_from_slice(b",out\n")?;
+    Ok(())
+}
+
+fn put_connector(text: &mut Vec<u8>, size: u32, i: u32) -> Result<(), NoMemory>
+    requires { i + 1 < size }
+    ensures { OnOk result (text.new.items ≡ text.old.items ++ ended (connector_line size i)) }
+{
+    if has_off_ramp(size, i) {
+        put_diverge(text, i)
+    } else if has_on_ramp(i + 1) {
+        put_merge(text, i)
+    } else {
+        put_link(text, i)
+    }
+}
+
+#[tactic(auto, unfolding(crate::specs::Made::diverge_line))]
+fn put_diverge(text: &mut Vec<u8>, i: u32) -> Result<(), NoMemory>
+    requires { i + 1 < 2 ^ 32 }
+    ensures { OnOk result (text.new.items ≡ text.old.items ++ ended (diverge_line i)) }
+{
+    put_number(text, b"diverge,m", i)?;
+    put_number(text, b",m", i + 1)?;
+    put_number(text, b",f", i)?;
+    text.extend_from_slice(b",4,1\n")?;
+    Ok(())
+}
+
+#[tactic(auto, unfolding(crate::specs::Made::merge_line))]
+fn put_merge(text: &mut Vec<u8>, i: u32) -> Result<(), NoMemory>
+    requires { i + 1 < 2 ^ 32 }
+    ensures { OnOk result (text.new.items ≡ text.old.items ++ ended (merge_line i)) }
+{
+    put_number(text, b"merge,m", i)?;
+    put_number(text, b",r", i + 1)?;
+    put_number(text, b",m", i + 1)?;
+    text.extend_from_slice(b",3,1\n")?;
+    Ok(())
+}
+
+#[tactic(auto, unfolding(crate::specs::Made::link_line))]
+fn put_link(text: &mut Vec<u8>, i: u32) -> Result<(), NoMemory>
+    requires { i + 1 < 2 ^ 32 }
+    ensures { OnOk result (text.new.items ≡ text.old.items ++ ended (link_line i)) }
+{
+    put_number(text, b"link,m", i)?;
+    put_number(text, b",m", i + 1)?;
+    text.extend_from_slice(b"\n")?;
+    Ok(())
+}
