@@ -4,16 +4,11 @@ use Rattle.std.proofs.lemmas.List.{length-replicate}
 use Rattle.command_words.specs.declared.request.Request.{Request}
 use Rattle.network_file.specs.Reading.{network_of}
 use Rattle.network_file.specs.declared.limits.TheConstants.{MOST_BYTES}
-use Rattle.ctm_program.specs.Answer.{Answer, IsTextBy, IsTextOf, Task, answer_of, answer_with, refused, requested}
-use Rattle.ctm_program.specs.Counts.{counts_line}
-use Rattle.delay_report.specs.Report.{report_of}
-use Rattle.network_file.specs.Converted.{converted}
-use Rattle.command_words.specs.declared.mode.Mode.{Mode}
-use Rattle.command_words.specs.declared.mode.Mode.TheVariants.{Run, Check, Convert}
+use Rattle.ctm_program.specs.Answer.{Answer, answer_of, answer_with, refused, requested}
 use Rattle.command_words.specs.declared.refusal.WordsRefusal.{WordsRefusal}
 use Rattle.command_words.specs.declared.refusal.WordsRefusal.TheVariants as of_words
 use Rattle.ctm_ports.specs.Written.{AppendsPrefix}
-use Rattle.ctm_program.specs.Ending.{IsComplete, IsOfWords, IsStatusOf, line_after}
+use Rattle.ctm_program.specs.Ending.{IsComplete, IsOfWords, IsStatusOf, IsWritten, line_after}
 use Rattle.ctm_program.specs.Refusing.{IsRefusalOf, line_of, refusal_of_words, status_of}
 use Rattle.ctm_program.specs.declared.refusal.Refusal.{Refusal}
 use Rattle.ctm_program.specs.declared.refusal.Refusal.TheVariants as refusal
@@ -59,17 +54,6 @@ pub long_input : (most : ℕ) (left : Option (List ℕ)) → IfSome left (λ byt
 long_input most None none = (replicate (most + 1) 0, tt, omega (arith, length-replicate {A = ℕ}))
 long_input most (Some bytes) long = (bytes, refl, long)
 
--- some text of a task
-some_text_by : (mode : Mode) (task : Task) → (text : List ℕ) × IsTextBy mode task text
-some_text_by Run task = (report_of task.net task.request.every, refl)
-some_text_by Check task = (counts_line task.net, refl)
-some_text_by Convert task = (converted task.input, refl)
-
--- some text of an answer
-pub some_text : (answer : Answer) → (text : List ℕ) × IsTextOf answer text
-some_text (Ok task) = some_text_by task.request.mode task
-some_text (Err why) = ([], refl)
-
 -- words that are refused, or for which memory was wanted
 pub refused_words : (words : List (String Global)) (refusal : WordsRefusal) (left : Option (List ℕ)) →
     (refusal ≡ of_words.Refused → requested words ≡ None) →
@@ -85,24 +69,20 @@ status_of-words of_words.NoMemory = inr refl
 -- a call that is refused before anything is written
 
 pub record IsUnwritten (answer : Answer) (refusal : Refusal) : Type 0 where
-  pub text : List ℕ
-  pub of_answer : IsTextOf answer text
   pub status : IsStatusOf answer (status_of refusal)
+  pub nothing : IsWritten answer (status_of refusal) []
   pub line : line_of refusal ≡ line_after answer (status_of refusal)
   pub not_done : status_of refusal ≡ Done → ⊥
 
 pub unwritten : (answer : Answer) (refusal : Refusal) → IsRefusalOf answer refusal → IsUnwritten answer refusal
-unwritten answer refusal.Words is = rw is (record { text = []; of_answer = refl; status = refl; line = refl; not_done = λ done. cc })
-unwritten answer (refusal.Network line) is = rw is (record { text = []; of_answer = refl; status = refl; line = refl; not_done = λ done. cc })
-unwritten answer refusal.LargeInput is = rw is (record { text = []; of_answer = refl; status = refl; line = refl; not_done = λ done. cc })
-unwritten answer refusal.LargeRecord is = rw is (record { text = []; of_answer = refl; status = refl; line = refl; not_done = λ done. cc })
-unwritten answer refusal.ReadFault is =
-    let some = some_text answer in
-    record { text = some.0; of_answer = some.1; status = tt; line = refl; not_done = λ done. cc }
+unwritten answer refusal.Words is = rw is (record { status = refl; nothing = refl; line = refl; not_done = λ done. cc })
+unwritten answer (refusal.Network line) is = rw is (record { status = refl; nothing = refl; line = refl; not_done = λ done. cc })
+unwritten answer refusal.LargeInput is = rw is (record { status = refl; nothing = refl; line = refl; not_done = λ done. cc })
+unwritten answer refusal.LargeRecord is = rw is (record { status = refl; nothing = refl; line = refl; not_done = λ done. cc })
+unwritten answer refusal.LargeShots is = rw is (record { status = refl; nothing = refl; line = refl; not_done = λ done. cc })
+unwritten answer refusal.ReadFault is = record { status = tt; nothing = refl; line = refl; not_done = λ done. cc }
 unwritten answer refusal.WriteFault is = absurd is
-unwritten answer refusal.NoMemory is =
-    let some = some_text answer in
-    record { text = some.0; of_answer = some.1; status = tt; line = refl; not_done = λ done. cc }
+unwritten answer refusal.NoMemory is = record { status = tt; nothing = inl refl; line = refl; not_done = λ done. cc }
 
 -- nothing is a beginning of every text
 pub appends_nothing : (old : Option (List ℕ)) (text : List ℕ) → AppendsPrefix old old text

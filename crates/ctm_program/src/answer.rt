@@ -11,13 +11,13 @@ ghost use Rattle.ctm_program.specs.declared.text_limits.TheConstants.{MOST_RECOR
 ghost use Rattle.ctm_program.specs.Refusing.{IsNetRefusal, IsRefusalOf, status_at_end};
 
 use crate::counts::counts;
+use crate::last_report::last_report;
 use crate::refusal::Refusal;
 use crate::status::Status;
 use crate::text_limits::records_too_much;
 use crate::watch_text::watched;
 use command_words::{Mode, Request, read_words};
 use ctm_ports::{Gate, ReadEnd, Source, read_up_to};
-use delay_report::report;
 use itoa::Buffer;
 use network_file::{MOST_BYTES, Net, NetFault, NetRefusal, convert};
 use network_run::last_regions;
@@ -132,8 +132,7 @@ fn run_report<R: Threads + Sync, G: Gate>(
     let cut = cutting(alloc, net, request.regions)?;
     let chart = Chart::new(alloc, net, cut)?;
     let regions = last_regions(rt, alloc, net, &chart, every, request.workers, gate)?;
-    let text = report(alloc, net, &chart, &regions, every)?;
-    Ok(text)
+    last_report(alloc, net, &chart, &regions, every)
 }
 
 // The refusal of a file, with the line that tells its fault.

@@ -16,6 +16,7 @@ mod answer;
 mod command_line;
 mod counts;
 mod ending;
+mod last_report;
 mod refusal;
 mod status;
 #[cfg(test)]

@@ -3,11 +3,11 @@ ghost use Rattle.command_words.specs.Words.{IsInRange};
 ghost use Rattle.ctm_program.specs.Answer.{IsWatchText, recorded_values, shown_rows};
 ghost use Rattle.ctm_program.specs.declared.text_limits.TheConstants.{MOST_RECORDED, MOST_SHOWN};
 
+use crate::last_report::last_report;
 use crate::refusal::Refusal;
 use crate::text_limits::{records_too_much, shows_too_much};
 use command_words::{Mode, Request};
 use ctm_ports::Gate;
-use delay_report::report;
 use network_file::Net;
 use network_run::{Watched, watched_regions};
 use region_cut::{Chart, cutting};
@@ -66,7 +66,7 @@ fn watch_text<R: Threads + Sync, G: Gate>(
         request.shots,
         gate,
     )?;
-    let report = report(alloc, net, &chart, &regions, every)?;
+    let report = last_report(alloc, net, &chart, &regions, every)?;
     shots.extend_from_slice(&report)?;
     Ok(shots)
 }

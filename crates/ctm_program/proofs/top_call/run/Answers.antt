@@ -1,3 +1,4 @@
+use Rattle.std.proofs.Common.{[]}
 use Rattle.ctm_program.specs.Answer.{answer_of}
 use Rattle.ctm_program.proofs.AnswerFacts.{appends_nothing, unwritten}
 use Rattle.ctm_program.proofs.top_call.run.Goals as goal
@@ -7,10 +8,10 @@ returns-clause-answered g c =
     let given = c.in-Err.ensures.refusal in
     let call = unwritten (answer_of c.args.words.now given.0) c.in-Err.refusal given.2 in (
       given.0,
-      call.text,
+      [],
       given.1,
-      call.of_answer,
       call.status,
-      record { prefix = appends_nothing (g.O.Sink.taken c.args.out.now) call.text; whole = λ done. absurd (call.not_done done) },
+      call.nothing,
+      record { prefix = appends_nothing (g.O.Sink.taken c.args.out.now) []; whole = λ done. absurd (call.not_done done) },
       call.line,
     )
