@@ -23,7 +23,7 @@ use worker_claim::Member;
 /// What comes of a run that is watched.
 #[derive(Drop)]
 pub struct Watched {
-    /// The text of its shots (docs/FORMAT.md, "Shots").
+    /// The text of its shots (docs/FORMAT.md, "The shots").
     pub shots: Vec<u8>,
     /// Its regions at the last step.
     pub regions: Vec<Region>,

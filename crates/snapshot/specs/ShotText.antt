@@ -1,4 +1,4 @@
--- The text of a shot (docs/FORMAT.md, "Shots").
+-- The text of a shot (docs/FORMAT.md, "The shots").
 use Rattle.std.specs.Prelude.{ℕ, Bool, ◌++◌, ◌==◌, List, not, codes, flat_map, length, slice_index}
 use Rattle.std.specs.List.{filter, list_any, range_with_len}
 use Rattle.network_file.specs.Connectors.{cells_of, connector_at}

@@ -1,5 +1,5 @@
 //! Snapshots of a network whose regions stand at steps of their own: a room that shows one, with its books and flights,
-//! and the text of a shot of it (docs/FORMAT.md, "Shots").
+//! and the text of a shot of it (docs/FORMAT.md, "The shots").
 #![tactic(auto)]
 
 mod flight_lines;

@@ -13,7 +13,7 @@ use network_file::Net;
 use region_cut::Chart;
 use signal_plan::NoMemory;
 
-/// Appends shot `number` of a room (docs/FORMAT.md, "Shots"): its books, the step of each region, the flight of each
+/// Appends shot `number` of a room (docs/FORMAT.md, "The shots"): its books, the step of each region, the flight of each
 /// connector between regions, and the row of each cell. After want of memory the text is as it was.
 pub fn shot_text(
     net: &Net,
