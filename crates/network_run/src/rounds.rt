@@ -1,5 +1,7 @@
 ghost use Rattle.std.specs.Prelude.{◌≡◌, ◌⊎◌, ◌-◌, ◌*◌, ◌^◌, ◌≤◌, IsTrue, length, min};
 ghost use Rattle.region_cut.specs.Cuttings.{region_count};
+ghost use Rattle.std.specs.List.{Contains};
+ghost use Rattle.worker_claim.specs.declared.member.Member.{Member as MemberValue};
 ghost use Rattle.network_run.specs.Enlisted.{AreEnlisted, IsOver};
 
 use ctm_ports::Gate;
@@ -35,10 +37,16 @@ pub(crate) fn drive_rounds<R: Threads + Sync, G: Gate>(
     most
 }
 
-/// Whether a member has found all regions at the goal, or none has moved one.
-pub(crate) fn is_over(members: &[Member]) -> bool
+// Whether a member has found all regions at the goal, or none has moved one.
+fn is_over(members: &[Member]) -> bool
     ensures { IsTrue result → IsOver members.now }
 {
+    are_done(members) || members.iter().all(|member| member.driven.moved == 0)
+}
+
+/// Whether a member has found all regions at the goal.
+pub(crate) fn are_done(members: &[Member]) -> bool
+    ensures { IsTrue result → (member : MemberValue) × Contains members.now member × IsTrue member.driven.all }
+{
     members.iter().any(|member| member.driven.all)
-        || members.iter().all(|member| member.driven.moved == 0)
 }

@@ -8,7 +8,7 @@ ghost use Rattle.worker_claim.specs.Watching.{IsWatched};
 ghost use Rattle.network_run.specs.Enlisted.{AreEnlisted};
 
 use crate::members::{dismiss, enlist};
-use crate::rounds::{SWEEPS, drive_rounds, is_over};
+use crate::rounds::{SWEEPS, are_done, drive_rounds};
 use ctm_ports::Gate;
 use region_slots::{Field, Pass, Shot};
 use snapshot::ShotRoom;
@@ -80,7 +80,8 @@ fn drive_watched<R: Threads + Sync, G: Gate>(
     let shot = crew_watch(
         rt, field, watcher, room, TRIES, members, goal, SWEEPS, gate,
     );
-    if !is_over(members) {
+    // A member that moved nothing may have met the watcher alone.
+    if !are_done(members) {
         drive_rounds(rt, field, members, goal, gate);
     }
     shot

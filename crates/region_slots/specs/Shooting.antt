@@ -45,6 +45,8 @@ pub record IsBusy (terms : Terms) (old new : View) (r tries : ℕ) : Type 0 wher
 pub record IsShotOf (terms : Terms) (tries : ℕ) (old new : View) (before after : RoomValue) (shot : Shot) : Type 0 where
   pub room : IsRoomFor terms.chart.now after
   pub unmoved : IsUnmoved old new
+  -- no region was found taken more often than it was tried
+  pub tried : (q : ℕ) → slice_index new.held_found q ≤ slice_index old.held_found q + tries
   pub taken : shot ≡ Taken → HasShot terms old new after
   pub busy : (r : ℕ) → shot ≡ Busy r → IsBusy terms old new r tries
   pub unchanged : (r : ℕ) → shot ≡ Busy r → after ≡ before

@@ -37,6 +37,7 @@ impl<'a> Field<'a> {
         ensures all { result ≡ None → HasGathered self.now.terms seat.old.me.0 (region_count self.now.terms.chart.now.cut) seat.new.me }
         ensures there { (r : ℕ) → result ≡ Some r → r < region_count self.now.terms.chart.now.cut }
         ensures stopped { (r : ℕ) → result ≡ Some r → HasStopped self.now.terms seat.old.me.0 r tries seat.new.me }
+        ensures tried { (q : ℕ) → slice_index seat.new.me.0.held_found q ≤ slice_index seat.old.me.0.held_found q + tries }
         ensures never_whole { seat.old.me.0.share ≡ self.now.terms.seats → result ≡ None }
     {
         for region in 0..self.chart.regions() {
@@ -61,6 +62,8 @@ impl<'a> Field<'a> {
         ensures same { (seat.new.id ≡ seat.old.id) × (seat.new.table_id ≡ seat.old.table_id) }
         ensures taken { (old : ViewValue) → HasGathered self.now.terms old region seat.old.me → IsTrue result → HasGathered self.now.terms old (region + 1) seat.new.me }
         ensures stopped { (old : ViewValue) → HasGathered self.now.terms old region seat.old.me → result ≡ false → HasStopped self.now.terms old region tries seat.new.me }
+        ensures tried { slice_index seat.new.me.0.held_found region ≤ slice_index seat.old.me.0.held_found region + tries }
+        ensures untried { (q : ℕ) → q ≢ region → slice_index seat.new.me.0.held_found q ≡ slice_index seat.old.me.0.held_found q }
         ensures never_whole { seat.old.me.0.share ≡ self.now.terms.seats → IsTrue result }
     {
         if !self.takes_within(seat, region, tries) {
@@ -93,8 +96,9 @@ impl<'a> Field<'a> {
                 return true;
             }
             failed += 1;
-            // Whoever has it may be waiting for a processor.
-            yield_now();
+            if failed < tries {
+                pause(failed);
+            }
         }
         false
     }
@@ -164,5 +168,13 @@ impl<'a> Field<'a> {
             left -= 1;
             self.frees(seat, left);
         }
+    }
+}
+
+// Lets others go on, the longer the more often a region was found taken: a turn on a large region lasts longer than a few
+// tries do, and whoever has the region may be waiting for a processor.
+fn pause(failed: u32) {
+    for _ in 0..failed {
+        yield_now();
     }
 }

@@ -3,10 +3,11 @@ use Rattle.std.specs.Prelude.{slice_index}
 use Rattle.std.proofs.Common.{◌≡◌, ℕ, ◌+◌, ◌<◌, ◌≤◌, inl, inr, List, [], ◌∷◌, ◌++◌, length, refl, sym, ap, subst, ◌∙◌, arith}
 use Rattle.std.proofs.Math.ListN.{get_or-append}
 use Rattle.std.proofs.Math.Seq.{get_or-append_seam}
-use Rattle.std.proofs.lemmas.Bool.{cases_eq}
-use Rattle.std.proofs.lemmas.List.{ext_get_or, length-append}
+use Rattle.std.proofs.lemmas.Bool.{cases_eq, cases_lt}
+use Rattle.std.proofs.lemmas.List.{ext_get_or, get_or_past, length-append}
 use Rattle.std.proofs.lemmas.List.FromFn.{get_or-map-range_with_len, length-map-range_with_len}
 use Rattle.network_file.specs.Network.{IsNetwork, Network}
+use Rattle.flow_model.specs.Bounds.{KeepsRooms}
 use Rattle.flow_model.specs.Rows.{empty_row}
 use Rattle.flow_model.specs.State.{row_at, state_at}
 use Rattle.flow_model.proofs.CellKinds.{road_at-there}
@@ -19,11 +20,12 @@ use Rattle.region_cut.specs.Chart.{ChartLists, list_at}
 use Rattle.region_cut.specs.Cuttings.{region_at, region_count}
 use Rattle.region_cut.specs.LawfulSteps.{AreLawful}
 use Rattle.region_cut.proofs.Membership.{region_at-there}
-use Rattle.region_step.specs.Start.{zero_start}
-use Rattle.region_step.proofs.Grids.{are_the_recurrences}
+use Rattle.region_step.specs.Start.{Fits, IsTrueStart, StartLists, zero_start}
+use Rattle.region_step.proofs.Grids.{are_the_recurrences, stay_in_bounds}
 use Rattle.region_step.proofs.StartLaws.{zero_start-lawful, zero_start-true, zeros}
 use Rattle.snapshot.specs.Rooms.{IsRoomFor, RoomValue}
 use Rattle.snapshot.specs.RunLaws.{step_of}
+use Rattle.snapshot.specs.RunLaws.{AreRowsAt}
 use Rattle.snapshot.specs.Shots.{AreShots, IsShotBetween, goal_of, rows_at, shot_of}
 use Rattle.snapshot.specs.Snapshots.{IsSnapshot}
 
@@ -99,3 +101,33 @@ shots-more net cut shots k text steps are next =
       lines = ap (λ begun. begun ++ shot_of net cut (k + 1) steps) (are.lines ∙ lines_of-same (line are.steps) (line all) k (λ i before. ap (shot_of net cut (i + 1)) (front i before))) ∙
           ap (λ taken. lines_of (line all) k ++ shot_of net cut (k + 1) taken) last ∙ sym (lines_of-more (line all) k);
     }
+
+-- what a snapshot of a true start shows, whatever the steps at which its regions start: rows of the recurrences, so that the
+-- laws of books and flights hold of them
+pub snapshot-rows : (net : Network) (cut : List ℕ) (start : StartLists) (room : RoomValue) → AreLawful net cut start.steps → IsTrueStart net cut start → IsSnapshot net cut start room →
+    AreRowsAt net cut start room.steps room.rows
+snapshot-rows net cut start room from true_start shows = record {
+  reached = record {
+    true_start = true_start;
+    from = from;
+    lawful = shows.lawful;
+    started = λ q. elim (cases_lt q (region_count cut)) [
+      | inl there ↦ shows.started q there
+      | inr past ↦ omega (arith, get_or_past start.steps q 0 (omega (arith, past, from.one_each)))
+    ];
+  };
+  each = shows.rows;
+}
+
+-- and no road past its room
+pub snapshot-rooms : (net : Network) (cut : List ℕ) (start : StartLists) (room : RoomValue) → IsNetwork net → Fits net cut start → IsSnapshot net cut start room → KeepsRooms net room.rows
+snapshot-rooms net cut start room sound fits shows = record {
+  each = λ i road.
+      let there : i < length net.cells = road_at-there net.cells i road in
+      let r : ℕ = region_at cut i in
+      let t : ℕ = slice_index room.steps r in
+      let inside : r < region_count cut = region_at-there cut i in
+      let in_time : t ≤ net.steps = shows.lawful.in_time r 0 (omega (arith, inside, shows.lawful.one_each)) in
+      let bounds = stay_in_bounds net cut start sound fits t i there (shows.started r inside) in_time in
+      omega (arith, ap (λ row. row.n) (shows.rows i there), bounds.held.road road);
+}

@@ -62,6 +62,7 @@ returns-in-Some-clause-shot c =
     record {
       room = c.requires.room;
       unmoved = subst (IsUnmoved old) (sym view) (unmoved-freed old c.gathers.new.seat.me.0 stopped.unmoved);
+      tried = λ q. omega (arith, c.gathers.ensures.tried q, ap (λ (v : View). slice_index v.held_found q) view);
       taken = λ is. absurd cc;
       busy = λ q is. subst (λ p. IsBusy terms old c.gives_back.new.seat.me.0 p c.args.tries) (busy-same r q is) (subst (λ v. IsBusy terms old v r c.args.tries) (sym view) busy);
       unchanged = λ q is. refl;
@@ -85,6 +86,7 @@ returns-clause-shot c =
     record {
       room = c.shows.ensures.room;
       unmoved = subst (IsUnmoved old) (sym view) (unmoved-freed old me.0 has.unmoved);
+      tried = λ q. omega (arith, c.gathers.ensures.tried q, ap (λ (v : View). slice_index v.held_found q) view);
       taken = λ is. subst (λ v. HasShot terms old v c.shows.new.room) (sym view) shot;
       busy = λ q is. absurd cc;
       unchanged = λ q is. absurd cc;

@@ -29,3 +29,17 @@ returns-clause-taken c = λ old gathered yes.
     let past = subst (λ (m : Mine). slice_index m.0.seen c.args.region ≤ t) mine c.learns.ensures.later in
     subst (HasGathered c.args.self.now.terms old (c.args.region + 1)) (sym me)
     (gathered-more c.args.self.now.terms old view c.args.region failed t c.args.seat.now.me state c.requires.there gathered tried past c.learns.ensures.in_time stands)
+
+pub returns-clause-tried : goal.returns-clause-tried
+returns-clause-tried c =
+    let (failed, view, tried, few, mine) = c.takes_within.ensures.taken c.if-not-takes_within.false in
+    let (state, is, stands) = c.learns.ensures.state in
+    let same : slice_index c.learns.new.seat.me.0.held_found c.args.region ≡ slice_index view.held_found c.args.region =
+    ap (λ (m : Mine). slice_index m.0.held_found c.args.region) is ∙ ap (λ (m : Mine). slice_index m.0.held_found c.args.region) mine in
+    omega (arith, same, tried.own, few)
+
+pub returns-clause-untried : goal.returns-clause-untried
+returns-clause-untried c = λ q other.
+    let (failed, view, tried, few, mine) = c.takes_within.ensures.taken c.if-not-takes_within.false in
+    let (state, is, stands) = c.learns.ensures.state in
+    ap (λ (m : Mine). slice_index m.0.held_found q) is ∙ ap (λ (m : Mine). slice_index m.0.held_found q) mine ∙ tried.others q other
