@@ -27,6 +27,8 @@ mod threads_tests;
 mod top_call;
 #[cfg(test)]
 mod uneven_tests;
+#[cfg(test)]
+mod watch_tests;
 mod watch_text;
 
 use ctm_ports::{OpenGate, StdSink, StdSource};

@@ -57,6 +57,11 @@ impl Ended {
         self.status == 0 && self.out.bytes() == text && self.err.bytes().is_empty()
     }
 
+    // Whether the call gave a text that ends so.
+    pub(crate) fn gave_in_the_end(&self, text: &[u8]) -> bool {
+        self.status == 0 && self.out.bytes().ends_with(text) && self.err.bytes().is_empty()
+    }
+
     // Whether the call gave nothing but this status and line.
     fn is_refused(&self, status: u8, line: &[u8]) -> bool {
         self.status == status && self.out.bytes().is_empty() && self.err.bytes() == line
@@ -64,7 +69,7 @@ impl Ended {
 }
 
 // A call with these words, which spaces part, over ports that never fail.
-fn call<R: Threads + Sync>(
+pub(crate) fn call<R: Threads + Sync>(
     rt: &R,
     alloc: Global,
     words: &str,

@@ -4,30 +4,23 @@ use std::sync::atomic::{AtomicU64, Ordering};
 use std::test::Fail;
 
 // A gate, two roads and an exit, each a region of its own where there are four.
-const CHAIN: &str =
+pub(crate) const CHAIN: &str =
     "ctm,1; steps,4; gate,g,2,8; road,a,6,2,1,1,0; road,b,6,2,1,1,0; exit,x,2; link,g,a; link,a,b; link,b,x";
 
-const CHAIN_REPORT: &str = "report,4,4; cell,g,0.000000,0.000000,8.000000,12.000000; \
+pub(crate) const CHAIN_REPORT: &str = "report,4,4; cell,g,0.000000,0.000000,8.000000,12.000000; \
 cell,a,2.000000,8.000000,6.000000,0.000000; cell,b,2.000000,6.000000,4.000000,0.000000; \
 cell,x,4.000000,4.000000,0.000000,0.000000; total,4.000000,0.000000,4.000000,12.000000";
 
-// A gate at which the worker that holds region 0 at step 0 and the one that holds region 2 at step 1 wait for each other, so
-// that one worker alone waits in vain. It notes which region was held at which step.
+// A gate that notes which of four regions was held at which of four steps.
 #[derive(Drop)]
-struct Meeting {
-    first: AtomicU64,
-    second: AtomicU64,
-    met: AtomicU64,
+pub(crate) struct Notes {
     // For each region a bit for each step, set by whoever holds it.
     noted: [AtomicU64; 4],
 }
 
-impl Meeting {
-    fn new() -> Meeting {
-        Meeting {
-            first: AtomicU64::new(0),
-            second: AtomicU64::new(0),
-            met: AtomicU64::new(0),
+impl Notes {
+    pub(crate) fn new() -> Notes {
+        Notes {
             noted: [
                 AtomicU64::new(0),
                 AtomicU64::new(0),
@@ -37,24 +30,72 @@ impl Meeting {
         }
     }
 
-    // Comes to the meeting, and waits for the other for a while.
-    fn meet(&self, own: &AtomicU64, other: &AtomicU64) {
-        own.store(1, Ordering::SeqCst);
-        for _ in 0..1_000_000_000 {
-            if other.load(Ordering::SeqCst) != 0 {
-                self.met.fetch_add(1, Ordering::SeqCst);
-                return;
+    // Whether each region was held at each step.
+    pub(crate) fn are_complete(&self) -> bool {
+        for noted in &self.noted {
+            if noted.load(Ordering::SeqCst) != 0b1111 {
+                return false;
             }
         }
+        true
     }
 }
 
-impl Gate for Meeting {
+impl Gate for Notes {
     fn held(&self, region: u32, step: u64) {
         if region < 4 && step < 4 {
             let noted = &self.noted[region as usize];
             noted.store(noted.load(Ordering::SeqCst) | 1 << step, Ordering::SeqCst);
         }
+    }
+
+    fn freed(&self, region: u32, step: u64) {}
+
+    fn watched(&self, done: bool) {}
+}
+
+// A gate at which the worker that holds region 0 at step 0 and the one that holds region 2 at step 1 wait for each other, so
+// that one worker alone waits in vain. It notes which region was held at which step.
+#[derive(Drop)]
+struct Meeting {
+    first: AtomicU64,
+    second: AtomicU64,
+    met: AtomicU64,
+    notes: Notes,
+}
+
+impl Meeting {
+    fn new() -> Meeting {
+        Meeting {
+            first: AtomicU64::new(0),
+            second: AtomicU64::new(0),
+            met: AtomicU64::new(0),
+            notes: Notes::new(),
+        }
+    }
+
+    // Comes to the meeting, and waits for the other for a while.
+    fn meet(&self, own: &AtomicU64, other: &AtomicU64) {
+        own.store(1, Ordering::SeqCst);
+        if is_set_in_time(other) {
+            self.met.fetch_add(1, Ordering::SeqCst);
+        }
+    }
+}
+
+// Whether the flag is set within a while.
+pub(crate) fn is_set_in_time(flag: &AtomicU64) -> bool {
+    for _ in 0..1_000_000_000 {
+        if flag.load(Ordering::SeqCst) != 0 {
+            return true;
+        }
+    }
+    false
+}
+
+impl Gate for Meeting {
+    fn held(&self, region: u32, step: u64) {
+        self.notes.held(region, step);
         match (region, step) {
             (0, 0) => self.meet(&self.first, &self.second),
             (2, 1) => self.meet(&self.second, &self.first),
@@ -78,12 +119,9 @@ fn two_workers_work_at_once(rt: HostRuntime) -> Result<(), Fail> {
         2,
         "each waited for the other"
     );
-    for noted in &gate.noted {
-        assert_eq!(rt;
-            noted.load(Ordering::SeqCst),
-            0b1111,
-            "each region was held at each step"
-        );
-    }
+    assert!(rt;
+        gate.notes.are_complete(),
+        "each region was held at each step"
+    );
     Ok(())
 }
