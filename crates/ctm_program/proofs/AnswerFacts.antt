@@ -1,5 +1,5 @@
 -- The answer by its cases, and inputs that a source may have.
-use Rattle.std.proofs.Common.{append-nil, ◌≡◌, ℕ, ◌+◌, ◌<◌, ◌≤◌, List, [], Option, Some, None, Ok, Err, String, Global, IfSome, refl, sym, inl, inr, length, replicate, arith, rules}
+use Rattle.std.proofs.Common.{append-nil, ◌≡◌, ℕ, ◌+◌, ◌<◌, ◌≤◌, List, [], Option, Some, None, String, Global, IfSome, refl, sym, inl, inr, length, replicate, arith, rules}
 use Rattle.std.proofs.lemmas.List.{length-replicate}
 use Rattle.command_words.specs.declared.request.Request.{Request}
 use Rattle.network_file.specs.Reading.{network_of}

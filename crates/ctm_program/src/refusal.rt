@@ -29,9 +29,7 @@ impl Refusal {
         match self {
             Refusal::Words => Status::Words,
             Refusal::Network(_) => Status::Network,
-            Refusal::LargeInput | Refusal::LargeRecord | Refusal::LargeShots => {
-                Status::TooLarge
-            }
+            Refusal::LargeInput | Refusal::LargeRecord | Refusal::LargeShots => { Status::TooLarge }
             Refusal::ReadFault => Status::ReadFault,
             Refusal::WriteFault => Status::WriteFault,
             Refusal::NoMemory => Status::NoMemory,

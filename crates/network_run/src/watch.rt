@@ -77,9 +77,7 @@ fn drive_watched<R: Threads + Sync, G: Gate>(
     ensures many { length members.new ≡ length members.old }
     ensures enlisted { AreEnlisted field.now goal members.new }
 {
-    let shot = crew_watch(
-        rt, field, watcher, room, TRIES, members, goal, SWEEPS, gate,
-    );
+    let shot = crew_watch(rt, field, watcher, room, TRIES, members, goal, SWEEPS, gate);
     // A member that moved nothing may have met the watcher alone.
     if !are_done(members) {
         drive_rounds(rt, field, members, goal, gate);

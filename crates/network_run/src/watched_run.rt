@@ -55,7 +55,17 @@ pub fn watched_regions<R: Threads + Sync, G: Gate>(
     let (field, mut pass) = Field::open(alloc, net, chart, &start, every, workers + 1)?;
     let mut text = Vec::new(alloc);
     take_shots(
-        rt, net, chart, &field, &mut pass, &mut members, &mut room, workers, shots, gate, &mut text,
+        rt,
+        net,
+        chart,
+        &field,
+        &mut pass,
+        &mut members,
+        &mut room,
+        workers,
+        shots,
+        gate,
+        &mut text,
     )?;
     let Closed { steps: _, regions } = field.close(pass);
     Ok(Watched {

@@ -1,14 +1,13 @@
 -- The regions that a seat holds are copied to a room, the last one first, while those that are copied go behind the others.
 use Rattle.std.specs.Prelude.{slice_index}
-use Rattle.std.proofs.Common.{◌≡◌, ◌≢◌, ℕ, zero, suc, ◌+◌, ◌<◌, ◌≤◌, inl, inr, List, [], ◌∷◌, ◌++◌, append-nil, length, refl, sym, ap, subst, ◌∙◌, arith}
+use Rattle.std.proofs.Common.{◌≡◌, ℕ, suc, ◌+◌, ◌<◌, ◌≤◌, inl, inr, List, [], ◌∷◌, ◌++◌, append-nil, refl, sym, ap, subst, ◌∙◌, arith}
 use Rattle.std.proofs.lemmas.Bool.{cases_eq}
 use Rattle.std.proofs.lemmas.List.{append_assoc}
-use Rattle.atomic_table.specs.Table.{turned}
 use Rattle.region_cut.specs.Chart.{IsChart}
 use Rattle.region_cut.specs.Cuttings.{region_count}
 use Rattle.region_step.specs.Region.{RegionValue}
 use Rattle.region_step.specs.Standing.{Stands}
-use Rattle.snapshot.specs.Rooms.{IsRoomFor, RoomValue, ShowsRegion, StaysBeside}
+use Rattle.snapshot.specs.Rooms.{RoomValue, ShowsRegion, StaysBeside}
 use Rattle.snapshot.proofs.Showing.{shows-stays}
 use Rattle.border_rows.specs.declared.view.Terms.{Terms}
 use Rattle.region_slots.specs.Gathering.{AreCarried}

@@ -1,7 +1,6 @@
 -- A look while a seat holds all regions: they stand together at the steps that it has seen.
-use Rattle.std.specs.Prelude.{max, slice_index, if◌then◌else◌}
-use Rattle.std.specs.List.{range_with_len}
-use Rattle.std.proofs.Common.{◌≡◌, ◌<◌, ◌≤◌, ◌+◌, ℕ, [], ◌∷◌, length, refl, sym, ap, subst, ◌∙◌, arith}
+use Rattle.std.specs.Prelude.{slice_index, if◌then◌else◌}
+use Rattle.std.proofs.Common.{◌≡◌, ◌<◌, ◌≤◌, ◌+◌, ℕ, [], ◌∷◌, refl, sym, ap, subst, ◌∙◌, arith}
 use Rattle.std.proofs.lemmas.List.{ext_get_or}
 use mathlib.Core.Option.{none, some}
 use lib.ListN.{get_elem?}
@@ -10,13 +9,11 @@ use Rattle.region_cut.specs.Cuttings.{region_count}
 use Rattle.region_cut.specs.LawfulSteps.{AreLawful}
 use Rattle.border_rows.specs.Standing.{FieldState, IsStanding}
 use Rattle.border_rows.specs.Words.{step_of, steps_of}
-use Rattle.border_rows.specs.declared.view.Hold.{Hold}
 use Rattle.border_rows.specs.declared.view.Terms.{Terms}
 use Rattle.border_rows.specs.declared.view.View.{View}
 use Rattle.border_rows.proofs.LookKinds.{steps_of-at}
 use Rattle.border_rows.proofs.RowKinds.{read-keeps}
 use Rattle.border_rows.proofs.ViewUpdates.{Contains-elem}
-use Rattle.region_slots.specs.Closing.{steps_since}
 use Rattle.region_slots.specs.Plays.{Gathered, HoldsAll, Mine}
 use Rattle.region_slots.specs.Shooting.{IsWhole}
 use Rattle.region_slots.proofs.Claiming.{same-terms}

@@ -25,11 +25,7 @@ impl<'a> Field<'a> {
 
     /// Takes all regions, and gives the first that another seat had at each of the tries, if there is one; then those
     /// before it are held.
-    pub(crate) fn gathers(
-        &self,
-        seat: &mut Seat<Region, View<'static>>,
-        tries: u32,
-    ) -> Option<u32>
+    pub(crate) fn gathers(&self, seat: &mut Seat<Region, View<'static>>, tries: u32) -> Option<u32>
         requires seat { IsSeatOf self.now seat.old }
         requires idle { HasGathered self.now.terms seat.old.me.0 0 seat.old.me }
         requires tries { 1 ≤ tries }
@@ -49,12 +45,7 @@ impl<'a> Field<'a> {
     }
 
     // Takes the next region, or tells that another seat had it at each of the tries.
-    fn takes_next(
-        &self,
-        seat: &mut Seat<Region, View<'static>>,
-        region: u32,
-        tries: u32,
-    ) -> bool
+    fn takes_next(&self, seat: &mut Seat<Region, View<'static>>, region: u32, tries: u32) -> bool
         requires seat { IsSeatOf self.now seat.old }
         requires there { region < region_count self.now.terms.chart.now.cut }
         requires tries { 1 ≤ tries }
@@ -74,12 +65,7 @@ impl<'a> Field<'a> {
     }
 
     // Tries to take a region, so many times at most, and gives whether the seat has it now.
-    fn takes_within(
-        &self,
-        seat: &mut Seat<Region, View<'static>>,
-        region: u32,
-        tries: u32,
-    ) -> bool
+    fn takes_within(&self, seat: &mut Seat<Region, View<'static>>, region: u32, tries: u32) -> bool
         requires seat { IsSeatOf self.now seat.old }
         requires there { region < region_count self.now.terms.chart.now.cut }
         requires tries { 1 ≤ tries }
@@ -135,12 +121,7 @@ impl<'a> Field<'a> {
     }
 
     // Copies the region in the seat's slot.
-    fn shows_last(
-        &self,
-        seat: &mut Seat<Region, View<'static>>,
-        region: u32,
-        room: &mut ShotRoom,
-    )
+    fn shows_last(&self, seat: &mut Seat<Region, View<'static>>, region: u32, room: &mut ShotRoom)
         requires seat { IsSeatOf self.now seat.old }
         requires slot { (step : ℕ) × (state : RegionValue) × (seat.old.me.1 ≡ (region, state) ∷ rest seat.old.me.1)
             × Stands self.now.terms.net.now self.now.terms.chart.now self.now.terms.start.now self.now.terms.every region step state }

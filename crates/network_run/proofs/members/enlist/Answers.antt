@@ -1,4 +1,4 @@
-use Rattle.std.proofs.Common.{◌≡◌, ◌≤◌, ◌+◌, ◌∷◌, [], length, ap, subst, sym, ◌∙◌, arith}
+use Rattle.std.proofs.Common.{◌≡◌, ◌+◌, ◌∷◌, [], length, ap, subst, sym, ◌∙◌, arith}
 use Rattle.std.proofs.lemmas.List.{length-append}
 use Rattle.region_slots.specs.FieldView.{IsPassOf}
 use Rattle.worker_claim.specs.Members.{IsMemberOf}
@@ -24,10 +24,10 @@ loop-j-preserved c =
       ap (λ v. v.seen) shared.keeps ∙ inv.4,
       ap (λ v. v.reach) shared.keeps ∙ inv.5,
       (λ most low.
-      let one : IsEnlisted c.args.field.now most member = record {
-        belongs = belongs;
-        share = ap (λ (m : Member). m.pass.knows.share) c.new.ensures ∙ ap (λ v. v.share) shared.off;
-        reach = omega (arith, low, reach, inv.5);
-      } in
-      subst (AreEnlisted c.args.field.now most) (sym c.push_reserved.ensures.items) (enlisted-more c.args.field.now most c.loop-j.members.items member (inv.6 most low) one)),
+          let one : IsEnlisted c.args.field.now most member = record {
+            belongs = belongs;
+            share = ap (λ (m : Member). m.pass.knows.share) c.new.ensures ∙ ap (λ v. v.share) shared.off;
+            reach = omega (arith, low, reach, inv.5);
+          } in
+          subst (AreEnlisted c.args.field.now most) (sym c.push_reserved.ensures.items) (enlisted-more c.args.field.now most c.loop-j.members.items member (inv.6 most low) one)),
     )

@@ -3,7 +3,6 @@ use Rattle.std.proofs.lemmas.List.{with_items_is}
 use Rattle.region_cut.specs.Cuttings.{region_count}
 use Rattle.region_step.specs.Start.{zero_start}
 use Rattle.border_rows.specs.declared.view.Terms.{Terms}
-use Rattle.network_run.specs.Enlisted.{AreEnlisted}
 use Rattle.network_run.proofs.Ending.{all-ended}
 use Rattle.network_run.proofs.run.last_regions.Goals as goal
 

@@ -1,11 +1,9 @@
-use Rattle.std.specs.Prelude.{max, slice_index}
-use Rattle.std.proofs.Common.{◌≡◌, ◌≢◌, ◌+◌, ◌<◌, ◌≤◌, ℕ, length, refl, ap, sym, ◌∙◌, arith}
+use Rattle.std.specs.Prelude.{slice_index}
+use Rattle.std.proofs.Common.{◌≡◌, ◌≢◌, ◌≤◌, ℕ, length, refl, ap, arith}
 use Rattle.std.proofs.lemmas.List.{with_items_is}
-use Rattle.region_cut.specs.Cuttings.{region_count}
-use Rattle.region_slots.specs.Shooting.{HasShot, IsShotOf}
+use Rattle.region_slots.specs.Shooting.{HasShot}
 use Rattle.region_slots.specs.declared.shot.Shot.{Shot}
 use Rattle.region_slots.specs.declared.shot.Shot.TheVariants.{Busy, Taken}
-use Rattle.network_run.specs.Enlisted.{AreEnlisted, IsReached}
 use Rattle.network_run.proofs.watch.watch_to.Goals as goal
 
 pub dismiss-requires-clause-enlisted : goal.dismiss-requires-clause-enlisted

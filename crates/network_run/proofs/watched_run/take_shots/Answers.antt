@@ -1,5 +1,5 @@
-use Rattle.std.specs.Prelude.{max, slice_index}
-use Rattle.std.proofs.Common.{◌≡◌, ◌+◌, ◌<◌, ◌≤◌, ◌++◌, ℕ, List, length, ap, subst, sym, ◌∙◌, arith}
+use Rattle.std.specs.Prelude.{slice_index}
+use Rattle.std.proofs.Common.{◌≡◌, ◌+◌, ◌++◌, ℕ, List, ap, subst, sym, ◌∙◌, arith}
 use Rattle.network_file.specs.Network.{IsNetwork, Network}
 use Rattle.flow_model.specs.declared.row.Row.{Row}
 use Rattle.region_cut.specs.Cuttings.{region_count}

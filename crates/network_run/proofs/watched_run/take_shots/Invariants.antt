@@ -1,5 +1,5 @@
 use Rattle.std.specs.Prelude.{vec_capacity}
-use Rattle.std.proofs.Common.{◌≡◌, ◌≤◌, ◌+◌, []}
+use Rattle.std.proofs.Common.{◌≡◌, ◌≤◌, []}
 use Rattle.region_cut.specs.Cuttings.{region_count}
 use Rattle.snapshot.specs.Rooms.{IsRoomFor}
 use Rattle.snapshot.specs.Shots.{AreShots, goal_of}

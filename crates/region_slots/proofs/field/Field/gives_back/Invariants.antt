@@ -1,4 +1,4 @@
-use Rattle.std.proofs.Common.{◌≡◌, ℕ, ◌≤◌}
+use Rattle.std.proofs.Common.{◌≡◌, ◌≤◌}
 use Rattle.region_slots.specs.Gathering.{AreCarried, held_to}
 use Rattle.region_slots.proofs.field.Field.gives_back.Given as goal
 

@@ -1,13 +1,13 @@
-use Rattle.std.specs.Prelude.{max, slice_index}
+use Rattle.std.specs.Prelude.{slice_index}
 use Rattle.std.proofs.Common.{◌≡◌, ℕ, [], Option, None, Some, refl, sym, ap, subst, ◌∙◌, arith}
 use Rattle.region_cut.specs.Cuttings.{region_count}
 use Rattle.border_rows.specs.declared.view.Terms.{Terms}
 use Rattle.border_rows.specs.declared.view.View.{View}
-use Rattle.region_slots.specs.FieldView.{FieldValue, HasCounts, HasSeenInTime, IsIdle, IsTableFor}
-use Rattle.region_slots.specs.Gathering.{HasGathered, HasStopped}
+use Rattle.region_slots.specs.FieldView.{FieldValue, HasCounts, IsIdle, IsTableFor}
+use Rattle.region_slots.specs.Gathering.{HasGathered}
 use Rattle.region_slots.specs.Plays.{Mine}
 use Rattle.region_slots.specs.Shooting.{HasShot, IsBusy, IsUnmoved, IsWhole}
-use Rattle.region_slots.specs.declared.shot.Shot.TheVariants.{Busy, Taken}
+use Rattle.region_slots.specs.declared.shot.Shot.TheVariants.{Busy}
 use Rattle.region_slots.proofs.Copying.{AreShown, IsShown}
 use Rattle.region_slots.proofs.Gathering.{counts-freed, seat-kept, unmoved-freed}
 use Rattle.region_slots.proofs.Shown.{has-shot, shown-steps, whole-shown}

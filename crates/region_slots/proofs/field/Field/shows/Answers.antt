@@ -1,5 +1,5 @@
 use Rattle.std.specs.Prelude.{slice_index}
-use Rattle.std.proofs.Common.{◌≡◌, ◌+◌, ◌-◌, ℕ, suc, List, ◌∷◌, refl, sym, ap, subst, ◌∙◌, arith}
+use Rattle.std.proofs.Common.{◌≡◌, ◌+◌, ◌-◌, ℕ, suc, List, ◌∷◌, sym, ap, subst, ◌∙◌, arith}
 use Rattle.atomic_table.specs.Table.{rest, turned}
 use Rattle.region_step.specs.Region.{RegionValue}
 use Rattle.border_rows.specs.declared.view.Terms.{Terms}

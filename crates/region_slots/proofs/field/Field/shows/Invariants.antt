@@ -1,4 +1,4 @@
-use Rattle.std.proofs.Common.{◌≡◌, ℕ, ◌≤◌}
+use Rattle.std.proofs.Common.{◌≡◌, ◌≤◌}
 use Rattle.region_cut.specs.Cuttings.{region_count}
 use Rattle.snapshot.specs.Rooms.{IsRoomFor}
 use Rattle.region_slots.proofs.Copying.{AreShown, IsTurning}

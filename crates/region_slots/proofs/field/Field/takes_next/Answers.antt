@@ -2,7 +2,6 @@ use Rattle.std.specs.Prelude.{slice_index}
 use Rattle.std.specs.List.{Contains}
 use Rattle.std.proofs.Common.{◌≡◌, ◌≤◌, ◌∷◌, ℕ, ◌+◌, arith, ap, subst, sym, ◌∙◌}
 use Rattle.border_rows.specs.Kinds.{found_at, taken}
-use Rattle.border_rows.specs.declared.view.View.{View}
 use Rattle.region_slots.specs.Gathering.{HasGathered}
 use Rattle.region_slots.specs.Plays.{Mine}
 use Rattle.region_slots.proofs.Gathering.{gathered-more, held_to-below}

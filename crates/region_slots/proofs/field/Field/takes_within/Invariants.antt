@@ -1,4 +1,4 @@
-use Rattle.std.proofs.Common.{◌≡◌, ℕ, ◌-◌, ◌≤◌}
+use Rattle.std.proofs.Common.{◌≡◌, ◌-◌, ◌≤◌}
 use Rattle.region_slots.specs.Gathering.{HasTried}
 use Rattle.region_slots.proofs.field.Field.takes_within.Given as goal
 
