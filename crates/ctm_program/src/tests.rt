@@ -615,6 +615,10 @@ fn other_words_are_refused_and_nothing_is_read(rt: HostRuntime) -> Result<(), Fa
         &["run", "--regions", "0"],
         &["run", "--regions", "513"],
         &["run", "--shots", "2"],
+        &["watch", "watch"],
+        &["watch", "--shots", "0"],
+        &["watch", "--shots", "65"],
+        &["watch", "--size", "1"],
         &["check", "--every", "1"],
         &["convert", "--size", "1"],
         &["--regions", "3"],
@@ -634,7 +638,7 @@ fn other_words_are_refused_and_nothing_is_read(rt: HostRuntime) -> Result<(), Fa
 
 #[test]
 fn a_fault_is_told_in_each_mode(rt: HostRuntime) -> Result<(), Fail> {
-    for mode in ["run", "check", "convert"] {
+    for mode in ["run", "watch", "check", "convert"] {
         let ended = call(&rt, rt.alloc(), mode, Vec::new(rt.alloc()))?;
         assert!(rt;
             ended.is_refused(3, b"ctm: network: record 1 code 1 NoHeader\n"),
@@ -686,6 +690,7 @@ fn a_failing_output_ends_the_call(rt: HostRuntime) -> Result<(), Fail> {
     for (mode, write, begun) in [
         ("run", 0, b"".as_slice()),
         ("run", 1, b"report,3,3"),
+        ("watch", 1, b"shot,1,0.0"),
         ("check", 1, b"network,3,"),
         ("convert", 1, b"ctm,2\nstep"),
     ] {

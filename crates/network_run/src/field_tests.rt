@@ -21,7 +21,7 @@ use std::thread::Threads;
 use worker_claim::{Driven, Member, drive, finish};
 
 // A gate, a road and an exit, of which the road and the exit are one region.
-const FILE: &str =
+pub(crate) const FILE: &str =
     "ctm,2; steps,3; gate,in,2,0; road,a,6,2,1,2,0; exit,out,2; link,in,a; link,a,out; \
 demand,in,0,1,4; region,in,0; region,a,1; region,out,1";
 
@@ -31,7 +31,7 @@ const ONE_REGION: &str =
 
 // What comes of turns on these regions with these goals, one after the other. Regions and goals past the last are brought
 // back.
-fn take_turns(
+pub(crate) fn take_turns(
     alloc: Global,
     field: &Field,
     pass: &mut Pass,

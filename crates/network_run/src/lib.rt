@@ -10,6 +10,8 @@ mod members;
 mod rounds;
 mod run;
 #[cfg(test)]
+mod shot_tests;
+#[cfg(test)]
 mod tests;
 mod watch;
 mod watched_run;

@@ -1,22 +1,26 @@
 ghost use Rattle.std.specs.Prelude.{◌≡◌, ◌<◌, ◌≤◌};
 ghost use Rattle.region_cut.specs.Cuttings.{region_count};
+ghost use Rattle.snapshot.specs.Rooms.{IsRoomFor};
 ghost use Rattle.region_slots.specs.FieldView.{IsPassOf};
 
 use ctm_ports::{Gate, OpenGate};
-use region_slots::{Field, Pass, Turn};
+use region_slots::{Field, Pass, Shot, Turn};
+use snapshot::ShotRoom;
 use std::sync::atomic::{AtomicU64, Ordering};
-use std::thread::{Threads, join};
+use std::thread::{Threads, join, join_mut};
 
-// A gate at which a turn that holds region 0 waits for a while until another turn was tried.
+// A gate at which a turn that holds a region waits for a while until another turn or a shot was tried.
 #[derive(Drop)]
 struct Pause {
+    region: u32,
     held: AtomicU64,
     tried: AtomicU64,
 }
 
 impl Pause {
-    fn new() -> Pause {
+    fn new(region: u32) -> Pause {
         Pause {
+            region,
             held: AtomicU64::new(0),
             tried: AtomicU64::new(0),
         }
@@ -34,7 +38,7 @@ fn wait_for(flag: &AtomicU64) {
 
 impl Gate for Pause {
     fn held(&self, region: u32, step: u64) {
-        if region == 0 {
+        if region == self.region {
             self.held.store(1, Ordering::SeqCst);
             wait_for(&self.tried);
         }
@@ -71,7 +75,7 @@ pub(crate) fn turns_at_once<R: Threads + Sync>(
     requires there { region < region_count field.now.terms.chart.now.cut }
     requires in_time { goal ≤ field.now.terms.net.now.steps }
 {
-    let pause = Pause::new();
+    let pause = Pause::new(0);
     let gate = &pause;
     join(
         rt,
@@ -82,4 +86,53 @@ pub(crate) fn turns_at_once<R: Threads + Sync>(
             requires { IsPassOf field.now other.now × (region < region_count field.now.terms.chart.now.cut) × (goal ≤ field.now.terms.net.now.steps) }
         { turn_meanwhile(field, other, region, goal, gate) },
     )
+}
+
+// A shot with one try that is taken once the region is held.
+fn shot_meanwhile(field: &Field, pass: &mut Pass, room: &mut ShotRoom, pause: &Pause) -> Shot
+    requires belongs { IsPassOf field.now pass.old }
+    requires room { IsRoomFor field.now.terms.chart.now room.old }
+    ensures belongs { IsPassOf field.now pass.new }
+    ensures room { IsRoomFor field.now.terms.chart.now room.new }
+{
+    wait_for(&pause.held);
+    let shot = field.shot(pass, room, 1);
+    pause.tried.store(1, Ordering::SeqCst);
+    shot
+}
+
+// What a turn on a region comes to, and a shot with one try that another thread takes while the region is held.
+pub(crate) fn turn_and_shot<R: Threads + Sync>(
+    rt: &R,
+    field: &Field,
+    pass: &mut Pass,
+    other: &mut Pass,
+    room: &mut ShotRoom,
+    region: u32,
+    goal: u64,
+) -> (Turn, Shot)
+    requires belongs { IsPassOf field.now pass.old }
+    requires also { IsPassOf field.now other.old }
+    requires room { IsRoomFor field.now.terms.chart.now room.old }
+    requires there { region < region_count field.now.terms.chart.now.cut }
+    requires in_time { goal ≤ field.now.terms.net.now.steps }
+    ensures also { IsPassOf field.now other.new }
+    ensures room { IsRoomFor field.now.terms.chart.now room.new }
+{
+    let pause = Pause::new(region);
+    let gate = &pause;
+    let mut turning = || -> Turn
+        requires { IsPassOf field.now pass.now × (region < region_count field.now.terms.chart.now.cut) × (goal ≤ field.now.terms.net.now.steps) }
+    {
+        let (field, region, goal, gate) = (field, region, goal, gate);
+        field.turn(pass, region, goal, gate)
+    };
+    let mut shooting = || -> Shot
+        requires { IsPassOf field.now other.now × IsRoomFor field.now.terms.chart.now room.now }
+        ensures { IsPassOf field.entry.now other.exit.now × IsRoomFor field.entry.now.terms.chart.now room.exit.now }
+    {
+        let (field, gate) = (field, gate);
+        shot_meanwhile(field, other, room, gate)
+    };
+    join_mut(rt, &mut turning, &mut shooting)
 }
