@@ -10,6 +10,8 @@ pub enum Mode {
     Run,
     /// Takes the network through its steps, and writes shots of it on the way and then the report.
     Watch,
+    /// Takes a network that a size and a seed make through its steps, and writes what is in it and its totals.
+    Sample,
     /// Reads the network and writes its counts.
     Check,
     /// Writes the network again, in the newest form of the file.
@@ -24,6 +26,7 @@ impl Mode {
         match word {
             "run" => Some(Mode::Run),
             "watch" => Some(Mode::Watch),
+            "sample" => Some(Mode::Sample),
             "check" => Some(Mode::Check),
             "convert" => Some(Mode::Convert),
             _ => None,
@@ -40,6 +43,9 @@ impl Mode {
             (Mode::Watch, Setting::Regions | Setting::Workers | Setting::Every) => true,
             (Mode::Watch, Setting::Shots) => true,
             (Mode::Watch, _) => false,
+            (Mode::Sample, Setting::Regions | Setting::Workers) => true,
+            (Mode::Sample, Setting::Size | Setting::Seed) => true,
+            (Mode::Sample, _) => false,
             (Mode::Check, _) => false,
             (Mode::Convert, _) => false,
         }

@@ -1,14 +1,16 @@
 -- The answer by its cases, and inputs that a source may have.
-use Rattle.std.proofs.Common.{append-nil, ◌≡◌, ℕ, ◌+◌, ◌<◌, ◌≤◌, List, [], Option, Some, None, String, Global, IfSome, refl, sym, inl, inr, length, replicate, arith, rules}
+use Rattle.std.proofs.Common.{append-nil, ◌≡◌, ℕ, ◌+◌, ◌<◌, ◌≤◌, ◌⊎◌, Bool, true, false, List, [], Option, Some, None, String, Global, IfSome, refl, subst, sym, ◌∙◌, inl, inr, length, replicate, arith, rules}
+use Rattle.std.proofs.lemmas.Bool.{false≢true}
 use Rattle.std.proofs.lemmas.List.{length-replicate}
 use Rattle.command_words.specs.declared.request.Request.{Request}
 use Rattle.network_file.specs.Reading.{network_of}
 use Rattle.network_file.specs.declared.limits.TheConstants.{MOST_BYTES}
-use Rattle.ctm_program.specs.Answer.{Answer, answer_of, answer_with, refused, requested}
+use Rattle.ctm_program.specs.Answer.{Answer, answer_of, answer_to, answer_with, refused, requested}
 use Rattle.command_words.specs.declared.refusal.WordsRefusal.{WordsRefusal}
 use Rattle.command_words.specs.declared.refusal.WordsRefusal.TheVariants as of_words
 use Rattle.ctm_ports.specs.Written.{AppendsPrefix}
-use Rattle.ctm_program.specs.Ending.{IsComplete, IsOfWords, IsStatusOf, IsWritten, line_after}
+use Rattle.net_make.specs.Made.{made}
+use Rattle.ctm_program.specs.Ending.{IsComplete, IsInput, IsInputOf, IsOfWords, IsStatusOf, IsWritten, line_after, reads_source}
 use Rattle.ctm_program.specs.Refusing.{IsRefusalOf, line_of, refusal_of_words, status_of}
 use Rattle.ctm_program.specs.declared.refusal.Refusal.{Refusal}
 use Rattle.ctm_program.specs.declared.refusal.Refusal.TheVariants as refusal
@@ -22,15 +24,15 @@ pub answer_of-words : (words : List (String Global)) (input : List ℕ) → requ
 unfolding answer_of
 answer_of-words words input refuses = rw refuses refl
 
-pub answer_of-too_large : (words : List (String Global)) (input : List ℕ) (request : Request) → requested words ≡ Some request →
-    MOST_BYTES < length input → answer_of words input ≡ refused status.TooLarge large_input_line
+pub answer_of-request : (words : List (String Global)) (input : List ℕ) (request : Request) → requested words ≡ Some request → answer_of words input ≡ answer_to request input
 unfolding answer_of
-answer_of-too_large words input request accepts large = rw accepts (search rules)
+answer_of-request words input request accepts = rw accepts refl
 
-pub answer_of-file : (words : List (String Global)) (input : List ℕ) (request : Request) → requested words ≡ Some request →
-    length input ≤ MOST_BYTES → answer_of words input ≡ answer_with request input (network_of input)
-unfolding answer_of
-answer_of-file words input request accepts fits = rw accepts (search rules)
+pub answer_to-too_large : (request : Request) (input : List ℕ) → MOST_BYTES < length input → answer_to request input ≡ refused status.TooLarge large_input_line
+answer_to-too_large request input large = search rules
+
+pub answer_to-file : (request : Request) (input : List ℕ) → length input ≤ MOST_BYTES → answer_to request input ≡ answer_with request input (network_of input)
+answer_to-file request input fits = search rules
 
 -- where the status is the answer's and each fault has its cause, a task is done but for these causes
 pub completes : (answer : Answer) (given : Status) (ReadRose WriteRose : Type 0) → IsStatusOf answer given →
@@ -54,13 +56,41 @@ pub long_input : (most : ℕ) (left : Option (List ℕ)) → IfSome left (λ byt
 long_input most None none = (replicate (most + 1) 0, tt, omega (arith, length-replicate {A = ℕ}))
 long_input most (Some bytes) long = (bytes, refl, long)
 
+-- where a request makes its input, that is its input whatever the source has
+pub made_input_is : (request : Request) (left : Option (List ℕ)) → reads_source request.mode ≡ false → IsInput request left (made request.size request.seed)
+made_input_is request left makes = record { read = λ reads. absurd (false≢true (sym makes ∙ reads)); own = λ no. refl }
+
+-- and else what the source has
+pub read_input_is : (request : Request) (left : Option (List ℕ)) (input : List ℕ) → reads_source request.mode ≡ true → IfSome left (λ bytes. input ≡ bytes) → IsInput request left input
+read_input_is request left input reads has = record { read = λ yes. has; own = λ makes. absurd (false≢true (sym makes ∙ reads)) }
+
+some_input_by : (request : Request) (left : Option (List ℕ)) (reads : Bool) → reads_source request.mode ≡ reads → (input : List ℕ) × IsInput request left input
+some_input_by request left true reads = let some = some_input left in (some.0, read_input_is request left some.0 reads some.1)
+some_input_by request left false makes = (made request.size request.seed, made_input_is request left makes)
+
+-- a made network that is refused before it is read
+pub made_refusal : (request : Request) (left : Option (List ℕ)) (told : Refusal) → reads_source request.mode ≡ false →
+    (told ≡ refusal.NoMemory) ⊎ ((told ≡ refusal.LargeInput) × (MOST_BYTES < length (made request.size request.seed))) →
+    (input : List ℕ) × IsInput request left input × IsRefusalOf (answer_to request input) told
+made_refusal request left told makes why =
+    let input : List ℕ = made request.size request.seed in
+    elim why [
+      | inl none ↦ (input, made_input_is request left makes, subst (IsRefusalOf (answer_to request input)) (sym none) tt)
+      | inr large ↦ (input, made_input_is request left makes, subst (IsRefusalOf (answer_to request input)) (sym large.0) (answer_to-too_large request input large.1))
+    ]
+
+-- some input that a request may have
+pub some_input_of : (request : Option Request) (left : Option (List ℕ)) → (input : List ℕ) × IsInputOf request left input
+some_input_of None left = some_input left
+some_input_of (Some request) left = some_input_by request left (reads_source request.mode) refl
+
 -- words that are refused, or for which memory was wanted
 pub refused_words : (words : List (String Global)) (refusal : WordsRefusal) (left : Option (List ℕ)) →
     (refusal ≡ of_words.Refused → requested words ≡ None) →
-    (input : List ℕ) × IfSome left (λ bytes. input ≡ bytes) × IsRefusalOf (answer_of words input) (refusal_of_words refusal)
+    (input : List ℕ) × IsInputOf (requested words) left input × IsRefusalOf (answer_of words input) (refusal_of_words refusal)
 refused_words words of_words.Refused left none =
-    let some = some_input left in (some.0, some.1, answer_of-words words some.0 (none refl))
-refused_words words of_words.NoMemory left none = let some = some_input left in (some.0, some.1, tt)
+    let some = some_input_of (requested words) left in (some.0, some.1, answer_of-words words some.0 (none refl))
+refused_words words of_words.NoMemory left none = let some = some_input_of (requested words) left in (some.0, some.1, tt)
 
 pub status_of-words : (refusal : WordsRefusal) → IsOfWords (status_of (refusal_of_words refusal))
 status_of-words of_words.Refused = inl refl

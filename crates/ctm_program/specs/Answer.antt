@@ -3,7 +3,7 @@ use Rattle.std.specs.Prelude.{◌≡◌, ℕ, ◌*◌, ◌==◌, ◌++◌, List,
 use Rattle.std.specs.declared.alloc.Global.{Global}
 use Rattle.command_words.specs.Words.{request_of}
 use Rattle.command_words.specs.declared.mode.Mode.{Mode}
-use Rattle.command_words.specs.declared.mode.Mode.TheVariants.{Run, Watch, Check, Convert}
+use Rattle.command_words.specs.declared.mode.Mode.TheVariants.{Run, Watch, Sample, Check, Convert}
 use Rattle.command_words.specs.declared.request.Request.{Request}
 use Rattle.network_file.specs.Converted.{converted}
 use Rattle.network_file.specs.Network.{Network}
@@ -14,6 +14,7 @@ use Rattle.region_cut.specs.Cuttings.{even_cutting}
 use Rattle.snapshot.specs.Shots.{AreShots}
 use Rattle.delay_report.specs.Report.{recorded_count, report_of}
 use Rattle.ctm_program.specs.Counts.{counts_line}
+use Rattle.ctm_program.specs.Sample.{sample_of}
 use Rattle.ctm_program.specs.Lines.{large_input_line, large_record_line, large_shots_line, network_line, words_line}
 use Rattle.ctm_program.specs.declared.text_limits.TheConstants.{MOST_RECORDED, MOST_SHOWN}
 use Rattle.ctm_program.specs.declared.status.Status.{Status}
@@ -54,6 +55,7 @@ pub record IsWatchText (net : Network) (request : Request) (whole : List ℕ) : 
 abbrev pub IsTextBy : Mode → Task → List ℕ → Type 0
 IsTextBy Run task text = text ≡ report_of task.net task.request.every
 IsTextBy Watch task text = IsWatchText task.net task.request text
+IsTextBy Sample task text = text ≡ sample_of task.request.size task.request.seed task.net
 IsTextBy Check task text = text ≡ counts_line task.net
 IsTextBy Convert task text = text ≡ converted task.input
 
@@ -66,6 +68,7 @@ IsTextOf (Err why) text = text ≡ []
 abbrev pub recorded_values : Mode → Network → (every : ℕ) → ℕ
 recorded_values Run net every = length net.cells * recorded_count net.steps every
 recorded_values Watch net every = length net.cells * recorded_count net.steps every
+recorded_values Sample net every = 0
 recorded_values Check net every = 0
 recorded_values Convert net every = 0
 
@@ -73,6 +76,7 @@ recorded_values Convert net every = 0
 abbrev pub shown_rows : Mode → Network → (shots : ℕ) → ℕ
 shown_rows Run net shots = 0
 shown_rows Watch net shots = length net.cells * shots
+shown_rows Sample net shots = 0
 shown_rows Check net shots = 0
 shown_rows Convert net shots = 0
 

@@ -1,20 +1,42 @@
 -- What a call did, by the answer to its words and its input.
-use Rattle.std.specs.Prelude.{◌≡◌, ℕ, List, [], Option, Ok, Err, IfSome, ⊤, ◌⊎◌}
+use Rattle.std.specs.Prelude.{◌≡◌, ℕ, Bool, true, false, List, [], Option, Some, None, Ok, Err, IfSome, ⊤, ◌⊎◌}
 use Rattle.std.specs.Io.KnownBytes.{Appends, IsAtEnd}
+use Rattle.command_words.specs.declared.mode.Mode.{Mode}
+use Rattle.command_words.specs.declared.mode.Mode.TheVariants.{Run, Watch, Sample, Check, Convert}
 use Rattle.command_words.specs.declared.request.Request.{Request}
 use Rattle.ctm_ports.specs.Written.{AppendsPrefix}
+use Rattle.net_make.specs.Made.{made}
 use Rattle.ctm_program.specs.Answer.{Answer, IsTextOf}
 use Rattle.ctm_program.specs.Lines.{read_fault_line, write_fault_line, no_memory_line}
 use Rattle.ctm_program.specs.declared.status.Status.{Status}
 use Rattle.ctm_program.specs.declared.status.Status.TheVariants.{Done, Words, Network, TooLarge, ReadFault, WriteFault, NoMemory}
 
--- the input of a request: in every mode what the source has left, where it tells it
-abbrev pub IsInputOf : Option Request → (left : Option (List ℕ)) → (input : List ℕ) → Type 0
-IsInputOf request left input = IfSome left (λ bytes. input ≡ bytes)
+-- whether a request reads the source: in every mode but `sample`, which makes its network itself
+abbrev pub reads_source : Mode → Bool
+reads_source Run = true
+reads_source Watch = true
+reads_source Sample = false
+reads_source Check = true
+reads_source Convert = true
 
--- the request's input is read whole: in every mode the source is at its end
+-- the input of a request: what the source has left, where it tells it, and of `sample` the made network
+pub record IsInput (request : Request) (left : Option (List ℕ)) (input : List ℕ) : Type 0 where
+  pub read : reads_source request.mode ≡ true → IfSome left (λ bytes. input ≡ bytes)
+  pub own : reads_source request.mode ≡ false → input ≡ made request.size request.seed
+
+abbrev pub IsInputOf : Option Request → (left : Option (List ℕ)) → (input : List ℕ) → Type 0
+IsInputOf None left input = IfSome left (λ bytes. input ≡ bytes)
+IsInputOf (Some request) left input = IsInput request left input
+
+-- the request's input is read whole: the source is at its end where the request reads it
 abbrev pub IsReadWhole : Option Request → (left : Option (List ℕ)) → Type 0
-IsReadWhole request left = IsAtEnd left
+IsReadWhole None left = IsAtEnd left
+IsReadWhole (Some request) left = reads_source request.mode ≡ true → IsAtEnd left
+
+-- there is no request that reads the source
+abbrev pub IsUnread : Option Request → Type 0
+IsUnread None = ⊤
+IsUnread (Some request) = reads_source request.mode ≡ false
 
 -- the status of an answer, and its line on err
 abbrev pub status_in : Answer → Status

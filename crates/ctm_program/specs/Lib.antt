@@ -3,3 +3,4 @@ pub mod Counts
 pub mod Ending
 pub mod Lines
 pub mod Refusing
+pub mod Sample

@@ -4,20 +4,22 @@ ghost use Rattle.ctm_ports.specs.ReadEnd.{LosesAtMost};
 ghost use Rattle.command_words.specs.Words.{IsInRange};
 ghost use Rattle.network_file.specs.Reading.{network_of};
 ghost use Rattle.ctm_program.specs.Answer.{IsTextOf, answer_of, answer_with, recorded_values, requested};
-ghost use Rattle.ctm_program.specs.Ending.{IsInputOf, IsOfWords, IsReadWhole, status_in};
+ghost use Rattle.ctm_program.specs.Ending.{IsInputOf, IsOfWords, IsReadWhole, IsUnread, status_in};
 ghost use Rattle.ctm_program.specs.Lines.{network_line};
 ghost use Rattle.delay_report.specs.Report.{report_of};
 ghost use Rattle.ctm_program.specs.declared.text_limits.TheConstants.{MOST_RECORDED};
 ghost use Rattle.ctm_program.specs.Refusing.{IsNetRefusal, IsRefusalOf, status_at_end};
 
 use crate::counts::counts;
+use crate::input::input_of;
 use crate::last_report::last_report;
 use crate::refusal::Refusal;
+use crate::sample_text::sample_text;
 use crate::status::Status;
 use crate::text_limits::records_too_much;
 use crate::watch_text::watched;
 use command_words::{Mode, Request, read_words};
-use ctm_ports::{Gate, ReadEnd, Source, read_up_to};
+use ctm_ports::{Gate, Source};
 use itoa::Buffer;
 use network_file::{MOST_BYTES, Net, NetFault, NetRefusal, convert};
 use network_run::last_regions;
@@ -37,7 +39,7 @@ pub(crate) fn answer<R: Threads + Sync, S: Source, G: Gate>(
 ) -> Result<Vec<u8>, Refusal>
     ensures words { status_at_end result ≡ Status.Words → requested words.now ≡ None }
     ensures words_refused { requested words.now ≡ None → IsOfWords (status_at_end result) }
-    ensures unread { requested words.now ≡ None → source.new ≡ source.old }
+    ensures unread { IsUnread (requested words.now) → source.new ≡ source.old }
     ensures text { IfOk result (λ text. (input : List ℕ) × IsInputOf (requested words.now) (S.left source.old) input
         × IsTextOf (answer_of words.now input) text.items × (status_in (answer_of words.now input) ≡ Status.Done)) }
     ensures refusal { IfErr result (λ refusal. (input : List ℕ) × IsInputOf (requested words.now) (S.left source.old) input
@@ -50,12 +52,11 @@ pub(crate) fn answer<R: Threads + Sync, S: Source, G: Gate>(
         Ok(request) => request,
         Err(refusal) => return Err(Refusal::from(refusal)),
     };
-    match read_up_to(alloc, source, MOST_BYTES) {
-        ReadEnd::Whole(input) => text_of(rt, alloc, request, &input, gate),
-        ReadEnd::TooLong => Err(Refusal::LargeInput),
-        ReadEnd::Failed => Err(Refusal::ReadFault),
-        ReadEnd::NoMemory => Err(Refusal::NoMemory),
-    }
+    let input = match input_of(alloc, request, source) {
+        Ok(input) => input,
+        Err(refusal) => return Err(refusal),
+    };
+    text_of(rt, alloc, request, &input, gate)
 }
 
 // The text that answers a request over an input, or why there is none.
@@ -81,6 +82,10 @@ fn text_of<R: Threads + Sync, G: Gate>(
         },
         Mode::Watch => match Net::read(alloc, input) {
             Ok(net) => watched(rt, alloc, &net, request, gate),
+            Err(refusal) => Err(refused(alloc, refusal)),
+        },
+        Mode::Sample => match Net::read(alloc, input) {
+            Ok(net) => Ok(sample_text(rt, alloc, &net, request, gate)?),
             Err(refusal) => Err(refused(alloc, refusal)),
         },
         Mode::Check => match Net::read(alloc, input) {

@@ -16,8 +16,10 @@ mod answer;
 mod command_line;
 mod counts;
 mod ending;
+mod input;
 mod last_report;
 mod refusal;
+mod sample_text;
 mod status;
 #[cfg(test)]
 mod tests;

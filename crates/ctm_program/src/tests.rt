@@ -621,6 +621,9 @@ fn other_words_are_refused_and_nothing_is_read(rt: HostRuntime) -> Result<(), Fa
         &["watch", "--size", "1"],
         &["check", "--every", "1"],
         &["convert", "--size", "1"],
+        &["watch", "--seed", "1"],
+        &["sample", "--every", "1"],
+        &["sample", "--size", "0"],
         &["--regions", "3"],
         &["--help"],
         &["run", "--help"],
@@ -633,6 +636,18 @@ fn other_words_are_refused_and_nothing_is_read(rt: HostRuntime) -> Result<(), Fa
         assert!(rt; out.bytes().is_empty(), "{words:?}");
         assert_eq!(rt; err.bytes(), b"ctm: words refused\n".as_slice());
     }
+    Ok(())
+}
+
+// The source would fail its first read.
+#[test]
+fn a_made_network_is_run_and_nothing_is_read(rt: HostRuntime) -> Result<(), Fail> {
+    let words = ["sample", "--size", "1", "--seed", "0"];
+    let (status, out, err) = failing_call(&rt, rt.alloc(), &words, [&[0], &[], &[]])?;
+    let text = "sample,1,0,3,2,42; total,0.000000,58.068940,58.068940,262.344330";
+    assert_eq!(rt; status, 0);
+    assert_eq!(rt; out.bytes(), lines(rt.alloc(), text)?.as_slice());
+    assert!(rt; err.bytes().is_empty());
     Ok(())
 }
 

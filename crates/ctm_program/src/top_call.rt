@@ -5,7 +5,7 @@ ghost use Rattle.ctm_ports.specs.ReadEnd.{LosesAtMost};
 ghost use Rattle.ctm_ports.specs.Written.{AppendsPrefix};
 ghost use Rattle.network_file.specs.declared.limits.TheConstants.{MOST_BYTES};
 ghost use Rattle.ctm_program.specs.Answer.{answer_of, requested};
-ghost use Rattle.ctm_program.specs.Ending.{IsComplete, IsInputOf, IsReadWhole, IsOfWords, IsStatusOf, IsWritten, KeepsOut, Reported, Told, line_after};
+ghost use Rattle.ctm_program.specs.Ending.{IsComplete, IsInputOf, IsReadWhole, IsOfWords, IsStatusOf, IsUnread, IsWritten, KeepsOut, Reported, Told, line_after};
 ghost use Rattle.ctm_program.specs.Refusing.{line_of, status_at_end, status_of};
 
 use crate::answer::answer;
@@ -27,7 +27,7 @@ pub fn ctm<R: Threads + Sync, S: Source, O: Sink, E: Sink, G: Gate>(
     err: &mut E,
     gate: &G,
 ) -> Status
-    // There is an input, which is what the source has left where it tells it, and a text, of which all this holds: it is
+    // There is an input, which is what the source has left where it tells it, or the made network, and a text, of which all this holds: it is
     // one of the answer to the input where any of it is written, and all of it is on out where the call is done. The last
     // line: a task is done, but for faults that were counted in this call and want of memory.
     ensures answered { (input : List ℕ) × (text : List ℕ) × IsInputOf (requested words.now) (S.left source.old) input
@@ -39,10 +39,10 @@ pub fn ctm<R: Threads + Sync, S: Source, O: Sink, E: Sink, G: Gate>(
         × IsComplete (answer_of words.now input) result
         (Rose (S.faults source.old) (S.faults source.new)) (Rose (O.faults out.old) (O.faults out.new)) }
 
-    // The words decide first, and nothing is read where they are refused.
+    // The words decide first, and nothing is read where they are refused or ask for a made network.
     ensures words { result ≡ Status.Words → requested words.now ≡ None }
     ensures words_refused { requested words.now ≡ None → IsOfWords result }
-    ensures unread { requested words.now ≡ None → source.new ≡ source.old }
+    ensures unread { IsUnread (requested words.now) → source.new ≡ source.old }
 
     // A fault is answered only where it was counted in this call.
     ensures read_fault { result ≡ Status.ReadFault → Rose (S.faults source.old) (S.faults source.new) }
@@ -87,7 +87,7 @@ fn run<R: Threads + Sync, S: Source, O: Sink, G: Gate>(
         × IfErr result (λ refusal. line_of refusal ≡ line_after (answer_of words.now input) (status_of refusal)) }
     ensures words { status_at_end result ≡ Status.Words → requested words.now ≡ None }
     ensures words_refused { requested words.now ≡ None → IsOfWords (status_at_end result) }
-    ensures unread { requested words.now ≡ None → source.new ≡ source.old }
+    ensures unread { IsUnread (requested words.now) → source.new ≡ source.old }
     ensures read_fault { status_at_end result ≡ Status.ReadFault → Rose (S.faults source.old) (S.faults source.new) }
     ensures write_fault { status_at_end result ≡ Status.WriteFault → Rose (O.faults out.old) (O.faults out.new) }
     ensures out_kept { KeepsOut (status_at_end result) (out.new ≡ out.old) (Rose (O.wants out.old) (O.wants out.new)) }

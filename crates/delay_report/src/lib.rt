@@ -5,10 +5,12 @@ mod by_cell;
 mod cell_lines;
 mod cell_places;
 mod delay;
+mod last_totals;
 mod note_lines;
 mod step_count;
 mod total_line;
 mod whole_report;
 
+pub use last_totals::put_last_totals;
 pub use step_count::recorded_steps;
 pub use whole_report::report;
