@@ -1,3 +1,4 @@
+pub mod Crossing
 pub mod Filling
 pub mod FlightLines
 pub mod RunLaws

@@ -28,6 +28,7 @@ use Rattle.snapshot.specs.RunLaws.{step_of}
 use Rattle.snapshot.specs.RunLaws.{AreRowsAt}
 use Rattle.snapshot.specs.Shots.{AreShots, IsShotBetween, goal_of, rows_at, shot_of}
 use Rattle.snapshot.specs.Snapshots.{IsSnapshot}
+use Rattle.snapshot.proofs.Crossing.{flights-crossing, nothing-inside}
 
 -- one row for each cell
 
@@ -55,6 +56,8 @@ shot-between net cut from to steps sound lawful between =
       lawful = lawful;
       between = between;
       balanced = books-law net (rows_at net cut steps) sound (step_of cut steps) stand;
+      inside = λ k there one. nothing-inside net cut steps (rows_at net cut steps) k sound stand there one;
+      in_flight = flights-crossing net cut steps (rows_at net cut steps) sound stand;
       rooms = record {
         each = λ i road.
             let there = road_at-there net.cells i road in

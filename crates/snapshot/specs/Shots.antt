@@ -1,16 +1,18 @@
 -- The shots of a run that is watched, and what holds of each of them.
-use Rattle.std.specs.Prelude.{◌≡◌, ℕ, ◌+◌, ◌*◌, ◌/◌, ◌<◌, ◌≤◌, List, ◌+ℤ◌, ◌-ℤ◌, flat_map, length, map, slice_index}
-use Rattle.std.specs.List.{range_with_len}
+use Rattle.std.specs.Prelude.{◌≡◌, ℕ, ◌+◌, ◌*◌, ◌/◌, ◌<◌, ◌≤◌, false, List, ℤ, pos, ◌+ℤ◌, ◌-ℤ◌, flat_map, length, map, slice_index}
+use Rattle.std.specs.List.{fold, range_with_len}
+use Rattle.network_file.specs.Connectors.{connector_at}
 use Rattle.network_file.specs.Network.{Network}
 use Rattle.flow_model.specs.Bounds.{KeepsRooms}
 use Rattle.flow_model.specs.State.{row_at, state_at}
 use Rattle.flow_model.specs.declared.row.Row.{Row}
 use Rattle.flow_ledger.specs.Books.{books_of}
+use Rattle.flow_ledger.specs.Flight.{flight_of}
 use Rattle.flow_ledger.specs.declared.network_books.Books.{Books}
 use Rattle.region_cut.specs.Chart.{list_at}
 use Rattle.region_cut.specs.Cuttings.{region_at, region_count}
 use Rattle.region_cut.specs.LawfulSteps.{AreLawful}
-use Rattle.snapshot.specs.ShotText.{shot_lines}
+use Rattle.snapshot.specs.ShotText.{crosses, crossing, shot_lines}
 
 -- goal i of so many shots: the goals divide the steps evenly, rounded down
 abbrev pub goal_of : (steps shots i : ℕ) → ℕ
@@ -25,6 +27,10 @@ rows_at net cut steps = map (λ i. row_at (state_at net (slice_index steps (regi
 abbrev pub IsBalanced : Books → Type 0
 IsBalanced books = books.inside +ℤ books.flight ≡ books.initial +ℤ books.entered -ℤ books.left
 
+-- what is under way at the connectors that touch more than one region, together
+unfoldable pub flights_crossing : Network → (cut : List ℕ) → List Row → ℤ
+flights_crossing net cut rows = fold (λ sum k. sum +ℤ flight_of net rows k) (pos 0) (crossing net cut)
+
 -- steps at which a shot may show the regions between two goals
 pub record IsShotBetween (net : Network) (cut : List ℕ) (from to : ℕ) (steps : List ℕ) : Type 0 where
   -- neighbouring regions stand at most one step apart
@@ -33,6 +39,9 @@ pub record IsShotBetween (net : Network) (cut : List ℕ) (from to : ℕ) (steps
   pub between : (r : ℕ) → r < region_count cut → (from ≤ slice_index steps r) × (slice_index steps r ≤ to)
   -- the books balance with what is under way
   pub balanced : IsBalanced (books_of net (rows_at net cut steps))
+  -- nothing is under way inside a region, so that the flights that are shown add up to that of the books
+  pub inside : (k : ℕ) → k < length net.connectors → crosses cut (connector_at net.connectors k) ≡ false → flight_of net (rows_at net cut steps) k ≡ pos 0
+  pub in_flight : flights_crossing net cut (rows_at net cut steps) ≡ (books_of net (rows_at net cut steps)).flight
   -- no road holds more than its room
   pub rooms : KeepsRooms net (rows_at net cut steps)
 
