@@ -22,8 +22,7 @@ use command_words::{Mode, Request, read_words};
 use ctm_ports::{Gate, Source};
 use itoa::Buffer;
 use network_file::{MOST_BYTES, Net, NetFault, NetRefusal, convert};
-use network_run::last_regions;
-use region_cut::{Chart, cutting};
+use network_run::{charted, last_regions};
 use signal_plan::NoMemory;
 use std::alloc::Global;
 use std::thread::Threads;
@@ -134,8 +133,7 @@ fn run_report<R: Threads + Sync, G: Gate>(
 {
     let _steps = net.steps;
     let every = u64::from(request.every);
-    let cut = cutting(alloc, net, request.regions)?;
-    let chart = Chart::new(alloc, net, cut)?;
+    let chart = charted(alloc, net, request.regions)?;
     let regions = last_regions(rt, alloc, net, &chart, every, request.workers, gate)?;
     last_report(alloc, net, &chart, &regions, every)
 }

@@ -28,8 +28,6 @@ mod text_limits;
 mod threads_tests;
 mod top_call;
 #[cfg(test)]
-mod uneven_tests;
-#[cfg(test)]
 mod watch_tests;
 mod watch_text;
 

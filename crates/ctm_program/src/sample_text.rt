@@ -7,8 +7,7 @@ use ctm_ports::Gate;
 use delay_report::put_last_totals;
 use line_fields::put_count;
 use network_file::Net;
-use network_run::last_regions;
-use region_cut::{Chart, cutting};
+use network_run::{charted, last_regions};
 use signal_plan::NoMemory;
 use std::alloc::Global;
 use std::thread::Threads;
@@ -26,8 +25,7 @@ pub(crate) fn sample_text<R: Threads + Sync, G: Gate>(
     ensures { IfOk result (λ text. text.items ≡ sample_of request.size request.seed net.now) }
 {
     let _steps = net.steps;
-    let cut = cutting(alloc, net, request.regions)?;
-    let chart = Chart::new(alloc, net, cut)?;
+    let chart = charted(alloc, net, request.regions)?;
     let regions = last_regions(rt, alloc, net, &chart, 0, request.workers, gate)?;
     let mut text = Vec::new(alloc);
     put_sample_line(&mut text, net, request.size, request.seed)?;

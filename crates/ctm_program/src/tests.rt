@@ -36,6 +36,10 @@ diverge,m5,x3,x4,1,3; link,g5,m6; link,m6,m7; link,m7,x5; signal,g1,4,1,0,2; sig
 signal,m7,2,1,0,1; limit,x1,0,2,1; limit,m4,1,4,2; limit,x5,2,5,1; demand,g1,0,2,1.5; demand,g3,1,4,0.5; \
 demand,g3,2,3,0.25; turn,m3,0,2,1,3; turn,m4,1,3,2,1; turn,m5,2,5,1,1";
 
+// What `sample --size 1 --seed 0` gives.
+pub(crate) const SAMPLED: &str =
+    "sample,1,0,3,2,42; total,0.000000,58.068940,58.068940,262.344330";
+
 // The lines of a text in which `; ` stands for a line end.
 pub(crate) fn lines(alloc: Global, text: &str) -> Result<Vec<u8>, AllocError> {
     let mut lines = text.replace(alloc, "; ", "\n")?.into_bytes();
@@ -644,9 +648,8 @@ fn other_words_are_refused_and_nothing_is_read(rt: HostRuntime) -> Result<(), Fa
 fn a_made_network_is_run_and_nothing_is_read(rt: HostRuntime) -> Result<(), Fail> {
     let words = ["sample", "--size", "1", "--seed", "0"];
     let (status, out, err) = failing_call(&rt, rt.alloc(), &words, [&[0], &[], &[]])?;
-    let text = "sample,1,0,3,2,42; total,0.000000,58.068940,58.068940,262.344330";
     assert_eq!(rt; status, 0);
-    assert_eq!(rt; out.bytes(), lines(rt.alloc(), text)?.as_slice());
+    assert_eq!(rt; out.bytes(), lines(rt.alloc(), SAMPLED)?.as_slice());
     assert!(rt; err.bytes().is_empty());
     Ok(())
 }

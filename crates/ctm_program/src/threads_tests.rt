@@ -1,4 +1,4 @@
-use crate::tests::{call_past, lines};
+use crate::tests::{SAMPLED, call_past, lines};
 use ctm_ports::Gate;
 use std::sync::atomic::{AtomicU64, Ordering};
 use std::test::Fail;
@@ -11,7 +11,7 @@ pub(crate) const CHAIN_REPORT: &str = "report,4,4; cell,g,0.000000,0.000000,8.00
 cell,a,2.000000,8.000000,6.000000,0.000000; cell,b,2.000000,6.000000,4.000000,0.000000; \
 cell,x,4.000000,4.000000,0.000000,0.000000; total,4.000000,0.000000,4.000000,12.000000";
 
-// A gate that notes which of four regions was held at which of four steps.
+// A gate that notes which of four regions was held at which of 64 steps.
 #[derive(Drop)]
 pub(crate) struct Notes {
     // For each region a bit for each step, set by whoever holds it.
@@ -30,10 +30,10 @@ impl Notes {
         }
     }
 
-    // Whether each region was held at each step.
-    pub(crate) fn are_complete(&self) -> bool {
-        for noted in &self.noted {
-            if noted.load(Ordering::SeqCst) != 0b1111 {
+    // Whether each of so many regions was held at each of so many steps.
+    pub(crate) fn are_complete(&self, regions: usize, steps: u32) -> bool {
+        for noted in self.noted.iter().take(regions) {
+            if noted.load(Ordering::SeqCst).trailing_ones() != steps {
                 return false;
             }
         }
@@ -43,7 +43,7 @@ impl Notes {
 
 impl Gate for Notes {
     fn held(&self, region: u32, step: u64) {
-        if region < 4 && step < 4 {
+        if region < 4 && step < 64 {
             let noted = &self.noted[region as usize];
             noted.store(noted.load(Ordering::SeqCst) | 1 << step, Ordering::SeqCst);
         }
@@ -120,8 +120,18 @@ fn two_workers_work_at_once(rt: HostRuntime) -> Result<(), Fail> {
         "each waited for the other"
     );
     assert!(rt;
-        gate.notes.are_complete(),
+        gate.notes.are_complete(4, 4),
         "each region was held at each step"
     );
+    Ok(())
+}
+
+#[test]
+fn a_made_network_is_run_in_its_regions(rt: HostRuntime) -> Result<(), Fail> {
+    let gate = Notes::new();
+    let words = "sample --size 1 --seed 0 --regions 3 --workers 2";
+    let ended = call_past(&rt, rt.alloc(), words, Vec::new(rt.alloc()), &gate)?;
+    assert!(rt; gate.are_complete(3, 42));
+    assert!(rt; ended.gave(&lines(rt.alloc(), SAMPLED)?));
     Ok(())
 }

@@ -111,7 +111,7 @@ fn workers_that_are_watched_take_every_region_through_every_step(
     let file = lines(rt.alloc(), CHAIN)?;
     let words = "watch --shots 1 --regions 4 --workers 2";
     let ended = call_past(&rt, rt.alloc(), words, file, &gate)?;
-    assert!(rt; gate.are_complete());
+    assert!(rt; gate.are_complete(4, 4));
     assert!(rt;
         ended.gave_in_the_end(&lines(rt.alloc(), CHAIN_REPORT)?),
         "{ended:?}"

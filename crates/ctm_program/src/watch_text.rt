@@ -9,8 +9,7 @@ use crate::text_limits::{records_too_much, shows_too_much};
 use command_words::{Mode, Request};
 use ctm_ports::Gate;
 use network_file::Net;
-use network_run::{Watched, watched_regions};
-use region_cut::{Chart, cutting};
+use network_run::{Watched, charted, watched_regions};
 use signal_plan::NoMemory;
 use std::alloc::Global;
 use std::thread::Threads;
@@ -54,8 +53,7 @@ fn watch_text<R: Threads + Sync, G: Gate>(
 {
     let _steps = net.steps;
     let every = u64::from(request.every);
-    let cut = cutting(alloc, net, request.regions)?;
-    let chart = Chart::new(alloc, net, cut)?;
+    let chart = charted(alloc, net, request.regions)?;
     let Watched { mut shots, regions } = watched_regions(
         rt,
         alloc,

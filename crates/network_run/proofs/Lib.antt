@@ -1,2 +1,3 @@
-pub mod Enlisting
+pub mod Crewing
 pub mod Ending
+pub mod Enlisting

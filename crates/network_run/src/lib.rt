@@ -2,19 +2,21 @@
 //! through their steps in rounds, and the caller finishes what they leave. A run that is watched is shown in between.
 #![tactic(auto)]
 
+mod charting;
+mod crew;
 #[cfg(test)]
-mod field_tests;
-#[cfg(test)]
-mod meanwhile_tests;
 mod members;
+#[cfg(test)]
+mod mixed_calls;
+#[cfg(test)]
+mod order_tests;
 mod rounds;
 mod run;
-#[cfg(test)]
-mod shot_tests;
 #[cfg(test)]
 mod tests;
 mod watch;
 mod watched_run;
 
+pub use charting::charted;
 pub use run::last_regions;
 pub use watched_run::{Watched, watched_regions};

@@ -1,6 +1,7 @@
 ghost use Rattle.std.specs.Prelude.{◌≡◌, ◌≢◌, ◌+◌, ◌*◌, ◌/◌, ◌<◌, ◌≤◌, ℕ, [], length, slice_index, vec_capacity};
 ghost use Rattle.region_slots.specs.FieldView.{IsPassOf};
-ghost use Rattle.network_run.specs.Enlisted.{AreEnlisted, IsReached};
+ghost use Rattle.network_run.specs.Crews.{IsReached};
+ghost use Rattle.network_run.specs.Enlisted.{AreEnlisted};
 
 use region_slots::{Field, Pass};
 use worker_claim::Member;

@@ -1,52 +1,150 @@
-ghost use Rattle.std.specs.Prelude.{◌≡◌, ◌⊎◌, ◌-◌, ◌*◌, ◌^◌, ◌≤◌, IsTrue, length, min};
-ghost use Rattle.region_cut.specs.Cuttings.{region_count};
-ghost use Rattle.std.specs.List.{Contains};
-ghost use Rattle.worker_claim.specs.declared.member.Member.{Member as MemberValue};
-ghost use Rattle.network_run.specs.Enlisted.{AreEnlisted, IsOver};
+ghost use Rattle.std.specs.Prelude.{◌≡◌, All, IsTrue};
 
+use crate::crew::Crew;
 use ctm_ports::Gate;
-use region_slots::Field;
+use region_slots::{Field, Pass, Shot};
+use snapshot::ShotRoom;
 use std::thread::Threads;
-use worker_claim::{Member, crew};
+use worker_claim::{Helper, crew_hints, crew_watch_hints};
 
-/// How many sweeps a member makes in a round, at most.
-pub(crate) const SWEEPS: u32 = 4096;
+/// How many sweeps' worth of turns a member makes in a round, at most.
+const SWEEPS: u32 = 4096;
 
-/// Has the crew drive in rounds, until a member has found all regions at the goal, or none has moved one, or there were as
-/// many rounds as there are steps to take. It gives their number.
-pub(crate) fn drive_rounds<R: Threads + Sync, G: Gate>(
-    rt: &R,
-    field: &Field,
-    members: &mut [Member],
-    goal: u64,
-    gate: &G,
-) -> u64
-    requires enlisted { AreEnlisted field.now goal members.old }
-    requires in_time { goal ≤ field.now.terms.net.now.steps }
-    ensures many { length members.new ≡ length members.old }
-    ensures enlisted { AreEnlisted field.now goal members.new }
-    ensures over { IsOver members.new ⊎ (result ≡ min (region_count field.now.terms.chart.now.cut * goal) (2 ^ 64 - 1)) }
-{
-    let most = u64::from(field.regions()).saturating_mul(goal);
-    for round in 0..most {
-        crew(rt, field, members, goal, SWEEPS, gate);
-        if is_over(members) {
-            return round + 1;
+/// How many tries the watcher has at each region beside the crew.
+const TRIES: u32 = 64;
+
+impl Crew {
+    ghost use Rattle.std.specs.Prelude.{◌≡◌, ◌⊎◌, ◌-◌, ◌*◌, ◌^◌, ◌≤◌, ℕ, IsTrue, length, min};
+    ghost use Rattle.region_cut.specs.Cuttings.{region_count};
+    ghost use Rattle.snapshot.specs.Rooms.{IsRoomFor};
+    ghost use Rattle.region_slots.specs.FieldView.{IsPassOf};
+    ghost use Rattle.worker_claim.specs.Watching.{IsWatched};
+    ghost use Rattle.network_run.specs.Enlisted.{AreEnlisted, IsOver, IsSomeDone};
+
+    /// Has the members make turns in rounds, until one has found all regions at the goal, or none has moved one, or there
+    /// were as many rounds as there are steps to take. It gives their number.
+    pub(crate) fn drive<R: Threads + Sync, G: Gate>(
+        &mut self,
+        rt: &R,
+        field: &Field,
+        goal: u64,
+        gate: &G,
+    ) -> u64
+        requires regions { self.old.regions ≡ region_count field.now.terms.chart.now.cut }
+        requires enlisted { AreEnlisted field.now goal self.old.members }
+        requires in_time { goal ≤ field.now.terms.net.now.steps }
+        ensures same { (self.new.workers ≡ self.old.workers) × (self.new.regions ≡ self.old.regions) }
+        ensures many { length self.new.members ≡ length self.old.members }
+        ensures enlisted { AreEnlisted field.now goal self.new.members }
+        ensures over { IsOver self.new.members ⊎ (result ≡ min (region_count field.now.terms.chart.now.cut * goal) (2 ^ 64 - 1)) }
+    {
+        let most = u64::from(field.regions()).saturating_mul(goal);
+        for round in 0..most {
+            self.drive_round(rt, field, goal, gate);
+            if self.is_over() {
+                return round + 1;
+            }
         }
+        most
     }
-    most
+
+    // One round.
+    fn drive_round<R: Threads + Sync, G: Gate>(
+        &mut self,
+        rt: &R,
+        field: &Field,
+        goal: u64,
+        gate: &G,
+    )
+        requires regions { self.old.regions ≡ region_count field.now.terms.chart.now.cut }
+        requires enlisted { AreEnlisted field.now goal self.old.members }
+        requires in_time { goal ≤ field.now.terms.net.now.steps }
+        ensures same { (self.new.workers ≡ self.old.workers) × (self.new.regions ≡ self.old.regions) }
+        ensures many { length self.new.members ≡ length self.old.members }
+        ensures enlisted { AreEnlisted field.now goal self.new.members }
+    {
+        crew_hints(rt, field, &mut self.helpers, goal, SWEEPS, gate);
+    }
+
+    /// The same, the first round beside a shot.
+    pub(crate) fn drive_watched<R: Threads + Sync, G: Gate>(
+        &mut self,
+        rt: &R,
+        field: &Field,
+        watcher: &mut Pass,
+        room: &mut ShotRoom,
+        goal: u64,
+        gate: &G,
+    ) -> Shot
+        requires regions { self.old.regions ≡ region_count field.now.terms.chart.now.cut }
+        requires watcher { IsPassOf field.now watcher.old }
+        requires room { IsRoomFor field.now.terms.chart.now room.old }
+        requires enlisted { AreEnlisted field.now goal self.old.members }
+        requires in_time { goal ≤ field.now.terms.net.now.steps }
+        ensures same { (self.new.workers ≡ self.old.workers) × (self.new.regions ≡ self.old.regions) }
+        ensures watched { (tries : ℕ) × IsWatched field.now tries watcher.old watcher.new room.old room.new result }
+        ensures many { length self.new.members ≡ length self.old.members }
+        ensures enlisted { AreEnlisted field.now goal self.new.members }
+    {
+        let shot = self.watch_round(rt, field, watcher, room, goal, gate);
+        // A member that moved nothing may have met the watcher alone.
+        if !self.is_done() {
+            self.drive(rt, field, goal, gate);
+        }
+        shot
+    }
+
+    // One round beside a shot.
+    fn watch_round<R: Threads + Sync, G: Gate>(
+        &mut self,
+        rt: &R,
+        field: &Field,
+        watcher: &mut Pass,
+        room: &mut ShotRoom,
+        goal: u64,
+        gate: &G,
+    ) -> Shot
+        requires regions { self.old.regions ≡ region_count field.now.terms.chart.now.cut }
+        requires watcher { IsPassOf field.now watcher.old }
+        requires room { IsRoomFor field.now.terms.chart.now room.old }
+        requires enlisted { AreEnlisted field.now goal self.old.members }
+        requires in_time { goal ≤ field.now.terms.net.now.steps }
+        ensures same { (self.new.workers ≡ self.old.workers) × (self.new.regions ≡ self.old.regions) }
+        ensures watched { IsWatched field.now TRIES watcher.old watcher.new room.old room.new result }
+        ensures many { length self.new.members ≡ length self.old.members }
+        ensures enlisted { AreEnlisted field.now goal self.new.members }
+    {
+        crew_watch_hints(
+            rt,
+            field,
+            watcher,
+            room,
+            TRIES,
+            &mut self.helpers,
+            goal,
+            SWEEPS,
+            gate,
+        )
+    }
+
+    // Whether a member has found all regions at the goal, or none has moved one.
+    fn is_over(&self) -> bool
+        ensures { IsTrue result → IsOver self.now.members }
+    {
+        self.is_done() || none_moved(&self.helpers)
+    }
+
+    // Whether a member has found all regions at the goal.
+    fn is_done(&self) -> bool
+        ensures { IsTrue result → IsSomeDone self.now.members }
+    {
+        self.helpers.iter().any(|helper| helper.member.driven.all)
+    }
 }
 
-// Whether a member has found all regions at the goal, or none has moved one.
-fn is_over(members: &[Member]) -> bool
-    ensures { IsTrue result → IsOver members.now }
+// Whether none of the helpers has moved a region.
+fn none_moved(helpers: &[Helper]) -> bool
+    ensures { IsTrue result → All (λ helper. helper.member.driven.moved ≡ 0) helpers.now }
 {
-    are_done(members) || members.iter().all(|member| member.driven.moved == 0)
-}
-
-/// Whether a member has found all regions at the goal.
-pub(crate) fn are_done(members: &[Member]) -> bool
-    ensures { IsTrue result → (member : MemberValue) × Contains members.now member × IsTrue member.driven.all }
-{
-    members.iter().any(|member| member.driven.all)
+    helpers.iter().all(|helper| helper.member.driven.moved == 0)
 }

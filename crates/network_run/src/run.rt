@@ -1,11 +1,10 @@
-ghost use Rattle.std.specs.Prelude.{◌≡◌, ◌+◌, ◌<◌, ◌≤◌, ◌^◌, IfOk, replicate};
+ghost use Rattle.std.specs.Prelude.{◌≡◌, ◌≤◌, IfOk, replicate};
 ghost use Rattle.region_cut.specs.Chart.{chart_of};
 ghost use Rattle.region_cut.specs.Cuttings.{region_count};
 ghost use Rattle.region_step.specs.Standing.{AllStand};
 ghost use Rattle.region_step.specs.Start.{zero_start};
 
-use crate::members::{dismiss, enlist};
-use crate::rounds::drive_rounds;
+use crate::crew::Crew;
 use ctm_ports::Gate;
 use network_file::Net;
 use region_cut::Chart;
@@ -17,7 +16,8 @@ use std::thread::Threads;
 use worker_claim::finish;
 
 /// The regions of a chart at the last step, taken there from step 0 by so many workers. Each is recorded at each step that
-/// `every` divides and at the last one, never where `every` is 0. All memory is taken before the first step.
+/// `every` divides and at the last one, never where `every` is 0. All memory is taken before the first step, but for what
+/// the workers' deques may ask for and do without.
 pub fn last_regions<R: Threads + Sync, G: Gate>(
     rt: &R,
     alloc: Global,
@@ -28,17 +28,17 @@ pub fn last_regions<R: Threads + Sync, G: Gate>(
     gate: &G,
 ) -> Result<Vec<Region>, NoMemory>
     requires chart { chart.now ≡ chart_of net.now chart.now.cut }
-    requires workers { workers + 1 < 2 ^ 32 }
+    requires workers { (1 ≤ workers) × (workers ≤ 16) }
     ensures { IfOk result (λ regions. AllStand net.now chart.now (zero_start net.now chart.now.cut) every
         (replicate (region_count chart.now.cut) net.now.steps) regions.items) }
 {
     let steps = net.steps;
     let start = Start::zero(alloc, net, chart)?;
-    let mut members = Vec::with_capacity(alloc, workers as usize)?;
+    let mut crew = Crew::new(alloc, workers, chart.regions())?;
     let (field, mut pass) = Field::open(alloc, net, chart, &start, every, workers + 1)?;
-    enlist(&field, &mut pass, &mut members, workers);
-    drive_rounds(rt, &field, &mut members, steps, gate);
-    dismiss(&field, &mut pass, &mut members);
+    crew.enlist(&field, &mut pass);
+    crew.drive(rt, &field, steps, gate);
+    crew.dismiss(&field, &mut pass);
     finish(&field, &mut pass, steps, gate);
     let Closed { steps: _, regions } = field.close(pass);
     Ok(regions)

@@ -1,13 +1,11 @@
-ghost use Rattle.std.specs.Prelude.{◌≡◌, ◌≤◌, All, IfOk, length};
-ghost use Rattle.network_file.specs.declared.limits.TheConstants.{MOST_REGIONS};
-ghost use Rattle.region_cut.specs.Chart.{chart_of};
+ghost use Rattle.std.specs.Prelude.{◌≡◌, All, IfOk, length};
 ghost use Rattle.region_step.specs.Opened.{IsOf};
 
-use crate::last_regions;
+use crate::{charted, last_regions};
 use ctm_ports::OpenGate;
 use flow_model::{Row, first_rows, plain_step};
 use network_file::{MOST_BYTES, MOST_REGIONS, Net};
-use region_cut::{Chart, cutting};
+use region_cut::Chart;
 use region_step::{Note, Region};
 use signal_plan::NoMemory;
 use std::alloc::{AllocError, Global};
@@ -134,16 +132,6 @@ fn notes<R: Abort>(
     Ok(notes)
 }
 
-// The chart of a run in so many regions.
-pub(crate) fn charted(alloc: Global, net: &Net, regions: u32) -> Result<Chart, NoMemory>
-    requires some { 1 ≤ regions }
-    requires few { regions ≤ MOST_REGIONS }
-    ensures { IfOk result (λ chart. chart ≡ chart_of net.now chart.cut) }
-{
-    let cut = cutting(alloc, net, regions)?;
-    Chart::new(alloc, net, cut)
-}
-
 // The last rows of a run in so many regions by so many workers.
 fn last_rows<R: Abort + Threads + Sync>(
     rt: &R,
@@ -152,7 +140,8 @@ fn last_rows<R: Abort + Threads + Sync>(
     regions: u32,
     workers: u32,
 ) -> Result<Vec<Row>, Fail> {
-    assert!(rt; 1 <= regions && regions <= MOST_REGIONS && workers <= 16);
+    assert!(rt; 1 <= regions && regions <= MOST_REGIONS);
+    assert!(rt; 1 <= workers && workers <= 16);
     let chart = charted(alloc, net, regions)?;
     let regions = last_regions(rt, alloc, net, &chart, 0, workers, &OpenGate)?;
     rows_of(rt, alloc, net, &chart, &regions)

@@ -1,4 +1,4 @@
-ghost use Rattle.std.specs.Prelude.{◌≡◌, ◌+◌, ◌<◌, ◌≤◌, ◌^◌, IfOk, IsOk, [], length, replicate, vec_capacity};
+ghost use Rattle.std.specs.Prelude.{◌≡◌, ◌+◌, ◌<◌, ◌≤◌, ◌^◌, IfOk, IsOk, [], length, replicate};
 ghost use Rattle.region_cut.specs.Chart.{chart_of};
 ghost use Rattle.region_cut.specs.Cuttings.{region_count};
 ghost use Rattle.region_step.specs.Standing.{AllStand};
@@ -8,6 +8,7 @@ ghost use Rattle.snapshot.specs.Shots.{AreShots, goal_of};
 ghost use Rattle.region_slots.specs.FieldView.{IsPassOf};
 ghost use Rattle.worker_claim.specs.Driving.{AllReach};
 
+use crate::crew::Crew;
 use crate::watch::watch_to;
 use ctm_ports::Gate;
 use network_file::Net;
@@ -18,7 +19,6 @@ use signal_plan::NoMemory;
 use snapshot::{ShotRoom, shot_text};
 use std::alloc::Global;
 use std::thread::Threads;
-use worker_claim::Member;
 
 /// What comes of a run that is watched.
 #[derive(Drop)]
@@ -30,7 +30,8 @@ pub struct Watched {
 }
 
 /// As `last_regions`, with so many shots on the way. The goals divide the steps evenly, rounded down; each shot is taken
-/// between a goal and the next, and at no step past it. All memory but that of the text is taken before the first step.
+/// between a goal and the next, and at no step past it. All memory but that of the text is taken before the first step,
+/// but for what the workers' deques may ask for and do without.
 pub fn watched_regions<R: Threads + Sync, G: Gate>(
     rt: &R,
     alloc: Global,
@@ -43,29 +44,19 @@ pub fn watched_regions<R: Threads + Sync, G: Gate>(
 ) -> Result<Watched, NoMemory>
     requires chart { chart.now ≡ chart_of net.now chart.now.cut }
     requires one_each { length chart.now.cut ≡ length net.now.cells }
-    requires workers { (1 ≤ workers) × (workers + 1 < 2 ^ 32) }
+    requires workers { (1 ≤ workers) × (workers ≤ 16) }
     requires shots { (1 ≤ shots) × (shots + 1 < 2 ^ 32) }
     ensures shots { IfOk result (λ watched. AreShots net.now chart.now.cut shots shots watched.shots.items) }
     ensures stand { IfOk result (λ watched. AllStand net.now chart.now (zero_start net.now chart.now.cut) every
         (replicate (region_count chart.now.cut) net.now.steps) watched.regions.items) }
 {
     let start = Start::zero(alloc, net, chart)?;
-    let mut members = Vec::with_capacity(alloc, workers as usize)?;
+    let mut crew = Crew::new(alloc, workers, chart.regions())?;
     let mut room = ShotRoom::new(alloc, net, chart)?;
     let (field, mut pass) = Field::open(alloc, net, chart, &start, every, workers + 1)?;
     let mut text = Vec::new(alloc);
     take_shots(
-        rt,
-        net,
-        chart,
-        &field,
-        &mut pass,
-        &mut members,
-        &mut room,
-        workers,
-        shots,
-        gate,
-        &mut text,
+        rt, net, chart, &field, &mut pass, &mut crew, &mut room, shots, gate, &mut text,
     )?;
     let Closed { steps: _, regions } = field.close(pass);
     Ok(Watched {
@@ -81,9 +72,8 @@ fn take_shots<R: Threads + Sync, G: Gate>(
     chart: &Chart,
     field: &Field,
     pass: &mut Pass,
-    members: &mut Vec<Member>,
+    crew: &mut Crew,
     room: &mut ShotRoom,
-    workers: u32,
     shots: u32,
     gate: &G,
     text: &mut Vec<u8>,
@@ -93,10 +83,10 @@ fn take_shots<R: Threads + Sync, G: Gate>(
     requires one_each { length chart.now.cut ≡ length net.now.cells }
     requires shots { (1 ≤ shots) × (shots + 1 < 2 ^ 32) }
     requires belongs { IsPassOf field.now pass.old }
-    requires seats { (pass.old.knows.share ≡ workers + 1) × (pass.old.knows.share ≡ field.now.terms.seats) }
-    requires some { 1 ≤ workers }
-    requires nobody { members.old.items ≡ [] }
-    requires places { workers ≤ vec_capacity members.old }
+    requires seats { (pass.old.knows.share ≡ crew.old.workers + 1) × (pass.old.knows.share ≡ field.now.terms.seats) }
+    requires some { 1 ≤ crew.old.workers }
+    requires regions { crew.old.regions ≡ region_count chart.now.cut }
+    requires nobody { crew.old.members ≡ [] }
     requires room { IsRoomFor chart.now room.old }
     requires reach { pass.old.knows.reach ≡ 0 }
     requires nothing { text.old.items ≡ [] }
@@ -108,7 +98,7 @@ fn take_shots<R: Threads + Sync, G: Gate>(
     let _steps = net.steps;
     for i in 0..shots {
         let goal = goal_at(net, shots, i + 1);
-        watch_to(rt, field, pass, members, room, workers, goal, gate);
+        watch_to(rt, field, pass, crew, room, goal, gate);
         shot_text(net, chart, room, i + 1, text)?;
     }
     Ok(())

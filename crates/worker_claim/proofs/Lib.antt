@@ -1,3 +1,5 @@
+pub mod Below
+pub mod Helped
 pub mod Nearing
 pub mod Sweeping
 pub mod Turning

@@ -14,7 +14,7 @@ use Rattle.region_slots.specs.FieldView.{HasCounts}
 use Rattle.region_slots.specs.Turning.{IsBehind, IsMoved, IsWithin}
 use Rattle.region_slots.specs.declared.turn.Turn.{Turn}
 use Rattle.region_slots.specs.declared.turn.Turn.TheVariants.{Behind, Ended, Held, Moved}
-use Rattle.worker_claim.specs.Driving.{tries_at}
+use Rattle.worker_claim.specs.Driving.{tries_at, tries_of}
 use Rattle.worker_claim.specs.Turns.{HasTurned, IsCounted, IsShort, counted, none, turns_of}
 use Rattle.worker_claim.specs.declared.driven.Driven.{Driven}
 
@@ -59,17 +59,20 @@ raised-sum counts r there = omega (arith, sum_by-set (λ n. n) counts r (slice_i
 record IsTried (old new : View) (r : ℕ) : Type 0 where
   pub own : tries_at new r ≡ tries_at old r + 1
   pub others : (p : ℕ) → p ≢ r → tries_at new p ≡ tries_at old p
+  pub in_all : tries_of new ≡ tries_of old + 1
 
 tried-looked : (old new : View) (r : ℕ) → new.held_found ≡ old.held_found → new.looks ≡ raised old.looks r → r < length old.looks → IsTried old new r
 tried-looked old new r held looks there = record {
   own = omega (arith, ap (λ l. slice_index l r) held, ap (λ l. slice_index l r) looks, raised-own old.looks r there);
   others = λ p other. omega (arith, ap (λ l. slice_index l p) held, ap (λ l. slice_index l p) looks, raised-other old.looks r p other);
+  in_all = omega (arith, ap sum held, ap sum looks, raised-sum old.looks r there);
 }
 
 tried-held : (old new : View) (r : ℕ) → new.held_found ≡ raised old.held_found r → new.looks ≡ old.looks → r < length old.held_found → IsTried old new r
 tried-held old new r held looks there = record {
   own = omega (arith, ap (λ l. slice_index l r) looks, ap (λ l. slice_index l r) held, raised-own old.held_found r there);
   others = λ p other. omega (arith, ap (λ l. slice_index l p) looks, ap (λ l. slice_index l p) held, raised-other old.held_found r p other);
+  in_all = omega (arith, ap sum looks, ap sum held, raised-sum old.held_found r there);
 }
 
 -- where a turn leaves its region
@@ -81,6 +84,7 @@ pub turned-none : (terms : Terms) (view : View) (from goal : ℕ) → HasTurned 
 turned-none terms view from goal = record {
   counted = record {
     keeps = within-none view goal;
+    tried = omega arith;
     moved = omega arith;
     held = omega arith;
     behind = omega arith;
@@ -103,6 +107,7 @@ turned-at : (terms : Terms) (old new : View) (goal r : ℕ) (driven : Driven) �
 turned-at terms old new goal r driven there keeps tried one moved held behind ended short never risen came = record {
   counted = record {
     keeps = keeps;
+    tried = omega (arith, tried.in_all, one);
     moved = moved;
     held = held;
     behind = behind;
@@ -176,6 +181,14 @@ counted-added driven Held = record { moved = omega arith; held = refl; behind = 
 counted-added driven (Behind q s) = record { moved = omega arith; held = omega arith; behind = refl; ended = omega arith }
 counted-added driven (Ended s) = record { moved = omega arith; held = omega arith; behind = omega arith; ended = refl }
 
+-- and no turn tells of the others
+pub counted-all : (driven : Driven) (answer : Turn) → (counted driven answer).all ≡ driven.all
+unfolding counted
+counted-all driven (Moved s) = refl
+counted-all driven Held = refl
+counted-all driven (Behind q s) = refl
+counted-all driven (Ended s) = refl
+
 -- a region found short is so of a longer while
 short-more : (terms : Terms) (old view new : View) (goal r : ℕ) → IsWithin view new goal → IsShort terms old view goal r → IsShort terms old new goal r
 short-more terms old view new goal r after short = record {
@@ -219,6 +232,7 @@ came-later terms old view new goal r one other both added before came = elim cam
 pub counted-more : (terms : Terms) (old view new : View) (goal : ℕ) (one other both : Driven) → AreAdded one other both → IsCounted terms old view goal one → IsCounted terms view new goal other → IsCounted terms old new goal both
 counted-more terms old view new goal one other both added before after = record {
   keeps = within-more old view new goal before.keeps after.keeps;
+  tried = omega (arith, before.tried, after.tried, added.moved, added.held, added.behind, added.ended);
   moved = omega (arith, before.moved, after.moved, added.moved);
   held = omega (arith, before.held, after.held, added.held);
   behind = omega (arith, before.behind, after.behind, added.behind);

@@ -9,6 +9,10 @@ use Rattle.worker_claim.specs.declared.driven.Driven.{Driven}
 abbrev pub tries_at : View → (r : ℕ) → ℕ
 tries_at view r = slice_index view.held_found r + slice_index view.looks r
 
+-- and how often in all
+abbrev pub tries_of : View → ℕ
+tries_of view = sum view.held_found + sum view.looks
+
 -- each of so many regions was seen at goal or past it
 abbrev pub AllReach : (count goal : ℕ) → View → Type 0
 AllReach count goal view = (r : ℕ) → r < count → goal ≤ slice_index view.seen r

@@ -1,4 +1,6 @@
 pub mod Driving
+pub mod Helping
 pub mod Members
+pub mod Nests
 pub mod Turns
 pub mod Watching

@@ -1,5 +1,5 @@
 -- What comes of one turn on each region of a range.
-use Rattle.std.specs.Prelude.{◌≡◌, ◌≢◌, ◌⊎◌, ℕ, ◌+◌, ◌<◌, ◌≤◌, false, slice_index}
+use Rattle.std.specs.Prelude.{◌≡◌, ◌≢◌, ◌⊎◌, ℕ, ◌+◌, ◌<◌, ◌≤◌, IsTrue, false, slice_index}
 use Rattle.std.specs.List.{sum}
 use Rattle.region_cut.specs.Cuttings.{region_count}
 use Rattle.border_rows.specs.declared.view.Terms.{Terms}
@@ -7,7 +7,7 @@ use Rattle.border_rows.specs.declared.view.View.{View}
 use Rattle.region_slots.specs.Turning.{IsWithin}
 use Rattle.region_slots.specs.declared.turn.Turn.{Turn}
 use Rattle.region_slots.specs.declared.turn.Turn.TheVariants.{Behind, Ended, Held, Moved}
-use Rattle.worker_claim.specs.Driving.{tries_at}
+use Rattle.worker_claim.specs.Driving.{AllReach, tries_at, tries_of}
 use Rattle.worker_claim.specs.declared.driven.Driven.{Driven}
 
 -- no turn
@@ -20,6 +20,16 @@ counted driven (Moved s) = record driven { moved = driven.moved + 1 }
 counted driven Held = record driven { held = driven.held + 1 }
 counted driven (Behind q s) = record driven { behind = driven.behind + 1 }
 counted driven (Ended s) = record driven { ended = driven.ended + 1 }
+
+-- turns, and then later ones
+abbrev pub added : (one later : Driven) → Driven
+added one later = record {
+  moved = one.moved + later.moved;
+  held = one.held + later.held;
+  behind = one.behind + later.behind;
+  ended = one.ended + later.ended;
+  all = later.all;
+}
 
 -- how many turns
 abbrev pub turns_of : Driven → ℕ
@@ -37,6 +47,7 @@ pub record IsShort (terms : Terms) (old new : View) (goal r : ℕ) : Type 0 wher
 -- some turns, and how many came to each answer
 pub record IsCounted (terms : Terms) (old new : View) (goal : ℕ) (driven : Driven) : Type 0 where
   pub keeps : IsWithin old new goal
+  pub tried : tries_of new ≡ tries_of old + turns_of driven
   pub moved : new.moves ≡ old.moves + driven.moved
   pub held : sum new.held_found ≡ sum old.held_found + driven.held
   pub behind : new.short_found ≡ old.short_found + driven.behind
@@ -44,6 +55,12 @@ pub record IsCounted (terms : Terms) (old new : View) (goal : ℕ) (driven : Dri
   pub short : driven.behind ≢ 0 → (r : ℕ) × (r < region_count terms.chart.now.cut) × IsShort terms old new goal r
   pub never_held : old.share ≡ terms.seats → driven.held ≡ 0
   pub risen : driven.moved ≢ 0 → (r : ℕ) × (r < region_count terms.chart.now.cut) × (slice_index old.seen r < goal) × (slice_index old.seen r < slice_index new.seen r)
+
+-- at most so many turns, and where `all` is true all regions were seen at goal or past it, each by a turn
+pub record HasWorked (terms : Terms) (old new : View) (goal most : ℕ) (driven : Driven) : Type 0 where
+  pub counted : IsCounted terms old new goal driven
+  pub within : turns_of driven ≤ most
+  pub all : IsTrue driven.all → (region_count terms.chart.now.cut ≤ driven.ended) × AllReach (region_count terms.chart.now.cut) goal new
 
 -- one turn on each region from one number to below another
 pub record HasTurned (terms : Terms) (old new : View) (from to goal : ℕ) (driven : Driven) : Type 0 where

@@ -1,5 +1,5 @@
-ghost use Rattle.std.specs.Prelude.{◌≡◌, ◌+◌, ◌<◌, ◌^◌};
-ghost use Rattle.worker_claim.specs.Turns.{counted, none, turns_of};
+ghost use Rattle.std.specs.Prelude.{◌≡◌, ◌+◌, ◌<◌, ◌^◌, ◌↔◌, IsTrue};
+ghost use Rattle.worker_claim.specs.Turns.{added, counted, none, turns_of};
 
 use region_slots::Turn;
 
@@ -24,6 +24,35 @@ impl Driven {
             behind: 0,
             ended: 0,
             all: false,
+        }
+    }
+
+    /// How many turns there were.
+    pub(crate) fn turns(&self) -> u64
+        requires { turns_of self.now < 2 ^ 64 }
+        ensures { result ≡ turns_of self.now }
+    {
+        self.moved + self.held + self.behind + self.ended
+    }
+
+    /// Whether no turn found its region at the goal.
+    pub(crate) fn none_ended(&self) -> bool
+        ensures { IsTrue result ↔ (self.now.ended ≡ 0) }
+    {
+        self.ended == 0
+    }
+
+    /// The turns of both, of which the later ones tell whether all regions are at the goal.
+    pub(crate) fn then(self, later: Driven) -> Driven
+        requires { turns_of self + turns_of later < 2 ^ 64 }
+        ensures { result ≡ added self later }
+    {
+        Driven {
+            moved: self.moved + later.moved,
+            held: self.held + later.held,
+            behind: self.behind + later.behind,
+            ended: self.ended + later.ended,
+            all: later.all,
         }
     }
 

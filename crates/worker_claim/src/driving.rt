@@ -30,13 +30,7 @@ pub fn drive<G: Gate>(
     let mut made = 0;
     while made < sweeps && !driven.all {
         let swept = sweep(field, pass, goal, first, gate);
-        driven = Driven {
-            moved: driven.moved + swept.moved,
-            held: driven.held + swept.held,
-            behind: driven.behind + swept.behind,
-            ended: driven.ended + swept.ended,
-            all: swept.all,
-        };
+        driven = driven.then(swept);
         made += 1;
         // Whoever holds what this one waits for may be waiting for a processor.
         if swept.moved == 0 && !swept.all {

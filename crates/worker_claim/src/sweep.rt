@@ -2,7 +2,7 @@ ghost use Rattle.std.specs.Prelude.{◌≡◌, ◌+◌, ◌<◌, ◌≤◌, fals
 ghost use Rattle.region_cut.specs.Cuttings.{region_count};
 ghost use Rattle.region_slots.specs.FieldView.{IsPassOf};
 ghost use Rattle.worker_claim.specs.Driving.{HasSwept, steps_left};
-ghost use Rattle.worker_claim.specs.Turns.{HasTurned};
+ghost use Rattle.worker_claim.specs.Turns.{HasTurned, IsCounted};
 
 use crate::driven::Driven;
 use ctm_ports::Gate;
@@ -21,6 +21,7 @@ pub(crate) fn sweep<G: Gate>(
     requires in_time { goal ≤ field.now.terms.net.now.steps }
     ensures belongs { IsPassOf field.now pass.new × (pass.new.id ≡ pass.old.id) }
     ensures swept { HasSwept (region_count field.now.terms.chart.now.cut) goal 1 pass.old.knows pass.new.knows result }
+    ensures counted { IsCounted field.now.terms pass.old.knows pass.new.knows goal result }
     ensures nearer { pass.old.knows.share ≡ field.now.terms.seats → result.all ≡ false →
         steps_left (region_count field.now.terms.chart.now.cut) goal pass.new.knows < steps_left (region_count field.now.terms.chart.now.cut) goal pass.old.knows }
 {
@@ -37,14 +38,22 @@ pub(crate) fn sweep<G: Gate>(
     }
 }
 
-// One turn on each region from one number to below another.
-fn turns<G: Gate>(field: &Field, pass: &mut Pass, goal: u64, from: u32, to: u32, gate: &G) -> Driven
+/// One turn on each region from one number to below another.
+pub(crate) fn turns<G: Gate>(
+    field: &Field,
+    pass: &mut Pass,
+    goal: u64,
+    from: u32,
+    to: u32,
+    gate: &G,
+) -> Driven
     requires belongs { IsPassOf field.now pass.old }
     requires some { from ≤ to }
     requires there { to ≤ region_count field.now.terms.chart.now.cut }
     requires in_time { goal ≤ field.now.terms.net.now.steps }
     ensures belongs { IsPassOf field.now pass.new × (pass.new.id ≡ pass.old.id) }
     ensures turned { HasTurned field.now.terms pass.old.knows pass.new.knows from to goal result }
+    ensures going { result.all ≡ false }
 {
     let mut driven = Driven::none();
     for region in from..to {

@@ -51,8 +51,8 @@ pub fn crew_watch<R: Threads + Sync, G: Gate>(
     shot
 }
 
-// One shot, told to the gate.
-fn watch<G: Gate>(
+/// One shot, told to the gate.
+pub(crate) fn watch<G: Gate>(
     field: &Field,
     watcher: &mut Pass,
     room: &mut ShotRoom,

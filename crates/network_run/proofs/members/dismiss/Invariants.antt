@@ -1,7 +1,8 @@
 use Rattle.std.specs.Prelude.{slice_index, vec_capacity}
 use Rattle.std.proofs.Common.{◌≡◌, ◌≢◌, ◌≤◌, ◌+◌, ℕ, length}
 use Rattle.region_slots.specs.FieldView.{IsPassOf}
-use Rattle.network_run.specs.Enlisted.{AreEnlisted, IsReached}
+use Rattle.network_run.specs.Crews.{IsReached}
+use Rattle.network_run.specs.Enlisted.{AreEnlisted}
 use Rattle.network_run.proofs.members.dismiss.Given as goal
 
 -- those who are left have the other seats

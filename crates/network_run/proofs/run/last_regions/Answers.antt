@@ -1,20 +1,16 @@
-use Rattle.std.proofs.Common.{◌≡◌, ◌≤◌, length, ap, ◌∙◌, arith}
-use Rattle.std.proofs.lemmas.List.{with_items_is}
+use Rattle.std.proofs.Common.{◌≡◌, ◌≤◌, ap, ◌∙◌, arith}
 use Rattle.region_cut.specs.Cuttings.{region_count}
 use Rattle.region_step.specs.Start.{zero_start}
 use Rattle.border_rows.specs.declared.view.Terms.{Terms}
 use Rattle.network_run.proofs.Ending.{all-ended}
 use Rattle.network_run.proofs.run.last_regions.Goals as goal
 
-pub drive_rounds-requires-clause-enlisted : goal.drive_rounds-requires-clause-enlisted
-drive_rounds-requires-clause-enlisted g c = λ lifetimes outlive.
-    let low : c.in_ok-field.pass.knows.reach ≤ c.net.inside.steps = omega (arith, ap (λ v. v.reach) c.in_ok-field.ensures.knows) in
-    rw c.deref_mut.ensures.value (c.enlist.ensures.enlisted c.net.inside.steps low)
+pub drive-requires-clause-enlisted : goal.drive-requires-clause-enlisted
+drive-requires-clause-enlisted g c = λ lifetimes outlive.
+    let low : c.in_ok-field.pass.knows.reach ≤ c.net.inside.steps = omega (arith, ap (λ v. v.reach) c.in_ok-field.ensures.knows) in c.enlist.ensures.enlisted c.net.inside.steps low
 
 pub dismiss-requires-clause-enlisted : goal.dismiss-requires-clause-enlisted
-dismiss-requires-clause-enlisted g c =
-    let long : length c.drive_rounds.new.members ≡ c.enlist.new.members.len = omega (arith, c.drive_rounds.ensures.many, ap length c.deref_mut.ensures.value, c.enlist.new.members.ok.0) in
-    (c.net.inside.steps, rw (with_items_is c.enlist.new.members c.drive_rounds.new.members long) c.drive_rounds.ensures.enlisted)
+dismiss-requires-clause-enlisted g c = (c.net.inside.steps, c.drive.ensures.enlisted)
 
 pub returns : goal.returns
 returns g c =

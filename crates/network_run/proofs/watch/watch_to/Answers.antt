@@ -1,22 +1,15 @@
 use Rattle.std.specs.Prelude.{slice_index}
-use Rattle.std.proofs.Common.{◌≡◌, ◌≢◌, ◌≤◌, ℕ, length, refl, ap, arith}
-use Rattle.std.proofs.lemmas.List.{with_items_is}
+use Rattle.std.proofs.Common.{◌≡◌, ◌≢◌, ◌≤◌, ℕ, refl, ap, arith}
 use Rattle.region_slots.specs.Shooting.{HasShot}
 use Rattle.region_slots.specs.declared.shot.Shot.{Shot}
 use Rattle.region_slots.specs.declared.shot.Shot.TheVariants.{Busy, Taken}
 use Rattle.network_run.proofs.watch.watch_to.Goals as goal
 
-pub dismiss-requires-clause-enlisted : goal.dismiss-requires-clause-enlisted
-dismiss-requires-clause-enlisted g c =
-    let long : length c.drive_watched-shot.new.members ≡ c.enlist.new.members.len = omega (arith, c.drive_watched-shot.ensures.many, ap length c.deref_mut.ensures.value, c.enlist.new.members.ok.0) in
-    (c.args.goal, rw (with_items_is c.enlist.new.members c.drive_watched-shot.new.members long) c.drive_watched-shot.ensures.enlisted)
-
 pub returns-in_default-clause-reach : goal.returns-in_default-clause-reach
 returns-in_default-clause-reach g c =
     let shot = c.drive_watched-shot.ensures.watched.1.shot in
-    let low : c.drive_watched-shot.new.watcher.knows.reach ≤ c.args.goal = omega (arith, shot.unmoved.reach, c.enlist.ensures.same.1, c.requires.reach) in
-    let long : length c.drive_watched-shot.new.members ≡ c.enlist.new.members.len = omega (arith, c.drive_watched-shot.ensures.many, ap length c.deref_mut.ensures.value, c.enlist.new.members.ok.0) in
-    omega (arith, c.finish.ensures.keeps.reach, c.dismiss.ensures.reach c.args.goal low (rw (with_items_is c.enlist.new.members c.drive_watched-shot.new.members long) c.drive_watched-shot.ensures.enlisted))
+    let low : c.drive_watched-shot.new.watcher.knows.reach ≤ c.args.goal = omega (arith, shot.unmoved.reach, c.enlist.ensures.knows.1, c.requires.reach) in
+    omega (arith, c.finish.ensures.keeps.reach, c.dismiss.ensures.reach c.args.goal low c.drive_watched-shot.ensures.enlisted)
 
 -- a shot that isn't Busy is Taken
 not-busy : (shot : Shot) → ((r : ℕ) → shot ≡ Busy r → ⊥) → shot ≡ Taken
@@ -26,30 +19,26 @@ not-busy (Busy r) other = absurd (other r refl)
 pub returns-in_default-clause-between : goal.returns-in_default-clause-between
 returns-in_default-clause-between g c = λ r there.
     let shot = c.drive_watched-shot.ensures.watched.1.shot in
-    let low : c.drive_watched-shot.new.watcher.knows.reach ≤ c.args.goal = omega (arith, shot.unmoved.reach, c.enlist.ensures.same.1, c.requires.reach) in
-    let long : length c.drive_watched-shot.new.members ≡ c.enlist.new.members.len = omega (arith, c.drive_watched-shot.ensures.many, ap length c.deref_mut.ensures.value, c.enlist.new.members.ok.0) in
-    let reach = c.dismiss.ensures.reach c.args.goal low (rw (with_items_is c.enlist.new.members c.drive_watched-shot.new.members long) c.drive_watched-shot.ensures.enlisted) in
-    let shares = rw (with_items_is c.enlist.new.members c.drive_watched-shot.new.members long) at c.dismiss.ensures.seats in
-    let seats : c.dismiss.new.pass.knows.share ≡ c.args.field.now.terms.seats = omega (arith, shares, long, c.enlist.new.members.ok.0, c.enlist.ensures.many, shot.unmoved.share, c.enlist.ensures.seat, c.requires.whole, c.requires.seats) in
+    let low : c.drive_watched-shot.new.watcher.knows.reach ≤ c.args.goal = omega (arith, shot.unmoved.reach, c.enlist.ensures.knows.1, c.requires.reach) in
+    let reach = c.dismiss.ensures.reach c.args.goal low c.drive_watched-shot.ensures.enlisted in
+    let seats : c.dismiss.new.pass.knows.share ≡ c.args.field.now.terms.seats = omega (arith, c.dismiss.ensures.seats, c.drive_watched-shot.ensures.many, c.enlist.ensures.many, shot.unmoved.share, c.enlist.ensures.seat, c.requires.whole, c.requires.seats) in
     let apart : c.dismiss.new.pass.knows.share ≢ c.drive_watched-shot.new.watcher.knows.share = λ same. absurd (omega (arith, same, seats, shot.unmoved.share, c.enlist.ensures.seat, c.requires.whole, c.requires.seats, c.requires.some)) in
     let reached = c.dismiss.ensures.reached apart seats r there in
     let taken : HasShot c.args.field.now.terms c.enlist.new.pass.knows c.drive_watched-shot.new.watcher.knows c.drive_watched-shot.new.room = shot.taken (not-busy c.drive_watched-shot.result c.in_default.not-Busy) in (
-      omega (arith, taken.later r there, ap (λ l. slice_index l r) c.enlist.ensures.same.0),
+      omega (arith, taken.later r there, ap (λ l. slice_index l r) c.enlist.ensures.knows.0),
       omega (arith, ap (λ l. slice_index l r) taken.seen, c.dismiss.ensures.later r, reached, reach),
     )
 
 pub returns-in-Busy-clause-between : goal.returns-in-Busy-clause-between
 returns-in-Busy-clause-between g c = λ r there.
     let shot = c.drive_watched-shot.ensures.watched.1.shot in
-    let low : c.drive_watched-shot.new.watcher.knows.reach ≤ c.args.goal = omega (arith, shot.unmoved.reach, c.enlist.ensures.same.1, c.requires.reach) in
-    let long : length c.drive_watched-shot.new.members ≡ c.enlist.new.members.len = omega (arith, c.drive_watched-shot.ensures.many, ap length c.deref_mut.ensures.value, c.enlist.new.members.ok.0) in
-    let reach = c.dismiss.ensures.reach c.args.goal low (rw (with_items_is c.enlist.new.members c.drive_watched-shot.new.members long) c.drive_watched-shot.ensures.enlisted) in
-    let shares = rw (with_items_is c.enlist.new.members c.drive_watched-shot.new.members long) at c.dismiss.ensures.seats in
+    let low : c.drive_watched-shot.new.watcher.knows.reach ≤ c.args.goal = omega (arith, shot.unmoved.reach, c.enlist.ensures.knows.1, c.requires.reach) in
+    let reach = c.dismiss.ensures.reach c.args.goal low c.drive_watched-shot.ensures.enlisted in
     let seats : c.finish.new.pass.knows.share ≡ c.args.field.now.terms.seats =
-    omega (arith, c.finish.ensures.keeps.share, shares, long, c.enlist.new.members.ok.0, c.enlist.ensures.many, shot.unmoved.share, c.enlist.ensures.seat, c.requires.whole, c.requires.seats) in
+    omega (arith, c.finish.ensures.keeps.share, c.dismiss.ensures.seats, c.drive_watched-shot.ensures.many, c.enlist.ensures.many, shot.unmoved.share, c.enlist.ensures.seat, c.requires.whole, c.requires.seats) in
     let last = c.shot.ensures.shot in
     let whole = last.whole seats in
     let taken : HasShot c.args.field.now.terms c.finish.new.pass.knows c.shot.new.pass.knows c.shot.new.room = last.taken (last.never_busy seats) in (
-      omega (arith, ap (λ l. slice_index l r) c.enlist.ensures.same.0, shot.unmoved.seen.later r, c.dismiss.ensures.later r, c.finish.ensures.keeps.seen.later r, taken.later r there),
+      omega (arith, ap (λ l. slice_index l r) c.enlist.ensures.knows.0, shot.unmoved.seen.later r, c.dismiss.ensures.later r, c.finish.ensures.keeps.seen.later r, taken.later r there),
       omega (arith, whole.reached r there, last.unmoved.reach, c.finish.ensures.keeps.reach, reach),
     )

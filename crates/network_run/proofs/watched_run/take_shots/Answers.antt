@@ -31,16 +31,15 @@ loop-i-preserved g c =
     shot-between net cut (goal_of net.steps c.args.shots i) (goal_of net.steps c.args.shots (i + 1)) room.steps sound shows.lawful
     (λ r there.
     let between = came.between r (omega (arith, there, count)) in
-    (omega (arith, inv.6 r there, between.0), omega (arith, between.1, zero r, goal))) in
+    (omega (arith, inv.5 r there, between.0), omega (arith, between.1, zero r, goal))) in
     let rows : room.rows ≡ rows_at net cut room.steps = shown-rows net c.args.chart.now room sound c.requires.one_each fits shows in
     let text : c.shot_text.new.text.items ≡ c.loop-i.text.items ++ shot_lines net cut (i + 1) room.steps (rows_at net cut room.steps) =
     c.in_ok-shot_text.ensures.text ∙ ap (λ (shown : List Row). c.loop-i.text.items ++ shot_lines net cut (i + 1) room.steps shown) rows in (
       came.belongs,
       came.share ∙ inv.1,
-      came.nobody,
-      came.places,
+      came.crew ∙ inv.2,
       fits,
       omega (arith, came.reach, goal),
       (λ r there. omega (arith, came.done r (omega (arith, there, count)), goal)),
-      subst (AreShots net cut c.args.shots (i + 1)) (sym text) (shots-more net cut c.args.shots i c.loop-i.text.items room.steps inv.7 shot),
+      subst (AreShots net cut c.args.shots (i + 1)) (sym text) (shots-more net cut c.args.shots i c.loop-i.text.items room.steps inv.6 shot),
     )

@@ -1,5 +1,4 @@
-use Rattle.std.specs.Prelude.{vec_capacity}
-use Rattle.std.proofs.Common.{◌≡◌, ◌≤◌, []}
+use Rattle.std.proofs.Common.{◌≡◌, ◌≤◌}
 use Rattle.region_cut.specs.Cuttings.{region_count}
 use Rattle.snapshot.specs.Rooms.{IsRoomFor}
 use Rattle.snapshot.specs.Shots.{AreShots, goal_of}
@@ -9,6 +8,6 @@ use Rattle.network_run.proofs.watched_run.take_shots.Given as goal
 
 -- so many shots are taken, and the field has come to the last one's goal
 abbrev pub invariant-loop-i : goal.invariant-loop-i
-invariant-loop-i g l = IsPassOf l.field l.pass × (l.pass.knows.share ≡ l.initial.pass.knows.share) × (l.members.items ≡ []) × (l.workers ≤ vec_capacity l.members) × IsRoomFor l.chart l.room ×
+invariant-loop-i g l = IsPassOf l.field l.pass × (l.pass.knows.share ≡ l.initial.pass.knows.share) × (l.crew ≡ l.initial.crew) × IsRoomFor l.chart l.room ×
     (l.pass.knows.reach ≤ goal_of l.net.steps l.shots l.i) × AllReach (region_count l.chart.cut) (goal_of l.net.steps l.shots l.i) l.pass.knows ×
     AreShots l.net l.chart.cut l.shots l.i l.text.items

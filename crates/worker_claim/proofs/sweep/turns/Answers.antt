@@ -1,9 +1,9 @@
-use Rattle.std.proofs.Common.{◌+◌, sym, subst, ◌∙◌, arith}
+use Rattle.std.proofs.Common.{◌+◌, ap, sym, subst, ◌∙◌, arith}
 use Rattle.border_rows.specs.declared.view.Terms.{Terms}
 use Rattle.border_rows.specs.declared.view.View.{View}
 use Rattle.worker_claim.specs.Turns.{HasTurned, counted, none}
 use Rattle.worker_claim.specs.declared.driven.Driven.{Driven}
-use Rattle.worker_claim.proofs.Turning.{counted-added, turned-more, turned-one}
+use Rattle.worker_claim.proofs.Turning.{counted-added, counted-all, turned-more, turned-one}
 use Rattle.worker_claim.proofs.sweep.turns.Goals as goal
 
 pub loop-region-preserved : goal.loop-region-preserved
@@ -19,4 +19,5 @@ loop-region-preserved g c =
       subst (λ (d : Driven). HasTurned terms c.args.pass.now.knows new c.args.from (c.loop-region.region + 1) c.args.goal d) (sym c.count.ensures)
           (turned-more terms c.args.pass.now.knows old new c.args.from c.loop-region.region (c.loop-region.region + 1) c.args.goal c.loop-region.driven (counted none c.turn-turn.result)
           (counted c.loop-region.driven c.turn-turn.result) (counted-added c.loop-region.driven c.turn-turn.result) c.loop-region.invariant.2 one),
+      ap (λ (d : Driven). d.all) c.count.ensures ∙ counted-all c.loop-region.driven c.turn-turn.result ∙ c.loop-region.invariant.3,
     )

@@ -1,0 +1,98 @@
+ghost use Rattle.std.specs.Prelude.{◌≡◌, ◌<◌, ◌≤◌};
+ghost use Rattle.region_cut.specs.Cuttings.{region_count};
+ghost use Rattle.snapshot.specs.Rooms.{IsRoomFor};
+ghost use Rattle.region_slots.specs.FieldView.{IsPassOf};
+
+use crate::pause::Pause;
+use ctm_ports::OpenGate;
+use region_slots::{Field, Pass, Shot, Turn};
+use snapshot::ShotRoom;
+use std::thread::{Threads, join, join_mut};
+
+// A turn that is taken once another holds its region.
+fn turn_meanwhile(field: &Field, pass: &mut Pass, region: u32, goal: u64, pause: &Pause) -> Turn
+    requires belongs { IsPassOf field.now pass.old }
+    requires there { region < region_count field.now.terms.chart.now.cut }
+    requires in_time { goal ≤ field.now.terms.net.now.steps }
+{
+    pause.wait_for_turn();
+    let answer = field.turn(pass, region, goal, &OpenGate);
+    pause.let_go();
+    answer
+}
+
+// What a turn on region 0 comes to, and one on another region that another thread takes meanwhile.
+pub(crate) fn turns_at_once<R: Threads + Sync>(
+    rt: &R,
+    field: &Field,
+    pass: &mut Pass,
+    other: &mut Pass,
+    region: u32,
+    goal: u64,
+) -> (Turn, Turn)
+    requires belongs { IsPassOf field.now pass.old }
+    requires also { IsPassOf field.now other.old }
+    requires there { region < region_count field.now.terms.chart.now.cut }
+    requires in_time { goal ≤ field.now.terms.net.now.steps }
+{
+    let pause = Pause::new(0);
+    let gate = &pause;
+    join(
+        rt,
+        move || -> Turn
+            requires { IsPassOf field.now pass.now × (goal ≤ field.now.terms.net.now.steps) }
+        { field.turn(pass, 0, goal, gate) },
+        move || -> Turn
+            requires { IsPassOf field.now other.now × (region < region_count field.now.terms.chart.now.cut) × (goal ≤ field.now.terms.net.now.steps) }
+        { turn_meanwhile(field, other, region, goal, gate) },
+    )
+}
+
+// A shot with one try that is taken once a turn holds its region.
+fn shot_meanwhile(field: &Field, pass: &mut Pass, room: &mut ShotRoom, pause: &Pause) -> Shot
+    requires belongs { IsPassOf field.now pass.old }
+    requires room { IsRoomFor field.now.terms.chart.now room.old }
+    ensures belongs { IsPassOf field.now pass.new }
+    ensures room { IsRoomFor field.now.terms.chart.now room.new }
+{
+    pause.wait_for_turn();
+    let shot = field.shot(pass, room, 1);
+    pause.let_go();
+    shot
+}
+
+// What a turn on a region comes to, and a shot with one try that another thread takes while the region is held.
+pub(crate) fn turn_and_shot<R: Threads + Sync>(
+    rt: &R,
+    field: &Field,
+    pass: &mut Pass,
+    other: &mut Pass,
+    room: &mut ShotRoom,
+    region: u32,
+    goal: u64,
+) -> (Turn, Shot)
+    requires belongs { IsPassOf field.now pass.old }
+    requires also { IsPassOf field.now other.old }
+    requires room { IsRoomFor field.now.terms.chart.now room.old }
+    requires there { region < region_count field.now.terms.chart.now.cut }
+    requires in_time { goal ≤ field.now.terms.net.now.steps }
+    ensures also { IsPassOf field.now other.new }
+    ensures room { IsRoomFor field.now.terms.chart.now room.new }
+{
+    let pause = Pause::new(region);
+    let gate = &pause;
+    let mut turning = || -> Turn
+        requires { IsPassOf field.now pass.now × (region < region_count field.now.terms.chart.now.cut) × (goal ≤ field.now.terms.net.now.steps) }
+    {
+        let (field, region, goal, gate) = (field, region, goal, gate);
+        field.turn(pass, region, goal, gate)
+    };
+    let mut shooting = || -> Shot
+        requires { IsPassOf field.now other.now × IsRoomFor field.now.terms.chart.now room.now }
+        ensures { IsPassOf field.entry.now other.exit.now × IsRoomFor field.entry.now.terms.chart.now room.exit.now }
+    {
+        let (field, gate) = (field, gate);
+        shot_meanwhile(field, other, room, gate)
+    };
+    join_mut(rt, &mut turning, &mut shooting)
+}

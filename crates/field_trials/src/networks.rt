@@ -1,0 +1,27 @@
+ghost use Rattle.std.specs.Prelude.{◌≡◌, IfOk, length};
+ghost use Rattle.region_cut.specs.Chart.{chart_of};
+
+use network_file::Net;
+use region_cut::{Chart, cutting};
+use signal_plan::NoMemory;
+use std::alloc::Global;
+
+// A gate, a road and an exit, of which the road and the exit are one region.
+pub(crate) const TWO_REGIONS: &[u8] =
+    b"ctm,2\nsteps,3\ngate,in,2,0\nroad,a,6,2,1,2,0\nexit,out,2\nlink,in,a\nlink,a,out\n\
+demand,in,0,1,4\nregion,in,0\nregion,a,1\nregion,out,1\n";
+
+// The same in one region.
+pub(crate) const ONE_REGION: &[u8] =
+    b"ctm,1\nsteps,3\ngate,in,2,0\nroad,a,6,2,1,2,0\nexit,out,2\nlink,in,a\nlink,a,out\ndemand,in,0,1,4\n";
+
+pub(crate) const VEHICLES: i128 = 1_000_000;
+
+// The chart of a network in the regions that its file gives, or else in one.
+pub(crate) fn charted(alloc: Global, net: &Net) -> Result<Chart, NoMemory>
+    ensures chart { IfOk result (λ chart. chart ≡ chart_of net.now chart.cut) }
+    ensures one_each { IfOk result (λ chart. length chart.cut ≡ length net.now.cells) }
+{
+    let cut = cutting(alloc, net, 1)?;
+    Chart::new(alloc, net, cut)
+}

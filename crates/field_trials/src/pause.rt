@@ -1,0 +1,52 @@
+use ctm_ports::Gate;
+use std::sync::atomic::{AtomicU64, Ordering};
+
+// A gate at which a turn that holds a region waits for a while until another turn or a shot was tried.
+#[derive(Drop)]
+pub(crate) struct Pause {
+    region: u32,
+    held: AtomicU64,
+    tried: AtomicU64,
+}
+
+impl Pause {
+    pub(crate) fn new(region: u32) -> Pause {
+        Pause {
+            region,
+            held: AtomicU64::new(0),
+            tried: AtomicU64::new(0),
+        }
+    }
+
+    // Waits until a turn holds the region.
+    pub(crate) fn wait_for_turn(&self) {
+        wait_for(&self.held);
+    }
+
+    // Lets that turn go on.
+    pub(crate) fn let_go(&self) {
+        self.tried.store(1, Ordering::SeqCst);
+    }
+}
+
+// Waits for a while until the flag is set.
+fn wait_for(flag: &AtomicU64) {
+    for _ in 0..1_000_000_000 {
+        if flag.load(Ordering::SeqCst) != 0 {
+            return;
+        }
+    }
+}
+
+impl Gate for Pause {
+    fn held(&self, region: u32, step: u64) {
+        if region == self.region {
+            self.held.store(1, Ordering::SeqCst);
+            wait_for(&self.tried);
+        }
+    }
+
+    fn freed(&self, region: u32, step: u64) {}
+
+    fn watched(&self, done: bool) {}
+}

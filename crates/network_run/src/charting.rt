@@ -1,0 +1,19 @@
+ghost use Rattle.std.specs.Prelude.{◌≡◌, ◌≤◌, IfOk, length};
+ghost use Rattle.network_file.specs.declared.limits.TheConstants.{MOST_REGIONS};
+ghost use Rattle.region_cut.specs.Chart.{chart_of};
+
+use network_file::Net;
+use region_cut::{Chart, cutting};
+use signal_plan::NoMemory;
+use std::alloc::Global;
+
+/// The chart of a network in the regions that its file gives, or else in so many of nearly equal size.
+pub fn charted(alloc: Global, net: &Net, regions: u32) -> Result<Chart, NoMemory>
+    requires some { 1 ≤ regions }
+    requires few { regions ≤ MOST_REGIONS }
+    ensures chart { IfOk result (λ chart. chart ≡ chart_of net.now chart.cut) }
+    ensures one_each { IfOk result (λ chart. length chart.cut ≡ length net.now.cells) }
+{
+    let cut = cutting(alloc, net, regions)?;
+    Chart::new(alloc, net, cut)
+}

@@ -1,0 +1,13 @@
+use Rattle.std.proofs.Common.{sym, subst, arith}
+use Rattle.worker_claim.specs.Turns.{HasWorked, added}
+use Rattle.worker_claim.specs.declared.driven.Driven.{Driven}
+use Rattle.worker_claim.proofs.Helped.{counted-then, worked-going}
+use Rattle.worker_claim.proofs.part.part.Goals as goal
+
+pub returns-clause-worked : goal.returns-clause-worked
+returns-clause-worked g c =
+    let one : Driven = c.turns-one.result in
+    let other : Driven = c.turns-other.result in
+    subst (λ (d : Driven). HasWorked c.args.field.now.terms c.args.pass.now.knows c.turns-other.new.pass.knows c.args.goal c.args.many d) (sym c.then.ensures)
+    (worked-going _ _ _ _ _ (added one other) (counted-then _ _ _ _ _ one other c.turns-one.ensures.turned.counted c.turns-other.ensures.turned.counted)
+    (omega (arith, c.turns-one.ensures.turned.turns, c.turns-other.ensures.turned.turns)) c.turns-other.ensures.going)

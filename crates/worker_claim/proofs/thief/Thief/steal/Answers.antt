@@ -1,0 +1,5 @@
+use Rattle.worker_claim.proofs.Below.{takes}
+use Rattle.worker_claim.proofs.thief.Thief.steal.Goals as goal
+
+pub steal_as-requires-clause-takes : goal.steal_as-requires-clause-takes
+steal_as-requires-clause-takes c = takes _ _

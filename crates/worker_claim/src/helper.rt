@@ -1,0 +1,100 @@
+use crate::driven::Driven;
+use crate::member::Member;
+use crate::nest::Nest;
+use crate::part::sweep_within;
+use crate::sweep::turns;
+use ctm_ports::Gate;
+use region_slots::Field;
+use std::thread::yield_now;
+
+/// A member of a crew that hands numbers of regions on: the member, whose `driven` tells what came of its last turns, and
+/// its nest.
+#[derive(Drop)]
+pub struct Helper {
+    pub member: Member,
+    pub nest: Nest,
+}
+
+impl Helper {
+    ghost use Rattle.std.specs.Prelude.{◌≡◌, ◌<◌, ◌≤◌};
+    ghost use Rattle.region_cut.specs.Cuttings.{region_count};
+    ghost use Rattle.worker_claim.specs.Helping.{IsHelped, IsHelperOf, IsKept};
+    ghost use Rattle.worker_claim.specs.Turns.{HasWorked, turns_of};
+
+    /// Makes as many turns as so many sweeps have, or fewer where all turns of a whole sweep find their region at the goal
+    /// or past it: on regions whose numbers come from the deques, and in sweeps where none comes.
+    pub(crate) fn help<G: Gate>(&mut self, field: &Field, goal: u64, sweeps: u32, gate: &G)
+        requires helper { IsHelperOf field.now self.old }
+        requires in_time { goal ≤ field.now.terms.net.now.steps }
+        ensures { IsHelped field.now goal sweeps self.old self.new }
+    {
+        let budget = u64::from(sweeps) * u64::from(field.regions());
+        let mut driven = Driven::none();
+        let mut waits = false;
+        while driven.turns() < budget && !driven.all {
+            let left = budget - driven.turns();
+            let made = self.work(field, goal, left, waits, gate);
+            // Where it was held or behind, another's region may serve better than one of its own.
+            waits = made.held + made.behind > 0;
+            driven = driven.then(made);
+        }
+        self.member.driven = driven;
+    }
+
+    // A turn on a region whose number comes from the deques, or a sweep where none comes, as far as the turns left go.
+    fn work<G: Gate>(
+        &mut self,
+        field: &Field,
+        goal: u64,
+        left: u64,
+        waits: bool,
+        gate: &G,
+    ) -> Driven
+        requires helper { IsHelperOf field.now self.old }
+        requires in_time { goal ≤ field.now.terms.net.now.steps }
+        requires some { 1 ≤ left }
+        ensures kept { IsKept field.now self.old self.new }
+        ensures worked { HasWorked field.now.terms self.old.member.pass.knows self.new.member.pass.knows goal left result }
+        ensures some { 1 ≤ turns_of result }
+    {
+        match self.nest.next(waits) {
+            Some(region) => self.turn(field, region, goal, gate),
+            None => self.sweep(field, goal, left, gate),
+        }
+    }
+
+    // A turn on a region whose number came from a deque. The number goes back unless the region stands at the goal.
+    fn turn<G: Gate>(&mut self, field: &Field, region: u32, goal: u64, gate: &G) -> Driven
+        requires helper { IsHelperOf field.now self.old }
+        requires there { region < region_count field.now.terms.chart.now.cut }
+        requires in_time { goal ≤ field.now.terms.net.now.steps }
+        ensures kept { IsKept field.now self.old self.new }
+        ensures worked { HasWorked field.now.terms self.old.member.pass.knows self.new.member.pass.knows goal 1 result }
+        ensures one { turns_of result ≡ 1 }
+    {
+        let _regions = field.regions();
+        let made = turns(field, &mut self.member.pass, goal, region, region + 1, gate);
+        if made.none_ended() {
+            self.nest.push(region);
+        }
+        made
+    }
+
+    // A sweep, or as many turns of one as are left.
+    fn sweep<G: Gate>(&mut self, field: &Field, goal: u64, left: u64, gate: &G) -> Driven
+        requires helper { IsHelperOf field.now self.old }
+        requires in_time { goal ≤ field.now.terms.net.now.steps }
+        requires some { 1 ≤ left }
+        ensures kept { IsKept field.now self.old self.new }
+        ensures worked { HasWorked field.now.terms self.old.member.pass.knows self.new.member.pass.knows goal left result }
+        ensures some { 1 ≤ turns_of result }
+    {
+        let first = self.member.first;
+        let swept = sweep_within(field, &mut self.member.pass, goal, first, left, gate);
+        // Whoever holds what this one waits for may be waiting for a processor.
+        if swept.moved == 0 && !swept.all {
+            yield_now();
+        }
+        swept
+    }
+}

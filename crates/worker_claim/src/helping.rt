@@ -1,0 +1,30 @@
+ghost use Rattle.std.specs.Prelude.{◌≡◌, ◌≤◌};
+ghost use Rattle.worker_claim.specs.Helping.{AreHelped, AreHelpersOf, IsHelped, IsHelperOf};
+
+use crate::helper::Helper;
+use ctm_ports::Gate;
+use region_slots::Field;
+use std::thread::{Threads, for_each_mut};
+
+/// Has each helper make as many turns as so many sweeps have, or fewer where all regions are at the goal: all helpers at
+/// once where the threads can be made, and one after the other where they can't. A push may ask for memory, and where
+/// there is none the number is dropped.
+pub fn crew_hints<R: Threads + Sync, G: Gate>(
+    rt: &R,
+    field: &Field,
+    helpers: &mut [Helper],
+    goal: u64,
+    sweeps: u32,
+    gate: &G,
+)
+    requires helpers { AreHelpersOf field.now helpers.old }
+    requires in_time { goal ≤ field.now.terms.net.now.steps }
+    ensures helped { AreHelped field.now goal sweeps helpers.old helpers.new }
+{
+    let threads = helpers.len().max(1);
+    let work = move |_k: usize, helper: &mut Helper|
+        requires { IsHelperOf field.now helper.old × (goal ≤ field.now.terms.net.now.steps) }
+        ensures { IsHelped field.entry.now goal sweeps helper.old helper.new }
+    { helper.help(field, goal, sweeps, gate) };
+    for_each_mut(rt, helpers, threads, &work);
+}

@@ -1,0 +1,55 @@
+ghost use Rattle.std.specs.Prelude.{◌≡◌, ◌<◌, ◌≤◌};
+ghost use Rattle.region_cut.specs.Cuttings.{region_count};
+ghost use Rattle.region_slots.specs.FieldView.{IsPassOf};
+ghost use Rattle.worker_claim.specs.Turns.{HasWorked, turns_of};
+
+use crate::driven::Driven;
+use crate::sweep::{sweep, turns};
+use ctm_ports::Gate;
+use region_slots::{Field, Pass};
+
+/// A sweep, or its first turns where so many are left that it can't be whole.
+pub(crate) fn sweep_within<G: Gate>(
+    field: &Field,
+    pass: &mut Pass,
+    goal: u64,
+    first: u32,
+    left: u64,
+    gate: &G,
+) -> Driven
+    requires belongs { IsPassOf field.now pass.old }
+    requires there { first < region_count field.now.terms.chart.now.cut }
+    requires in_time { goal ≤ field.now.terms.net.now.steps }
+    requires some { 1 ≤ left }
+    ensures belongs { IsPassOf field.now pass.new × (pass.new.id ≡ pass.old.id) }
+    ensures worked { HasWorked field.now.terms pass.old.knows pass.new.knows goal left result }
+    ensures some { 1 ≤ turns_of result }
+{
+    if left < u64::from(field.regions()) {
+        return part(field, pass, goal, first, left as u32, gate);
+    }
+    sweep(field, pass, goal, first, gate)
+}
+
+// So many turns of a sweep, fewer than it has.
+fn part<G: Gate>(
+    field: &Field,
+    pass: &mut Pass,
+    goal: u64,
+    first: u32,
+    many: u32,
+    gate: &G,
+) -> Driven
+    requires belongs { IsPassOf field.now pass.old }
+    requires there { first < region_count field.now.terms.chart.now.cut }
+    requires in_time { goal ≤ field.now.terms.net.now.steps }
+    requires fewer { many < region_count field.now.terms.chart.now.cut }
+    ensures belongs { IsPassOf field.now pass.new × (pass.new.id ≡ pass.old.id) }
+    ensures worked { HasWorked field.now.terms pass.old.knows pass.new.knows goal many result }
+    ensures many { turns_of result ≡ many }
+{
+    let later = many.min(field.regions() - first);
+    let one = turns(field, pass, goal, first, first + later, gate);
+    let other = turns(field, pass, goal, 0, many - later, gate);
+    one.then(other)
+}
