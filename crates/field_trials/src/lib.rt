@@ -5,6 +5,8 @@
 #[cfg(test)]
 mod drive_tests;
 #[cfg(test)]
+mod hint_tests;
+#[cfg(test)]
 mod meanwhile;
 #[cfg(test)]
 mod networks;

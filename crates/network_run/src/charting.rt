@@ -1,6 +1,7 @@
-ghost use Rattle.std.specs.Prelude.{◌≡◌, ◌≤◌, IfOk, length};
+ghost use Rattle.std.specs.Prelude.{◌≡◌, ◌≢◌, ◌≤◌, IfOk, length, min};
 ghost use Rattle.network_file.specs.declared.limits.TheConstants.{MOST_REGIONS};
 ghost use Rattle.region_cut.specs.Chart.{chart_of};
+ghost use Rattle.region_cut.specs.Cuttings.{even_cutting};
 
 use network_file::Net;
 use region_cut::{Chart, cutting};
@@ -13,6 +14,8 @@ pub fn charted(alloc: Global, net: &Net, regions: u32) -> Result<Chart, NoMemory
     requires few { regions ≤ MOST_REGIONS }
     ensures chart { IfOk result (λ chart. chart ≡ chart_of net.now chart.cut) }
     ensures one_each { IfOk result (λ chart. length chart.cut ≡ length net.now.cells) }
+    ensures own { length net.now.regions ≢ 0 → IfOk result (λ chart. chart.cut ≡ net.now.regions) }
+    ensures even { length net.now.regions ≡ 0 → IfOk result (λ chart. chart.cut ≡ even_cutting (length net.now.cells) (min regions (length net.now.cells))) }
 {
     let cut = cutting(alloc, net, regions)?;
     Chart::new(alloc, net, cut)

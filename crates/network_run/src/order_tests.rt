@@ -26,6 +26,7 @@ road,e,6,2.5,1,3,1.25; road,f,7,3,1,2,0; road,g,9,2,1,1,9; exit,h,1.5; link,a,b;
 link,e,f; link,f,g; link,g,h; demand,a,0,150,1.7; limit,h,40,60,0; signal,e,6,2,0,3";
 
 // What the members of a run do with its field.
+#[derive(Drop)]
 enum Calls<'a> {
     // Forty turns, each on a region and by a member that are drawn.
     Drawn { seed: u32 },

@@ -8,7 +8,7 @@ use Rattle.ctm_program.proofs.watch_text.watch_text.Goals as goal
 pub returns : goal.returns
 returns g c =
     let net = c.args.net.now in
-    let cut : c.in_ok-chart.chart.cut ≡ cutting_of net c.args.request.regions = c.in_ok-chart.ensures.cut ∙ cutting-is net c.args.request.regions c.in_ok-cut.cut c.in_ok-cut.ensures.own c.in_ok-cut.ensures.even in
+    let cut : c.in_ok-chart.chart.cut ≡ cutting_of net c.args.request.regions = cutting-is net c.args.request.regions c.in_ok-chart.chart.cut c.in_ok-chart.ensures.own c.in_ok-chart.ensures.even in
     let report : c.deref-2.result.now ≡ report_of net c.args.request.every = c.deref-2.ensures.value ∙ c.in_ok-report.ensures ∙ ap (report_of net) c.from-every.ensures in
     let same : c.in_ok-shots.shots.items ≡ c.in_ok-shots.field-0.shots.items = sym (ap (λ shots. shots.items) c.in_ok-shots.shots-is) in
     record {
