@@ -1,11 +1,14 @@
 ghost use Rattle.std.specs.Prelude.{◌≡◌};
 ghost use Rattle.region_cut.specs.Chart.{chart_of};
+ghost use Rattle.region_cut.specs.Cuttings.{region_count};
+ghost use Rattle.region_slots.specs.FieldView.{IsPassOf};
+ghost use Rattle.worker_claim.specs.Helping.{IsHelperOf};
 
 use crate::networks::charted;
 use ctm_ports::Gate;
 use network_file::Net;
 use region_cut::Chart;
-use region_slots::Field;
+use region_slots::{Field, Pass};
 use region_step::Start;
 use signal_plan::NoMemory;
 use std::alloc::Global;
@@ -75,12 +78,21 @@ fn helped<R: Threads + Sync>(
         Some(nest) => nest,
         None => return Err(NoMemory),
     };
-    let member = Member::new(pass, way.first % regions);
-    let mut helper = Helper { member, nest };
+    let mut helper = helper_at(&field, pass, nest, way.first);
     let helpers = slice::from_mut(&mut helper);
     crew_hints(rt, &field, helpers, goal, way.sweeps, &gate);
     let driven = helper.member.driven;
     Ok((driven, gate.regions.load(Ordering::SeqCst)))
+}
+
+// A helper whose sweeps begin at a region of the field.
+fn helper_at(field: &Field, pass: Pass, nest: Nest, first: u32) -> Helper
+    requires belongs { IsPassOf field.now pass }
+    requires nest { nest.regions ≡ region_count field.now.terms.chart.now.cut }
+    ensures { IsHelperOf field.now result }
+{
+    let member = Member::new(pass, first % field.regions());
+    Helper { member, nest }
 }
 
 // Fills a nest once for each of these members.

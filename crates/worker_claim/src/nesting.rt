@@ -21,7 +21,7 @@ pub fn nests(alloc: Global, members: u32, regions: u32) -> Result<Vec<Nest>, NoM
     joined(alloc, owns, others)
 }
 
-// Each deque with the thieves of its member.
+// Each deque with the thieves of its member, from the last one on: nests differ in nothing but whom they steal from first.
 fn joined(
     alloc: Global,
     mut owns: Vec<Deque>,
