@@ -1,6 +1,9 @@
+ghost use Rattle.std.specs.Prelude.{◌≤◌};
+
 use crate::top_call::ctm;
-use ctm_ports::{Gate, MemSink, MemSource, OpenGate, SureSink, SureSource};
+use ctm_ports::{Gate, MemSink, MemSource, OpenGate, Source, StdSource, SureSink, SureSource};
 use std::alloc::{AllocError, Global};
+use std::io;
 use std::test::Fail;
 use std::thread::Threads;
 
@@ -90,33 +93,46 @@ pub(crate) fn call_past<R: Threads + Sync, G: Gate>(
     input: Vec<u8>,
     gate: &G,
 ) -> Result<Ended, AllocError> {
+    call_over(rt, alloc, words, &mut SureSource::new(input), gate)
+}
+
+// The same over any source.
+fn call_over<R: Threads + Sync, S: Source, G: Gate>(
+    rt: &R,
+    alloc: Global,
+    words: &str,
+    source: &mut S,
+    gate: &G,
+) -> Result<Ended, AllocError> {
     let mut all = Vec::new(alloc);
     for word in words.split(' ') {
         all.push(String::from_str(alloc, word)?)?;
     }
-    let mut source = SureSource::new(input);
     let mut out = SureSink::new(alloc);
     let mut err = SureSink::new(alloc);
-    let status = ctm(rt, alloc, &all, &mut source, &mut out, &mut err, gate).number();
+    let status = ctm(rt, alloc, &all, source, &mut out, &mut err, gate).number();
     Ok(Ended { status, out, err })
 }
 
-// A call over the corridor whose source, output and standard error pass 10 bytes at a time, and fail at these calls of
-// theirs. Given are its exit status and what it wrote.
+// A call over the corridor whose source, output and standard error pass `chunk` bytes at a time, and fail at these calls
+// of theirs. Given are its exit status and what it wrote.
 fn failing_call<R: Threads + Sync>(
     rt: &R,
     alloc: Global,
     words: &[&str],
+    chunk: usize,
     fails: [&[u64]; 3],
-) -> Result<(u8, MemSink, MemSink), AllocError> {
+) -> Result<(u8, MemSink, MemSink), AllocError>
+    requires { 1 ≤ chunk }
+{
     let mut all = Vec::new(alloc);
     for word in words {
         all.push(String::from_str(alloc, word)?)?;
     }
     let [reads, writes, tells] = fails;
-    let mut source = MemSource::new(lines(alloc, CORRIDOR)?, 10, reads.to_vec(alloc)?);
-    let mut out = MemSink::new(alloc, 10, writes.to_vec(alloc)?);
-    let mut err = MemSink::new(alloc, 10, tells.to_vec(alloc)?);
+    let mut source = MemSource::new(lines(alloc, CORRIDOR)?, chunk, reads.to_vec(alloc)?);
+    let mut out = MemSink::new(alloc, chunk, writes.to_vec(alloc)?);
+    let mut err = MemSink::new(alloc, chunk, tells.to_vec(alloc)?);
     let status = ctm(rt, alloc, &all, &mut source, &mut out, &mut err, &OpenGate).number();
     Ok((status, out, err))
 }
@@ -160,6 +176,12 @@ total,0.000000,0.000000,4.000000,2.000000",
             "ctm,1; steps,1; gate,g,2,4; road,a,6,2,1,1,6; link,g,a",
             "report,1,2; cell,g,4.000000,0.000000,0.000000,4.000000; cell,a,6.000000,0.000000,0.000000,6.000000; \
 total,10.000000,0.000000,0.000000,10.000000",
+        ),
+        // a road without room
+        (
+            "ctm,1; steps,2; gate,g,2,0; road,a,0,2,1,1,0; link,g,a; demand,g,0,1,4",
+            "report,2,2; cell,g,4.000000,4.000000,0.000000,4.000000; cell,a,0.000000,0.000000,0.000000,0.000000; \
+total,4.000000,4.000000,0.000000,4.000000",
         ),
         // a link from a cell to itself
         (
@@ -332,6 +354,9 @@ fn a_fault_of_one_record_is_told_with_its_code(rt: HostRuntime) -> Result<(), Fa
         ("ctm,1; exit,a b,2", "2 code 4 BadName"),
         ("ctm,1; exit,x,1.0000001", "2 code 5 BadNumber"),
         ("ctm,1; steps,", "2 code 5 BadNumber"),
+        ("ctm,1; steps,3; ga", "3 code 2 BadKind"),
+        ("ctm,1; steps,3; gate,in,2", "3 code 3 BadCount"),
+        ("ctm,1; steps,3; gate,in,2,", "3 code 5 BadNumber"),
         ("ctm,1; exit,x,100000.000001", "2 code 6 OutOfRange"),
         ("ctm,1; road,a,6,2,2,1,0", "2 code 6 OutOfRange"),
         ("ctm,1; road,a,6,2,1,2,6.000001", "2 code 6 OutOfRange"),
@@ -635,7 +660,7 @@ fn other_words_are_refused_and_nothing_is_read(rt: HostRuntime) -> Result<(), Fa
         &["--version"],
         &["help"],
     ] {
-        let (status, out, err) = failing_call(&rt, rt.alloc(), words, [&[0], &[], &[]])?;
+        let (status, out, err) = failing_call(&rt, rt.alloc(), words, 10, [&[0], &[], &[]])?;
         assert_eq!(rt; status, 2, "{words:?}");
         assert!(rt; out.bytes().is_empty(), "{words:?}");
         assert_eq!(rt; err.bytes(), b"ctm: words refused\n".as_slice());
@@ -647,7 +672,7 @@ fn other_words_are_refused_and_nothing_is_read(rt: HostRuntime) -> Result<(), Fa
 #[test]
 fn a_made_network_is_run_and_nothing_is_read(rt: HostRuntime) -> Result<(), Fail> {
     let words = ["sample", "--size", "1", "--seed", "0"];
-    let (status, out, err) = failing_call(&rt, rt.alloc(), &words, [&[0], &[], &[]])?;
+    let (status, out, err) = failing_call(&rt, rt.alloc(), &words, 10, [&[0], &[], &[]])?;
     assert_eq!(rt; status, 0);
     assert_eq!(rt; out.bytes(), lines(rt.alloc(), SAMPLED)?.as_slice());
     assert!(rt; err.bytes().is_empty());
@@ -691,14 +716,50 @@ fn an_input_past_the_limit_is_too_large(rt: HostRuntime) -> Result<(), Fail> {
     Ok(())
 }
 
-// The last read would have found the end.
+#[test]
+fn an_input_without_end_is_too_large(rt: HostRuntime) -> Result<(), Fail> {
+    let mut source = StdSource::new(io::repeat(b'#'));
+    let ended = call_over(&rt, rt.alloc(), "run", &mut source, &OpenGate)?;
+    assert!(rt;
+        ended.is_refused(4, b"ctm: too large: input\n"),
+        "{ended:?}"
+    );
+    Ok(())
+}
+
+// Each of the reads fails in turn. The last of them would have found the end, so the one past it is never made.
 #[test]
 fn a_failing_source_ends_the_call(rt: HostRuntime) -> Result<(), Fail> {
-    for read in [0, 10] {
-        let (status, out, err) = failing_call(&rt, rt.alloc(), &["run"], [&[read], &[], &[]])?;
-        assert_eq!(rt; status, 5, "read {read}");
-        assert!(rt; out.bytes().is_empty(), "read {read}");
-        assert_eq!(rt; err.bytes(), b"ctm: read fault\n".as_slice());
+    for (chunk, reads) in [(1, 92), (7, 14)] {
+        for read in 0..=reads {
+            let fails: [&[u64]; 3] = [&[read], &[], &[]];
+            let (status, out, err) = failing_call(&rt, rt.alloc(), &["run"], chunk, fails)?;
+            if read == reads {
+                assert_eq!(rt; status, 0, "no read {read}");
+                continue;
+            }
+            assert_eq!(rt; status, 5, "read {read} of {chunk} bytes");
+            assert!(rt; out.bytes().is_empty(), "read {read}");
+            assert_eq!(rt; err.bytes(), b"ctm: read fault\n".as_slice());
+        }
+    }
+    Ok(())
+}
+
+// Each of the writes, of one byte, fails in turn, and the one past the last is never made.
+#[test]
+fn a_failing_output_has_what_it_took(rt: HostRuntime) -> Result<(), Fail> {
+    let report = lines(rt.alloc(), CORRIDOR_REPORT)?;
+    for write in 0..=report.len() {
+        let fails: [&[u64]; 3] = [&[], &[write as u64], &[]];
+        let (status, out, err) = failing_call(&rt, rt.alloc(), &["run"], 1, fails)?;
+        assert_eq!(rt; out.bytes(), &report[..write]);
+        if write == report.len() {
+            assert_eq!(rt; status, 0, "no write {write}");
+            continue;
+        }
+        assert_eq!(rt; status, 6, "write {write}");
+        assert_eq!(rt; err.bytes(), b"ctm: write fault\n".as_slice());
     }
     Ok(())
 }
@@ -712,7 +773,7 @@ fn a_failing_output_ends_the_call(rt: HostRuntime) -> Result<(), Fail> {
         ("check", 1, b"network,3,"),
         ("convert", 1, b"ctm,2\nstep"),
     ] {
-        let (status, out, err) = failing_call(&rt, rt.alloc(), &[mode], [&[], &[write], &[]])?;
+        let (status, out, err) = failing_call(&rt, rt.alloc(), &[mode], 10, [&[], &[write], &[]])?;
         assert_eq!(rt; status, 6, "{mode}");
         assert_eq!(rt; out.bytes(), begun);
         assert_eq!(rt; err.bytes(), b"ctm: write fault\n".as_slice());
@@ -720,11 +781,22 @@ fn a_failing_output_ends_the_call(rt: HostRuntime) -> Result<(), Fail> {
     Ok(())
 }
 
+// Calls whose words are refused, whose input or output fails, and that are done.
 #[test]
 fn a_failing_standard_error_changes_no_status(rt: HostRuntime) -> Result<(), Fail> {
-    let (status, out, err) = failing_call(&rt, rt.alloc(), &["run"], [&[], &[0], &[1]])?;
-    assert_eq!(rt; status, 6);
-    assert!(rt; out.bytes().is_empty());
-    assert_eq!(rt; err.bytes(), b"ctm: write".as_slice());
+    let none: &[u64] = &[];
+    for (word, reads, writes, tells, wanted, told) in [
+        ("drive", none, none, [0], 2, b"".as_slice()),
+        ("run", &[0], none, [0], 5, b""),
+        ("run", none, &[0], [0], 6, b""),
+        ("run", none, &[0], [1], 6, b"ctm: write"),
+        ("run", none, none, [0], 0, b""),
+    ] {
+        let fails: [&[u64]; 3] = [reads, writes, &tells];
+        let (status, out, err) = failing_call(&rt, rt.alloc(), &[word], 10, fails)?;
+        assert_eq!(rt; status, wanted, "{word}");
+        assert_eq!(rt; out.bytes().is_empty(), wanted != 0);
+        assert_eq!(rt; err.bytes(), told);
+    }
     Ok(())
 }
