@@ -40,8 +40,7 @@ signal,m7,2,1,0,1; limit,x1,0,2,1; limit,m4,1,4,2; limit,x5,2,5,1; demand,g1,0,2
 demand,g3,2,3,0.25; turn,m3,0,2,1,3; turn,m4,1,3,2,1; turn,m5,2,5,1,1";
 
 // What `sample --size 1 --seed 0` gives.
-pub(crate) const SAMPLED: &str =
-    "sample,1,0,3,2,42; total,0.000000,58.068940,58.068940,262.344330";
+pub(crate) const SAMPLED: &str = "sample,1,0,3,2,42; total,0.000000,58.068940,58.068940,262.344330";
 
 // The lines of a text in which `; ` stands for a line end.
 pub(crate) fn lines(alloc: Global, text: &str) -> Result<Vec<u8>, AllocError> {

@@ -20,7 +20,12 @@ use std::process::Abort;
 use std::test::Fail;
 
 // What a field of a network comes to that is closed after turns on these regions.
-fn closed_after(alloc: Global, net: &Net, chart: &Chart, turns: &[(u32, u64)]) -> Result<Closed, NoMemory>
+fn closed_after(
+    alloc: Global,
+    net: &Net,
+    chart: &Chart,
+    turns: &[(u32, u64)],
+) -> Result<Closed, NoMemory>
     requires { chart.now ≡ chart_of net.now chart.now.cut }
     ensures { IfOk result (λ closed. AllStand net.now chart.now (zero_start net.now chart.now.cut) 0 closed.steps.items closed.regions.items) }
 {
@@ -76,7 +81,12 @@ fn fill(room: &mut ShotRoom, chart: &Chart, regions: &[Region])
 }
 
 // What a room shows after these turns.
-fn room_after(alloc: Global, net: &Net, chart: &Chart, turns: &[(u32, u64)]) -> Result<ShotRoom, NoMemory>
+fn room_after(
+    alloc: Global,
+    net: &Net,
+    chart: &Chart,
+    turns: &[(u32, u64)],
+) -> Result<ShotRoom, NoMemory>
     requires chart { chart.now ≡ chart_of net.now chart.now.cut }
     requires one_each { length chart.now.cut ≡ length net.now.cells }
     ensures { IfOk result (IsRoomFor chart.now) }
