@@ -1,6 +1,3 @@
-ghost use Rattle.std.specs.Prelude.{◌<◌, ◌^◌};
-ghost use Rattle.worker_claim.specs.Turns.{turns_of};
-
 use crate::driven::Driven;
 use crate::member::Member;
 use crate::nest::Nest;
@@ -34,13 +31,15 @@ impl Helper {
         let budget = u64::from(sweeps) * u64::from(field.regions());
         let mut driven = Driven::none();
         let mut waits = false;
-        let mut idle = 0;
         while driven.turns() < budget && !driven.all {
             let left = budget - driven.turns();
             let made = self.work(field, goal, left, waits, gate);
+            // Twice in vain: whoever holds what this one waits for may be waiting for a processor.
+            if waits && made.moved == 0 && !made.all {
+                yield_now();
+            }
             // Where it was held or behind, another's region may serve better than one of its own.
             waits = made.held + made.behind > 0;
-            idle = idle_after(idle, &made, field.regions());
             driven = driven.then(made);
         }
         self.member.driven = driven;
@@ -97,20 +96,4 @@ impl Helper {
         let first = self.member.first;
         sweep_within(field, &mut self.member.pass, goal, first, left, gate)
     }
-}
-
-// How many turns in a row have moved nothing, with these. After as many as a sweep has, its processor goes to whoever holds
-// what this one waits for and may be waiting for a processor.
-fn idle_after(idle: u64, made: &Driven, regions: u32) -> u64
-    requires { turns_of made.now < 2 ^ 64 }
-{
-    if made.moved > 0 {
-        return 0;
-    }
-    let idle = idle.saturating_add(made.turns());
-    if idle < u64::from(regions) {
-        return idle;
-    }
-    yield_now();
-    0
 }
