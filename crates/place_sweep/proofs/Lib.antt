@@ -1,0 +1,4 @@
+pub mod Links
+pub mod Sets
+pub mod PartSums
+pub mod Factors

@@ -1,0 +1,4 @@
+pub mod Space
+pub mod Capacity
+pub mod Places
+pub mod Parts
