@@ -9,6 +9,8 @@ mod chain;
 mod part;
 mod place;
 mod space;
+#[cfg(test)]
+mod tests;
 
 pub use capacity::link_capacity;
 pub use chain::sweep;
