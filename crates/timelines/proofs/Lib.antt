@@ -1,0 +1,4 @@
+pub mod Phases
+pub mod Passing
+pub mod Starts
+pub mod Links

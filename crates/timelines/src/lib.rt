@@ -1,0 +1,13 @@
+//! Values that change from step to step, followed forward: what is in force at a step, and up to which step it stays so.
+//! Where nothing changes nothing is asked of the plan.
+#![tactic(auto)]
+
+mod link_course;
+mod now;
+mod phase;
+mod timeline;
+
+pub use link_course::LinkCourse;
+pub use now::Now;
+pub use phase::light;
+pub use timeline::Timeline;
