@@ -2,3 +2,4 @@ pub mod Phases
 pub mod Passing
 pub mod Starts
 pub mod Links
+pub mod Following

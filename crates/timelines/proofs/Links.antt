@@ -1,6 +1,6 @@
 -- The most that a link carries, by what it is made of.
 use Rattle.std.specs.Prelude.{Bool, Option, Some, None, is_some}
-use Rattle.std.proofs.Common.{◌≡◌, ℕ, true, false, refl, ap, sym, ◌∙◌, arith}
+use Rattle.std.proofs.Common.{◌≡◌, ℕ, false, refl}
 use Rattle.place_sweep.specs.Capacity.{link_capacity_of}
 use Rattle.signal_plan.specs.Records.{SignalRecord}
 use Rattle.timelines.specs.Courses.{Course, LinkValues, light_at, most_at, value_at}

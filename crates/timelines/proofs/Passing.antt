@@ -1,8 +1,8 @@
 -- Changes that come one after the other.
 use Rattle.std.specs.Prelude.{nat_le}
-use Rattle.std.proofs.Common.{◌≡◌, ℕ, true, ◌+◌, ◌-◌, ◌<◌, ◌≤◌, List, length, get_or, take, refl, sym, ap, ◌∙◌, arith}
+use Rattle.std.proofs.Common.{◌≡◌, ℕ, true, ◌+◌, ◌-◌, ◌<◌, ◌≤◌, List, length, get_or, sym, ◌∙◌, arith}
 use Rattle.std.proofs.lemmas.Bool.Decides.{nat_tests}
-use Rattle.signal_plan.specs.Changes.{IsRising, in_force}
+use Rattle.signal_plan.specs.Changes.{in_force}
 use Rattle.signal_plan.specs.declared.change.Change.{Change}
 use Rattle.signal_plan.proofs.Changes.{in_force-nil, in_force-take, in_force-take_more, step_le}
 use Rattle.timelines.specs.Passing.{HasCome, HasPassed}
@@ -30,5 +30,5 @@ pub come-value : (start : ℕ) (changes : List (Change ℕ)) (come value t s : �
 come-value start changes come value t s has from before =
     let rest : ℕ = length changes - come in
     sym (in_force-take start changes rest come s (omega (arith, has.within))
-        (λ k c low within. let later = step_le changes come k c c has.rising low within in omega (arith, before c (omega arith), later)))
+    (λ k c low within. let later = step_le changes come k c c has.rising low within in omega (arith, before c (omega arith), later)))
     ∙ has.passed.stays s from

@@ -1,8 +1,8 @@
 -- What is in force at step 0 may stand for what is in force at the start.
-use Rattle.std.specs.Prelude.{nat_le, Bool, Option, Some, None, reverse}
+use Rattle.std.specs.Prelude.{nat_le, Option, reverse}
 use Rattle.std.specs.List.{find}
 use Rattle.std.specs.Option.{option_map_or}
-use Rattle.std.proofs.Common.{◌≡◌, ℕ, true, false, ◌<◌, ◌≤◌, List, [], ◌∷◌, refl, ◌∙◌, inl, inr, arith}
+use Rattle.std.proofs.Common.{◌≡◌, ℕ, false, List, [], ◌∷◌, refl, inl, inr, arith}
 use Rattle.std.proofs.lemmas.Bool.{cases_Bool}
 use Rattle.std.proofs.lemmas.Bool.Decides.{nat_tests}
 use Rattle.signal_plan.specs.Changes.{in_force}

@@ -2,11 +2,13 @@
 //! Where nothing changes nothing is asked of the plan.
 #![tactic(auto)]
 
+mod followed;
 mod link_course;
 mod now;
 mod phase;
 mod timeline;
 
+pub use followed::{FollowedLink, refresh};
 pub use link_course::LinkCourse;
 pub use now::Now;
 pub use phase::light;

@@ -1,4 +1,4 @@
-use Rattle.std.proofs.Common.{◌≡◌, ◌<◌, ◌≤◌, ◌+◌, ◌-◌, ◌%◌, ℕ, refl, ap, sym, ◌∙◌, arith}
+use Rattle.std.proofs.Common.{◌≡◌, ℕ, ap, sym, ◌∙◌, arith}
 use Rattle.timelines.proofs.Phases.{before_green, behind_green, in_green}
 use Rattle.timelines.proofs.phase.phase.Goals.{then-place-from, else-place-from+then-place-to, else-place-from+else-place-to}
 use Rattle.timelines.proofs.phase.phase.Goals as goal

@@ -1,4 +1,4 @@
-use Rattle.std.proofs.Common.{◌≡◌, ◌<◌, ◌≤◌, ℕ, length, arith}
+use Rattle.std.proofs.Common.{ℕ, arith}
 use Rattle.signal_plan.specs.declared.change.Change.{Change}
 use Rattle.timelines.proofs.Passing.{passed-more}
 use Rattle.timelines.proofs.timeline.pass.Goals as goal

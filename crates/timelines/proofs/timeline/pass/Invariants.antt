@@ -1,4 +1,4 @@
-use Rattle.std.proofs.Common.{◌≡◌, ℕ, ◌≤◌, length}
+use Rattle.std.proofs.Common.{ℕ}
 use Rattle.timelines.specs.Passing.{HasPassed}
 use Rattle.timelines.proofs.timeline.pass.Given as goal
 

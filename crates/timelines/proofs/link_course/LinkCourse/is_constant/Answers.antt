@@ -1,6 +1,6 @@
 use Rattle.std.specs.Prelude.{not, is_some}
-use Rattle.std.proofs.Common.{◌≡◌, ℕ, IsTrue, true, false, refl, ap, sym, subst, ◌∙◌, arith}
-use Rattle.timelines.specs.Courses.{LinkValues, light_at, most_at, value_at}
+use Rattle.std.proofs.Common.{◌≡◌, IsTrue, false, ap, sym, ◌∙◌}
+use Rattle.timelines.specs.Courses.{LinkValues}
 use Rattle.timelines.proofs.Links.{light-none, most-same}
 use Rattle.timelines.proofs.link_course.LinkCourse.is_constant.Goals.{then-is_none, else-is_none}
 use Rattle.timelines.proofs.link_course.LinkCourse.is_constant.Goals as goal
@@ -13,7 +13,7 @@ returns-then-is_constant c = λ steady s t.
           let constant : IsTrue w.is_constant.result = sym w.value-is ∙ c.if-is_constant.true in
           let none : is_some c.self.inside.signal ≡ false = c.is_none.ensures ∙ ap not w.if-is_none.true in
           let same = most-same link s t (w.is_constant.ensures constant s t) (c.is_constant-then-is_constant.ensures steady s t)
-              (light-none c.self.inside.signal s t none) in
+          (light-none c.self.inside.signal s t none) in
           rw c.self.view_is at same
       | else-is_none w ↦ cc
     ]

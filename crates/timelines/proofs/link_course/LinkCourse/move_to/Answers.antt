@@ -1,5 +1,5 @@
-use Rattle.std.proofs.Common.{◌≡◌, ◌<◌, ◌≤◌, ℕ, refl, ap, subst, sym, ◌∙◌, arith}
-use Rattle.timelines.specs.Courses.{Course, LinkValues, light_at, most_at, value_at}
+use Rattle.std.proofs.Common.{◌≡◌, ℕ, ap, ◌∙◌, arith}
+use Rattle.timelines.specs.Courses.{LinkValues, most_at, value_at}
 use Rattle.timelines.proofs.Links.{most-is, most-moved, most-same}
 use Rattle.timelines.proofs.link_course.LinkCourse.move_to.Goals as goal
 

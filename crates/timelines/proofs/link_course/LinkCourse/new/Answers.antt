@@ -1,9 +1,8 @@
-use Rattle.std.proofs.Common.{◌≡◌, ℕ, refl, ap, sym, ◌∙◌, arith}
+use Rattle.std.proofs.Common.{◌≡◌, refl, ap, sym, ◌∙◌}
 use Rattle.signal_plan.specs.Capacity.{capacity_at}
 use Rattle.signal_plan.specs.Changes.{in_force}
-use Rattle.signal_plan.specs.Green.{green_at, signal_of}
+use Rattle.signal_plan.specs.Green.{green_at}
 use Rattle.timelines.specs.Courses.{light_at, most_at, most_between, value_at}
-use Rattle.place_sweep.specs.Capacity.{link_capacity_of}
 use Rattle.timelines.proofs.Starts.{in_force-start}
 use Rattle.timelines.proofs.link_course.LinkCourse.new.Goals as goal
 
@@ -12,12 +11,12 @@ unfolding most_at most_between green_at
 returns-clause-course c = λ t.
     let plan = c.args.plan.now in
     let up : value_at c.new.result t ≡ capacity_at plan c.args.up t =
-        ap (λ course. value_at course t) c.new.ensures ∙ ap (λ start. in_force start c.in_ok-of_up.of_up.items t)
-        (c.capacity.ensures ∙ sym (c.in_ok-of_up.ensures.in_force 0))
-        ∙ in_force-start _ t c.in_ok-of_up.of_up.items ∙ c.in_ok-of_up.ensures.in_force t in
+    ap (λ course. value_at course t) c.new.ensures ∙ ap (λ start. in_force start c.in_ok-of_up.of_up.items t)
+    (c.capacity.ensures ∙ sym (c.in_ok-of_up.ensures.in_force 0))
+    ∙ in_force-start _ t c.in_ok-of_up.of_up.items ∙ c.in_ok-of_up.ensures.in_force t in
     let down : value_at c.new-2.result t ≡ capacity_at plan c.args.down t =
-        ap (λ course. value_at course t) c.new-2.ensures ∙ ap (λ start. in_force start c.in_ok-of_down.of_down.items t)
-        (c.capacity-2.ensures ∙ sym (c.in_ok-of_down.ensures.in_force 0))
-        ∙ in_force-start _ t c.in_ok-of_down.of_down.items ∙ c.in_ok-of_down.ensures.in_force t in
+    ap (λ course. value_at course t) c.new-2.ensures ∙ ap (λ start. in_force start c.in_ok-of_down.of_down.items t)
+    (c.capacity-2.ensures ∙ sym (c.in_ok-of_down.ensures.in_force 0))
+    ∙ in_force-start _ t c.in_ok-of_down.of_down.items ∙ c.in_ok-of_down.ensures.in_force t in
     let light : light_at c.signal.result t ≡ green_at plan c.args.up t = ap (λ signal. light_at signal t) c.signal.ensures in
     rw (up, down, light) refl

@@ -1,5 +1,4 @@
-use Rattle.std.proofs.Common.{◌≡◌, ◌≤◌, ℕ, length, sym, subst, arith}
-use Rattle.signal_plan.specs.declared.change.Change.{Change}
+use Rattle.std.proofs.Common.{subst}
 use Rattle.timelines.specs.Passing.{HasCome}
 use Rattle.timelines.proofs.Passing.{passed-none}
 use Rattle.timelines.proofs.timeline.Timeline.new.Goals as goal

@@ -1,0 +1,53 @@
+ghost use Rattle.std.specs.Prelude.{◌≡◌, ◌≤◌, ◌<◌, ◌⊎◌, ℕ, All, length};
+ghost use Rattle.place_sweep.specs.Places.{place_at};
+ghost use Rattle.timelines.specs.Courses.{most_at};
+ghost use Rattle.timelines.specs.Followed.{AreFollowed, IsChanged, IsThere, IsUnchanged};
+
+use crate::link_course::LinkCourse;
+use place_sweep::Place;
+use signal_plan::MOST_STEPS;
+
+/// A link between neighbouring places, and when the most that it carries changes next.
+#[derive(Debug, Drop)]
+pub struct FollowedLink {
+    /// The number of the place that it leads out of.
+    pub place: u32,
+    /// The most that it carries doesn't change before this step.
+    pub until: u64,
+    /// The most that it carries.
+    pub course: LinkCourse,
+}
+
+/// Writes the changes that are due at step `t`: each place has the most that its link carries then.
+pub fn refresh(links: &mut [FollowedLink], places: &mut [Place], t: u64)
+    requires there { All (IsThere (length places.old) t) links.old }
+    requires in_time { t ≤ MOST_STEPS }
+    ensures there { All (IsThere (length places.old) t) links.new }
+
+    // Where the links follow what each place's link carries, each place has the most of step t, and they follow it on.
+    ensures most { (most : ℕ → ℕ → ℕ) → AreFollowed most places.old links.old t → (p : ℕ) → p < length places.old →
+        place_at places.new p ≡ record (place_at places.old p) { most = most p t } }
+    ensures followed { (most : ℕ → ℕ → ℕ) → AreFollowed most places.old links.old t → AreFollowed most places.new links.new t }
+{
+    for m in 0..links.len() {
+        let p = links[m].place as usize;
+        refresh_link(&mut links[m], &mut places[p], t);
+    }
+}
+
+// Where the link changes by step `t`, its place has the most of that step.
+fn refresh_link(link: &mut FollowedLink, place: &mut Place, t: u64)
+    requires step { link.old.course.step ≤ t }
+    requires in_time { t ≤ MOST_STEPS }
+    ensures its { link.new.place ≡ link.old.place }
+    ensures step { link.new.course.step ≤ t }
+    ensures course { (s : ℕ) → most_at link.new.course s ≡ most_at link.old.course s }
+    ensures only_most { place.new ≡ record place.old { most = place.new.most } }
+    ensures most { IsUnchanged link.old link.new place.old place.new t ⊎ IsChanged link.old link.new place.new t }
+{
+    if link.until <= t {
+        let now = link.course.move_to(t);
+        link.until = now.until;
+        place.most = now.value;
+    }
+}
