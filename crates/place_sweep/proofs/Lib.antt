@@ -2,3 +2,4 @@ pub mod Links
 pub mod Sets
 pub mod PartSums
 pub mod Factors
+pub mod Flows
