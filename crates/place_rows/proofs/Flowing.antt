@@ -9,6 +9,7 @@ use Rattle.std.proofs.lemmas.List.Elements.{Contains-get_or}
 use Rattle.std.proofs.lemmas.List.FromFn.{get_or-map-range_with_len, get_or-range_with_len, length-map-range_with_len, length-range_with_len}
 use Rattle.std.proofs.lemmas.List.Sums.{sum-map}
 use Rattle.signal_plan.specs.Capacity.{capacity_at}
+use Rattle.signal_plan.proofs.Sums.{sum_by-zero}
 use Rattle.network_file.specs.Cells.{is_gate_at}
 use Rattle.network_file.specs.Connectors.{connector_at, leads_into, leads_out_of, touches}
 use Rattle.network_file.specs.Network.{IsNetwork, Network}
@@ -17,6 +18,8 @@ use Rattle.network_file.specs.declared.connector.Connector.TheVariants.{Link, Me
 use Rattle.flow_model.specs.Flows.{entered_by, entering, flow_of, inflow, leaving, left_by, outflow}
 use Rattle.ordinary_link.specs.LinkFlow.{link_flow_of}
 use Rattle.flow_model.specs.Limits.{receiving_at, room_at, sending_at}
+use Rattle.flow_model.proofs.Carrying.{leads_into-gate}
+use Rattle.flow_model.proofs.CellKinds.{sound_connector}
 use Rattle.flow_model.proofs.CellFlows.{inflow-by, outflow-by}
 use Rattle.flow_model.proofs.Connectors.{entering-other, leaving-other}
 use Rattle.flow_model.proofs.Locality.{leads_into-touches, leads_out_of-touches}
@@ -29,7 +32,7 @@ use Rattle.region_cut.proofs.Increasing.{position_is}
 use Rattle.region_cut.proofs.Ranges.{Contains-filter_range, filter_range-Contains, range-Contains}
 use Rattle.place_rows.specs.Chains.{AreAround, is_chained, is_joined, is_link, most_out, odd_ones}
 use Rattle.place_rows.proofs.Links.{IsLinkAt, carried-link, carried-none, entering-link, leaving-link, link-is}
-use Rattle.place_rows.proofs.Shares.{sum-all, sum-none}
+use Rattle.place_rows.proofs.Shares.{in_range, sum-all, sum-none}
 
 -- a sum over a list, by the places in it
 sum-places : {X : Type 0} (f : X → ℕ) (xs : List X) (d : X) → sum_by f xs ≡ sum_by (λ k. f (get_or xs k d)) (range_with_len 0 (length xs))
@@ -222,3 +225,95 @@ out-total net t n cells connectors places p sound around has within = elim (case
       ]) in
       omega (arith, outflow-sum net t i n)
 ]
+
+-- the place before, whose link leads into the p-th cell
+before-joined : (net : Network) (t : ℕ) (n : ℕ → ℕ) (cells connectors : List ℕ) (places : List Place) (q : ℕ) → IsNetwork net →
+    AreAround net cells connectors → HasPlaces net t n cells connectors places → is_joined net cells connectors q ≡ true →
+    is_gate_at net.cells (slice_index cells (q + 1)) ≡ false →
+    link_out places q + odd_sum net cells connectors (in_by net t n (slice_index cells (q + 1))) ≡ inflow net t n (slice_index cells (q + 1))
+before-joined net t n cells connectors places q sound around has joined no_gate =
+    let up : ℕ = slice_index cells q in
+    let i : ℕ = slice_index cells (q + 1) in
+    let here = join net cells connectors q around joined in
+    let k : ℕ = here.number in
+    let into : leads_into i (connector_at net.connectors k) ≡ true = rw here.at.is (leads_into-link up i) in
+    let by = inflow-by net t k i n sound here.there into no_gate in
+    let odd = odd-none net cells connectors (in_by net t n i) k around here.there here.chained (sym (inflow-sum net t i n no_gate) ∙ by) in
+    let link : in_by net t n i k ≡ link_out places q =
+        ap (λ c. entering i c (flow_of net t n c)) here.at.is ∙ entering-link up i net t n
+        ∙ sym (most-joined net t n cells connectors places q has here.at.within joined) in
+    omega arith
+
+-- no chained connector leads into the p-th cell
+NoneBefore : Network → (cells connectors : List ℕ) → (p : ℕ) → Type 0
+NoneBefore net cells connectors p = (q : ℕ) → q + 1 ≡ p → is_joined net cells connectors q ≡ false
+
+none-before : (net : Network) (t : ℕ) (n : ℕ → ℕ) (cells connectors : List ℕ) (p : ℕ) → AreAround net cells connectors → p < length cells →
+    is_gate_at net.cells (slice_index cells p) ≡ false → NoneBefore net cells connectors p →
+    odd_sum net cells connectors (in_by net t n (slice_index cells p)) ≡ inflow net t n (slice_index cells p)
+unfolding NoneBefore
+none-before net t n cells connectors p around within no_gate none =
+    let i : ℕ = slice_index cells p in
+    odd-all net cells connectors (in_by net t n i) around (λ k below. elim (cases_Bool (leads_into i (connector_at net.connectors k))) [
+      | inr other ↦ inl (entering-other i (connector_at net.connectors k) (flow_of net t n (connector_at net.connectors k)) other)
+      | inl into ↦
+          let touched = around.whole i k (own-cell cells p within) below (leads_into-touches i (connector_at net.connectors k) into) in
+          inr (touched, elim (cases_Bool (is_chained cells (connector_at net.connectors k))) [
+            | inr other ↦ other
+            | inl chained ↦
+                let linked = chained-into cells p (connector_at net.connectors k) around.rising within chained into in
+                let joined = joined-by net cells connectors linked.0 k around below touched linked.2 in
+                let apart = none linked.0 linked.1 in cc
+          ])
+    ]) ∙ sym (inflow-sum net t i n no_gate)
+
+-- what connectors bring to a cell: by the link of the place before, and by the connectors that are not chained
+pub in-total : (net : Network) (t : ℕ) (n : ℕ → ℕ) (cells connectors : List ℕ) (places : List Place) (p : ℕ) → IsNetwork net →
+    AreAround net cells connectors → HasPlaces net t n cells connectors places → p < length cells →
+    is_gate_at net.cells (slice_index cells p) ≡ false →
+    link_in places p + odd_sum net cells connectors (in_by net t n (slice_index cells p)) ≡ inflow net t n (slice_index cells p)
+unfolding link_in NoneBefore
+in-total net t n cells connectors places zero sound around has within no_gate =
+    let all = none-before net t n cells connectors 0 around within no_gate (λ q before. absurd (omega arith)) in omega arith
+in-total net t n cells connectors places (suc q) sound around has within no_gate =
+    let next : suc q ≡ q + 1 = sym (add-one q) in
+    elim (cases_Bool (is_joined net cells connectors q)) [
+      | inl joined ↦
+          let no_gate_next = rw next at no_gate in
+          rw next (before-joined net t n cells connectors places q sound around has joined no_gate_next)
+      | inr apart ↦
+          let none = most-none net t n cells connectors places q has (omega arith) apart in
+          let all = none-before net t n cells connectors (suc q) around within no_gate
+              (λ m before. let same : m ≡ q = omega arith in subst (λ k. is_joined net cells connectors k ≡ false) (sym same) apart) in
+          omega arith
+    ]
+
+-- nothing is brought to a gate
+odd-gate : (net : Network) (t i : ℕ) (n : ℕ → ℕ) (cells connectors : List ℕ) → IsNetwork net → AreAround net cells connectors →
+    is_gate_at net.cells i ≡ true → odd_sum net cells connectors (in_by net t n i) ≡ 0
+odd-gate net t i n cells connectors sound around gate =
+    let none : (k : ℕ) → k < length net.connectors → in_by net t n i k ≡ 0 = λ k below.
+        entering-other i (connector_at net.connectors k) (flow_of net t n (connector_at net.connectors k))
+        (leads_into-gate net i (connector_at net.connectors k) (sound_connector net k sound below) gate) in
+    odd-all net cells connectors (in_by net t n i) around (λ k below. inl (none k below))
+    ∙ sum_by-zero (in_by net t n i) (range_with_len 0 (length net.connectors))
+    (λ m d inside. let is = none (get_or (range_with_len 0 (length net.connectors)) m d) (in_range (length net.connectors) m d inside) in omega arith)
+
+pub in-gate : (net : Network) (t : ℕ) (n : ℕ → ℕ) (cells connectors : List ℕ) (places : List Place) (p : ℕ) → IsNetwork net →
+    AreAround net cells connectors → HasPlaces net t n cells connectors places → p < length cells →
+    is_gate_at net.cells (slice_index cells p) ≡ true →
+    (link_in places p ≡ 0) × (odd_sum net cells connectors (in_by net t n (slice_index cells p)) ≡ 0)
+unfolding link_in
+in-gate net t n cells connectors places zero sound around has within gate =
+    (refl, odd-gate net t (slice_index cells 0) n cells connectors sound around gate)
+in-gate net t n cells connectors places (suc q) sound around has within gate =
+    let next : suc q ≡ q + 1 = sym (add-one q) in
+    (elim (cases_Bool (is_joined net cells connectors q)) [
+      | inl joined ↦
+          let here = join net cells connectors q around joined in
+          let connector : Connector = connector_at net.connectors here.number in
+          let into : leads_into (slice_index cells (q + 1)) connector ≡ true = rw here.at.is (leads_into-link (slice_index cells q) (slice_index cells (q + 1))) in
+          let never = leads_into-gate net (slice_index cells (q + 1)) connector (sound_connector net here.number sound here.there) (rw next at gate) in
+          cc
+      | inr apart ↦ most-none net t n cells connectors places q has (omega arith) apart
+    ], odd-gate net t (slice_index cells (suc q)) n cells connectors sound around gate)

@@ -30,7 +30,7 @@ sum-chosen : (touched odd : ℕ → Bool) (f : ℕ → ℕ) (n : ℕ) →
 sum-chosen touched odd f n =
     sum_by-filter f odd (filter touched (range_with_len 0 n)) ∙ sum_by-filter (λ k. if odd k then f k else 0) touched (range_with_len 0 n)
 
-in_range : (n : ℕ) → All (λ k. k < n) (range_with_len 0 n)
+pub in_range : (n : ℕ) → All (λ k. k < n) (range_with_len 0 n)
 in_range n = λ k d within.
     let below : k < n = omega (arith, length-range_with_len 0 n) in
     let at = get_or-range_with_len 0 n k d below in omega arith
