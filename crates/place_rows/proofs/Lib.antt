@@ -1,3 +1,4 @@
 pub mod Shares
 pub mod Links
 pub mod Flowing
+pub mod Stepping

@@ -1,6 +1,10 @@
 //! The rows of some cells of a network, kept as places side by side.
 #![tactic(auto)]
 
+mod carry;
 mod chain;
+mod origin;
+mod spot;
+mod tie;
 
 pub use chain::chained;

@@ -23,3 +23,8 @@ link_flow-is q_up q_down n_up n_down true space (Some room) is has =
 link_flow-is q_up q_down n_up n_down true space None is has =
     lesser_boundless q_up q_down n_up (let_in space n_down) (is n_down q_down has).1
 link_flow-is q_up q_down n_up n_down false space room is has = omega arith
+
+-- a place can hold what its cell can
+pub held-fits : (n q : ℕ) (space : Space) (room : Option Room) → IsSpaceOf space room → HasSpace n q room → n ≤ space.most
+held-fits n q space (Some room) is has = (is n has).0
+held-fits n q space None is has = (is n q has).0

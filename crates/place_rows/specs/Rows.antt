@@ -1,0 +1,42 @@
+-- The row of a cell by its place.
+use Rattle.std.specs.Prelude.{◌≡◌, ℕ, ◌+◌, ◌-◌, ◌<◌, ◌≤◌, ◌%◌, ◌^◌, false, List, length, map, slice_index, slice_index_or, if◌then◌else◌}
+use Rattle.std.specs.List.{range_with_len}
+use Rattle.network_file.specs.Cells.{is_exit_at}
+use Rattle.network_file.specs.Network.{Network}
+use Rattle.flow_model.specs.Bounds.{first_at}
+use Rattle.flow_model.specs.declared.row.Row.{Row}
+use Rattle.place_sweep.specs.Places.{place_at}
+use Rattle.place_sweep.specs.declared.place.Place.{Place}
+use Rattle.place_rows.specs.declared.origin.Origin.{Origin}
+
+-- what came is what it holds and what went, less what it held at first; what waited is what it held in all the steps, less what went.
+-- An exit keeps all that came, and nothing waits in it.
+abbrev pub row_of : Origin → Place → Row
+row_of origin place = record {
+  n = place.n;
+  come = if origin.is_exit then place.n else place.n + place.gone - origin.first;
+  gone = place.gone;
+  wait = if origin.is_exit then 0 else place.held - place.gone;
+}
+
+abbrev pub origin_at : List Origin → (p : ℕ) → Origin
+origin_at origins p = slice_index_or origins p (record { first = 0; is_exit = false })
+
+-- the rows of cells with these origins at these places
+unfoldable pub rows_of : List Origin → List Place → List Row
+rows_of origins places = map (λ p. row_of (origin_at origins p) (place_at places p)) (range_with_len 0 (length origins))
+
+-- the place and the origin are those of cell i: no sum of it runs below 0
+pub record IsOf (net : Network) (i : ℕ) (origin : Origin) (place : Place) : Type 0 where
+  pub first : origin.first ≡ first_at net.cells i
+  pub exit : origin.is_exit ≡ is_exit_at net.cells i
+  pub began : origin.is_exit ≡ false → origin.first ≤ place.n + place.gone
+  pub sums : origin.is_exit ≡ false → place.gone ≤ place.held
+
+-- a place after a whole step in which so much entered and so much left
+abbrev pub stepped : Place → (enters leaves : ℕ) → Place
+stepped place enters leaves = record place {
+  n = place.n + enters - leaves;
+  gone = place.gone + leaves;
+  held = (place.held + place.n) % 2 ^ 64;
+}

@@ -1,0 +1,40 @@
+ghost use Rattle.std.specs.Prelude.{◌≡◌, ◌+◌, ◌<◌, ◌≤◌, ◌^◌, false};
+ghost use Rattle.place_rows.specs.Rows.{row_of};
+
+use flow_model::Row;
+use place_sweep::Place;
+
+/// What never changes of a cell, and makes its row of its place.
+#[derive(Clone, Copy, Debug)]
+pub(crate) struct Origin {
+    /// What it holds at step 0.
+    pub(crate) first: u64,
+    /// Whether it is an exit.
+    pub(crate) is_exit: bool,
+}
+
+impl Origin {
+    /// The row of the cell at its place.
+    pub(crate) fn row(self, place: &Place) -> Row
+        requires began { self.is_exit ≡ false → self.first ≤ place.now.n + place.now.gone }
+        requires sums { self.is_exit ≡ false → place.now.gone ≤ place.now.held }
+        requires fits { place.now.n + place.now.gone < 2 ^ 64 }
+        ensures { result ≡ row_of self place.now }
+    {
+        let (n, gone) = (place.n, place.gone);
+        if self.is_exit {
+            return Row {
+                n,
+                come: n,
+                gone,
+                wait: 0,
+            };
+        }
+        Row {
+            n,
+            come: n + gone - self.first,
+            gone,
+            wait: place.held - gone,
+        }
+    }
+}
