@@ -30,6 +30,7 @@ use Rattle.timelines.specs.Courses.{most_between}
 use Rattle.region_cut.proofs.Anys.{Contains-from_test, false_from_not, found, finds, not_false}
 use Rattle.region_cut.proofs.Increasing.{position_is}
 use Rattle.region_cut.proofs.Ranges.{Contains-filter_range, filter_range-Contains, range-Contains}
+use Rattle.place_rows.specs.Moves.{in_by, out_by}
 use Rattle.place_rows.specs.Chains.{AreAround, is_chained, is_joined, is_link, most_out, odd_ones}
 use Rattle.place_rows.proofs.Links.{IsLinkAt, carried-link, carried-none, entering-link, leaving-link, link-is}
 use Rattle.place_rows.proofs.Shares.{in_range, sum-all, sum-none}
@@ -45,14 +46,6 @@ sum-places f xs d =
             let within : k < n = omega (arith, length-map xs f) in
             get_or-map f xs k d 0 within ∙ sym (get_or-map-range_with_len at 0 n k k 0 within (omega arith))) in
     sym (sum-map f xs) ∙ ap sum same ∙ sum-map at (range_with_len 0 n)
-
--- what connector k takes from cell i
-abbrev out_by : Network → (t : ℕ) → (ℕ → ℕ) → (i k : ℕ) → ℕ
-out_by net t n i k = leaving i (connector_at net.connectors k) (flow_of net t n (connector_at net.connectors k))
-
--- and brings to it
-abbrev in_by : Network → (t : ℕ) → (ℕ → ℕ) → (i k : ℕ) → ℕ
-in_by net t n i k = entering i (connector_at net.connectors k) (flow_of net t n (connector_at net.connectors k))
 
 outflow-sum : (net : Network) (t i : ℕ) (n : ℕ → ℕ) → outflow net t n i ≡ sum_by (out_by net t n i) (range_with_len 0 (length net.connectors))
 unfolding left_by

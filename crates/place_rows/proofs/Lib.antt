@@ -2,3 +2,4 @@ pub mod Shares
 pub mod Links
 pub mod Flowing
 pub mod Stepping
+pub mod Parting

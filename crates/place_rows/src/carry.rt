@@ -1,4 +1,5 @@
-ghost use Rattle.std.specs.Prelude.{◌≡◌, ◌+◌, ◌≤◌, length, vec_capacity};
+ghost use Rattle.std.specs.Prelude.{◌≡◌, ◌+◌, ◌*◌, ◌≤◌, ℕ, All, List, length, vec_capacity};
+ghost use Rattle.place_rows.specs.Moves.{AreTied, ArePartsOf, IsSeen};
 ghost use Rattle.network_file.specs.Connectors.{connector_at};
 ghost use Rattle.place_rows.specs.Carrying.{CanCarry, carried_of, with_ins, with_outs, with_part};
 
@@ -66,5 +67,30 @@ fn put_part(items: &mut Vec<Part>, spot: Spot, parts: u64)
 {
     if let Spot::Own(place) = spot {
         let _ = items.push(Part { place, parts });
+    }
+}
+
+/// What all these connectors take and bring in step `t`.
+pub(crate) fn carry_all(
+    net: &Net,
+    t: u64,
+    ties: &[Tie],
+    sight: &Sight,
+    outs: &mut Vec<Part>,
+    ins: &mut Vec<Part>,
+)
+    requires each { All (λ tie. CanCarry net.now t tie sight.now.places.now sight.now.put.now) ties.now }
+    requires room { 2 * length ties.now ≤ vec_capacity outs.old }
+    requires room_in { 2 * length ties.now ≤ vec_capacity ins.old }
+    ensures parts { (n : ℕ → ℕ) (cells halo : List ℕ) → IsSeen n cells halo sight.now.places.now sight.now.put.now →
+        AreTied net.now cells halo ties.now → ArePartsOf net.now t n cells ties.now outs.new.items ins.new.items }
+    ensures few { length ins.new.items ≤ 2 * length ties.now }
+    ensures room { vec_capacity outs.old ≤ vec_capacity outs.new }
+    ensures room_in { vec_capacity ins.old ≤ vec_capacity ins.new }
+{
+    outs.clear();
+    ins.clear();
+    for tie in ties {
+        carry(net, t, tie, sight, outs, ins);
     }
 }

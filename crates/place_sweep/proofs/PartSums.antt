@@ -1,10 +1,10 @@
 -- Parts that enter or leave places, one more of them.
-use Rattle.std.proofs.Common.{◌≡◌, ◌≢◌, ℕ, ◌+◌, ◌-◌, ◌<◌, ◌≤◌, ◌==◌, List, length, take, if◌then◌else◌, refl, sym, ap, ◌∙◌, subst, inl, inr, arith}
+use Rattle.std.proofs.Common.{◌≡◌, ◌≢◌, ℕ, ◌+◌, ◌-◌, ◌<◌, ◌≤◌, ◌==◌, List, [], ◌∷◌, ◌++◌, length, take, if◌then◌else◌, refl, sym, ap, ◌∙◌, subst, inl, inr, arith}
 use Rattle.std.proofs.Math.ListN.{get_or, set}
 use Rattle.std.proofs.lemmas.Bool.{cases_eq}
 use Rattle.std.proofs.lemmas.Bool.Decides.{nat_tests}
 use Rattle.std.proofs.lemmas.List.{get_or-set_same, get_or-set_other}
-use Rattle.std.proofs.lemmas.List.Sums.{sum_by_more, sum_by_more_le}
+use Rattle.std.proofs.lemmas.List.Sums.{sum_by_more, sum_by_more_le, sum_by_push}
 use Rattle.place_sweep.specs.Parts.{parts_at, with_entered, with_left}
 use Rattle.place_sweep.specs.Places.{no_place, place_at}
 use Rattle.place_sweep.specs.declared.part.Part.{Part}
@@ -97,3 +97,7 @@ parts_more move move_is first places parts i d place there inside is before p lt
           parts_at-more parts i d p there ∙ ap (λ x. parts_at (take i parts) p + x) (share-other part p other) ∙ omega arith in
           get_or-set_other places part.place p place no_place other ∙ before p lt ∙ ap (move (place_at first p)) (sym more)
     ]
+
+pub parts_at-push : (parts : List Part) (part : Part) (p : ℕ) → parts_at (parts ++ part ∷ []) p ≡ parts_at parts p + (if part.place == p then part.parts else 0)
+unfolding parts_at
+parts_at-push parts part p = sum_by_push (λ one. share one p) parts part

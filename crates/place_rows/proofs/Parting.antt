@@ -1,0 +1,143 @@
+-- What one connector puts among the parts that leave places and enter them.
+use Rattle.std.specs.Prelude.{◌==◌, ◌||◌, eqb, Option, None, map, slice_index, slice_index_or, unwrap_or, if◌then◌else◌}
+use Rattle.std.specs.List.{sum_by}
+use Rattle.std.specs.List.Sorted.{IsStrictlyIncreasing}
+use Rattle.std.proofs.Common.{◌≡◌, ◌≢◌, ℕ, zero, suc, ◌<◌, ◌≤◌, ◌+◌, inl, inr, Bool, true, false, List, [], ◌∷◌, ◌++◌, length, get_or, refl, sym, ap, ◌∙◌, arith}
+use Rattle.std.proofs.lemmas.Bool.{cases_Bool, cases_eq, eq-eqb, eqb-true, ne_eqb}
+use Rattle.std.proofs.lemmas.List.Sums.{sum_by-cons}
+use Rattle.network_file.specs.Connectors.{cells_of, connector_at}
+use Rattle.network_file.specs.Network.{Network}
+use Rattle.network_file.specs.declared.connector.Connector.{Connector}
+use Rattle.network_file.specs.declared.connector.Connector.TheVariants.{Link, Merge, Diverge}
+use Rattle.flow_model.specs.Bounds.{AreHeldInBounds, IsHeldInBounds}
+use Rattle.flow_model.specs.Flows.{entering, flow_between, flow_of, leaving}
+use Rattle.flow_model.specs.declared.carried.Flow.{Flow}
+use Rattle.place_sweep.specs.Parts.{parts_at}
+use Rattle.place_sweep.specs.Places.{place_at}
+use Rattle.place_sweep.specs.declared.part.Part.{Part}
+use Rattle.place_sweep.specs.declared.place.Place.{Place}
+use Rattle.place_sweep.proofs.PartSums.{parts_at-push}
+use Rattle.region_cut.proofs.Increasing.{position_is}
+use Rattle.region_cut.specs.ConnectorCells.{three_cells}
+use Rattle.place_rows.specs.Carrying.{CanCarry, IsSpotOf, IsThere, IsTie, carried_of, held_at, spot_at, with_ins, with_outs, with_part}
+use Rattle.place_rows.specs.Moves.{IsScene, IsSeen, in_by, out_by}
+use Rattle.place_rows.specs.declared.spot.Spot.{Spot}
+use Rattle.place_rows.specs.declared.spot.Spot.TheVariants.{Own, Halo}
+use Rattle.place_rows.specs.declared.tie.Tie.{Tie}
+
+-- the cells of a region and of its halo
+pub record AreApart (cells halo : List ℕ) : Type 0 where
+  pub rising : IsStrictlyIncreasing cells
+  pub apart : (p j : ℕ) → p < length cells → j < length halo → slice_index cells p ≢ slice_index halo j
+
+-- so many parts at a spot are those of its cell's place
+part-at : (cells halo : List ℕ) (items : List Part) (i p parts : ℕ) (spot : Spot) → AreApart cells halo → p < length cells → IsSpotOf cells halo i spot →
+    parts_at (with_part items spot parts) p ≡ parts_at items p + (if slice_index cells p == i then parts else 0)
+part-at cells halo items i p parts (Own q) apart within (there, is) = elim (cases_eq p q) [
+  | inl same ↦
+      let own : (slice_index cells p == i) ≡ true = eq-eqb (slice_index cells p) i (ap (slice_index cells) same ∙ is) in
+      let here : (q == p) ≡ true = eq-eqb q p (sym same) in
+      rw own (parts_at-push items (record { place = q; parts = parts }) p ∙ ap (λ b. parts_at items p + (if b then parts else 0)) here)
+  | inr other ↦
+      let away : (slice_index cells p == i) ≡ false = ne_eqb (slice_index cells p) i (λ equal.
+          other (sym (position_is cells p (slice_index cells q) apart.rising within (equal ∙ sym is)) ∙ position_is cells q (slice_index cells q) apart.rising there refl)) in
+      let there_not : (q == p) ≡ false = ne_eqb q p (λ equal. other (sym equal)) in
+      rw away (parts_at-push items (record { place = q; parts = parts }) p ∙ ap (λ b. parts_at items p + (if b then parts else 0)) there_not)
+]
+part-at cells halo items i p parts (Halo j) apart within (there, is) =
+    let away : (slice_index cells p == i) ≡ false = ne_eqb (slice_index cells p) i (λ equal. apart.apart p j within there (equal ∙ sym is)) in
+    rw away (omega arith)
+
+-- one connector more
+pub outs-more : (cells halo : List ℕ) (connector : Connector) (tie : Tie) (flow : Flow) (outs : List Part) (p : ℕ) → AreApart cells halo → p < length cells →
+    ((m : ℕ) → m < 3 → IsSpotOf cells halo (slice_index (three_cells connector) m) (spot_at tie m)) →
+    parts_at (with_outs connector tie flow outs) p ≡ parts_at outs p + leaving (slice_index cells p) connector flow
+outs-more cells halo (Link up down) tie flow outs p apart within spots =
+    let one = part-at cells halo outs up p flow.out1 (spot_at tie 0) apart within (spots 0 (omega arith)) in omega arith
+outs-more cells halo (Merge up1 up2 down p1 p2) tie flow outs p apart within spots =
+    let one = part-at cells halo outs up1 p flow.out1 (spot_at tie 0) apart within (spots 0 (omega arith)) in
+    let two = part-at cells halo (with_part outs (spot_at tie 0) flow.out1) up2 p flow.out2 (spot_at tie 1) apart within (spots 1 (omega arith)) in omega arith
+outs-more cells halo (Diverge up down1 down2 b1 b2) tie flow outs p apart within spots =
+    let one = part-at cells halo outs up p flow.out1 (spot_at tie 0) apart within (spots 0 (omega arith)) in omega arith
+
+pub ins-more : (cells halo : List ℕ) (connector : Connector) (tie : Tie) (flow : Flow) (ins : List Part) (p : ℕ) → AreApart cells halo → p < length cells →
+    ((m : ℕ) → m < 3 → IsSpotOf cells halo (slice_index (three_cells connector) m) (spot_at tie m)) →
+    parts_at (with_ins connector tie flow ins) p ≡ parts_at ins p + entering (slice_index cells p) connector flow
+ins-more cells halo (Link up down) tie flow ins p apart within spots =
+    let one = part-at cells halo ins down p flow.in1 (spot_at tie 1) apart within (spots 1 (omega arith)) in omega arith
+ins-more cells halo (Merge up1 up2 down p1 p2) tie flow ins p apart within spots =
+    let one = part-at cells halo ins down p flow.in1 (spot_at tie 2) apart within (spots 2 (omega arith)) in omega arith
+ins-more cells halo (Diverge up down1 down2 b1 b2) tie flow ins p apart within spots =
+    let one = part-at cells halo ins down1 p flow.in1 (spot_at tie 1) apart within (spots 1 (omega arith)) in
+    let two = part-at cells halo (with_part ins (spot_at tie 1) flow.in1) down2 p flow.in2 (spot_at tie 2) apart within (spots 2 (omega arith)) in omega arith
+
+-- what a tie's connector carries is its flow where the cells hold n
+held-seen : (n : ℕ → ℕ) (cells halo : List ℕ) (places : List Place) (put : List (Option ℕ)) (i : ℕ) (spot : Spot) → IsSeen n cells halo places put →
+    IsSpotOf cells halo i spot → held_at places put spot ≡ n i
+held-seen n cells halo places put i (Own p) seen (there, is) = sym (seen.own p there) ∙ ap n is
+held-seen n cells halo places put i (Halo j) seen (there, is) = sym (seen.around j there) ∙ ap n is
+
+flow_between-three : (net : Network) (t : ℕ) (connector : Connector) (n : ℕ → ℕ) →
+    flow_between net t connector (n (slice_index (three_cells connector) 0) ∷ n (slice_index (three_cells connector) 1) ∷ n (slice_index (three_cells connector) 2) ∷ []) ≡
+    flow_of net t n connector
+unfolding flow_between
+flow_between-three net t (Link up down) n = refl
+flow_between-three net t (Merge up1 up2 down p1 p2) n = refl
+flow_between-three net t (Diverge up down1 down2 b1 b2) n = refl
+
+pub carried-is : (net : Network) (t : ℕ) (n : ℕ → ℕ) (cells halo : List ℕ) (places : List Place) (put : List (Option ℕ)) (tie : Tie) →
+    IsSeen n cells halo places put → IsTie net cells halo tie →
+    carried_of net t tie places put ≡ flow_of net t n (connector_at net.connectors tie.connector)
+carried-is net t n cells halo places put tie seen tied =
+    let connector : Connector = connector_at net.connectors tie.connector in
+    let at : (m : ℕ) → m < 3 → held_at places put (spot_at tie m) ≡ n (slice_index (three_cells connector) m) =
+        λ m few. held-seen n cells halo places put (slice_index (three_cells connector) m) (spot_at tie m) seen (tied.spots m few) in
+    let a = at 0 (omega arith) in
+    let b = at 1 (omega arith) in
+    let c = at 2 (omega arith) in
+    rw (a, b, c) (flow_between-three net t connector n)
+
+-- it can carry it
+spot-there : (net : Network) (t : ℕ) (cells halo : List ℕ) (ties : List Tie) (places : List Place) (put : List (Option ℕ)) (i : ℕ) (spot : Spot) →
+    IsScene net t cells halo ties places put → IsSpotOf cells halo i spot → IsThere places put spot × IsHeldInBounds net t i (held_at places put spot)
+spot-there net t cells halo ties places put i (Own p) scene (there, is) =
+    (omega (arith, scene.place_each, there), rw is at (scene.own p there))
+spot-there net t cells halo ties places put i (Halo p) scene (there, is) =
+    (omega (arith, scene.put_each, there), rw is at (scene.around p there))
+
+three_in_bounds : (net : Network) (t : ℕ) (connector : Connector) (a b c : ℕ) → IsHeldInBounds net t (slice_index (three_cells connector) 0) a →
+    IsHeldInBounds net t (slice_index (three_cells connector) 1) b → IsHeldInBounds net t (slice_index (three_cells connector) 2) c →
+    AreHeldInBounds net t (cells_of connector) (a ∷ b ∷ c ∷ [])
+three_in_bounds net t (Link up down) a b c first second third = record { each = at }
+  where
+    at : (j : ℕ) → j < 2 → IsHeldInBounds net t (slice_index (up ∷ down ∷ []) j) (slice_index (a ∷ b ∷ c ∷ []) j)
+    at zero within = first
+    at (suc zero) within = second
+    at (suc (suc j)) within = absurd (omega arith)
+three_in_bounds net t (Merge up1 up2 down p1 p2) a b c first second third = record { each = at }
+  where
+    at : (j : ℕ) → j < 3 → IsHeldInBounds net t (slice_index (up1 ∷ up2 ∷ down ∷ []) j) (slice_index (a ∷ b ∷ c ∷ []) j)
+    at zero within = first
+    at (suc zero) within = second
+    at (suc (suc zero)) within = third
+    at (suc (suc (suc j))) within = absurd (omega arith)
+three_in_bounds net t (Diverge up down1 down2 b1 b2) a b c first second third = record { each = at }
+  where
+    at : (j : ℕ) → j < 3 → IsHeldInBounds net t (slice_index (up ∷ down1 ∷ down2 ∷ []) j) (slice_index (a ∷ b ∷ c ∷ []) j)
+    at zero within = first
+    at (suc zero) within = second
+    at (suc (suc zero)) within = third
+    at (suc (suc (suc j))) within = absurd (omega arith)
+
+pub can_carry : (net : Network) (t : ℕ) (cells halo : List ℕ) (ties : List Tie) (places : List Place) (put : List (Option ℕ)) (tie : Tie) →
+    IsScene net t cells halo ties places put → IsTie net cells halo tie → CanCarry net t tie places put
+can_carry net t cells halo ties places put tie scene tied =
+    let connector : Connector = connector_at net.connectors tie.connector in
+    let at : (m : ℕ) → m < 3 → IsThere places put (spot_at tie m) × IsHeldInBounds net t (slice_index (three_cells connector) m) (held_at places put (spot_at tie m)) =
+        λ m few. spot-there net t cells halo ties places put (slice_index (three_cells connector) m) (spot_at tie m) scene (tied.spots m few) in
+    record {
+      connector = tied.there;
+      before = scene.before;
+      spots = λ m few. (at m few).0;
+      held = three_in_bounds net t connector _ _ _ ((at 0 (omega arith)).1) ((at 1 (omega arith)).1) ((at 2 (omega arith)).1);
+    }
