@@ -1,10 +1,12 @@
 -- What one connector puts among the parts that leave places and enter them.
-use Rattle.std.specs.Prelude.{◌==◌, ◌||◌, eqb, Option, None, map, slice_index, slice_index_or, unwrap_or, if◌then◌else◌}
+use Rattle.std.specs.Prelude.{All, ◌==◌, ◌||◌, eqb, Option, None, map, slice_index, slice_index_or, unwrap_or, if◌then◌else◌}
 use Rattle.std.specs.List.{sum_by}
 use Rattle.std.specs.List.Sorted.{IsStrictlyIncreasing}
-use Rattle.std.proofs.Common.{◌≡◌, ◌≢◌, ℕ, zero, suc, ◌<◌, ◌≤◌, ◌+◌, inl, inr, Bool, true, false, List, [], ◌∷◌, ◌++◌, length, get_or, refl, sym, ap, ◌∙◌, arith}
+use Rattle.std.proofs.Common.{◌≡◌, ◌≢◌, ℕ, zero, suc, ◌<◌, ◌≤◌, ◌+◌, inl, inr, Bool, true, false, List, [], ◌∷◌, ◌++◌, length, get_or, take, refl, sym, ap, ◌∙◌, arith}
 use Rattle.std.proofs.lemmas.Bool.{cases_Bool, cases_eq, eq-eqb, eqb-true, ne_eqb}
-use Rattle.std.proofs.lemmas.List.Sums.{sum_by-cons}
+use Rattle.std.proofs.lemmas.List.Sums.{sum_by_more}
+use Rattle.std.proofs.lemmas.List.{length_push}
+use Rattle.std.proofs.lemmas.List.Elements.{All-push}
 use Rattle.network_file.specs.Connectors.{cells_of, connector_at}
 use Rattle.network_file.specs.Network.{Network}
 use Rattle.network_file.specs.declared.connector.Connector.{Connector}
@@ -16,24 +18,19 @@ use Rattle.place_sweep.specs.Parts.{parts_at}
 use Rattle.place_sweep.specs.Places.{place_at}
 use Rattle.place_sweep.specs.declared.part.Part.{Part}
 use Rattle.place_sweep.specs.declared.place.Place.{Place}
-use Rattle.place_sweep.proofs.PartSums.{parts_at-push}
+use Rattle.place_sweep.proofs.PartSums.{parts_at-none, parts_at-push}
 use Rattle.region_cut.proofs.Increasing.{position_is}
 use Rattle.region_cut.specs.ConnectorCells.{three_cells}
 use Rattle.place_rows.specs.Carrying.{CanCarry, IsSpotOf, IsThere, IsTie, carried_of, held_at, spot_at, with_ins, with_outs, with_part}
-use Rattle.place_rows.specs.Moves.{IsScene, IsSeen, in_by, out_by}
+use Rattle.place_rows.specs.Moves.{AreTied, ArePartsOf, IsScene, IsSeen, in_by, out_by}
 use Rattle.place_rows.specs.declared.spot.Spot.{Spot}
 use Rattle.place_rows.specs.declared.spot.Spot.TheVariants.{Own, Halo}
 use Rattle.place_rows.specs.declared.tie.Tie.{Tie}
 
--- the cells of a region and of its halo
-pub record AreApart (cells halo : List ℕ) : Type 0 where
-  pub rising : IsStrictlyIncreasing cells
-  pub apart : (p j : ℕ) → p < length cells → j < length halo → slice_index cells p ≢ slice_index halo j
-
 -- so many parts at a spot are those of its cell's place
-part-at : (cells halo : List ℕ) (items : List Part) (i p parts : ℕ) (spot : Spot) → AreApart cells halo → p < length cells → IsSpotOf cells halo i spot →
+part-at : (net : Network) (ties : List Tie) (cells halo : List ℕ) (items : List Part) (i p parts : ℕ) (spot : Spot) → AreTied net cells halo ties → p < length cells → IsSpotOf cells halo i spot →
     parts_at (with_part items spot parts) p ≡ parts_at items p + (if slice_index cells p == i then parts else 0)
-part-at cells halo items i p parts (Own q) apart within (there, is) = elim (cases_eq p q) [
+part-at net ties cells halo items i p parts (Own q) apart within (there, is) = elim (cases_eq p q) [
   | inl same ↦
       let own : (slice_index cells p == i) ≡ true = eq-eqb (slice_index cells p) i (ap (slice_index cells) same ∙ is) in
       let here : (q == p) ≡ true = eq-eqb q p (sym same) in
@@ -44,32 +41,32 @@ part-at cells halo items i p parts (Own q) apart within (there, is) = elim (case
       let there_not : (q == p) ≡ false = ne_eqb q p (λ equal. other (sym equal)) in
       rw away (parts_at-push items (record { place = q; parts = parts }) p ∙ ap (λ b. parts_at items p + (if b then parts else 0)) there_not)
 ]
-part-at cells halo items i p parts (Halo j) apart within (there, is) =
+part-at net ties cells halo items i p parts (Halo j) apart within (there, is) =
     let away : (slice_index cells p == i) ≡ false = ne_eqb (slice_index cells p) i (λ equal. apart.apart p j within there (equal ∙ sym is)) in
     rw away (omega arith)
 
 -- one connector more
-pub outs-more : (cells halo : List ℕ) (connector : Connector) (tie : Tie) (flow : Flow) (outs : List Part) (p : ℕ) → AreApart cells halo → p < length cells →
+pub outs-more : (net : Network) (ties : List Tie) (cells halo : List ℕ) (connector : Connector) (tie : Tie) (flow : Flow) (outs : List Part) (p : ℕ) → AreTied net cells halo ties → p < length cells →
     ((m : ℕ) → m < 3 → IsSpotOf cells halo (slice_index (three_cells connector) m) (spot_at tie m)) →
     parts_at (with_outs connector tie flow outs) p ≡ parts_at outs p + leaving (slice_index cells p) connector flow
-outs-more cells halo (Link up down) tie flow outs p apart within spots =
-    let one = part-at cells halo outs up p flow.out1 (spot_at tie 0) apart within (spots 0 (omega arith)) in omega arith
-outs-more cells halo (Merge up1 up2 down p1 p2) tie flow outs p apart within spots =
-    let one = part-at cells halo outs up1 p flow.out1 (spot_at tie 0) apart within (spots 0 (omega arith)) in
-    let two = part-at cells halo (with_part outs (spot_at tie 0) flow.out1) up2 p flow.out2 (spot_at tie 1) apart within (spots 1 (omega arith)) in omega arith
-outs-more cells halo (Diverge up down1 down2 b1 b2) tie flow outs p apart within spots =
-    let one = part-at cells halo outs up p flow.out1 (spot_at tie 0) apart within (spots 0 (omega arith)) in omega arith
+outs-more net ties cells halo (Link up down) tie flow outs p apart within spots =
+    let one = part-at net ties cells halo outs up p flow.out1 (spot_at tie 0) apart within (spots 0 (omega arith)) in omega arith
+outs-more net ties cells halo (Merge up1 up2 down p1 p2) tie flow outs p apart within spots =
+    let one = part-at net ties cells halo outs up1 p flow.out1 (spot_at tie 0) apart within (spots 0 (omega arith)) in
+    let two = part-at net ties cells halo (with_part outs (spot_at tie 0) flow.out1) up2 p flow.out2 (spot_at tie 1) apart within (spots 1 (omega arith)) in omega arith
+outs-more net ties cells halo (Diverge up down1 down2 b1 b2) tie flow outs p apart within spots =
+    let one = part-at net ties cells halo outs up p flow.out1 (spot_at tie 0) apart within (spots 0 (omega arith)) in omega arith
 
-pub ins-more : (cells halo : List ℕ) (connector : Connector) (tie : Tie) (flow : Flow) (ins : List Part) (p : ℕ) → AreApart cells halo → p < length cells →
+pub ins-more : (net : Network) (ties : List Tie) (cells halo : List ℕ) (connector : Connector) (tie : Tie) (flow : Flow) (ins : List Part) (p : ℕ) → AreTied net cells halo ties → p < length cells →
     ((m : ℕ) → m < 3 → IsSpotOf cells halo (slice_index (three_cells connector) m) (spot_at tie m)) →
     parts_at (with_ins connector tie flow ins) p ≡ parts_at ins p + entering (slice_index cells p) connector flow
-ins-more cells halo (Link up down) tie flow ins p apart within spots =
-    let one = part-at cells halo ins down p flow.in1 (spot_at tie 1) apart within (spots 1 (omega arith)) in omega arith
-ins-more cells halo (Merge up1 up2 down p1 p2) tie flow ins p apart within spots =
-    let one = part-at cells halo ins down p flow.in1 (spot_at tie 2) apart within (spots 2 (omega arith)) in omega arith
-ins-more cells halo (Diverge up down1 down2 b1 b2) tie flow ins p apart within spots =
-    let one = part-at cells halo ins down1 p flow.in1 (spot_at tie 1) apart within (spots 1 (omega arith)) in
-    let two = part-at cells halo (with_part ins (spot_at tie 1) flow.in1) down2 p flow.in2 (spot_at tie 2) apart within (spots 2 (omega arith)) in omega arith
+ins-more net ties cells halo (Link up down) tie flow ins p apart within spots =
+    let one = part-at net ties cells halo ins down p flow.in1 (spot_at tie 1) apart within (spots 1 (omega arith)) in omega arith
+ins-more net ties cells halo (Merge up1 up2 down p1 p2) tie flow ins p apart within spots =
+    let one = part-at net ties cells halo ins down p flow.in1 (spot_at tie 2) apart within (spots 2 (omega arith)) in omega arith
+ins-more net ties cells halo (Diverge up down1 down2 b1 b2) tie flow ins p apart within spots =
+    let one = part-at net ties cells halo ins down1 p flow.in1 (spot_at tie 1) apart within (spots 1 (omega arith)) in
+    let two = part-at net ties cells halo (with_part ins (spot_at tie 1) flow.in1) down2 p flow.in2 (spot_at tie 2) apart within (spots 2 (omega arith)) in omega arith
 
 -- what a tie's connector carries is its flow where the cells hold n
 held-seen : (n : ℕ → ℕ) (cells halo : List ℕ) (places : List Place) (put : List (Option ℕ)) (i : ℕ) (spot : Spot) → IsSeen n cells halo places put →
@@ -140,4 +137,84 @@ can_carry net t cells halo ties places put tie scene tied =
       before = scene.before;
       spots = λ m few. (at m few).0;
       held = three_in_bounds net t connector _ _ _ ((at 0 (omega arith)).1) ((at 1 (omega arith)).1) ((at 2 (omega arith)).1);
+    }
+
+-- the parts of one connector more
+
+length-with_part : (items : List Part) (spot : Spot) (parts : ℕ) → length (with_part items spot parts) ≤ length items + 1
+length-with_part items (Own p) parts = omega (arith, length_push items (record { place = p; parts = parts }))
+length-with_part items (Halo j) parts = omega arith
+
+pub length-with_outs : (connector : Connector) (tie : Tie) (flow : Flow) (outs : List Part) → length (with_outs connector tie flow outs) ≤ length outs + 2
+length-with_outs (Link up down) tie flow outs = omega (arith, length-with_part outs (spot_at tie 0) flow.out1)
+length-with_outs (Merge up1 up2 down p1 p2) tie flow outs =
+    omega (arith, length-with_part outs (spot_at tie 0) flow.out1, length-with_part (with_part outs (spot_at tie 0) flow.out1) (spot_at tie 1) flow.out2)
+length-with_outs (Diverge up down1 down2 b1 b2) tie flow outs = omega (arith, length-with_part outs (spot_at tie 0) flow.out1)
+
+pub length-with_ins : (connector : Connector) (tie : Tie) (flow : Flow) (ins : List Part) → length (with_ins connector tie flow ins) ≤ length ins + 2
+length-with_ins (Link up down) tie flow ins = omega (arith, length-with_part ins (spot_at tie 1) flow.in1)
+length-with_ins (Merge up1 up2 down p1 p2) tie flow ins = omega (arith, length-with_part ins (spot_at tie 2) flow.in1)
+length-with_ins (Diverge up down1 down2 b1 b2) tie flow ins =
+    omega (arith, length-with_part ins (spot_at tie 1) flow.in1, length-with_part (with_part ins (spot_at tie 1) flow.in1) (spot_at tie 2) flow.in2)
+
+there-with_part : (cells halo : List ℕ) (items : List Part) (i parts : ℕ) (spot : Spot) → IsSpotOf cells halo i spot →
+    All (λ part. part.place < length cells) items → All (λ part. part.place < length cells) (with_part items spot parts)
+there-with_part cells halo items i parts (Own q) (there, is) all = All-push (λ part. part.place < length cells) items (record { place = q; parts = parts }) all there
+there-with_part cells halo items i parts (Halo j) (there, is) all = all
+
+there-with_outs : (cells halo : List ℕ) (connector : Connector) (tie : Tie) (flow : Flow) (outs : List Part) →
+    ((m : ℕ) → m < 3 → IsSpotOf cells halo (slice_index (three_cells connector) m) (spot_at tie m)) →
+    All (λ part. part.place < length cells) outs → All (λ part. part.place < length cells) (with_outs connector tie flow outs)
+there-with_outs cells halo (Link up down) tie flow outs spots all = there-with_part cells halo outs up flow.out1 (spot_at tie 0) (spots 0 (omega arith)) all
+there-with_outs cells halo (Merge up1 up2 down p1 p2) tie flow outs spots all =
+    there-with_part cells halo (with_part outs (spot_at tie 0) flow.out1) up2 flow.out2 (spot_at tie 1) (spots 1 (omega arith))
+    (there-with_part cells halo outs up1 flow.out1 (spot_at tie 0) (spots 0 (omega arith)) all)
+there-with_outs cells halo (Diverge up down1 down2 b1 b2) tie flow outs spots all =
+    there-with_part cells halo outs up flow.out1 (spot_at tie 0) (spots 0 (omega arith)) all
+
+there-with_ins : (cells halo : List ℕ) (connector : Connector) (tie : Tie) (flow : Flow) (ins : List Part) →
+    ((m : ℕ) → m < 3 → IsSpotOf cells halo (slice_index (three_cells connector) m) (spot_at tie m)) →
+    All (λ part. part.place < length cells) ins → All (λ part. part.place < length cells) (with_ins connector tie flow ins)
+there-with_ins cells halo (Link up down) tie flow ins spots all = there-with_part cells halo ins down flow.in1 (spot_at tie 1) (spots 1 (omega arith)) all
+there-with_ins cells halo (Merge up1 up2 down p1 p2) tie flow ins spots all =
+    there-with_part cells halo ins down flow.in1 (spot_at tie 2) (spots 2 (omega arith)) all
+there-with_ins cells halo (Diverge up down1 down2 b1 b2) tie flow ins spots all =
+    there-with_part cells halo (with_part ins (spot_at tie 1) flow.in1) down2 flow.in2 (spot_at tie 2) (spots 2 (omega arith))
+    (there-with_part cells halo ins down1 flow.in1 (spot_at tie 1) (spots 1 (omega arith)) all)
+
+-- none yet
+pub parts-none : (net : Network) (t : ℕ) (n : ℕ → ℕ) (cells : List ℕ) (ties : List Tie) → ArePartsOf net t n cells (take 0 ties) [] []
+parts-none net t n cells ties = record {
+  there = λ k d within. absurd (omega arith);
+  there_in = λ k d within. absurd (omega arith);
+  taken = λ p within. parts_at-none p [];
+  brought = λ p within. parts_at-none p [];
+}
+
+-- one more
+pub parts-more : (net : Network) (t : ℕ) (n : ℕ → ℕ) (cells halo : List ℕ) (ties : List Tie) (places : List Place) (put : List (Option ℕ))
+    (j : ℕ) (tie : Tie) (outs ins : List Part) → IsSeen n cells halo places put → AreTied net cells halo ties → j < length ties → get_or ties j tie ≡ tie →
+    ArePartsOf net t n cells (take j ties) outs ins →
+    (let connector = connector_at net.connectors tie.connector in let flow = carried_of net t tie places put in
+    ArePartsOf net t n cells (take (j + 1) ties) (with_outs connector tie flow outs) (with_ins connector tie flow ins))
+parts-more net t n cells halo ties places put j tie outs ins seen tied there read before =
+    let connector : Connector = connector_at net.connectors tie.connector in
+    let flow : Flow = carried_of net t tie places put in
+    let own : IsTie net cells halo tie = rw read at (tied.tied j tie there) in
+    let is = carried-is net t n cells halo places put tie seen own in
+    record {
+      there = there-with_outs cells halo connector tie flow outs own.spots before.there;
+      there_in = there-with_ins cells halo connector tie flow ins own.spots before.there_in;
+      taken = λ p within.
+          outs-more net ties cells halo connector tie flow outs p tied within own.spots
+          ∙ ap (λ one. parts_at outs p + leaving (slice_index cells p) connector one) is
+          ∙ ap (λ x. x + out_by net t n (slice_index cells p) tie.connector) (before.taken p within)
+          ∙ sym (sum_by_more (λ one. out_by net t n (slice_index cells p) one.connector) ties j tie there
+              ∙ ap (λ one. sum_by (λ one. out_by net t n (slice_index cells p) one.connector) (take j ties) + out_by net t n (slice_index cells p) one.connector) read);
+      brought = λ p within.
+          ins-more net ties cells halo connector tie flow ins p tied within own.spots
+          ∙ ap (λ one. parts_at ins p + entering (slice_index cells p) connector one) is
+          ∙ ap (λ x. x + in_by net t n (slice_index cells p) tie.connector) (before.brought p within)
+          ∙ sym (sum_by_more (λ one. in_by net t n (slice_index cells p) one.connector) ties j tie there
+              ∙ ap (λ one. sum_by (λ one. in_by net t n (slice_index cells p) one.connector) (take j ties) + in_by net t n (slice_index cells p) one.connector) read);
     }
