@@ -9,6 +9,7 @@ mod chain;
 mod part;
 mod place;
 mod space;
+mod step;
 #[cfg(test)]
 mod tests;
 
@@ -16,4 +17,5 @@ pub use capacity::link_capacity;
 pub use chain::sweep;
 pub use part::{Part, enter, leave};
 pub use place::Place;
+pub use step::step_places;
 pub use space::{BOUNDLESS, Space};
