@@ -3,3 +3,4 @@ pub mod Links
 pub mod Flowing
 pub mod Stepping
 pub mod Parting
+pub mod Whole

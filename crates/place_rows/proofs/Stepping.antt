@@ -11,8 +11,9 @@ use Rattle.flow_model.specs.Bounds.{IsRowInBounds}
 use Rattle.flow_model.specs.Rows.{moved_row}
 use Rattle.flow_model.specs.declared.row.Row.{Row}
 use Rattle.flow_model.proofs.Bounds.{IsChange, IsSmall, small}
+use Rattle.place_sweep.specs.Steps.{stepped}
 use Rattle.place_sweep.specs.declared.place.Place.{Place}
-use Rattle.place_rows.specs.Rows.{IsOf, row_of, stepped}
+use Rattle.place_rows.specs.Rows.{IsOf, row_of}
 use Rattle.place_rows.specs.declared.origin.Origin.{Origin}
 
 row_same : (row : Row) {n come gone wait : ℕ} → row.n ≡ n → row.come ≡ come → row.gone ≡ gone → row.wait ≡ wait →

@@ -2,3 +2,4 @@ pub mod Chains
 pub mod Rows
 pub mod Carrying
 pub mod Moves
+pub mod Placed

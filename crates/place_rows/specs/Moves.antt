@@ -1,7 +1,9 @@
 -- What single connectors take from cells and bring to them, and what a step of a region stands on.
-use Rattle.std.specs.Prelude.{◌≡◌, ◌≢◌, ℕ, ◌<◌, All, List, Option, None, length, slice_index, slice_index_or, unwrap_or}
+use Rattle.std.specs.Prelude.{◌≡◌, ◌≢◌, ◌==◌, ℕ, ◌<◌, All, List, Option, None, length, slice_index, slice_index_or, unwrap_or, if◌then◌else◌}
 use Rattle.std.specs.List.{sum_by}
 use Rattle.std.specs.List.Sorted.{IsStrictlyIncreasing}
+use Rattle.signal_plan.specs.Demand.{demand_at}
+use Rattle.signal_plan.specs.Records.{PlanRecords}
 use Rattle.network_file.specs.Connectors.{connector_at}
 use Rattle.network_file.specs.Network.{IsNetwork, Network}
 use Rattle.flow_model.specs.Bounds.{IsHeldInBounds}
@@ -20,6 +22,10 @@ out_by net t n i k = leaving i (connector_at net.connectors k) (flow_of net t n 
 -- and what it brings to it
 abbrev pub in_by : Network → (t : ℕ) → (ℕ → ℕ) → (i k : ℕ) → ℕ
 in_by net t n i k = entering i (connector_at net.connectors k) (flow_of net t n (connector_at net.connectors k))
+
+-- what the gate at place q brings to place p in step t
+abbrev pub demand_for : PlanRecords → (t : ℕ) → (cells : List ℕ) → (p q : ℕ) → ℕ
+demand_for plan t cells p q = if q == p then demand_at plan (slice_index cells q) t else 0
 
 -- the cells hold n: those of the region by their places, those of its halo by what was put there
 pub record IsSeen (n : ℕ → ℕ) (cells halo : List ℕ) (places : List Place) (put : List (Option ℕ)) : Type 0 where

@@ -1,5 +1,5 @@
 -- The row of a cell by its place.
-use Rattle.std.specs.Prelude.{◌≡◌, ℕ, ◌+◌, ◌-◌, ◌<◌, ◌≤◌, ◌%◌, ◌^◌, false, List, length, map, slice_index, slice_index_or, if◌then◌else◌}
+use Rattle.std.specs.Prelude.{◌≡◌, ℕ, ◌+◌, ◌-◌, ◌<◌, ◌≤◌, false, List, length, map, slice_index, slice_index_or, if◌then◌else◌}
 use Rattle.std.specs.List.{range_with_len}
 use Rattle.network_file.specs.Cells.{is_exit_at}
 use Rattle.network_file.specs.Network.{Network}
@@ -32,11 +32,3 @@ pub record IsOf (net : Network) (i : ℕ) (origin : Origin) (place : Place) : Ty
   pub exit : origin.is_exit ≡ is_exit_at net.cells i
   pub began : origin.is_exit ≡ false → origin.first ≤ place.n + place.gone
   pub sums : origin.is_exit ≡ false → place.gone ≤ place.held
-
--- a place after a whole step in which so much entered and so much left
-abbrev pub stepped : Place → (enters leaves : ℕ) → Place
-stepped place enters leaves = record place {
-  n = place.n + enters - leaves;
-  gone = place.gone + leaves;
-  held = (place.held + place.n) % 2 ^ 64;
-}

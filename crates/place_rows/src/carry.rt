@@ -59,8 +59,8 @@ fn carried(net: &Net, t: u64, tie: &Tie, sight: &Sight) -> Flow
     flow(net, t, tie.connector, n)
 }
 
-// So many parts, where the spot is that of a place. There is room for it.
-fn put_part(items: &mut Vec<Part>, spot: Spot, parts: u64)
+/// So many parts, where the spot is that of a place. There is room for it.
+pub(crate) fn put_part(items: &mut Vec<Part>, spot: Spot, parts: u64)
     requires room { length items.old.items + 1 ≤ vec_capacity items.old }
     ensures items { items.new.items ≡ with_part items.old.items spot parts }
     ensures room { vec_capacity items.old ≤ vec_capacity items.new }

@@ -3,6 +3,7 @@
 
 mod carry;
 mod chain;
+mod demands;
 mod origin;
 mod spot;
 mod tie;

@@ -1,0 +1,54 @@
+-- The rows of some cells, kept as places side by side.
+use Rattle.std.specs.Prelude.{◌≡◌, ℕ, ◌+◌, ◌*◌, ◌<◌, ◌≤◌, All, List, Option, None, length, map, slice_index, slice_index_or, unwrap_or}
+use Rattle.std.specs.List.{filter, range_with_len}
+use Rattle.network_file.specs.Cells.{is_gate_at}
+use Rattle.network_file.specs.Network.{Network}
+use Rattle.flow_model.specs.Bounds.{IsHeldInBounds, IsRowInBounds}
+use Rattle.flow_model.specs.Limits.{room_at}
+use Rattle.flow_model.specs.State.{row_at}
+use Rattle.place_sweep.specs.Places.{place_at}
+use Rattle.place_sweep.specs.Space.{IsSpaceOf}
+use Rattle.place_sweep.specs.declared.place.Place.{Place}
+use Rattle.timelines.specs.Followed.{AreFollowed, IsThere}
+use Rattle.timelines.specs.declared.followed.FollowedLink.{FollowedLink}
+use Rattle.place_rows.specs.Chains.{AreAround, most_out, odd_ones}
+use Rattle.place_rows.specs.Moves.{AreTied}
+use Rattle.place_rows.specs.Rows.{IsOf, origin_at, rows_of}
+use Rattle.place_rows.specs.declared.origin.Origin.{Origin}
+use Rattle.place_rows.specs.declared.tie.Tie.{Tie}
+
+pub record PlacedCells : Type 0 where
+  -- a place for each cell, what never changes of it, and what it held a step before
+  pub places : List Place
+  pub origins : List Origin
+  pub before : List ℕ
+  -- the links to neighbours whose most changes, and the other connectors
+  pub links : List FollowedLink
+  pub ties : List Tie
+  -- the places of gates
+  pub gates : List ℕ
+  -- for how many parts there is room
+  pub room : ℕ
+  pub room_in : ℕ
+
+-- what holds of the cells' places as step t begins
+pub record ArePlaced (net : Network) (cells halo connectors : List ℕ) (t : ℕ) (placed : PlacedCells) : Type 0 where
+  pub around : AreAround net cells connectors
+  pub tied : AreTied net cells halo placed.ties
+  pub numbers : map (λ tie. tie.connector) placed.ties ≡ odd_ones net cells connectors
+  pub one_each : length placed.places ≡ length cells
+  pub origin_each : length placed.origins ≡ length cells
+  pub before_each : length placed.before ≡ length cells
+  pub own : (p : ℕ) → p < length cells → IsOf net (slice_index cells p) (origin_at placed.origins p) (place_at placed.places p)
+  pub space : (p : ℕ) → p < length cells → IsSpaceOf (place_at placed.places p).space (room_at net.cells (slice_index cells p))
+  pub gates : placed.gates ≡ filter (λ p. is_gate_at net.cells (slice_index cells p)) (range_with_len 0 (length cells))
+  pub links : All (IsThere (length placed.places) t) placed.links
+  pub followed : AreFollowed (most_out net cells connectors) placed.places placed.links t
+  pub room : 2 * length placed.ties ≤ placed.room
+  pub room_in : 2 * length placed.ties + length placed.gates ≤ placed.room_in
+
+-- the rows are in bounds, and so is what was put for each cell of the halo
+pub record AreInBounds (net : Network) (cells halo : List ℕ) (t : ℕ) (placed : PlacedCells) (put : List (Option ℕ)) : Type 0 where
+  pub own : (p : ℕ) → p < length cells → IsRowInBounds net t (slice_index cells p) (row_at (rows_of placed.origins placed.places) p)
+  pub put_each : length put ≡ length halo
+  pub around : (j : ℕ) → j < length halo → IsHeldInBounds net t (slice_index halo j) (unwrap_or (slice_index_or put j None) 0)
