@@ -162,7 +162,7 @@ leads_into-link : (up down : ℕ) → leads_into down (Link up down) ≡ true
 leads_into-link up down = let own = eq-eqb down down refl in rw own refl
 
 -- the sum over the connectors that are not chained
-abbrev odd_sum : Network → (cells connectors : List ℕ) → (ℕ → ℕ) → ℕ
+abbrev pub odd_sum : Network → (cells connectors : List ℕ) → (ℕ → ℕ) → ℕ
 odd_sum net cells connectors f = sum_by f (odd_ones net cells connectors)
 
 -- where connector k is chained and moves all, the others move nothing

@@ -1,14 +1,18 @@
 -- A whole step of places is the step of their cells.
 use Rattle.std.specs.Prelude.{All, Bool, Option, Some, None, ◌⊎◌, ◌==◌, eqb, map, slice_index, slice_get, if◌then◌else◌}
 use Rattle.std.specs.List.{filter, range_with_len, sum_by}
-use Rattle.std.proofs.Common.{◌≡◌, ℕ, ◌+◌, ◌-◌, ◌*◌, ◌^◌, ◌<◌, ◌≤◌, inl, inr, true, false, List, length, get_or, refl, sym, ap, ◌∙◌, subst, zero-add, arith}
+use Rattle.std.proofs.Common.{◌≡◌, ℕ, ◌+◌, ◌-◌, ◌*◌, ◌^◌, ◌<◌, ◌≤◌, inl, inr, true, false, List, [], ◌∷◌, length, get_or, refl, sym, ap, ◌∙◌, subst, zero-add, arith}
 use Rattle.std.proofs.lemmas.Bool.{cases_Bool, cases_eq, eq-eqb, ne_eqb, eqb-true}
 use Rattle.std.proofs.lemmas.List.{length-map}
+use Rattle.std.proofs.lemmas.List.Sums.{sum_by-cons}
 use Rattle.std.proofs.lemmas.List.FromFn.{get_or-map-range_with_len, length-map-range_with_len}
 use Rattle.signal_plan.specs.Capacity.{capacity_at}
 use Rattle.signal_plan.specs.Demand.{demand_at}
 use Rattle.signal_plan.proofs.Sums.{sum_by-filter, sum_by_agree, sum_by_range_one}
-use Rattle.network_file.specs.Cells.{is_exit_at, is_gate_at}
+use Rattle.network_file.specs.Cells.{is_exit_at, is_gate_at, is_road}
+use Rattle.network_file.specs.declared.cell.Cell.{Cell}
+use Rattle.network_file.specs.declared.cell.Kind.{Kind}
+use Rattle.network_file.specs.declared.cell.Kind.TheVariants.{Road, Gate, Exit}
 use Rattle.network_file.specs.Network.{IsNetwork, Network}
 use Rattle.network_file.specs.declared.limits.TheConstants.{MOST_CAPACITY}
 use Rattle.fixed_flow.specs.declared.amount.TheConstants.{MOST_PARTS}
@@ -18,7 +22,7 @@ use Rattle.flow_model.specs.Limits.{room_at, room_by}
 use Rattle.flow_model.specs.Rows.{empty_row, moved_row, next_row, row_by}
 use Rattle.flow_model.specs.State.{row_at}
 use Rattle.flow_model.specs.declared.row.Row.{Row}
-use Rattle.flow_model.proofs.Bounds.{IsChange, IsSmall, changes, held-le, small}
+use Rattle.flow_model.proofs.Bounds.{IsChange, IsSmall, changes, moved_row-in_bounds, small}
 use Rattle.flow_model.proofs.CellKinds.{cell_at, kinds_at}
 use Rattle.flow_model.proofs.CellLimits.{capacity_at-le}
 use Rattle.flow_model.proofs.Flows.{entered_by-gate}
@@ -30,8 +34,9 @@ use Rattle.place_sweep.specs.declared.part.Part.{Part}
 use Rattle.place_sweep.specs.declared.place.Place.{Place}
 use Rattle.place_sweep.specs.declared.space.TheConstants.{BOUNDLESS}
 use Rattle.place_sweep.proofs.Flows.{held-fits}
-use Rattle.place_rows.specs.Chains.{AreAround, odd_ones}
-use Rattle.place_rows.specs.Moves.{ArePartsOf, demand_for, in_by, out_by}
+use Rattle.place_rows.specs.Chains.{AreAround, most_out, odd_ones}
+use Rattle.place_rows.specs.Placed.{AreInBounds, ArePlaced, PlacedCells}
+use Rattle.place_rows.specs.Moves.{ArePartsOf, IsSeen, demand_for, in_by, out_by}
 use Rattle.place_rows.specs.Rows.{IsOf, origin_at, row_of, rows_of}
 use Rattle.place_rows.specs.declared.origin.Origin.{Origin}
 use Rattle.place_rows.specs.declared.tie.Tie.{Tie}
@@ -66,13 +71,13 @@ demand-sum net t cells p within =
           | inr other ↦
               let here : (p == q) ≡ false = ne_eqb p q other in
               let there : (q == p) ≡ false = ne_eqb q p (λ equal. other (sym equal)) in
-              rw (here, there) (none (gate q))
+              rw (here, there) (none (gate q) 0)
         ])
     ∙ sum_by_range_one own p 0 (length cells) (omega arith) (omega arith)
   where
-    none : (b : Bool) → (if b then 0 else 0) ≡ 0
-    none true = refl
-    none false = refl
+    none : (b : Bool) (x : ℕ) → (if b then x else x) ≡ x
+    none true x = refl
+    none false x = refl
 
 -- what enters a cell in all and what leaves it
 
@@ -81,7 +86,9 @@ pub record IsMoved (net : Network) (t : ℕ) (n : ℕ → ℕ) (cells : List ℕ
   pub enters : (p : ℕ) → p < length cells → link_in places p + parts_at ins p ≡ inflow net t n (slice_index cells p)
 
 sum_by-map : {X : Type 0} (f : ℕ → ℕ) (g : X → ℕ) (xs : List X) → sum_by (λ x. f (g x)) xs ≡ sum_by f (map g xs)
-sum_by-map f g xs = ?
+sum_by-map f g [] = refl
+sum_by-map f g (x ∷ xs) =
+    omega (arith, sum_by-cons (λ x. f (g x)) x xs, sum_by-cons f (g x) (map g xs), sum_by-map f g xs)
 
 pub moved : (net : Network) (t : ℕ) (n : ℕ → ℕ) (cells connectors : List ℕ) (ties : List Tie) (places : List Place) (outs carried ins : List Part) →
     IsNetwork net → AreAround net cells connectors → HasPlaces net t n cells connectors places →
@@ -117,3 +124,148 @@ moved net t n cells connectors ties places outs carried ins sound around has num
             omega arith
       ];
 }
+
+-- a cell has space for what it holds and a step's capacity
+has-space : (net : Network) (t i n q : ℕ) → i < length net.cells → IsHeldInBounds net t i n → n + q ≤ BOUNDLESS → HasSpace n q (room_at net.cells i)
+has-space net t i n q has bounds few =
+    let here = cell_at net.cells i has in
+    let room = rw here.1 at bounds.road in
+    rw here.1 (of_kind here.0 here.0.kind n q room few)
+  where
+    of_kind : (cell : Cell) (kind : Kind) (n q : ℕ) → (is_road kind ≡ true → n ≤ cell.room) → n + q ≤ BOUNDLESS → HasSpace n q (room_by kind cell)
+    of_kind cell Road n q road few = road refl
+    of_kind cell Gate n q road few = few
+    of_kind cell Exit n q road few = few
+
+-- what holds of one cell as a step begins
+pub record IsReady (net : Network) (t : ℕ) (n : ℕ → ℕ) (i : ℕ) (origin : Origin) (place : Place) : Type 0 where
+  pub there : i < length net.cells
+  pub held : n i ≡ place.n
+  pub is_of : IsOf net i origin place
+  pub row : IsRowInBounds net t i (row_of origin place)
+  pub small : IsSmall (row_of origin place)
+  pub change : IsChange net t i place.n (inflow net t n i) (outflow net t n i)
+  pub after : IsSmall (moved_row net i (row_of origin place) (inflow net t n i) (outflow net t n i))
+
+pub ready : (net : Network) (t : ℕ) (n : ℕ → ℕ) (cells halo connectors : List ℕ) (placed : PlacedCells) (put : List (Option ℕ)) (p : ℕ) →
+    IsNetwork net → t < net.steps → ArePlaced net cells halo connectors t placed → AreInBounds net cells halo t placed put →
+    IsSeen n cells halo placed.places put → p < length cells →
+    IsReady net t n (slice_index cells p) (origin_at placed.origins p) (place_at placed.places p)
+ready net t n cells halo connectors placed put p sound before has bounds seen within =
+    let i : ℕ = slice_index cells p in
+    let origin : Origin = origin_at placed.origins p in
+    let place : Place = place_at placed.places p in
+    let there : i < length net.cells = has.around.there p 0 within in
+    let held : n i ≡ place.n = seen.own p within in
+    let row : IsRowInBounds net t i (row_of origin place) =
+        subst (IsRowInBounds net t i) (row_at-rows_of placed.origins placed.places p (omega (arith, has.origin_each))) (bounds.own p within) in
+    let change : IsChange net t i place.n (inflow net t n i) (outflow net t n i) =
+        subst (λ x. IsChange net t i x (inflow net t n i) (outflow net t n i)) held
+        (changes net t i n (inflow net t n i) (outflow net t n i) sound there (λ gate. entered_by-gate net.connectors net t i n gate) (omega arith) (omega arith)) in
+    record {
+      there = there;
+      held = held;
+      is_of = has.own p within;
+      row = row;
+      small = small net t i (row_of origin place) sound (omega (arith, before)) there row;
+      change = change;
+      after = small net (t + 1) i (moved_row net i (row_of origin place) (inflow net t n i) (outflow net t n i)) sound (omega (arith, before)) there
+          (moved_row-in_bounds net t i (row_of origin place) (inflow net t n i) (outflow net t n i) sound before there row change);
+    }
+
+-- the sum of what a road or a gate held fits
+pub held-sum : (net : Network) (t : ℕ) (n : ℕ → ℕ) (i : ℕ) (origin : Origin) (place : Place) → IsReady net t n i origin place →
+    origin.is_exit ≡ false → place.held + place.n < 2 ^ 64
+held-sum net t n i origin place is other =
+    let wait : (if origin.is_exit then 0 else place.held - place.gone) ≡ place.held - place.gone =
+        ap (λ b. if b then 0 else place.held - place.gone) other in
+    let sum = is.small.wait in
+    let gone = is.small.gone in
+    let now = is.small.n in
+    let begun = is.is_of.sums other in
+    omega arith
+
+-- the places of cells in bounds, once each has the most of its link
+pub has-places : (net : Network) (t : ℕ) (n : ℕ → ℕ) (cells halo connectors : List ℕ) (placed : PlacedCells) (places : List Place) (put : List (Option ℕ)) →
+    IsNetwork net → t < net.steps → ArePlaced net cells halo connectors t placed → AreInBounds net cells halo t placed put →
+    IsSeen n cells halo placed.places put → length places ≡ length placed.places →
+    ((p : ℕ) → p < length placed.places → place_at places p ≡ record (place_at placed.places p) { most = most_out net cells connectors p t }) →
+    HasPlaces net t n cells connectors places
+has-places net t n cells halo connectors placed places put sound before has bounds seen long fresh =
+    let each = λ (p : ℕ) (within : p < length cells). fresh p (omega (arith, has.one_each)) in
+    record {
+      one_each = long ∙ has.one_each;
+      held = λ p within. ap (λ place. place.n) (each p within) ∙ sym (seen.own p within);
+      space = λ p within.
+          subst (λ space. IsSpaceOf space (room_at net.cells (slice_index cells p))) (sym (ap (λ place. place.space) (each p within))) (has.space p within);
+      fits = λ p within.
+          let i : ℕ = slice_index cells p in
+          let is = ready net t n cells halo connectors placed put p sound before has bounds seen within in
+          let few = is.small.n in
+          let capacity = capacity_at-le net t i sound is.there in
+          subst (λ x. HasSpace x (capacity_at net.plan i t) (room_at net.cells i)) (sym (ap (λ place. place.n) (each p within)))
+          (has-space net t i (place_at placed.places p).n (capacity_at net.plan i t) is.there is.row.held (omega arith));
+      most = λ p within. ap (λ place. place.most) (each p within);
+    }
+
+-- they can be taken through the step
+pub can_step : (net : Network) (t : ℕ) (n : ℕ → ℕ) (cells halo connectors : List ℕ) (placed : PlacedCells) (places : List Place) (put : List (Option ℕ)) (outs ins : List Part) →
+    IsNetwork net → t < net.steps → ArePlaced net cells halo connectors t placed → AreInBounds net cells halo t placed put →
+    IsSeen n cells halo placed.places put → length places ≡ length placed.places →
+    ((p : ℕ) → p < length placed.places → place_at places p ≡ record (place_at placed.places p) { most = most_out net cells connectors p t }) →
+    IsMoved net t n cells places outs ins → All (λ part. part.place < length cells) outs → All (λ part. part.place < length cells) ins →
+    CanStep places outs ins
+can_step net t n cells halo connectors placed places put outs ins sound before has bounds seen long fresh moves there there_in =
+    let same : length places ≡ length cells = long ∙ has.one_each in
+    let placing = has-places net t n cells halo connectors placed places put sound before has bounds seen long fresh in
+    let own = λ (p : ℕ) (within : p < length places). ready net t n cells halo connectors placed put p sound before has bounds seen (omega arith) in
+    let each = λ (p : ℕ) (within : p < length places). fresh p (omega arith) in
+    record {
+      sound = record {
+        room = λ p within.
+            let i : ℕ = slice_index cells p in
+            held-fits (place_at places p).n (capacity_at net.plan i t) (place_at places p).space (room_at net.cells i) (placing.space p (omega arith)) (placing.fits p (omega arith));
+        gone = λ p within.
+            let is = own p within in
+            let n_is = ap (λ place. place.n) (each p within) in
+            let gone_is = ap (λ place. place.gone) (each p within) in
+            let few = is.small.n in
+            let gone = is.small.gone in
+            omega arith;
+      };
+      there = rw same there;
+      there_in = rw same there_in;
+      held = λ p within.
+          let is = own p within in
+          let n_is = ap (λ place. place.n) (each p within) in
+          let leaves = moves.leaves p (omega arith) in
+          let held = is.change.held in
+          omega arith;
+      gone = λ p within.
+          let is = own p within in
+          let gone_is = ap (λ place. place.gone) (each p within) in
+          let leaves = moves.leaves p (omega arith) in
+          let sent = is.change.sent in
+          let gone = is.small.gone in
+          omega arith;
+      fits = λ p within.
+          let is = own p within in
+          let n_is = ap (λ place. place.n) (each p within) in
+          let enters = moves.enters p (omega arith) in
+          let held = is.change.held in
+          let sent = is.change.sent in
+          let after = is.after.n in
+          omega arith;
+    }
+
+-- and come to the rows of the cells' step
+pub row-after : (net : Network) (t : ℕ) (n : ℕ → ℕ) (i : ℕ) (origin : Origin) (place fresh after : Place) (most enters leaves : ℕ) →
+    IsReady net t n i origin place → fresh ≡ record place { most = most } → after ≡ stepped fresh enters leaves →
+    enters ≡ inflow net t n i → leaves ≡ outflow net t n i →
+    (row_of origin after ≡ next_row net t n i (row_of origin place)) × IsOf net i origin after
+unfolding row_by
+row-after net t n i origin place fresh after most enters leaves is fresh_is after_is came went =
+    let fits = held-sum net t n i origin place is in
+    let row = row-stepped net t i origin place (inflow net t n i) (outflow net t n i) is.is_of is.change fits in
+    let of_cell = stepped-is_of net t i origin place (inflow net t n i) (outflow net t n i) is.is_of is.change fits in
+    rw (after_is, fresh_is, came, went) (row, record { first = of_cell.first; exit = of_cell.exit; began = of_cell.began; sums = of_cell.sums })
