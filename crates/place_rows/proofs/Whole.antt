@@ -1,9 +1,10 @@
 -- A whole step of places is the step of their cells.
 use Rattle.std.specs.Prelude.{All, Bool, Option, Some, None, ◌⊎◌, ◌==◌, eqb, map, slice_index, slice_get, if◌then◌else◌}
-use Rattle.std.specs.List.{filter, range_with_len, sum_by}
+use Rattle.std.proofs.lemmas.List.Elements.{Contains-get_or}
+use Rattle.std.specs.List.{Contains, filter, range_with_len, sum_by}
 use Rattle.std.proofs.Common.{◌≡◌, ℕ, ◌+◌, ◌-◌, ◌*◌, ◌^◌, ◌<◌, ◌≤◌, inl, inr, true, false, List, [], ◌∷◌, length, get_or, refl, sym, ap, ◌∙◌, subst, zero-add, arith}
 use Rattle.std.proofs.lemmas.Bool.{cases_Bool, cases_eq, eq-eqb, ne_eqb, eqb-true}
-use Rattle.std.proofs.lemmas.List.{length-map}
+use Rattle.std.proofs.lemmas.List.{ext_get_or, length-map}
 use Rattle.std.proofs.lemmas.List.Sums.{sum_by-cons}
 use Rattle.std.proofs.lemmas.List.FromFn.{get_or-map-range_with_len, length-map-range_with_len}
 use Rattle.signal_plan.specs.Capacity.{capacity_at}
@@ -35,8 +36,11 @@ use Rattle.place_sweep.specs.declared.place.Place.{Place}
 use Rattle.place_sweep.specs.declared.space.TheConstants.{BOUNDLESS}
 use Rattle.place_sweep.proofs.Flows.{held-fits}
 use Rattle.place_rows.specs.Chains.{AreAround, most_out, odd_ones}
-use Rattle.place_rows.specs.Placed.{AreInBounds, ArePlaced, PlacedCells}
-use Rattle.place_rows.specs.Moves.{ArePartsOf, IsSeen, demand_for, in_by, out_by}
+use Rattle.place_rows.specs.Placed.{AreInBounds, ArePlaced, PlacedCells, rows_next}
+use Rattle.timelines.specs.Followed.{AreFollowed, IsThere}
+use Rattle.timelines.specs.declared.followed.FollowedLink.{FollowedLink}
+use Rattle.region_cut.proofs.Ranges.{Contains-filter_range}
+use Rattle.place_rows.specs.Moves.{ArePartsOf, IsScene, IsSeen, demand_for, in_by, out_by}
 use Rattle.place_rows.specs.Rows.{IsOf, origin_at, row_of, rows_of}
 use Rattle.place_rows.specs.declared.origin.Origin.{Origin}
 use Rattle.place_rows.specs.declared.tie.Tie.{Tie}
@@ -269,3 +273,194 @@ row-after net t n i origin place fresh after most enters leaves is fresh_is afte
     let row = row-stepped net t i origin place (inflow net t n i) (outflow net t n i) is.is_of is.change fits in
     let of_cell = stepped-is_of net t i origin place (inflow net t n i) (outflow net t n i) is.is_of is.change fits in
     rw (after_is, fresh_is, came, went) (row, record { first = of_cell.first; exit = of_cell.exit; began = of_cell.began; sums = of_cell.sums })
+
+pub length-rows_next : (net : Network) (t : ℕ) (n : ℕ → ℕ) (cells : List ℕ) (rows : List Row) → length (rows_next net t n cells rows) ≡ length cells
+unfolding rows_next
+length-rows_next net t n cells rows = length-map-range_with_len (λ p. next_row net t n (slice_index cells p) (row_at rows p)) 0 (length cells)
+
+pub row_at-rows_next : (net : Network) (t : ℕ) (n : ℕ → ℕ) (cells : List ℕ) (rows : List Row) (p : ℕ) → p < length cells →
+    row_at (rows_next net t n cells rows) p ≡ next_row net t n (slice_index cells p) (row_at rows p)
+unfolding rows_next
+row_at-rows_next net t n cells rows p within =
+    get_or-map-range_with_len (λ p. next_row net t n (slice_index cells p) (row_at rows p)) 0 (length cells) p p empty_row within (zero-add p)
+
+-- the places once each has the most of its link in step t
+pub record IsFresh (net : Network) (cells connectors : List ℕ) (t : ℕ) (placed : PlacedCells) (fresh : List Place) (links : List FollowedLink) : Type 0 where
+  pub long : length fresh ≡ length placed.places
+  pub most : (p : ℕ) → p < length placed.places → place_at fresh p ≡ record (place_at placed.places p) { most = most_out net cells connectors p t }
+  pub links_there : All (IsThere (length fresh) t) links
+  pub followed : AreFollowed (most_out net cells connectors) fresh links t
+
+pub fresh-of : (net : Network) (cells halo connectors : List ℕ) (t : ℕ) (placed : PlacedCells) (places fresh : List Place) (first links : List FollowedLink) →
+    ArePlaced net cells halo connectors t placed → places ≡ placed.places → first ≡ placed.links → length fresh ≡ length places →
+    All (IsThere (length places) t) links →
+    ((most : ℕ → ℕ → ℕ) → AreFollowed most places first t → (p : ℕ) → p < length places → place_at fresh p ≡ record (place_at places p) { most = most p t }) →
+    ((most : ℕ → ℕ → ℕ) → AreFollowed most places first t → AreFollowed most fresh links t) →
+    IsFresh net cells connectors t placed fresh links
+fresh-of net cells halo connectors t placed places fresh first links has same_places same_links long there most followed =
+    let before : AreFollowed (most_out net cells connectors) places first t = rw (same_places, same_links) has.followed in
+    record {
+      long = long ∙ ap length same_places;
+      most = λ p within.
+          most (most_out net cells connectors) before p (rw same_places within)
+          ∙ ap {B = Place} (λ list. record (place_at list p) { most = most_out net cells connectors p t }) same_places;
+      links_there = rw long there;
+      followed = followed (most_out net cells connectors) before;
+    }
+
+-- the parts of a step, one after the other
+pub record AreSteps (net : Network) (cells halo connectors : List ℕ) (t : ℕ) (n : ℕ → ℕ) (placed : PlacedCells) (fresh : List Place)
+    (links : List FollowedLink) (outs carried ins : List Part) (after : List Place) : Type 0 where
+  pub long : length fresh ≡ length placed.places
+  pub most : (p : ℕ) → p < length placed.places → place_at fresh p ≡ record (place_at placed.places p) { most = most_out net cells connectors p t }
+  pub links_there : All (IsThere (length fresh) t) links
+  pub followed : AreFollowed (most_out net cells connectors) fresh links t
+  pub parts : ArePartsOf net t n cells placed.ties outs carried
+  pub demands : (p : ℕ) → parts_at ins p ≡ parts_at carried p + sum_by (demand_for net.plan t cells p) placed.gates
+  pub there_in : All (λ part. part.place < length cells) ins
+  pub long_after : length after ≡ length fresh
+  pub stepped_each : (p : ℕ) → p < length fresh →
+      place_at after p ≡ stepped (place_at fresh p) (link_in fresh p + parts_at ins p) (link_out fresh p + parts_at outs p)
+
+-- what is seen of the places stays so when their most is written
+pub seen-fresh : (net : Network) (t : ℕ) (n : ℕ → ℕ) (cells halo connectors : List ℕ) (placed : PlacedCells) (fresh : List Place) (put : List (Option ℕ)) →
+    ArePlaced net cells halo connectors t placed → IsSeen n cells halo placed.places put →
+    ((p : ℕ) → p < length placed.places → place_at fresh p ≡ record (place_at placed.places p) { most = most_out net cells connectors p t }) →
+    IsSeen n cells halo fresh put
+seen-fresh net t n cells halo connectors placed fresh put has seen most = record {
+  own = λ p within. seen.own p within ∙ sym (ap (λ place. place.n) (most p (omega (arith, has.one_each))));
+  around = seen.around;
+}
+
+-- the scene of the other connectors
+pub scene-fresh : (net : Network) (t : ℕ) (n : ℕ → ℕ) (cells halo connectors : List ℕ) (placed : PlacedCells) (fresh : List Place) (put : List (Option ℕ)) →
+    IsNetwork net → t < net.steps → ArePlaced net cells halo connectors t placed → AreInBounds net cells halo t placed put →
+    IsSeen n cells halo placed.places put → length fresh ≡ length placed.places →
+    ((p : ℕ) → p < length placed.places → place_at fresh p ≡ record (place_at placed.places p) { most = most_out net cells connectors p t }) →
+    IsScene net t cells halo placed.ties fresh put
+scene-fresh net t n cells halo connectors placed fresh put sound before has bounds seen long most = record {
+  sound = sound;
+  before = before;
+  tied = has.tied;
+  place_each = long ∙ has.one_each;
+  put_each = bounds.put_each;
+  own = λ p within.
+      let is = ready net t n cells halo connectors placed put p sound before has bounds seen within in
+      subst (IsHeldInBounds net t (slice_index cells p)) (sym (ap (λ place. place.n) (most p (omega (arith, has.one_each))))) is.row.held;
+  around = bounds.around;
+}
+
+-- the gates' places are there
+pub gates-there : (net : Network) (cells halo connectors : List ℕ) (t : ℕ) (placed : PlacedCells) → ArePlaced net cells halo connectors t placed →
+    All (λ p. p < length cells) placed.gates
+gates-there net cells halo connectors t placed has = λ k d within.
+    let listed : Contains placed.gates (get_or placed.gates k d) = Contains-get_or placed.gates k d within in
+    (Contains-filter_range (λ p. is_gate_at net.cells (slice_index cells p)) (length cells) (get_or placed.gates k d)
+    (subst (λ list. Contains list (get_or placed.gates k d)) has.gates listed)).0
+
+pub steps-moved : (net : Network) (cells halo connectors : List ℕ) (t : ℕ) (n : ℕ → ℕ) (placed : PlacedCells) (fresh : List Place)
+    (outs carried ins : List Part) (put : List (Option ℕ)) →
+    IsNetwork net → t < net.steps → ArePlaced net cells halo connectors t placed → AreInBounds net cells halo t placed put →
+    IsSeen n cells halo placed.places put → length fresh ≡ length placed.places →
+    ((p : ℕ) → p < length placed.places → place_at fresh p ≡ record (place_at placed.places p) { most = most_out net cells connectors p t }) →
+    ArePartsOf net t n cells placed.ties outs carried →
+    ((p : ℕ) → parts_at ins p ≡ parts_at carried p + sum_by (demand_for net.plan t cells p) placed.gates) →
+    IsMoved net t n cells fresh outs ins
+steps-moved net cells halo connectors t n placed fresh outs carried ins put sound before has bounds seen long most parts demands =
+    moved net t n cells connectors placed.ties fresh outs carried ins sound has.around
+    (has-places net t n cells halo connectors placed fresh put sound before has bounds seen long most) has.numbers parts
+    (subst (λ gates. (p : ℕ) → parts_at ins p ≡ parts_at carried p + sum_by (demand_for net.plan t cells p) gates) has.gates demands)
+
+-- each cell after the step
+pub cell-after : (net : Network) (cells halo connectors : List ℕ) (t : ℕ) (n : ℕ → ℕ) (placed : PlacedCells) (fresh : List Place) (links : List FollowedLink)
+    (outs carried ins : List Part) (after : List Place) (put : List (Option ℕ)) (p : ℕ) →
+    IsNetwork net → t < net.steps → ArePlaced net cells halo connectors t placed → AreInBounds net cells halo t placed put →
+    IsSeen n cells halo placed.places put → AreSteps net cells halo connectors t n placed fresh links outs carried ins after → p < length cells →
+    (row_of (origin_at placed.origins p) (place_at after p) ≡
+      next_row net t n (slice_index cells p) (row_of (origin_at placed.origins p) (place_at placed.places p))) ×
+    IsOf net (slice_index cells p) (origin_at placed.origins p) (place_at after p)
+cell-after net cells halo connectors t n placed fresh links outs carried ins after put p sound before has bounds seen steps within =
+    let here : p < length placed.places = omega (arith, has.one_each) in
+    let there : p < length fresh = omega (arith, steps.long) in
+    let moves = steps-moved net cells halo connectors t n placed fresh outs carried ins put sound before has bounds seen steps.long steps.most steps.parts steps.demands in
+    row-after net t n (slice_index cells p) (origin_at placed.origins p) (place_at placed.places p) (place_at fresh p) (place_at after p)
+    (most_out net cells connectors p t) (link_in fresh p + parts_at ins p) (link_out fresh p + parts_at outs p)
+    (ready net t n cells halo connectors placed put p sound before has bounds seen within) (steps.most p here) (steps.stepped_each p there)
+    (moves.enters p within) (moves.leaves p within)
+
+-- the rows after the step
+pub rows-after : (net : Network) (cells halo connectors : List ℕ) (t : ℕ) (n : ℕ → ℕ) (placed : PlacedCells) (fresh : List Place) (links : List FollowedLink)
+    (outs carried ins : List Part) (after : List Place) (put : List (Option ℕ)) →
+    IsNetwork net → t < net.steps → ArePlaced net cells halo connectors t placed → AreInBounds net cells halo t placed put →
+    IsSeen n cells halo placed.places put → AreSteps net cells halo connectors t n placed fresh links outs carried ins after →
+    rows_of placed.origins after ≡ rows_next net t n cells (rows_of placed.origins placed.places)
+rows-after net cells halo connectors t n placed fresh links outs carried ins after put sound before has bounds seen steps =
+    ext_get_or empty_row (rows_of placed.origins after) (rows_next net t n cells (rows_of placed.origins placed.places))
+    (length-rows_of placed.origins after ∙ has.origin_each ∙ sym (length-rows_next net t n cells (rows_of placed.origins placed.places)))
+    (λ p lt.
+        let inside : p < length placed.origins = omega (arith, length-rows_of placed.origins after) in
+        let within : p < length cells = omega (arith, has.origin_each) in
+        row_at-rows_of placed.origins after p inside
+        ∙ (cell-after net cells halo connectors t n placed fresh links outs carried ins after put p sound before has bounds seen steps within).0
+        ∙ sym (row_at-rows_next net t n cells (rows_of placed.origins placed.places) p within
+            ∙ ap (next_row net t n (slice_index cells p)) (row_at-rows_of placed.origins placed.places p inside)))
+
+-- the links follow on
+
+follows-later : (most : ℕ → ℕ → ℕ) (fresh after : List Place) (links : List FollowedLink) (t : ℕ) → length after ≡ length fresh →
+    ((p : ℕ) → p < length fresh → (place_at after p).most ≡ (place_at fresh p).most) → AreFollowed most fresh links t → AreFollowed most after links (t + 1)
+follows-later most fresh after links t long same followed = record {
+  courses = followed.courses;
+  each = λ p within.
+      let here : p < length fresh = omega arith in
+      let is = same p here in
+      elim (followed.each p here) [
+        | inl constant ↦ inl (λ s from. is ∙ constant s (omega arith))
+        | inr (m, has) ↦ inr (m, record {
+          there = has.there;
+          its = has.its;
+          steady = λ d s from before. is ∙ has.steady d s (omega arith) before;
+        })
+      ];
+}
+
+pub placed-after : (net : Network) (cells halo connectors : List ℕ) (t : ℕ) (n : ℕ → ℕ) (placed : PlacedCells) (fresh : List Place) (links : List FollowedLink)
+    (outs carried ins : List Part) (after : List Place) (before_list : List ℕ) (room room_in : ℕ) (put : List (Option ℕ)) →
+    IsNetwork net → t < net.steps → ArePlaced net cells halo connectors t placed → AreInBounds net cells halo t placed put →
+    IsSeen n cells halo placed.places put → AreSteps net cells halo connectors t n placed fresh links outs carried ins after →
+    length before_list ≡ length placed.before → placed.room ≤ room → placed.room_in ≤ room_in →
+    ArePlaced net cells halo connectors (t + 1) (record {
+      places = after;
+      origins = placed.origins;
+      before = before_list;
+      links = links;
+      ties = placed.ties;
+      gates = placed.gates;
+      room = room;
+      room_in = room_in;
+    })
+placed-after net cells halo connectors t n placed fresh links outs carried ins after before_list room room_in put sound before has bounds seen steps long wide wide_in =
+    let same : length after ≡ length cells = steps.long_after ∙ steps.long ∙ has.one_each in
+    record {
+      around = has.around;
+      tied = has.tied;
+      numbers = has.numbers;
+      one_each = same;
+      origin_each = has.origin_each;
+      before_each = long ∙ has.before_each;
+      own = λ p within.
+          (cell-after net cells halo connectors t n placed fresh links outs carried ins after put p sound before has bounds seen steps within).1;
+      space = λ p within.
+          let there : p < length fresh = omega (arith, steps.long, has.one_each) in
+          let here : p < length placed.places = omega (arith, has.one_each) in
+          let is = ap (λ place. place.space) (steps.stepped_each p there) ∙ ap (λ place. place.space) (steps.most p here) in
+          subst (λ space. IsSpaceOf space (room_at net.cells (slice_index cells p))) (sym is) (has.space p within);
+      gates = has.gates;
+      links = λ k d within.
+          let there = steps.links_there k d within in
+          record { place = omega (arith, there.place, steps.long_after); step = omega (arith, there.step) };
+      followed = follows-later (most_out net cells connectors) fresh after links t steps.long_after
+          (λ p there. ap (λ place. place.most) (steps.stepped_each p there)) steps.followed;
+      room = omega (arith, has.room, wide);
+      room_in = omega (arith, has.room_in, wide_in);
+    }

@@ -5,14 +5,16 @@ use Rattle.network_file.specs.Cells.{is_gate_at}
 use Rattle.network_file.specs.Network.{Network}
 use Rattle.flow_model.specs.Bounds.{IsHeldInBounds, IsRowInBounds}
 use Rattle.flow_model.specs.Limits.{room_at}
+use Rattle.flow_model.specs.Rows.{next_row}
 use Rattle.flow_model.specs.State.{row_at}
+use Rattle.flow_model.specs.declared.row.Row.{Row}
 use Rattle.place_sweep.specs.Places.{place_at}
 use Rattle.place_sweep.specs.Space.{IsSpaceOf}
 use Rattle.place_sweep.specs.declared.place.Place.{Place}
 use Rattle.timelines.specs.Followed.{AreFollowed, IsThere}
 use Rattle.timelines.specs.declared.followed.FollowedLink.{FollowedLink}
 use Rattle.place_rows.specs.Chains.{AreAround, most_out, odd_ones}
-use Rattle.place_rows.specs.Moves.{AreTied}
+use Rattle.place_rows.specs.Moves.{AreTied, IsSeen}
 use Rattle.place_rows.specs.Rows.{IsOf, origin_at, rows_of}
 use Rattle.place_rows.specs.declared.origin.Origin.{Origin}
 use Rattle.place_rows.specs.declared.tie.Tie.{Tie}
@@ -52,3 +54,16 @@ pub record AreInBounds (net : Network) (cells halo : List ℕ) (t : ℕ) (placed
   pub own : (p : ℕ) → p < length cells → IsRowInBounds net t (slice_index cells p) (row_at (rows_of placed.origins placed.places) p)
   pub put_each : length put ≡ length halo
   pub around : (j : ℕ) → j < length halo → IsHeldInBounds net t (slice_index halo j) (unwrap_or (slice_index_or put j None) 0)
+
+-- all that a step stands on; the cells hold n as it begins
+pub record CanAdvance (net : Network) (cells : List ℕ) (t : ℕ) (placed : PlacedCells) (put : List (Option ℕ)) : Type 0 where
+  pub halo : List ℕ
+  pub connectors : List ℕ
+  pub n : ℕ → ℕ
+  pub laid : ArePlaced net cells halo connectors t placed
+  pub bounds : AreInBounds net cells halo t placed put
+  pub seen : IsSeen n cells halo placed.places put
+
+-- the rows of these cells after step t, where all cells around them hold n as it begins
+unfoldable pub rows_next : Network → (t : ℕ) → (ℕ → ℕ) → (cells : List ℕ) → List Row → List Row
+rows_next net t n cells rows = map (λ p. next_row net t n (slice_index cells p) (row_at rows p)) (range_with_len 0 (length cells))

@@ -5,7 +5,9 @@ mod carry;
 mod chain;
 mod demands;
 mod origin;
+mod placed;
 mod spot;
 mod tie;
 
 pub use chain::chained;
+pub use placed::PlacedRows;

@@ -1,0 +1,76 @@
+ghost use Rattle.std.specs.Prelude.{◌≡◌, ◌+◌, ◌<◌, ◌≤◌, ℕ, List, length, map, slice_index};
+ghost use Rattle.place_sweep.specs.Places.{place_at};
+ghost use Rattle.place_rows.specs.Placed.{ArePlaced, CanAdvance, rows_next};
+ghost use Rattle.place_rows.specs.Rows.{rows_of};
+
+use crate::carry::carry_all;
+use crate::demands::put_demands;
+use crate::origin::Origin;
+use crate::spot::Sight;
+use crate::tie::Tie;
+use network_file::Net;
+use place_sweep::{Part, Place, step_places};
+use std::marker::Model;
+use timelines::{FollowedLink, refresh};
+
+/// The rows of some cells of a network at a step, kept as places side by side in the order of the cells.
+#[derive(Debug, Drop)]
+pub struct PlacedRows {
+    places: Vec<Place>,
+    origins: Vec<Origin>,
+    before: Vec<u64>,
+    links: Vec<FollowedLink>,
+    ties: Vec<Tie>,
+    gates: Vec<u32>,
+    // What leaves and enters in a step by these ties and gates.
+    outs: Vec<Part>,
+    ins: Vec<Part>,
+}
+
+impl Model for PlacedRows {
+    ghost use Rattle.std.specs.Prelude.{vec_capacity};
+    ghost use Rattle.place_rows.specs.Placed.{PlacedCells};
+
+    ghost Value = { PlacedCells };
+
+    ghost view = { λ rows. record {
+      places = rows.places.items;
+      origins = rows.origins.items;
+      before = rows.before.items;
+      links = rows.links.items;
+      ties = rows.ties.items;
+      gates = rows.gates.items;
+      room = vec_capacity rows.outs;
+      room_in = vec_capacity rows.ins;
+    } };
+}
+
+impl PlacedRows {
+    /// Takes the cells through step `t`, by what was put for each cell of their halo.
+    pub fn step(&mut self, net: &Net, t: u64, cells: &[u32], put: &[Option<u64>])
+        requires in_time { t < net.now.steps }
+        requires can { CanAdvance net.now cells.now t self.old put.now }
+        ensures rows { (can : CanAdvance net.now cells.now t self.old put.now) → rows_of self.new.origins self.new.places ≡
+            rows_next net.now t can.n cells.now (rows_of self.old.origins self.old.places) }
+        ensures placed { (can : CanAdvance net.now cells.now t self.old put.now) →
+            ArePlaced net.now cells.now can.halo can.connectors (t + 1) self.new }
+        ensures before { (p : ℕ) → p < length cells.now → slice_index self.new.before p ≡ (place_at self.old.places p).n }
+    {
+        let _steps = net.steps;
+        refresh(&mut self.links, &mut self.places, t);
+        let sight = Sight {
+            places: &self.places,
+            put,
+        };
+        carry_all(
+            net,
+            t,
+            &self.ties,
+            &sight,
+            &mut self.outs,
+            &mut self.ins,
+        );
+        put_demands(net, t, cells, &self.gates, &mut self.ins);
+        step_places(&mut self.places, &mut self.before, &self.outs, &self.ins);
+    }
+}
