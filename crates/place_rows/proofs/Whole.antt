@@ -41,7 +41,7 @@ use Rattle.timelines.specs.Followed.{AreFollowed, IsThere}
 use Rattle.timelines.specs.declared.followed.FollowedLink.{FollowedLink}
 use Rattle.region_cut.proofs.Ranges.{Contains-filter_range}
 use Rattle.place_rows.specs.Moves.{ArePartsOf, IsScene, IsSeen, demand_for, in_by, out_by}
-use Rattle.place_rows.specs.Rows.{IsOf, origin_at, row_of, rows_of}
+use Rattle.place_rows.specs.Rows.{AreSettled, IsOf, origin_at, row_of, rows_of}
 use Rattle.place_rows.specs.declared.origin.Origin.{Origin}
 use Rattle.place_rows.specs.declared.tie.Tie.{Tie}
 use Rattle.place_rows.proofs.Flowing.{HasPlaces, in-gate, in-total, odd_sum, out-total}
@@ -464,3 +464,28 @@ placed-after net cells halo connectors t n placed fresh links outs carried ins a
       room = omega (arith, has.room, wide);
       room_in = omega (arith, has.room_in, wide_in);
     }
+
+-- no sum of a place is too large after the step
+pub settled-after : (net : Network) (cells halo connectors : List ℕ) (t : ℕ) (n : ℕ → ℕ) (placed : PlacedCells) (fresh : List Place) (links : List FollowedLink)
+    (outs carried ins : List Part) (after : List Place) (before_list : List ℕ) (put : List (Option ℕ)) →
+    IsNetwork net → t < net.steps → ArePlaced net cells halo connectors t placed → AreInBounds net cells halo t placed put →
+    IsSeen n cells halo placed.places put → AreSteps net cells halo connectors t n placed fresh links outs carried ins after →
+    length before_list ≡ length placed.before → AreSettled placed.origins after before_list
+unfolding row_by
+settled-after net cells halo connectors t n placed fresh links outs carried ins after before_list put sound before has bounds seen steps long = record {
+  one_each = steps.long_after ∙ steps.long ∙ has.one_each ∙ sym has.origin_each;
+  before_each = long ∙ has.before_each ∙ sym has.origin_each;
+  each = λ p inside.
+      let within : p < length cells = omega (arith, has.origin_each) in
+      let next = cell-after net cells halo connectors t n placed fresh links outs carried ins after put p sound before has bounds seen steps within in
+      let is = ready net t n cells halo connectors placed put p sound before has bounds seen within in
+      let n_is = ap (λ row. row.n) next.0 in
+      let gone_is = ap (λ row. row.gone) next.0 in
+      let few = is.after.n in
+      let few_gone = is.after.gone in
+      record {
+        began = next.1.began;
+        sums = next.1.sums;
+        fits = omega arith;
+      };
+}

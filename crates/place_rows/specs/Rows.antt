@@ -1,5 +1,5 @@
 -- The row of a cell by its place.
-use Rattle.std.specs.Prelude.{◌≡◌, ℕ, ◌+◌, ◌-◌, ◌<◌, ◌≤◌, false, List, length, map, slice_index, slice_index_or, if◌then◌else◌}
+use Rattle.std.specs.Prelude.{◌≡◌, ℕ, ◌+◌, ◌-◌, ◌<◌, ◌≤◌, ◌^◌, false, List, length, map, slice_index, slice_index_or, if◌then◌else◌}
 use Rattle.std.specs.List.{range_with_len}
 use Rattle.network_file.specs.Cells.{is_exit_at}
 use Rattle.network_file.specs.Network.{Network}
@@ -32,3 +32,15 @@ pub record IsOf (net : Network) (i : ℕ) (origin : Origin) (place : Place) : Ty
   pub exit : origin.is_exit ≡ is_exit_at net.cells i
   pub began : origin.is_exit ≡ false → origin.first ≤ place.n + place.gone
   pub sums : origin.is_exit ≡ false → place.gone ≤ place.held
+
+-- no sum of the place runs below 0 or too large
+pub record IsSettled (origin : Origin) (place : Place) : Type 0 where
+  pub began : origin.is_exit ≡ false → origin.first ≤ place.n + place.gone
+  pub sums : origin.is_exit ≡ false → place.gone ≤ place.held
+  pub fits : place.n + place.gone < 2 ^ 64
+
+-- so is each, with an occupancy of a step before for each
+pub record AreSettled (origins : List Origin) (places : List Place) (before : List ℕ) : Type 0 where
+  pub one_each : length places ≡ length origins
+  pub before_each : length before ≡ length origins
+  pub each : (p : ℕ) → p < length origins → IsSettled (origin_at origins p) (place_at places p)

@@ -1,5 +1,5 @@
-ghost use Rattle.std.specs.Prelude.{◌≡◌, ◌+◌, ◌<◌, ◌≤◌, ◌^◌, false};
-ghost use Rattle.place_rows.specs.Rows.{row_of};
+ghost use Rattle.std.specs.Prelude.{◌≡◌};
+ghost use Rattle.place_rows.specs.Rows.{IsSettled, row_of};
 
 use flow_model::Row;
 use place_sweep::Place;
@@ -16,9 +16,7 @@ pub(crate) struct Origin {
 impl Origin {
     /// The row of the cell at its place.
     pub(crate) fn row(self, place: &Place) -> Row
-        requires began { self.is_exit ≡ false → self.first ≤ place.now.n + place.now.gone }
-        requires sums { self.is_exit ≡ false → place.now.gone ≤ place.now.held }
-        requires fits { place.now.n + place.now.gone < 2 ^ 64 }
+        requires { IsSettled self place.now }
         ensures { result ≡ row_of self place.now }
     {
         let (n, gone) = (place.n, place.gone);

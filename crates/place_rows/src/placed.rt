@@ -1,4 +1,5 @@
 ghost use Rattle.std.specs.Prelude.{◌≡◌, ◌+◌, ◌<◌, ◌≤◌, ℕ, List, length, map, slice_index};
+ghost use Rattle.flow_model.specs.State.{occupancy, row_at};
 ghost use Rattle.place_sweep.specs.Places.{place_at};
 ghost use Rattle.place_rows.specs.Placed.{ArePlaced, CanAdvance, rows_next};
 ghost use Rattle.place_rows.specs.Rows.{rows_of};
@@ -8,6 +9,7 @@ use crate::demands::put_demands;
 use crate::origin::Origin;
 use crate::spot::Sight;
 use crate::tie::Tie;
+use flow_model::Row;
 use network_file::Net;
 use place_sweep::{Part, Place, step_places};
 use std::marker::Model;
@@ -30,6 +32,7 @@ pub struct PlacedRows {
 impl Model for PlacedRows {
     ghost use Rattle.std.specs.Prelude.{vec_capacity};
     ghost use Rattle.place_rows.specs.Placed.{PlacedCells};
+    ghost use Rattle.place_rows.specs.Rows.{AreSettled};
 
     ghost Value = { PlacedCells };
 
@@ -43,9 +46,50 @@ impl Model for PlacedRows {
       room = vec_capacity rows.outs;
       room_in = vec_capacity rows.ins;
     } };
+
+    ghost invariant = { λ rows. AreSettled rows.origins.items rows.places.items rows.before.items };
 }
 
 impl PlacedRows {
+    /// How many cells there are.
+    pub fn count(&self) -> usize
+        ensures { result ≡ length self.now.origins }
+    {
+        self.origins.len()
+    }
+
+    /// The row of the `i`-th cell.
+    pub fn row(&self, i: u32) -> Row
+        requires { i < length self.now.origins }
+        ensures { result ≡ row_at (rows_of self.now.origins self.now.places) i }
+    {
+        self.origins[i as usize].row(&self.places[i as usize])
+    }
+
+    /// What the `i`-th cell holds.
+    pub fn held(&self, i: u32) -> u64
+        requires { i < length self.now.origins }
+        ensures { result ≡ occupancy (rows_of self.now.origins self.now.places) i }
+    {
+        self.places[i as usize].n
+    }
+
+    /// All that has gone out of it since step 0.
+    pub fn gone(&self, i: u32) -> u64
+        requires { i < length self.now.origins }
+        ensures { result ≡ (row_at (rows_of self.now.origins self.now.places) i).gone }
+    {
+        self.places[i as usize].gone
+    }
+
+    /// What it held a step before.
+    pub fn before(&self, i: u32) -> u64
+        requires { i < length self.now.origins }
+        ensures { result ≡ slice_index self.now.before i }
+    {
+        self.before[i as usize]
+    }
+
     /// Takes the cells through step `t`, by what was put for each cell of their halo.
     pub fn step(&mut self, net: &Net, t: u64, cells: &[u32], put: &[Option<u64>])
         requires in_time { t < net.now.steps }

@@ -16,7 +16,7 @@ use Rattle.place_rows.specs.Moves.{ArePartsOf, IsSeen, demand_for}
 use Rattle.place_rows.specs.Placed.{AreInBounds, ArePlaced, CanAdvance, PlacedCells, rows_next}
 use Rattle.place_rows.specs.Rows.{rows_of}
 use Rattle.place_rows.proofs.Parting.{can_carry}
-use Rattle.place_rows.proofs.Whole.{AreSteps, IsFresh, can_step, fresh-of, gates-there, placed-after, rows-after, scene-fresh, seen-fresh, steps-moved}
+use Rattle.place_rows.proofs.Whole.{AreSteps, IsFresh, can_step, fresh-of, gates-there, placed-after, rows-after, scene-fresh, seen-fresh, settled-after, steps-moved}
 use Rattle.place_rows.specs.declared.placed.PlacedRows.TheInside.{Inside}
 use Rattle.place_rows.proofs.placed.PlacedRows.step.Goals as goal
 
@@ -270,3 +270,59 @@ returns-clause-before c = λ p within.
     c.step_places.ensures.before p there ∙ ap (λ list. (place_at list p).n) places ∙ ap (λ place. place.n) (fresh.most p here)
     ∙ ap (λ v. (place_at v.places p).n) c.self.view_is
     )
+
+pub invariant_of-self : goal.invariant_of-self
+invariant_of-self c =
+    let net = c.args.net.now in
+    let t : ℕ = c.args.t in
+    let cells = c.args.cells.now in
+    let put = c.args.put.now in
+    let sound : IsNetwork net = subst IsNetwork c.net.view_is c.net.invariant in
+    let before = c.requires.in_time in
+    let placed : PlacedCells = opened c.self.inside in
+    let given : CanAdvance net cells t c.args.self.now put = c.requires.can in
+    let halo = given.halo in
+    let connectors = given.connectors in
+    let n = given.n in
+    let laid : ArePlaced net cells halo connectors t placed = subst (ArePlaced net cells halo connectors t) (sym c.self.view_is) given.laid in
+    let bounds : AreInBounds net cells halo t placed put = subst (λ v. AreInBounds net cells halo t v put) (sym c.self.view_is) given.bounds in
+    let seen_first : IsSeen n cells halo placed.places put = subst (λ v. IsSeen n cells halo v.places put) (sym c.self.view_is) given.seen in
+    let first = c.refresh.new.places in
+    let fresh = fresh-of net cells halo connectors t placed c.deref_mut-2.result.now first c.deref_mut.result.now c.refresh.new.links
+        laid c.deref_mut-2.ensures.value c.deref_mut.ensures.value c.refresh.auto.places
+        c.refresh.ensures.there c.refresh.ensures.most c.refresh.ensures.followed in
+    let first_long : length first ≡ c.self.inside.places.len = c.refresh.auto.places ∙ c.deref_mut-2.ensures.len in
+    let first_is = with_items_is c.self.inside.places first first_long in
+    let sight : c.deref.result.now ≡ first = c.deref.ensures.value ∙ first_is in
+    let ties : c.deref-2.result.now ≡ placed.ties = c.deref-2.ensures.value in
+    let gates : c.deref-3.result.now ≡ placed.gates = c.deref-3.ensures.value in
+    let outs = c.carry_all.new.outs.items in
+    let carried = c.carry_all.new.ins.items in
+    let ins = c.put_demands.new.ins.items in
+    let seen = seen-fresh net t n cells halo connectors placed first put laid seen_first fresh.most in
+    let parts : ArePartsOf net t n cells placed.ties outs carried =
+        rw ties at (c.carry_all.ensures.parts n cells halo (rw sight seen) (rw ties laid.tied)) in
+    let demands : (p : ℕ) → parts_at ins p ≡ parts_at carried p + sum_by (demand_for net.plan t cells p) placed.gates =
+        rw gates at c.put_demands.ensures.parts in
+    let there_in = c.put_demands.ensures.there parts.there_in in
+    let places : c.deref_mut-3.result.now ≡ first = c.deref_mut-3.ensures.value ∙ first_is in
+    let after = c.step_places.new.places in
+    let after_long : length after ≡ length first = c.step_places.auto.places ∙ ap length places in
+    let after_is = with_items_is (with_items c.self.inside.places first) after (after_long ∙ first_long) in
+    let stepped_each = rw (places, c.deref-4.ensures.value, c.deref-5.ensures.value) at c.step_places.ensures.places in
+    let steps : AreSteps net cells halo connectors t n placed first c.refresh.new.links outs carried ins after = record {
+      long = fresh.long;
+      most = fresh.most;
+      links_there = fresh.links_there;
+      followed = fresh.followed;
+      parts = parts;
+      demands = demands;
+      there_in = there_in;
+      long_after = after_long;
+      stepped_each = stepped_each;
+    } in
+    let noted = c.step_places.new.before in
+    let noted_is = with_items_is c.self.inside.before noted (c.step_places.auto.before ∙ c.deref_mut-4.ensures.len) in
+    rw (after_is, noted_is)
+    (settled-after net cells halo connectors t n placed first c.refresh.new.links outs carried ins after noted put sound before laid bounds seen_first steps
+    (c.step_places.auto.before ∙ ap length c.deref_mut-4.ensures.value))
