@@ -4,3 +4,4 @@ pub mod Flowing
 pub mod Stepping
 pub mod Parting
 pub mod Whole
+pub mod Joins

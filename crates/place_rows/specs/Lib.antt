@@ -3,3 +3,4 @@ pub mod Rows
 pub mod Carrying
 pub mod Moves
 pub mod Placed
+pub mod Joining

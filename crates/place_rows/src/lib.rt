@@ -4,6 +4,7 @@
 mod carry;
 mod chain;
 mod demands;
+mod joining;
 mod origin;
 mod placed;
 mod spot;
