@@ -5,3 +5,4 @@ pub mod Stepping
 pub mod Parting
 pub mod Whole
 pub mod Joins
+pub mod Known

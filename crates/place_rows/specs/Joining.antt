@@ -1,5 +1,8 @@
 -- A place is joined to the next.
-use Rattle.std.specs.Prelude.{◌≡◌, ◌≢◌, ℕ, ◌+◌, Bool, true, All, List, slice_index}
+use Rattle.std.specs.Prelude.{◌≡◌, ◌≢◌, ◌<◌, ◌⊎◌, ℕ, ◌+◌, Bool, true, All, List, slice_index}
+use Rattle.std.specs.List.{Contains}
+use Rattle.network_file.specs.declared.connector.Connector.{Connector}
+use Rattle.region_cut.specs.ConnectorCells.{three_cells}
 use Rattle.signal_plan.specs.Records.{PlanRecords}
 use Rattle.timelines.specs.Courses.{most_between}
 use Rattle.timelines.specs.declared.followed.FollowedLink.{FollowedLink}
@@ -13,3 +16,11 @@ pub record Extends (plan : PlanRecords) (cells : List ℕ) (p : ℕ) (links : Li
 -- all links that are new are those of place p
 pub record IsAt (p : ℕ) (old new : List FollowedLink) : Type 0 where
   pub each : (test : ℕ → Bool) → All (λ link. test link.place ≡ true) old → test p ≡ true → All (λ link. test link.place ≡ true) new
+
+-- the cell is one of these or of the halo
+abbrev pub IsKnown : (cells halo : List ℕ) → (i : ℕ) → Type 0
+IsKnown cells halo i = Contains cells i ⊎ Contains halo i
+
+-- so is each cell of the connector
+pub record AreKnown (cells halo : List ℕ) (connector : Connector) : Type 0 where
+  pub each : (m : ℕ) → m < 3 → IsKnown cells halo (slice_index (three_cells connector) m)

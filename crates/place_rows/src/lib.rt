@@ -9,6 +9,7 @@ mod origin;
 mod placed;
 mod spot;
 mod tie;
+mod tying;
 
 pub use chain::chained;
 pub use placed::PlacedRows;
