@@ -6,3 +6,4 @@ pub mod Parting
 pub mod Whole
 pub mod Joins
 pub mod Known
+pub mod Extending

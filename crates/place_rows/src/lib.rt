@@ -5,6 +5,7 @@ mod carry;
 mod chain;
 mod demands;
 mod joining;
+mod joints;
 mod origin;
 mod placed;
 mod spot;
