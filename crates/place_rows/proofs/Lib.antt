@@ -7,3 +7,5 @@ pub mod Whole
 pub mod Joins
 pub mod Known
 pub mod Extending
+pub mod Firsts
+pub mod Pushes

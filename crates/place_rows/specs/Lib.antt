@@ -4,3 +4,4 @@ pub mod Carrying
 pub mod Moves
 pub mod Placed
 pub mod Joining
+pub mod First

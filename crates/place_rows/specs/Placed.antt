@@ -1,6 +1,8 @@
 -- The rows of some cells, kept as places side by side.
-use Rattle.std.specs.Prelude.{◌≡◌, ℕ, ◌+◌, ◌*◌, ◌<◌, ◌≤◌, All, List, Option, None, length, map, slice_index, slice_index_or, unwrap_or}
+use Rattle.std.specs.Prelude.{◌≡◌, ◌≢◌, ℕ, ◌+◌, ◌*◌, ◌^◌, ◌<◌, ◌≤◌, All, List, Option, None, length, map, slice_index, slice_index_or, unwrap_or}
 use Rattle.std.specs.List.{filter, range_with_len}
+use Rattle.std.specs.List.Sorted.{IsStrictlyIncreasing}
+use Rattle.network_file.specs.Connectors.{connector_at}
 use Rattle.network_file.specs.Cells.{is_gate_at}
 use Rattle.network_file.specs.Network.{Network}
 use Rattle.flow_model.specs.Bounds.{IsHeldInBounds, IsRowInBounds}
@@ -14,6 +16,7 @@ use Rattle.place_sweep.specs.declared.place.Place.{Place}
 use Rattle.timelines.specs.Followed.{AreFollowed, IsThere}
 use Rattle.timelines.specs.declared.followed.FollowedLink.{FollowedLink}
 use Rattle.place_rows.specs.Chains.{AreAround, most_out, odd_ones}
+use Rattle.place_rows.specs.Joining.{AreKnown}
 use Rattle.place_rows.specs.Moves.{AreTied, IsSeen}
 use Rattle.place_rows.specs.Rows.{IsOf, origin_at, rows_of}
 use Rattle.place_rows.specs.declared.origin.Origin.{Origin}
@@ -67,3 +70,13 @@ pub record CanAdvance (net : Network) (cells : List ℕ) (t : ℕ) (placed : Pla
 -- the rows of these cells after step t, where all cells around them hold n as it begins
 unfoldable pub rows_next : Network → (t : ℕ) → (ℕ → ℕ) → (cells : List ℕ) → List Row → List Row
 rows_next net t n cells rows = map (λ p. next_row net t n (slice_index cells p) (row_at rows p)) (range_with_len 0 (length cells))
+
+-- cells, their halo and the connectors that touch them, as a region has them
+pub record AreCells (net : Network) (cells halo connectors : List ℕ) : Type 0 where
+  pub around : AreAround net cells connectors
+  pub halo_rising : IsStrictlyIncreasing halo
+  pub apart : (p j : ℕ) → p < length cells → j < length halo → slice_index cells p ≢ slice_index halo j
+  pub there : All (λ k. k < length net.connectors) connectors
+  pub known : All (λ k. AreKnown cells halo (connector_at net.connectors k)) connectors
+  pub few : length cells < 2 ^ 32
+  pub few_halo : length halo < 2 ^ 32

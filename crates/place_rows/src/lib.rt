@@ -2,15 +2,19 @@
 #![tactic(auto)]
 
 mod carry;
+mod cells;
 mod chain;
 mod demands;
+mod first;
 mod joining;
 mod joints;
+mod opening;
 mod origin;
 mod placed;
 mod spot;
 mod tie;
 mod tying;
 
+pub use cells::Cells;
 pub use chain::chained;
 pub use placed::PlacedRows;

@@ -1,17 +1,23 @@
-ghost use Rattle.std.specs.Prelude.{◌≡◌, ◌+◌, ◌<◌, ◌≤◌, ℕ, List, length, map, slice_index};
+ghost use Rattle.std.specs.Prelude.{◌≡◌, ◌+◌, ◌<◌, ◌≤◌, ℕ, All, IfOk, length, map, slice_index};
+ghost use Rattle.flow_model.specs.Bounds.{IsRowInBounds};
 ghost use Rattle.flow_model.specs.State.{occupancy, row_at};
 ghost use Rattle.place_sweep.specs.Places.{place_at};
-ghost use Rattle.place_rows.specs.Placed.{ArePlaced, CanAdvance, rows_next};
+ghost use Rattle.place_rows.specs.Placed.{AreCells, ArePlaced, CanAdvance, rows_next};
 ghost use Rattle.place_rows.specs.Rows.{rows_of};
 
 use crate::carry::carry_all;
+use crate::cells::Cells;
 use crate::demands::put_demands;
+use crate::joints::join_places;
+use crate::opening::{earlier_of, gates_of, origins_of, places_of};
 use crate::origin::Origin;
 use crate::spot::Sight;
 use crate::tie::Tie;
 use flow_model::Row;
 use network_file::Net;
 use place_sweep::{Part, Place, step_places};
+use signal_plan::NoMemory;
+use std::alloc::Global;
 use std::marker::Model;
 use timelines::{FollowedLink, refresh};
 
@@ -51,6 +57,54 @@ impl Model for PlacedRows {
 }
 
 impl PlacedRows {
+    /// These cells with their rows at step `t` and what they held earlier, joined by these connectors. Of all rows and
+    /// earlier occupancies those of these cells are used. All memory that a step needs is taken here.
+    pub fn new(
+        alloc: Global,
+        net: &Net,
+        t: u64,
+        region: &Cells,
+        rows: &[Row],
+        earlier: &[u64],
+    ) -> Result<PlacedRows, NoMemory>
+        requires in_time { t ≤ net.now.steps }
+        requires cells { AreCells net.now region.now.cells.now region.now.halo.now region.now.connectors.now }
+        requires rows { All (λ i. i < length rows.now) region.now.cells.now }
+        requires earlier { All (λ i. i < length earlier.now) region.now.cells.now }
+        requires bounds { All (λ i. IsRowInBounds net.now t i (row_at rows.now i)) region.now.cells.now }
+        ensures placed { IfOk result (λ placed. ArePlaced net.now region.now.cells.now region.now.halo.now region.now.connectors.now t placed) }
+        ensures rows { IfOk result (λ placed. rows_of placed.origins placed.places ≡ map (row_at rows.now) region.now.cells.now) }
+        ensures before { IfOk result (λ placed. placed.before ≡ map (slice_index earlier.now) region.now.cells.now) }
+    {
+        let _steps = net.steps;
+        let cells = region.cells;
+        let origins = origins_of(alloc, net, cells)?;
+        let mut places = places_of(alloc, net, t, cells, rows)?;
+        let before = earlier_of(alloc, earlier, cells)?;
+        let gates = gates_of(alloc, net, cells)?;
+        let joints = join_places(
+            alloc,
+            net,
+            t,
+            cells,
+            region.halo,
+            region.connectors,
+            &mut places,
+        )?;
+        let outs = Vec::with_capacity(alloc, 2 * joints.ties.len())?;
+        let ins = Vec::with_capacity(alloc, 2 * joints.ties.len() + gates.len())?;
+        Ok(PlacedRows {
+            places,
+            origins,
+            before,
+            links: joints.links,
+            ties: joints.ties,
+            gates,
+            outs,
+            ins,
+        })
+    }
+
     /// How many cells there are.
     pub fn count(&self) -> usize
         ensures { result ≡ length self.now.origins }

@@ -1,0 +1,58 @@
+ghost use Rattle.std.specs.Prelude.{◌≡◌, ◌<◌, ◌≤◌, length};
+ghost use Rattle.flow_model.specs.Bounds.{IsRowInBounds, first_at};
+ghost use Rattle.flow_model.specs.Limits.{room_at};
+ghost use Rattle.network_file.specs.Cells.{is_exit_at};
+ghost use Rattle.place_sweep.specs.Space.{IsSpaceOf};
+ghost use Rattle.place_rows.specs.First.{IsFirst, IsOriginOf};
+
+use crate::origin::Origin;
+use flow_model::Row;
+use network_file::{Kind, Net};
+use ordinary_link::Room;
+use place_sweep::{Place, Space};
+
+/// What never changes of cell `i`.
+pub(crate) fn origin_of(net: &Net, i: u32) -> Origin
+    requires there { i < length net.now.cells }
+    ensures { IsOriginOf net.now i result }
+{
+    let cell = &net.cells[i as usize];
+    Origin {
+        first: cell.first,
+        is_exit: cell.kind == Kind::Exit,
+    }
+}
+
+/// The place of cell `i` with this row at step `t`, joined to no other.
+pub(crate) fn place_of(net: &Net, t: u64, i: u32, row: &Row) -> Place
+    requires there { i < length net.now.cells }
+    requires in_time { t ≤ net.now.steps }
+    requires bounds { IsRowInBounds net.now t i row.now }
+    ensures { IsFirst net.now i row.now result }
+{
+    let _steps = net.steps;
+    Place {
+        n: row.n,
+        gone: row.gone,
+        held: row.wait + row.gone,
+        most: 0,
+        space: space_of(net, i),
+    }
+}
+
+// The space of cell `i`.
+fn space_of(net: &Net, i: u32) -> Space
+    requires there { i < length net.now.cells }
+    ensures { IsSpaceOf result (room_at net.now.cells i) }
+{
+    let cell = &net.cells[i as usize];
+    match cell.kind {
+        Kind::Road => Space::of(Some(Room {
+            most: cell.room,
+            num: cell.num,
+            den: cell.den,
+        })),
+        Kind::Gate => Space::of(None),
+        Kind::Exit => Space::of(None),
+    }
+}
