@@ -1,9 +1,9 @@
 -- What links carry at most, once one more connector is joined.
-use Rattle.std.specs.Prelude.{All, Bool, not, ◌⊎◌, ◌||◌, map, slice_index, if◌then◌else◌}
+use Rattle.std.specs.Prelude.{All, Bool, not, ◌||◌, map, slice_index, if◌then◌else◌}
 use Rattle.std.specs.List.{filter, list_any, range_with_len}
 use Rattle.std.specs.List.Sorted.{IsStrictlyIncreasing}
-use Rattle.std.proofs.Common.{◌≡◌, ◌≢◌, ℕ, ◌+◌, ◌<◌, ◌≤◌, inl, inr, true, false, List, [], ◌∷◌, ◌++◌, length, get_or, take, refl, sym, ap, ◌∙◌, subst, arith}
-use Rattle.std.proofs.lemmas.Bool.{cases_Bool, cases_eq}
+use Rattle.std.proofs.Common.{◌≡◌, ◌≢◌, ℕ, ◌+◌, ◌<◌, inl, inr, true, false, List, [], ◌∷◌, ◌++◌, length, get_or, take, refl, sym, ap, ◌∙◌, arith}
+use Rattle.std.proofs.lemmas.Bool.{cases_Bool}
 use Rattle.std.proofs.lemmas.List.{append-nil, map-append, take_more}
 use Rattle.std.proofs.lemmas.List.Elements.{All-push, filter-append}
 use Rattle.std.proofs.lemmas.List.Folds.{list_any-append}
@@ -17,7 +17,7 @@ use Rattle.region_cut.proofs.Anys.{finds}
 use Rattle.region_cut.proofs.Increasing.{position_is}
 use Rattle.region_cut.proofs.Ranges.{range-Contains}
 use Rattle.timelines.specs.Courses.{most_between}
-use Rattle.timelines.specs.Followed.{AreFollowed, IsFollowed, IsThere}
+use Rattle.timelines.specs.Followed.{AreFollowed, IsThere}
 use Rattle.timelines.specs.declared.followed.FollowedLink.{FollowedLink}
 use Rattle.place_rows.specs.Chains.{is_chained, is_joined, is_link, most_out, odd_ones}
 use Rattle.place_rows.specs.Joining.{Extends, IsAt}
@@ -59,7 +59,7 @@ one-place cells p q connector rising linked other = elim (cases_Bool (is_link ce
       let both : Link (slice_index cells p) (slice_index cells (p + 1)) ≡ Link (slice_index cells q) (slice_index cells (q + 1)) = sym here.is ∙ there.is in
       let same : slice_index cells p ≡ slice_index cells q = cc in
       let place : q ≡ p =
-          sym (position_is cells q (slice_index cells q) rising (omega arith) refl) ∙ position_is cells p (slice_index cells q) rising (omega arith) same in
+      sym (position_is cells q (slice_index cells q) rising (omega arith) refl) ∙ position_is cells p (slice_index cells q) rising (omega arith) same in
       absurd (other place)
   | inr apart ↦ apart
 ]
@@ -105,7 +105,7 @@ unchained-more net cells connectors j q s within odd =
           let at = link-is cells q connector linked in
           let inside = at.within in
           let chained : is_chained cells connector ≡ true =
-              finds (λ m. is_link cells m connector) (range_with_len 0 (length cells)) q (range-Contains (length cells) q (omega arith)) linked in
+          finds (λ m. is_link cells m connector) (range_with_len 0 (length cells)) q (range-Contains (length cells) q (omega arith)) linked in
           cc
       | inr apart ↦ apart
     ] in
@@ -119,11 +119,14 @@ followed-same most later places links t same followed = record {
   courses = λ k d within s. followed.courses k d within s ∙ sym (same (get_or links k d).place s);
   each = λ p within. elim (followed.each p within) [
     | inl constant ↦ inl (λ s from. constant s from ∙ sym (same p s))
-    | inr (m, has) ↦ inr (m, record {
-      there = has.there;
-      its = has.its;
-      steady = λ d s from before. has.steady d s from before ∙ sym (same p s);
-    })
+    | inr (m, has) ↦ inr (
+      m,
+      record {
+        there = has.there;
+        its = has.its;
+        steady = λ d s from before. has.steady d s from before ∙ sym (same p s);
+      },
+    )
   ];
 }
 
@@ -181,7 +184,7 @@ joined-chained net t cells halo connectors first places after links later ties j
     let at_link = link-is cells p connector linked in
     let inside = at_link.within in
     let chained : is_chained cells connector ≡ true =
-        finds (λ m. is_link cells m connector) (range_with_len 0 (length cells)) p (range-Contains (length cells) p (omega arith)) linked in
+    finds (λ m. is_link cells m connector) (range_with_len 0 (length cells)) p (range-Contains (length cells) p (omega arith)) linked in
     record {
       only_most = λ q. only q ∙ ap {B = Place} (λ place. record place { most = (place_at after q).most }) (has.only_most q);
       links_there = there;

@@ -1,19 +1,19 @@
 -- The place of a cell as it is opened has the cell's row.
-use Rattle.std.specs.Prelude.{All, Bool, map, slice_index, if◌then◌else◌}
-use Rattle.std.proofs.Common.{◌≡◌, ℕ, ◌+◌, ◌-◌, ◌*◌, ◌^◌, ◌<◌, ◌≤◌, inl, inr, true, false, List, length, refl, sym, ap, ◌∙◌, arith}
+use Rattle.std.specs.Prelude.{All, map, slice_index}
+use Rattle.std.proofs.Common.{◌≡◌, ℕ, ◌<◌, ◌≤◌, inl, inr, true, false, List, length, refl, sym, ap, ◌∙◌, arith}
 use Rattle.std.proofs.lemmas.Bool.{cases_Bool}
 use Rattle.std.proofs.lemmas.List.{ext_get_or, get_or-map, length-map}
 use Rattle.network_file.specs.Cells.{is_exit_at}
 use Rattle.network_file.specs.Network.{IsNetwork, Network}
-use Rattle.flow_model.specs.Bounds.{IsRowInBounds, first_at}
+use Rattle.flow_model.specs.Bounds.{IsRowInBounds}
 use Rattle.flow_model.specs.Rows.{empty_row}
 use Rattle.flow_model.specs.State.{row_at}
 use Rattle.flow_model.specs.declared.row.Row.{Row}
-use Rattle.flow_model.proofs.Bounds.{IsSmall, small}
+use Rattle.flow_model.proofs.Bounds.{small}
 use Rattle.place_sweep.specs.Places.{place_at}
 use Rattle.place_sweep.specs.declared.place.Place.{Place}
 use Rattle.place_rows.specs.First.{IsFirst, IsOriginOf}
-use Rattle.place_rows.specs.Rows.{AreSettled, IsOf, IsSettled, origin_at, row_of, rows_of}
+use Rattle.place_rows.specs.Rows.{AreSettled, IsOf, origin_at, row_of, rows_of}
 use Rattle.place_rows.proofs.Whole.{length-rows_of, row_at-rows_of}
 use Rattle.place_rows.specs.declared.origin.Origin.{Origin}
 
@@ -29,26 +29,30 @@ first-row net t i row origin place origin_is place_is bounds = elim (cases_Bool 
       let come = bounds.exit_come at in
       let wait = bounds.exit_wait at in
       let n = place_is.n in
-      let gone = place_is.gone in
-      (rw exit (row_same row n (n ∙ sym come) gone (sym wait)), record {
-        first = origin_is.first;
-        exit = origin_is.exit;
-        began = λ other. cc;
-        sums = λ other. cc;
-      })
+      let gone = place_is.gone in (
+        rw exit (row_same row n (n ∙ sym come) gone (sym wait)),
+        record {
+          first = origin_is.first;
+          exit = origin_is.exit;
+          began = λ other. cc;
+          sums = λ other. cc;
+        },
+      )
   | inr other ↦
       let at : is_exit_at net.cells i ≡ false = sym origin_is.exit ∙ other in
       let balance = bounds.balance at in
       let n = place_is.n in
       let gone = place_is.gone in
       let held = place_is.held in
-      let first = origin_is.first in
-      (rw other (row_same row n (omega arith) gone (omega arith)), record {
-        first = origin_is.first;
-        exit = origin_is.exit;
-        began = λ same. omega arith;
-        sums = λ same. omega arith;
-      })
+      let first = origin_is.first in (
+        rw other (row_same row n (omega arith) gone (omega arith)),
+        record {
+          first = origin_is.first;
+          exit = origin_is.exit;
+          began = λ same. omega arith;
+          sums = λ same. omega arith;
+        },
+      )
 ]
 
 -- all cells as they are opened
@@ -79,11 +83,11 @@ opened-rows net t cells rows origins first after opened =
     ext_get_or empty_row (rows_of origins after) (map (row_at rows) cells)
     (length-rows_of origins after ∙ opened.origin_each ∙ sym (length-map cells (row_at rows)))
     (λ p lt.
-        let inside : p < length origins = omega (arith, length-rows_of origins after) in
-        let within : p < length cells = omega (arith, opened.origin_each) in
-        row_at-rows_of origins after p inside
-        ∙ (opened-cell net t cells rows origins first after p opened within).0
-        ∙ sym (get_or-map (row_at rows) cells p 0 empty_row within))
+    let inside : p < length origins = omega (arith, length-rows_of origins after) in
+    let within : p < length cells = omega (arith, opened.origin_each) in
+    row_at-rows_of origins after p inside
+    ∙ (opened-cell net t cells rows origins first after p opened within).0
+    ∙ sym (get_or-map (row_at rows) cells p 0 empty_row within))
 
 pub opened-settled : (net : Network) (t : ℕ) (cells : List ℕ) (rows : List Row) (origins : List Origin) (first after : List Place) (before : List ℕ) →
     AreOpened net t cells rows origins first after → length before ≡ length cells → AreSettled origins after before

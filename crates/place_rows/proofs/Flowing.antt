@@ -1,20 +1,20 @@
 -- What leaves a cell and what enters it in a step, by the link between places and by the other connectors.
-use Rattle.std.specs.Prelude.{All, Bool, not, ◌⊎◌, eqb, ◌==◌, slice_index, if◌then◌else◌}
+use Rattle.std.specs.Prelude.{Bool, not, ◌⊎◌, eqb, slice_index, if◌then◌else◌}
 use Rattle.std.specs.List.{Contains, filter, list_any, range_with_len, sum, sum_by}
 use Rattle.std.specs.List.Sorted.{IsStrictlyIncreasing}
-use Rattle.std.proofs.Common.{◌≡◌, ◌≢◌, ℕ, zero, suc, ◌+◌, ◌-◌, ◌<◌, ◌≤◌, inl, inr, true, false, List, [], ◌∷◌, length, get_or, map, refl, sym, ap, ◌∙◌, subst, add-one, arith}
+use Rattle.std.proofs.Common.{◌≡◌, ℕ, zero, suc, ◌+◌, ◌<◌, inl, inr, true, false, List, [], ◌∷◌, length, get_or, map, refl, sym, ap, ◌∙◌, subst, add-one, arith}
 use Rattle.std.proofs.lemmas.Bool.{cases_Bool, eq-eqb, eqb-true}
-use Rattle.std.proofs.lemmas.List.{ext_get_or, get_or_default, get_or-map, length-map}
+use Rattle.std.proofs.lemmas.List.{ext_get_or, get_or-map, length-map}
 use Rattle.std.proofs.lemmas.List.Elements.{Contains-get_or}
-use Rattle.std.proofs.lemmas.List.FromFn.{get_or-map-range_with_len, get_or-range_with_len, length-map-range_with_len, length-range_with_len}
+use Rattle.std.proofs.lemmas.List.FromFn.{get_or-map-range_with_len, length-map-range_with_len}
 use Rattle.std.proofs.lemmas.List.Sums.{sum-map}
 use Rattle.signal_plan.specs.Capacity.{capacity_at}
 use Rattle.signal_plan.proofs.Sums.{sum_by-zero}
 use Rattle.network_file.specs.Cells.{is_gate_at}
-use Rattle.network_file.specs.Connectors.{connector_at, leads_into, leads_out_of, touches}
+use Rattle.network_file.specs.Connectors.{connector_at, leads_into, leads_out_of}
 use Rattle.network_file.specs.Network.{IsNetwork, Network}
 use Rattle.network_file.specs.declared.connector.Connector.{Connector}
-use Rattle.network_file.specs.declared.connector.Connector.TheVariants.{Link, Merge, Diverge}
+use Rattle.network_file.specs.declared.connector.Connector.TheVariants.{Link}
 use Rattle.flow_model.specs.Flows.{entered_by, entering, flow_of, inflow, leaving, left_by, outflow}
 use Rattle.ordinary_link.specs.LinkFlow.{link_flow_of}
 use Rattle.flow_model.specs.Limits.{receiving_at, room_at, sending_at}
@@ -23,11 +23,11 @@ use Rattle.flow_model.proofs.CellKinds.{sound_connector}
 use Rattle.flow_model.proofs.CellFlows.{inflow-by, outflow-by}
 use Rattle.flow_model.proofs.Connectors.{entering-other, leaving-other}
 use Rattle.flow_model.proofs.Locality.{leads_into-touches, leads_out_of-touches}
-use Rattle.place_sweep.specs.Places.{carried, link_in, link_out, place_at}
+use Rattle.place_sweep.specs.Places.{link_in, link_out, place_at}
 use Rattle.place_sweep.specs.Space.{HasSpace, IsSpaceOf}
 use Rattle.place_sweep.specs.declared.place.Place.{Place}
 use Rattle.timelines.specs.Courses.{most_between}
-use Rattle.region_cut.proofs.Anys.{Contains-from_test, false_from_not, found, finds, not_false}
+use Rattle.region_cut.proofs.Anys.{found, finds, not_false}
 use Rattle.region_cut.proofs.Increasing.{position_is}
 use Rattle.region_cut.proofs.Ranges.{Contains-filter_range, filter_range-Contains, range-Contains}
 use Rattle.place_rows.specs.Moves.{in_by, out_by}
@@ -41,10 +41,10 @@ sum-places f xs d =
     let at : ℕ → ℕ = λ k. f (get_or xs k d) in
     let n : ℕ = length xs in
     let same : map f xs ≡ map at (range_with_len 0 n) =
-        ext_get_or 0 (map f xs) (map at (range_with_len 0 n)) (length-map xs f ∙ sym (length-map-range_with_len at 0 n))
-        (λ k lt.
-            let within : k < n = omega (arith, length-map xs f) in
-            get_or-map f xs k d 0 within ∙ sym (get_or-map-range_with_len at 0 n k k 0 within (omega arith))) in
+    ext_get_or 0 (map f xs) (map at (range_with_len 0 n)) (length-map xs f ∙ sym (length-map-range_with_len at 0 n))
+    (λ k lt.
+    let within : k < n = omega (arith, length-map xs f) in
+    get_or-map f xs k d 0 within ∙ sym (get_or-map-range_with_len at 0 n k k 0 within (omega arith))) in
     sym (sum-map f xs) ∙ ap sum same ∙ sum-map at (range_with_len 0 n)
 
 outflow-sum : (net : Network) (t i : ℕ) (n : ℕ → ℕ) → outflow net t n i ≡ sum_by (out_by net t n i) (range_with_len 0 (length net.connectors))
@@ -85,7 +85,7 @@ unfolding is_joined
 join net cells connectors p around joined =
     let some = found (λ k. is_link cells p (connector_at net.connectors k)) connectors joined in
     let listed : Contains (filter around.touched (range_with_len 0 (length net.connectors))) some.0 =
-        subst (λ list. Contains list some.0) around.numbers some.1 in
+    subst (λ list. Contains list some.0) around.numbers some.1 in
     let at = link-is cells p (connector_at net.connectors some.0) some.2 in
     let within = at.within in
     record {
@@ -101,7 +101,7 @@ joined-by : (net : Network) (cells connectors : List ℕ) (p k : ℕ) (around : 
 unfolding is_joined
 joined-by net cells connectors p k around there touched linked =
     let listed : Contains connectors k =
-        subst (λ list. Contains list k) (sym around.numbers) (filter_range-Contains around.touched (length net.connectors) k there touched) in
+    subst (λ list. Contains list k) (sym around.numbers) (filter_range-Contains around.touched (length net.connectors) k there touched) in
     finds (λ m. is_link cells p (connector_at net.connectors m)) connectors k listed linked
 
 -- a chained connector out of the p-th cell joins it to the next
@@ -113,7 +113,7 @@ chained-out cells p connector rising within chained out =
     let at = link-is cells q connector some.2 in
     let inside = at.within in
     let out_here : leads_out_of (slice_index cells p) (Link (slice_index cells q) (slice_index cells (q + 1))) ≡ true =
-        subst (λ c. leads_out_of (slice_index cells p) c ≡ true) at.is out in
+    subst (λ c. leads_out_of (slice_index cells p) c ≡ true) at.is out in
     let same : slice_index cells p ≡ slice_index cells q = one_of (slice_index cells p) (slice_index cells q) out_here in
     let place : q ≡ p = sym (position_is cells q (slice_index cells q) rising (omega arith) refl) ∙ position_is cells p (slice_index cells q) rising within same in
     subst (λ m. is_link cells m connector ≡ true) place some.2
@@ -127,10 +127,10 @@ chained-into cells p connector rising within chained into =
     let at = link-is cells q connector some.2 in
     let inside = at.within in
     let into_here : leads_into (slice_index cells p) (Link (slice_index cells q) (slice_index cells (q + 1))) ≡ true =
-        subst (λ c. leads_into (slice_index cells p) c ≡ true) at.is into in
+    subst (λ c. leads_into (slice_index cells p) c ≡ true) at.is into in
     let same : slice_index cells p ≡ slice_index cells (q + 1) = one_of (slice_index cells p) (slice_index cells (q + 1)) into_here in
     let place : q + 1 ≡ p =
-        sym (position_is cells (q + 1) (slice_index cells (q + 1)) rising (omega arith) refl) ∙ position_is cells p (slice_index cells (q + 1)) rising within same in
+    sym (position_is cells (q + 1) (slice_index cells (q + 1)) rising (omega arith) refl) ∙ position_is cells p (slice_index cells (q + 1)) rising within same in
     (q, place, some.2)
 
 -- where nothing joins a cell to the next, its place's link carries nothing
@@ -144,7 +144,7 @@ most-none net t n cells connectors places p has within apart =
 most-joined : (net : Network) (t : ℕ) (n : ℕ → ℕ) (cells connectors : List ℕ) (places : List Place) (p : ℕ) → HasPlaces net t n cells connectors places →
     p + 1 < length cells → is_joined net cells connectors p ≡ true →
     link_out places p ≡ link_flow_of (sending_at net t (slice_index cells p) (n (slice_index cells p)))
-        (receiving_at net t (slice_index cells (p + 1)) (n (slice_index cells (p + 1))))
+    (receiving_at net t (slice_index cells (p + 1)) (n (slice_index cells (p + 1))))
 unfolding most_out link_out
 most-joined net t n cells connectors places p has within joined =
     carried-link net t (slice_index cells p) (slice_index cells (p + 1)) n (place_at places p) (place_at places (p + 1))
@@ -199,8 +199,8 @@ out-total net t n cells connectors places p sound around has within = elim (case
       let by = outflow-by net t k i n sound here.there out in
       let odd = odd-none net cells connectors (out_by net t n i) k around here.there here.chained (sym (outflow-sum net t i n) ∙ by) in
       let link : out_by net t n i k ≡ link_out places p =
-          ap (λ c. leaving i c (flow_of net t n c)) here.at.is ∙ leaving-link i (slice_index cells (p + 1)) net t n
-          ∙ sym (most-joined net t n cells connectors places p has here.at.within joined) in
+      ap (λ c. leaving i c (flow_of net t n c)) here.at.is ∙ leaving-link i (slice_index cells (p + 1)) net t n
+      ∙ sym (most-joined net t n cells connectors places p has here.at.within joined) in
       omega arith
   | inr apart ↦
       let i : ℕ = slice_index cells p in
@@ -209,12 +209,15 @@ out-total net t n cells connectors places p sound around has within = elim (case
         | inr other ↦ inl (leaving-other i (connector_at net.connectors k) (flow_of net t n (connector_at net.connectors k)) other)
         | inl out ↦
             let touched = around.whole i k (own-cell cells p within) below (leads_out_of-touches i (connector_at net.connectors k) out) in
-            inr (touched, elim (cases_Bool (is_chained cells (connector_at net.connectors k))) [
-              | inr other ↦ other
-              | inl chained ↦
-                  let linked = chained-out cells p (connector_at net.connectors k) around.rising within chained out in
-                  let joined = joined-by net cells connectors p k around below touched linked in cc
-            ])
+            inr (
+              touched,
+              elim (cases_Bool (is_chained cells (connector_at net.connectors k))) [
+                | inr other ↦ other
+                | inl chained ↦
+                    let linked = chained-out cells p (connector_at net.connectors k) around.rising within chained out in
+                    let joined = joined-by net cells connectors p k around below touched linked in cc
+              ],
+            )
       ]) in
       omega (arith, outflow-sum net t i n)
 ]
@@ -233,8 +236,8 @@ before-joined net t n cells connectors places q sound around has joined no_gate 
     let by = inflow-by net t k i n sound here.there into no_gate in
     let odd = odd-none net cells connectors (in_by net t n i) k around here.there here.chained (sym (inflow-sum net t i n no_gate) ∙ by) in
     let link : in_by net t n i k ≡ link_out places q =
-        ap (λ c. entering i c (flow_of net t n c)) here.at.is ∙ entering-link up i net t n
-        ∙ sym (most-joined net t n cells connectors places q has here.at.within joined) in
+    ap (λ c. entering i c (flow_of net t n c)) here.at.is ∙ entering-link up i net t n
+    ∙ sym (most-joined net t n cells connectors places q has here.at.within joined) in
     omega arith
 
 -- no chained connector leads into the p-th cell
@@ -251,13 +254,16 @@ none-before net t n cells connectors p around within no_gate none =
       | inr other ↦ inl (entering-other i (connector_at net.connectors k) (flow_of net t n (connector_at net.connectors k)) other)
       | inl into ↦
           let touched = around.whole i k (own-cell cells p within) below (leads_into-touches i (connector_at net.connectors k) into) in
-          inr (touched, elim (cases_Bool (is_chained cells (connector_at net.connectors k))) [
-            | inr other ↦ other
-            | inl chained ↦
-                let linked = chained-into cells p (connector_at net.connectors k) around.rising within chained into in
-                let joined = joined-by net cells connectors linked.0 k around below touched linked.2 in
-                let apart = none linked.0 linked.1 in cc
-          ])
+          inr (
+            touched,
+            elim (cases_Bool (is_chained cells (connector_at net.connectors k))) [
+              | inr other ↦ other
+              | inl chained ↦
+                  let linked = chained-into cells p (connector_at net.connectors k) around.rising within chained into in
+                  let joined = joined-by net cells connectors linked.0 k around below touched linked.2 in
+                  let apart = none linked.0 linked.1 in cc
+            ],
+          )
     ]) ∙ sym (inflow-sum net t i n no_gate)
 
 -- what connectors bring to a cell: by the link of the place before, and by the connectors that are not chained
@@ -277,7 +283,7 @@ in-total net t n cells connectors places (suc q) sound around has within no_gate
       | inr apart ↦
           let none = most-none net t n cells connectors places q has (omega arith) apart in
           let all = none-before net t n cells connectors (suc q) around within no_gate
-              (λ m before. let same : m ≡ q = omega arith in subst (λ k. is_joined net cells connectors k ≡ false) (sym same) apart) in
+          (λ m before. let same : m ≡ q = omega arith in subst (λ k. is_joined net cells connectors k ≡ false) (sym same) apart) in
           omega arith
     ]
 
@@ -286,8 +292,8 @@ odd-gate : (net : Network) (t i : ℕ) (n : ℕ → ℕ) (cells connectors : Lis
     is_gate_at net.cells i ≡ true → odd_sum net cells connectors (in_by net t n i) ≡ 0
 odd-gate net t i n cells connectors sound around gate =
     let none : (k : ℕ) → k < length net.connectors → in_by net t n i k ≡ 0 = λ k below.
-        entering-other i (connector_at net.connectors k) (flow_of net t n (connector_at net.connectors k))
-        (leads_into-gate net i (connector_at net.connectors k) (sound_connector net k sound below) gate) in
+    entering-other i (connector_at net.connectors k) (flow_of net t n (connector_at net.connectors k))
+    (leads_into-gate net i (connector_at net.connectors k) (sound_connector net k sound below) gate) in
     odd-all net cells connectors (in_by net t n i) around (λ k below. inl (none k below))
     ∙ sum_by-zero (in_by net t n i) (range_with_len 0 (length net.connectors))
     (λ m d inside. let is = none (get_or (range_with_len 0 (length net.connectors)) m d) (in_range (length net.connectors) m d inside) in omega arith)
@@ -300,13 +306,15 @@ unfolding link_in
 in-gate net t n cells connectors places zero sound around has within gate =
     (refl, odd-gate net t (slice_index cells 0) n cells connectors sound around gate)
 in-gate net t n cells connectors places (suc q) sound around has within gate =
-    let next : suc q ≡ q + 1 = sym (add-one q) in
-    (elim (cases_Bool (is_joined net cells connectors q)) [
-      | inl joined ↦
-          let here = join net cells connectors q around joined in
-          let connector : Connector = connector_at net.connectors here.number in
-          let into : leads_into (slice_index cells (q + 1)) connector ≡ true = rw here.at.is (leads_into-link (slice_index cells q) (slice_index cells (q + 1))) in
-          let never = leads_into-gate net (slice_index cells (q + 1)) connector (sound_connector net here.number sound here.there) (rw next at gate) in
-          cc
-      | inr apart ↦ most-none net t n cells connectors places q has (omega arith) apart
-    ], odd-gate net t (slice_index cells (suc q)) n cells connectors sound around gate)
+    let next : suc q ≡ q + 1 = sym (add-one q) in (
+      elim (cases_Bool (is_joined net cells connectors q)) [
+        | inl joined ↦
+            let here = join net cells connectors q around joined in
+            let connector : Connector = connector_at net.connectors here.number in
+            let into : leads_into (slice_index cells (q + 1)) connector ≡ true = rw here.at.is (leads_into-link (slice_index cells q) (slice_index cells (q + 1))) in
+            let never = leads_into-gate net (slice_index cells (q + 1)) connector (sound_connector net here.number sound here.there) (rw next at gate) in
+            cc
+        | inr apart ↦ most-none net t n cells connectors places q has (omega arith) apart
+      ],
+      odd-gate net t (slice_index cells (suc q)) n cells connectors sound around gate,
+    )

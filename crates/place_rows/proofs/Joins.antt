@@ -1,6 +1,6 @@
 -- A place that is joined to the next, and the links that follow.
-use Rattle.std.specs.Prelude.{All, ◌⊎◌, slice_index}
-use Rattle.std.proofs.Common.{◌≡◌, ◌≢◌, ℕ, ◌+◌, ◌<◌, ◌≤◌, inl, inr, Bool, true, List, [], ◌∷◌, ◌++◌, length, get_or, set, refl, sym, ap, ◌∙◌, subst, arith}
+use Rattle.std.specs.Prelude.{slice_index}
+use Rattle.std.proofs.Common.{◌≡◌, ◌≢◌, ℕ, ◌+◌, ◌<◌, ◌≤◌, inl, inr, List, [], ◌∷◌, ◌++◌, length, get_or, set, refl, sym, ap, ◌∙◌, arith}
 use Rattle.std.proofs.lemmas.Bool.{cases_eq}
 use Rattle.std.proofs.lemmas.List.{get_or-set_other, get_or-set_same, get_or_append_left, get_or_push, length-set, length_push}
 use Rattle.std.proofs.lemmas.List.Elements.{All-push}
@@ -8,9 +8,9 @@ use Rattle.signal_plan.specs.Records.{PlanRecords}
 use Rattle.place_sweep.specs.Places.{no_place, place_at}
 use Rattle.place_sweep.specs.declared.place.Place.{Place}
 use Rattle.timelines.specs.Courses.{IsSteady, LinkValues, most_at, most_between}
-use Rattle.timelines.specs.Followed.{AreFollowed, IsCourse, IsFollowed, IsThere}
+use Rattle.timelines.specs.Followed.{AreFollowed, IsCourse, IsFollowed}
 use Rattle.timelines.specs.declared.followed.FollowedLink.{FollowedLink}
-use Rattle.place_rows.specs.Joining.{Extends, IsAt}
+use Rattle.place_rows.specs.Joining.{Extends}
 
 -- the course of the link from the p-th cell to the next, and what its place carries at most from step t on
 pub record IsJoined (plan : PlanRecords) (cells : List ℕ) (p t : ℕ) (course : LinkValues) (value until : ℕ) : Type 0 where
@@ -64,18 +64,24 @@ joined-followed plan cells most later places links t p link value there joined i
           (λ s. joined.course_is s ∙ sym (extends.here s) ∙ ap (λ q. later q s) (sym its));
       each = λ q lt. elim (cases_eq q p) [
         | inl same ↦ rw (same, get_or-set_same places p place no_place there)
-            (inr (length links, record {
-              there = omega arith;
-              its = λ d. ap (λ one. one.place) (get_or_push links link d (length links) refl) ∙ its;
-              steady = λ d s from within.
-                  joined.value_is ∙ sym (joined.steady s from (rw (get_or_push links link d (length links) refl) at within))
-                  ∙ joined.course_is s ∙ sym (extends.here s);
-            }))
+            (inr (
+              length links,
+              record {
+                there = omega arith;
+                its = λ d. ap (λ one. one.place) (get_or_push links link d (length links) refl) ∙ its;
+                steady = λ d s from within.
+                    joined.value_is ∙ sym (joined.steady s from (rw (get_or_push links link d (length links) refl) at within))
+                    ∙ joined.course_is s ∙ sym (extends.here s);
+              },
+            ))
         | inr other ↦ rw (get_or-set_other places p q place no_place other)
             (elim (followed.each q (omega (arith, length-set places p place))) [
               | inl steady ↦ inl (λ s from. steady s from ∙ sym (extends.others q s other))
-              | inr (m, has) ↦ inr (m, others-follow plan cells most later (place_at places q) links after t p q m extends other (omega arith)
-                  (λ k d within. get_or_append_left links (link ∷ []) d k within) has)
+              | inr (m, has) ↦ inr (
+                m,
+                others-follow plan cells most later (place_at places q) links after t p q m extends other (omega arith)
+                    (λ k d within. get_or_append_left links (link ∷ []) d k within) has,
+              )
             ])
       ];
     }

@@ -1,11 +1,10 @@
 -- A link from one cell to the next, and the flow between their places.
-use Rattle.std.specs.Prelude.{Bool, not, eqb, ◌==◌, ◌&&◌, ◌||◌, if◌then◌else◌, nat_lt, slice_index}
-use Rattle.std.specs.List.{list_any, range_with_len}
-use Rattle.std.proofs.Common.{◌≡◌, ℕ, ◌+◌, ◌<◌, ◌≤◌, inl, inr, true, false, List, [], ◌∷◌, length, get_or, min, refl, sym, ap, ◌∙◌, arith}
+use Rattle.std.specs.Prelude.{Bool, ◌==◌, ◌&&◌, nat_lt, slice_index}
+use Rattle.std.specs.List.{range_with_len}
+use Rattle.std.proofs.Common.{◌≡◌, ℕ, ◌+◌, ◌<◌, inl, inr, true, false, List, length, refl, arith}
 use Rattle.std.proofs.lemmas.Bool.{cases_Bool, eq-eqb, eqb-true}
 use Rattle.std.proofs.lemmas.Bool.Decides.{nat_tests}
 use Rattle.ordinary_link.specs.LinkFlow.{link_flow_of}
-use Rattle.network_file.specs.Connectors.{connector_at, leads_into, leads_out_of}
 use Rattle.network_file.specs.Network.{Network}
 use Rattle.network_file.specs.declared.connector.Connector.{Connector}
 use Rattle.network_file.specs.declared.connector.Connector.TheVariants.{Link, Merge, Diverge}
@@ -13,12 +12,12 @@ use Rattle.signal_plan.specs.Capacity.{capacity_at}
 use Rattle.signal_plan.specs.Green.{green_at}
 use Rattle.flow_model.specs.Flows.{entering, flow_between, flow_of, leaving}
 use Rattle.flow_model.specs.Limits.{receiving_at, room_at, sending_at}
-use Rattle.place_sweep.specs.Places.{carried, link_out, place_at}
-use Rattle.place_sweep.specs.Space.{HasSpace, IsSpaceOf, let_in}
+use Rattle.place_sweep.specs.Places.{carried}
+use Rattle.place_sweep.specs.Space.{HasSpace, IsSpaceOf}
 use Rattle.place_sweep.specs.declared.place.Place.{Place}
 use Rattle.place_sweep.proofs.Flows.{link_flow-is}
 use Rattle.timelines.specs.Courses.{most_between}
-use Rattle.region_cut.proofs.Anys.{first_of_both, second_of_both, found, finds}
+use Rattle.region_cut.proofs.Anys.{first_of_both, second_of_both, found}
 use Rattle.place_rows.specs.Chains.{HasNoNext, IsNext, is_chained, is_link}
 
 -- it is that link
@@ -34,7 +33,7 @@ link-is cells p (Link up down) linked =
     let inside = first_of_both (nat_lt (p + 1) (length cells)) here front in
     let a : slice_index cells p ≡ up = eqb-true (slice_index cells p) up (second_of_both (nat_lt (p + 1) (length cells)) here front) in
     let b : slice_index cells (p + 1) ≡ down =
-        eqb-true (slice_index cells (p + 1)) down (second_of_both (nat_lt (p + 1) (length cells) && here) there linked) in
+    eqb-true (slice_index cells (p + 1)) down (second_of_both (nat_lt (p + 1) (length cells) && here) there linked) in
     record { within = grind (arith, nat_tests); is = rw (a, b) refl }
 link-is cells p (Merge up1 up2 down p1 p2) linked = cc
 link-is cells p (Diverge up down1 down2 b1 b2) linked = cc

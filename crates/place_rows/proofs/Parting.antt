@@ -1,9 +1,8 @@
 -- What one connector puts among the parts that leave places and enter them.
-use Rattle.std.specs.Prelude.{All, ◌==◌, ◌||◌, eqb, Option, None, map, slice_index, slice_index_or, unwrap_or, if◌then◌else◌}
+use Rattle.std.specs.Prelude.{All, ◌==◌, Option, slice_index, if◌then◌else◌}
 use Rattle.std.specs.List.{sum_by}
-use Rattle.std.specs.List.Sorted.{IsStrictlyIncreasing}
-use Rattle.std.proofs.Common.{◌≡◌, ◌≢◌, ℕ, zero, suc, ◌<◌, ◌≤◌, ◌+◌, inl, inr, Bool, true, false, List, [], ◌∷◌, ◌++◌, length, get_or, take, refl, sym, ap, ◌∙◌, arith}
-use Rattle.std.proofs.lemmas.Bool.{cases_Bool, cases_eq, eq-eqb, eqb-true, ne_eqb}
+use Rattle.std.proofs.Common.{◌≡◌, ℕ, zero, suc, ◌<◌, ◌≤◌, ◌+◌, inl, inr, true, false, List, [], ◌∷◌, length, get_or, take, refl, sym, ap, ◌∙◌, arith}
+use Rattle.std.proofs.lemmas.Bool.{cases_eq, eq-eqb, ne_eqb}
 use Rattle.std.proofs.lemmas.List.Sums.{sum_by_more}
 use Rattle.std.proofs.lemmas.List.{length_push}
 use Rattle.std.proofs.lemmas.List.Elements.{All-push}
@@ -15,7 +14,6 @@ use Rattle.flow_model.specs.Bounds.{AreHeldInBounds, IsHeldInBounds}
 use Rattle.flow_model.specs.Flows.{entering, flow_between, flow_of, leaving}
 use Rattle.flow_model.specs.declared.carried.Flow.{Flow}
 use Rattle.place_sweep.specs.Parts.{parts_at}
-use Rattle.place_sweep.specs.Places.{place_at}
 use Rattle.place_sweep.specs.declared.part.Part.{Part}
 use Rattle.place_sweep.specs.declared.place.Place.{Place}
 use Rattle.place_sweep.proofs.PartSums.{parts_at-none, parts_at-push}
@@ -37,7 +35,7 @@ part-at net ties cells halo items i p parts (Own q) apart within (there, is) = e
       rw own (parts_at-push items (record { place = q; parts = parts }) p ∙ ap (λ b. parts_at items p + (if b then parts else 0)) here)
   | inr other ↦
       let away : (slice_index cells p == i) ≡ false = ne_eqb (slice_index cells p) i (λ equal.
-          other (sym (position_is cells p (slice_index cells q) apart.rising within (equal ∙ sym is)) ∙ position_is cells q (slice_index cells q) apart.rising there refl)) in
+      other (sym (position_is cells p (slice_index cells q) apart.rising within (equal ∙ sym is)) ∙ position_is cells q (slice_index cells q) apart.rising there refl)) in
       let there_not : (q == p) ≡ false = ne_eqb q p (λ equal. other (sym equal)) in
       rw away (parts_at-push items (record { place = q; parts = parts }) p ∙ ap (λ b. parts_at items p + (if b then parts else 0)) there_not)
 ]
@@ -88,7 +86,7 @@ pub carried-is : (net : Network) (t : ℕ) (n : ℕ → ℕ) (cells halo : List 
 carried-is net t n cells halo places put tie seen tied =
     let connector : Connector = connector_at net.connectors tie.connector in
     let at : (m : ℕ) → m < 3 → held_at places put (spot_at tie m) ≡ n (slice_index (three_cells connector) m) =
-        λ m few. held-seen n cells halo places put (slice_index (three_cells connector) m) (spot_at tie m) seen (tied.spots m few) in
+    λ m few. held-seen n cells halo places put (slice_index (three_cells connector) m) (spot_at tie m) seen (tied.spots m few) in
     let a = at 0 (omega arith) in
     let b = at 1 (omega arith) in
     let c = at 2 (omega arith) in
@@ -131,7 +129,7 @@ pub can_carry : (net : Network) (t : ℕ) (cells halo : List ℕ) (ties : List T
 can_carry net t cells halo ties places put tie scene tied =
     let connector : Connector = connector_at net.connectors tie.connector in
     let at : (m : ℕ) → m < 3 → IsThere places put (spot_at tie m) × IsHeldInBounds net t (slice_index (three_cells connector) m) (held_at places put (spot_at tie m)) =
-        λ m few. spot-there net t cells halo ties places put (slice_index (three_cells connector) m) (spot_at tie m) scene (tied.spots m few) in
+    λ m few. spot-there net t cells halo ties places put (slice_index (three_cells connector) m) (spot_at tie m) scene (tied.spots m few) in
     record {
       connector = tied.there;
       before = scene.before;
@@ -210,11 +208,11 @@ parts-more net t n cells halo ties places put j tie outs ins seen tied there rea
           ∙ ap (λ one. parts_at outs p + leaving (slice_index cells p) connector one) is
           ∙ ap (λ x. x + out_by net t n (slice_index cells p) tie.connector) (before.taken p within)
           ∙ sym (sum_by_more (λ one. out_by net t n (slice_index cells p) one.connector) ties j tie there
-              ∙ ap (λ one. sum_by (λ one. out_by net t n (slice_index cells p) one.connector) (take j ties) + out_by net t n (slice_index cells p) one.connector) read);
+          ∙ ap (λ one. sum_by (λ one. out_by net t n (slice_index cells p) one.connector) (take j ties) + out_by net t n (slice_index cells p) one.connector) read);
       brought = λ p within.
           ins-more net ties cells halo connector tie flow ins p tied within own.spots
           ∙ ap (λ one. parts_at ins p + entering (slice_index cells p) connector one) is
           ∙ ap (λ x. x + in_by net t n (slice_index cells p) tie.connector) (before.brought p within)
           ∙ sym (sum_by_more (λ one. in_by net t n (slice_index cells p) one.connector) ties j tie there
-              ∙ ap (λ one. sum_by (λ one. in_by net t n (slice_index cells p) one.connector) (take j ties) + in_by net t n (slice_index cells p) one.connector) read);
+          ∙ ap (λ one. sum_by (λ one. in_by net t n (slice_index cells p) one.connector) (take j ties) + in_by net t n (slice_index cells p) one.connector) read);
     }

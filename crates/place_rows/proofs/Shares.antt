@@ -1,8 +1,7 @@
 -- The sum of what some connectors move, where all others move nothing, or one other moves all.
 use Rattle.std.specs.Prelude.{All, Bool, ◌⊎◌, if◌then◌else◌}
 use Rattle.std.specs.List.{filter, range_with_len, sum_by}
-use Rattle.std.proofs.Common.{◌≡◌, ℕ, ◌+◌, ◌-◌, ◌<◌, ◌≤◌, inl, inr, true, false, List, length, get_or, refl, sym, ap, ◌∙◌, arith}
-use Rattle.std.proofs.lemmas.Bool.{cases_Bool}
+use Rattle.std.proofs.Common.{◌≡◌, ℕ, ◌-◌, ◌<◌, ◌≤◌, inl, inr, true, false, get_or, refl, sym, ap, ◌∙◌, arith}
 use Rattle.std.proofs.lemmas.List.FromFn.{get_or-range_with_len, length-range_with_len}
 use Rattle.std.proofs.lemmas.List.Sums.{get_or-le-sum_by}
 use Rattle.signal_plan.proofs.Sums.{sum_by-filter, sum_by-same, sum_by_splits}
@@ -52,7 +51,7 @@ sum-none touched odd f n k below chained all =
     let among : ℕ → ℕ = λ m. chosen (touched m) (odd m) (f m) in
     let rest : ℕ → ℕ = λ m. f m - among m in
     let splits = sum_by_splits f among rest (range_with_len 0 n)
-        (λ m. let le = chosen-le (touched m) (odd m) (f m) in omega arith) in
+    (λ m. let le = chosen-le (touched m) (odd m) (f m) in omega arith) in
     let read : get_or (range_with_len 0 n) k 0 ≡ k = get_or-range_with_len 0 n k 0 below ∙ omega arith in
     let one = get_or-le-sum_by rest (range_with_len 0 n) k 0 (omega (arith, length-range_with_len 0 n, below)) in
     let here : rest k ≤ sum_by rest (range_with_len 0 n) = rw read at one in

@@ -1,16 +1,12 @@
 -- A place after a step has the row of its cell after the step.
-use Rattle.std.specs.Prelude.{Bool, if◌then◌else◌}
-use Rattle.std.proofs.Common.{◌≡◌, ℕ, ◌+◌, ◌-◌, ◌*◌, ◌%◌, ◌^◌, ◌<◌, ◌≤◌, inl, inr, true, false, refl, sym, ap, ◌∙◌, subst, arith}
+use Rattle.std.proofs.Common.{◌≡◌, ℕ, ◌+◌, ◌-◌, ◌%◌, ◌^◌, ◌<◌, ◌≤◌, inl, inr, true, false, refl, sym, ◌∙◌, arith}
 use Rattle.std.proofs.Math.Nat.{mod-eq_of_lt}
 use Rattle.std.proofs.lemmas.Bool.{cases_Bool}
-use Rattle.fixed_flow.specs.declared.amount.TheConstants.{MOST_PARTS}
 use Rattle.network_file.specs.Cells.{is_exit_at}
-use Rattle.network_file.specs.Network.{IsNetwork, Network}
-use Rattle.network_file.specs.declared.limits.TheConstants.{MOST_CAPACITY}
-use Rattle.flow_model.specs.Bounds.{IsRowInBounds}
+use Rattle.network_file.specs.Network.{Network}
 use Rattle.flow_model.specs.Rows.{moved_row}
 use Rattle.flow_model.specs.declared.row.Row.{Row}
-use Rattle.flow_model.proofs.Bounds.{IsChange, IsSmall, small}
+use Rattle.flow_model.proofs.Bounds.{IsChange}
 use Rattle.place_sweep.specs.Steps.{stepped}
 use Rattle.place_sweep.specs.declared.place.Place.{Place}
 use Rattle.place_rows.specs.Rows.{IsOf, row_of}

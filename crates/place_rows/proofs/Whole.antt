@@ -1,34 +1,32 @@
 -- A whole step of places is the step of their cells.
-use Rattle.std.specs.Prelude.{All, Bool, Option, Some, None, ◌⊎◌, ◌==◌, eqb, map, slice_index, slice_get, if◌then◌else◌}
+use Rattle.std.specs.Prelude.{All, Bool, Option, ◌==◌, map, slice_index, if◌then◌else◌}
 use Rattle.std.proofs.lemmas.List.Elements.{Contains-get_or}
 use Rattle.std.specs.List.{Contains, filter, range_with_len, sum_by}
-use Rattle.std.proofs.Common.{◌≡◌, ℕ, ◌+◌, ◌-◌, ◌*◌, ◌^◌, ◌<◌, ◌≤◌, inl, inr, true, false, List, [], ◌∷◌, length, get_or, refl, sym, ap, ◌∙◌, subst, zero-add, arith}
-use Rattle.std.proofs.lemmas.Bool.{cases_Bool, cases_eq, eq-eqb, ne_eqb, eqb-true}
-use Rattle.std.proofs.lemmas.List.{ext_get_or, length-map}
+use Rattle.std.proofs.Common.{◌≡◌, ℕ, ◌+◌, ◌-◌, ◌^◌, ◌<◌, ◌≤◌, inl, inr, true, false, List, [], ◌∷◌, length, get_or, refl, sym, ap, ◌∙◌, subst, zero-add, arith}
+use Rattle.std.proofs.lemmas.Bool.{cases_Bool, cases_eq, eq-eqb, ne_eqb}
+use Rattle.std.proofs.lemmas.List.{ext_get_or}
 use Rattle.std.proofs.lemmas.List.Sums.{sum_by-cons}
 use Rattle.std.proofs.lemmas.List.FromFn.{get_or-map-range_with_len, length-map-range_with_len}
 use Rattle.signal_plan.specs.Capacity.{capacity_at}
 use Rattle.signal_plan.specs.Demand.{demand_at}
 use Rattle.signal_plan.proofs.Sums.{sum_by-filter, sum_by_agree, sum_by_range_one}
-use Rattle.network_file.specs.Cells.{is_exit_at, is_gate_at, is_road}
+use Rattle.network_file.specs.Cells.{is_gate_at, is_road}
 use Rattle.network_file.specs.declared.cell.Cell.{Cell}
 use Rattle.network_file.specs.declared.cell.Kind.{Kind}
 use Rattle.network_file.specs.declared.cell.Kind.TheVariants.{Road, Gate, Exit}
 use Rattle.network_file.specs.Network.{IsNetwork, Network}
-use Rattle.network_file.specs.declared.limits.TheConstants.{MOST_CAPACITY}
-use Rattle.fixed_flow.specs.declared.amount.TheConstants.{MOST_PARTS}
-use Rattle.flow_model.specs.Bounds.{IsHeldInBounds, IsRowInBounds, is_road_at, most_at}
+use Rattle.flow_model.specs.Bounds.{IsHeldInBounds, IsRowInBounds}
 use Rattle.flow_model.specs.Flows.{inflow, outflow}
 use Rattle.flow_model.specs.Limits.{room_at, room_by}
 use Rattle.flow_model.specs.Rows.{empty_row, moved_row, next_row, row_by}
 use Rattle.flow_model.specs.State.{row_at}
 use Rattle.flow_model.specs.declared.row.Row.{Row}
 use Rattle.flow_model.proofs.Bounds.{IsChange, IsSmall, changes, moved_row-in_bounds, small}
-use Rattle.flow_model.proofs.CellKinds.{cell_at, kinds_at}
+use Rattle.flow_model.proofs.CellKinds.{cell_at}
 use Rattle.flow_model.proofs.CellLimits.{capacity_at-le}
 use Rattle.flow_model.proofs.Flows.{entered_by-gate}
 use Rattle.place_sweep.specs.Parts.{parts_at}
-use Rattle.place_sweep.specs.Places.{AreSound, link_in, link_out, place_at}
+use Rattle.place_sweep.specs.Places.{link_in, link_out, place_at}
 use Rattle.place_sweep.specs.Space.{HasSpace, IsSpaceOf}
 use Rattle.place_sweep.specs.Steps.{CanStep, stepped}
 use Rattle.place_sweep.specs.declared.part.Part.{Part}
@@ -67,16 +65,16 @@ demand-sum net t cells p within =
     let own : ℕ = if gate p then demand_at net.plan (slice_index cells p) t else 0 in
     sum_by-filter (demand_for net.plan t cells p) gate (range_with_len 0 (length cells))
     ∙ sum_by_agree (λ q. if gate q then demand_for net.plan t cells p q else 0) (λ q. if p == q then own else 0) (range_with_len 0 (length cells))
-        (λ q. elim (cases_eq p q) [
-          | inl same ↦
-              let here : (p == q) ≡ true = eq-eqb p q same in
-              let there : (q == p) ≡ true = eq-eqb q p (sym same) in
-              rw (here, there, same) refl
-          | inr other ↦
-              let here : (p == q) ≡ false = ne_eqb p q other in
-              let there : (q == p) ≡ false = ne_eqb q p (λ equal. other (sym equal)) in
-              rw (here, there) (none (gate q) 0)
-        ])
+    (λ q. elim (cases_eq p q) [
+      | inl same ↦
+          let here : (p == q) ≡ true = eq-eqb p q same in
+          let there : (q == p) ≡ true = eq-eqb q p (sym same) in
+          rw (here, there, same) refl
+      | inr other ↦
+          let here : (p == q) ≡ false = ne_eqb p q other in
+          let there : (q == p) ≡ false = ne_eqb q p (λ equal. other (sym equal)) in
+          rw (here, there) (none (gate q) 0)
+    ])
     ∙ sum_by_range_one own p 0 (length cells) (omega arith) (omega arith)
   where
     none : (b : Bool) (x : ℕ) → (if b then x else x) ≡ x
@@ -98,32 +96,32 @@ pub moved : (net : Network) (t : ℕ) (n : ℕ → ℕ) (cells connectors : List
     IsNetwork net → AreAround net cells connectors → HasPlaces net t n cells connectors places →
     map (λ tie. tie.connector) ties ≡ odd_ones net cells connectors → ArePartsOf net t n cells ties outs carried →
     ((p : ℕ) → parts_at ins p ≡ parts_at carried p +
-      sum_by (demand_for net.plan t cells p) (filter (λ q. is_gate_at net.cells (slice_index cells q)) (range_with_len 0 (length cells)))) →
+    sum_by (demand_for net.plan t cells p) (filter (λ q. is_gate_at net.cells (slice_index cells q)) (range_with_len 0 (length cells)))) →
     IsMoved net t n cells places outs ins
 moved net t n cells connectors ties places outs carried ins sound around has numbers parts demands = record {
   leaves = λ p within.
       let i : ℕ = slice_index cells p in
       let sum : parts_at outs p ≡ odd_sum net cells connectors (out_by net t n i) =
-          parts.taken p within ∙ sum_by-map (out_by net t n i) (λ tie. tie.connector) ties ∙ ap (sum_by (out_by net t n i)) numbers in
+      parts.taken p within ∙ sum_by-map (out_by net t n i) (λ tie. tie.connector) ties ∙ ap (sum_by (out_by net t n i)) numbers in
       ap (λ x. link_out places p + x) sum ∙ out-total net t n cells connectors places p sound around has within;
   enters = λ p within.
       let i : ℕ = slice_index cells p in
       let sum : parts_at carried p ≡ odd_sum net cells connectors (in_by net t n i) =
-          parts.brought p within ∙ sum_by-map (in_by net t n i) (λ tie. tie.connector) ties ∙ ap (sum_by (in_by net t n i)) numbers in
+      parts.brought p within ∙ sum_by-map (in_by net t n i) (λ tie. tie.connector) ties ∙ ap (sum_by (in_by net t n i)) numbers in
       let demand = demand-sum net t cells p within in
       let all = demands p in
       elim (cases_Bool (is_gate_at net.cells i)) [
         | inl gate ↦
             let none = in-gate net t n cells connectors places p sound around has within gate in
             let brings : (if is_gate_at net.cells i then demand_at net.plan i t else 0) ≡ demand_at net.plan i t =
-                ap (λ b. if b then demand_at net.plan i t else 0) gate in
+            ap (λ b. if b then demand_at net.plan i t else 0) gate in
             let whole = entered_by-gate net.connectors net t i n gate in
             let first = none.0 in
             let second = none.1 in
             omega arith
         | inr other ↦
             let brings : (if is_gate_at net.cells i then demand_at net.plan i t else 0) ≡ 0 =
-                ap (λ b. if b then demand_at net.plan i t else 0) other in
+            ap (λ b. if b then demand_at net.plan i t else 0) other in
             let whole = in-total net t n cells connectors places p sound around has within other in
             omega arith
       ];
@@ -162,10 +160,10 @@ ready net t n cells halo connectors placed put p sound before has bounds seen wi
     let there : i < length net.cells = has.around.there p 0 within in
     let held : n i ≡ place.n = seen.own p within in
     let row : IsRowInBounds net t i (row_of origin place) =
-        subst (IsRowInBounds net t i) (row_at-rows_of placed.origins placed.places p (omega (arith, has.origin_each))) (bounds.own p within) in
+    subst (IsRowInBounds net t i) (row_at-rows_of placed.origins placed.places p (omega (arith, has.origin_each))) (bounds.own p within) in
     let change : IsChange net t i place.n (inflow net t n i) (outflow net t n i) =
-        subst (λ x. IsChange net t i x (inflow net t n i) (outflow net t n i)) held
-        (changes net t i n (inflow net t n i) (outflow net t n i) sound there (λ gate. entered_by-gate net.connectors net t i n gate) (omega arith) (omega arith)) in
+    subst (λ x. IsChange net t i x (inflow net t n i) (outflow net t n i)) held
+    (changes net t i n (inflow net t n i) (outflow net t n i) sound there (λ gate. entered_by-gate net.connectors net t i n gate) (omega arith) (omega arith)) in
     record {
       there = there;
       held = held;
@@ -182,7 +180,7 @@ pub held-sum : (net : Network) (t : ℕ) (n : ℕ → ℕ) (i : ℕ) (origin : O
     origin.is_exit ≡ false → place.held + place.n < 2 ^ 64
 held-sum net t n i origin place is other =
     let wait : (if origin.is_exit then 0 else place.held - place.gone) ≡ place.held - place.gone =
-        ap (λ b. if b then 0 else place.held - place.gone) other in
+    ap (λ b. if b then 0 else place.held - place.gone) other in
     let sum = is.small.wait in
     let gone = is.small.gone in
     let now = is.small.n in
@@ -377,7 +375,7 @@ pub cell-after : (net : Network) (cells halo connectors : List ℕ) (t : ℕ) (n
     IsNetwork net → t < net.steps → ArePlaced net cells halo connectors t placed → AreInBounds net cells halo t placed put →
     IsSeen n cells halo placed.places put → AreSteps net cells halo connectors t n placed fresh links outs carried ins after → p < length cells →
     (row_of (origin_at placed.origins p) (place_at after p) ≡
-      next_row net t n (slice_index cells p) (row_of (origin_at placed.origins p) (place_at placed.places p))) ×
+    next_row net t n (slice_index cells p) (row_of (origin_at placed.origins p) (place_at placed.places p))) ×
     IsOf net (slice_index cells p) (origin_at placed.origins p) (place_at after p)
 cell-after net cells halo connectors t n placed fresh links outs carried ins after put p sound before has bounds seen steps within =
     let here : p < length placed.places = omega (arith, has.one_each) in
@@ -398,12 +396,12 @@ rows-after net cells halo connectors t n placed fresh links outs carried ins aft
     ext_get_or empty_row (rows_of placed.origins after) (rows_next net t n cells (rows_of placed.origins placed.places))
     (length-rows_of placed.origins after ∙ has.origin_each ∙ sym (length-rows_next net t n cells (rows_of placed.origins placed.places)))
     (λ p lt.
-        let inside : p < length placed.origins = omega (arith, length-rows_of placed.origins after) in
-        let within : p < length cells = omega (arith, has.origin_each) in
-        row_at-rows_of placed.origins after p inside
-        ∙ (cell-after net cells halo connectors t n placed fresh links outs carried ins after put p sound before has bounds seen steps within).0
-        ∙ sym (row_at-rows_next net t n cells (rows_of placed.origins placed.places) p within
-            ∙ ap (next_row net t n (slice_index cells p)) (row_at-rows_of placed.origins placed.places p inside)))
+    let inside : p < length placed.origins = omega (arith, length-rows_of placed.origins after) in
+    let within : p < length cells = omega (arith, has.origin_each) in
+    row_at-rows_of placed.origins after p inside
+    ∙ (cell-after net cells halo connectors t n placed fresh links outs carried ins after put p sound before has bounds seen steps within).0
+    ∙ sym (row_at-rows_next net t n cells (rows_of placed.origins placed.places) p within
+    ∙ ap (next_row net t n (slice_index cells p)) (row_at-rows_of placed.origins placed.places p inside)))
 
 -- the links follow on
 
@@ -416,11 +414,14 @@ follows-later most fresh after links t long same followed = record {
       let is = same p here in
       elim (followed.each p here) [
         | inl constant ↦ inl (λ s from. is ∙ constant s (omega arith))
-        | inr (m, has) ↦ inr (m, record {
-          there = has.there;
-          its = has.its;
-          steady = λ d s from before. is ∙ has.steady d s (omega arith) before;
-        })
+        | inr (m, has) ↦ inr (
+          m,
+          record {
+            there = has.there;
+            its = has.its;
+            steady = λ d s from before. is ∙ has.steady d s (omega arith) before;
+          },
+        )
       ];
 }
 

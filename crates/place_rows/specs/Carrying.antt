@@ -4,7 +4,7 @@ use Rattle.network_file.specs.Connectors.{cells_of, connector_at}
 use Rattle.network_file.specs.Network.{Network}
 use Rattle.network_file.specs.declared.connector.Connector.{Connector}
 use Rattle.network_file.specs.declared.connector.Connector.TheVariants.{Link, Merge, Diverge}
-use Rattle.flow_model.specs.Bounds.{AreHeldInBounds, IsHeldInBounds}
+use Rattle.flow_model.specs.Bounds.{AreHeldInBounds}
 use Rattle.flow_model.specs.Flows.{flow_between}
 use Rattle.flow_model.specs.declared.carried.Flow.{Flow}
 use Rattle.place_sweep.specs.Places.{place_at}

@@ -1,5 +1,5 @@
 -- The places of cells as they are opened.
-use Rattle.std.specs.Prelude.{◌≡◌, ℕ, ◌+◌, List}
+use Rattle.std.specs.Prelude.{◌≡◌, ℕ, ◌+◌}
 use Rattle.network_file.specs.Cells.{is_exit_at}
 use Rattle.network_file.specs.Network.{Network}
 use Rattle.flow_model.specs.Bounds.{first_at}

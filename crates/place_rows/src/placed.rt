@@ -160,14 +160,7 @@ impl PlacedRows {
             places: &self.places,
             put,
         };
-        carry_all(
-            net,
-            t,
-            &self.ties,
-            &sight,
-            &mut self.outs,
-            &mut self.ins,
-        );
+        carry_all(net, t, &self.ties, &sight, &mut self.outs, &mut self.ins);
         put_demands(net, t, cells, &self.gates, &mut self.ins);
         step_places(&mut self.places, &mut self.before, &self.outs, &self.ins);
     }

@@ -17,5 +17,5 @@ pub use capacity::link_capacity;
 pub use chain::sweep;
 pub use part::{Part, enter, leave};
 pub use place::Place;
-pub use step::step_places;
 pub use space::{BOUNDLESS, Space};
+pub use step::step_places;

@@ -1,10 +1,9 @@
-use Rattle.std.specs.Prelude.{All, vec_capacity}
-use Rattle.std.proofs.Common.{◌≡◌, ◌+◌, ◌*◌, ◌≤◌, ℕ, List, [], length, get_or, take, ap, subst, sym, ◌∙◌, arith}
+use Rattle.std.proofs.Common.{◌≡◌, ℕ, [], get_or, take, subst, arith}
 use Rattle.std.proofs.lemmas.List.{get_or_default, take_all}
 use Rattle.network_file.specs.Connectors.{connector_at}
 use Rattle.network_file.specs.declared.connector.Connector.{Connector}
 use Rattle.flow_model.specs.declared.carried.Flow.{Flow}
-use Rattle.place_rows.specs.Carrying.{carried_of, with_ins, with_outs}
+use Rattle.place_rows.specs.Carrying.{carried_of}
 use Rattle.place_rows.specs.Moves.{ArePartsOf}
 use Rattle.place_rows.specs.declared.tie.Tie.{Tie}
 use Rattle.place_rows.proofs.Parting.{length-with_ins, length-with_outs, parts-more, parts-none}

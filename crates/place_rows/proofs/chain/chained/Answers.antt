@@ -1,6 +1,5 @@
 use Rattle.std.specs.Prelude.{MatchOption, Option, Some, None}
-use Rattle.std.proofs.Common.{◌≡◌, ℕ, List, true, false, refl, sym, subst}
-use Rattle.network_file.specs.declared.connector.Connector.{Connector}
+use Rattle.std.proofs.Common.{◌≡◌, ℕ, List, true, false, refl}
 use Rattle.network_file.specs.declared.connector.Connector.TheVariants.{Link, Merge, Diverge}
 use Rattle.place_rows.specs.Chains.{HasNoNext, IsNext, is_chained, is_link}
 use Rattle.place_rows.proofs.Links.{next-link, next-none, not_chained}

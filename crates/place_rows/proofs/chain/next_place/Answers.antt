@@ -1,5 +1,5 @@
 use Rattle.std.specs.Prelude.{Ok, Err, slice_index}
-use Rattle.std.proofs.Common.{◌≡◌, ◌≢◌, ◌<◌, ◌+◌, ℕ, length, refl, sym, ap, ◌∙◌, inl, inr, arith}
+use Rattle.std.proofs.Common.{◌≡◌, ◌+◌, ℕ, sym, ap, ◌∙◌, inl, inr, arith}
 use Rattle.std.proofs.lemmas.Bool.{cases_lt}
 use Rattle.std.proofs.lemmas.List.Sorted.{searched}
 use Rattle.region_cut.proofs.Increasing.{position_is, rising}
@@ -22,7 +22,7 @@ returns-else-p-cells c = λ q has.
     let here = searched cells c.args.up (Ok p) c.in-Ok.ensures.position (rising cells c.requires.increasing) in
     let within = has.within in
     let same : p ≡ q = sym (position_is cells p c.args.up c.requires.increasing here.0 here.1)
-        ∙ position_is cells q c.args.up c.requires.increasing (omega arith) has.first in
+    ∙ position_is cells q c.args.up c.requires.increasing (omega arith) has.first in
     elim c.else-p-cells.branch [
       | else-p-cells-via-then-p-cells+else-cells-p w ↦ absurd (w.if-cells-p.false (ap (λ k. slice_index cells (k + 1)) same ∙ has.next))
       | else-p-cells-via-else-p-cells w ↦ absurd (omega arith)

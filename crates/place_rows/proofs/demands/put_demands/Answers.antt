@@ -1,11 +1,9 @@
-use Rattle.std.specs.Prelude.{All, ◌==◌, if◌then◌else◌, slice_index}
-use Rattle.std.specs.List.{sum_by}
-use Rattle.std.proofs.Common.{◌≡◌, ◌+◌, ◌<◌, ◌≤◌, ◌++◌, ◌∷◌, [], ℕ, List, length, get_or, take, sym, ap, ◌∙◌, arith}
+use Rattle.std.specs.Prelude.{◌==◌, if◌then◌else◌, slice_index}
+use Rattle.std.proofs.Common.{◌≡◌, ◌<◌, ℕ, length, get_or, ap, ◌∙◌, arith}
 use Rattle.std.proofs.lemmas.List.{length_push}
 use Rattle.std.proofs.lemmas.List.Elements.{All-push}
 use Rattle.std.proofs.lemmas.List.Sums.{sum_by_more}
 use Rattle.signal_plan.specs.Demand.{demand_at}
-use Rattle.place_sweep.specs.Parts.{parts_at}
 use Rattle.place_sweep.specs.declared.part.Part.{Part}
 use Rattle.place_sweep.proofs.PartSums.{parts_at-push}
 use Rattle.place_rows.specs.Moves.{demand_for}

@@ -1,12 +1,8 @@
 use Rattle.std.specs.Prelude.{slice_index}
-use Rattle.std.proofs.Common.{◌≡◌, ◌+◌, ◌<◌, ◌≤◌, ◌++◌, ◌∷◌, [], ℕ, List, length, refl, sym, ap, subst, ◌∙◌, arith}
+use Rattle.std.proofs.Common.{◌≡◌, ◌+◌, ℕ, List, refl, sym, ap, ◌∙◌, arith}
 use Rattle.signal_plan.specs.Records.{PlanRecords}
 use Rattle.timelines.specs.Courses.{IsSteady, LinkValues, most_at, most_between}
-use Rattle.timelines.specs.Followed.{AreFollowed}
 use Rattle.timelines.specs.declared.followed.FollowedLink.{FollowedLink}
-use Rattle.place_sweep.specs.Places.{place_at}
-use Rattle.place_sweep.specs.declared.place.Place.{Place}
-use Rattle.place_rows.specs.Joining.{Extends}
 use Rattle.place_rows.proofs.Joins.{IsJoined, joined-constant, joined-followed}
 use Rattle.place_rows.proofs.joining.join_next.Goals as goal
 
@@ -27,7 +23,7 @@ returns-then-is_constant-clause-followed c = λ most later followed extends.
     let t : ℕ = c.args.t in
     let course : LinkValues = c.move_to-now.new.self in
     let is : (s : ℕ) → most_at c.in_ok-course.course s ≡ most_between plan (slice_index cells p) (slice_index cells (p + 1)) s =
-        λ s. c.in_ok-course.ensures.course s ∙ ap (λ net. most_between net.plan (slice_index cells p) (slice_index cells (p + 1)) s) c.net.view_is in
+    λ s. c.in_ok-course.ensures.course s ∙ ap (λ net. most_between net.plan (slice_index cells p) (slice_index cells (p + 1)) s) c.net.view_is in
     joined-constant plan cells most later c.args.places.now c.args.links.now.items t p course c.move_to-now.result.value c.move_to-now.result.until
     (omega (arith, c.requires.within, c.requires.one_each))
     (joined plan cells p t c.in_ok-course.course course c.move_to-now.result.value c.move_to-now.result.until is c.move_to-now.ensures.value
@@ -42,11 +38,11 @@ returns-clause-followed c = λ most later followed extends.
     let t : ℕ = c.args.t in
     let course : LinkValues = c.move_to-now.new.self in
     let is : (s : ℕ) → most_at c.in_ok-course.course s ≡ most_between plan (slice_index cells p) (slice_index cells (p + 1)) s =
-        λ s. c.in_ok-course.ensures.course s ∙ ap (λ net. most_between net.plan (slice_index cells p) (slice_index cells (p + 1)) s) c.net.view_is in
+    λ s. c.in_ok-course.ensures.course s ∙ ap (λ net. most_between net.plan (slice_index cells p) (slice_index cells (p + 1)) s) c.net.view_is in
     let link : FollowedLink = record { place = p; until = c.move_to-now.result.until; course = course } in
     let follows = joined-followed plan cells most later c.args.places.now c.args.links.now.items t p link c.move_to-now.result.value
-        (omega (arith, c.requires.within, c.requires.one_each))
-        (joined plan cells p t c.in_ok-course.course course c.move_to-now.result.value c.move_to-now.result.until is c.move_to-now.ensures.value
-        c.move_to-now.ensures.steady c.move_to-now.ensures.course)
-        refl followed extends in
+    (omega (arith, c.requires.within, c.requires.one_each))
+    (joined plan cells p t c.in_ok-course.course course c.move_to-now.result.value c.move_to-now.result.until is c.move_to-now.ensures.value
+    c.move_to-now.ensures.steady c.move_to-now.ensures.course)
+    refl followed extends in
     rw c.in_ok-push.ensures.items follows

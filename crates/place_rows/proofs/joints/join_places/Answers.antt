@@ -1,11 +1,10 @@
-use Rattle.std.specs.Prelude.{All, map}
-use Rattle.std.proofs.Common.{◌≡◌, ◌+◌, ◌<◌, ◌≤◌, ◌++◌, ◌∷◌, [], ℕ, List, true, false, length, get_or, take, refl, sym, ap, subst, ◌∙◌, arith}
+use Rattle.std.specs.Prelude.{All}
+use Rattle.std.proofs.Common.{◌≡◌, ◌<◌, ℕ, true, false, length, get_or, ap, subst, arith}
 use Rattle.network_file.specs.Connectors.{connector_at}
 use Rattle.region_cut.proofs.ConnectorCells.{read_connector}
-use Rattle.place_sweep.specs.Places.{place_at}
-use Rattle.timelines.specs.Followed.{AreFollowed, IsThere}
+use Rattle.timelines.specs.Followed.{IsThere}
 use Rattle.place_rows.specs.Chains.{is_chained, is_link}
-use Rattle.place_rows.proofs.Extending.{AreJoined, joined-chained, joined-none, joined-odd}
+use Rattle.place_rows.proofs.Extending.{joined-chained, joined-none, joined-odd}
 use Rattle.place_rows.proofs.joints.join_places.Goals.{in-Some+in_ok-join_next-in-Some, in-None+in_ok-push-in-None}
 use Rattle.place_rows.proofs.joints.join_places.Goals as goal
 
@@ -25,15 +24,15 @@ loop-k-preserved c =
     let k : ℕ = get_or connectors j 0 in
     let within : j < length connectors = c.loop-k-test.true in
     let read : connector_at net.connectors k ≡ c.index.result.now =
-        read_connector c.net.inside.connectors.items net.connectors k c.index.result.now (ap (λ net. net.connectors) c.net.view_is)
-        (c.requires.connectors j 0 within) c.index.ensures in
+    read_connector c.net.inside.connectors.items net.connectors k c.index.result.now (ap (λ net. net.connectors) c.net.view_is)
+    (c.requires.connectors j 0 within) c.index.ensures in
     elim c.match-chained.branch [
       | in-Some+in_ok-join_next-in-Some w ↦
           let linked : is_link cells w.in-Some.p (connector_at net.connectors k) ≡ true = rw read w.in-Some.ensures in
           let done = w.in_ok-join_next-in-Some.ensures in
           let same : length c.loop-k.places ≡ length cells = omega (arith, c.requires.one_each) in
           let there : All (IsThere (length cells) t) w.join_next.new.links.items =
-              subst (λ n. All (IsThere n t) w.join_next.new.links.items) same done.links in
+          subst (λ n. All (IsThere n t) w.join_next.new.links.items) same done.links in
           rw (w.places-is, w.links-is, w.ties-is)
           (joined-chained net t cells halo connectors c.args.places.now c.loop-k.places w.join_next.new.places c.loop-k.links.items w.join_next.new.links.items
           c.loop-k.ties.items j w.in-Some.p within c.requires.increasing linked c.loop-k.invariant there done.at w.join_next.ensures.only_most done.followed)

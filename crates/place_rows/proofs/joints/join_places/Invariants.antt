@@ -1,4 +1,4 @@
-use Rattle.std.proofs.Common.{ℕ, length, take}
+use Rattle.std.proofs.Common.{take}
 use Rattle.place_rows.proofs.Extending.{AreJoined}
 use Rattle.place_rows.proofs.joints.join_places.Given as goal
 

@@ -1,9 +1,8 @@
 use Rattle.std.specs.Prelude.{slice_index}
-use Rattle.std.proofs.Common.{◌≡◌, ◌+◌, ◌<◌, ℕ, List, length, get_or, ap, subst, sym, arith}
+use Rattle.std.proofs.Common.{arith}
 use Rattle.std.proofs.lemmas.List.{length_push}
 use Rattle.flow_model.specs.State.{row_at}
-use Rattle.place_sweep.specs.Places.{no_place, place_at}
-use Rattle.place_sweep.specs.declared.place.Place.{Place}
+use Rattle.place_sweep.specs.Places.{no_place}
 use Rattle.place_rows.specs.First.{IsFirst}
 use Rattle.place_rows.proofs.Pushes.{each_push}
 use Rattle.place_rows.proofs.opening.places_of.Goals as goal

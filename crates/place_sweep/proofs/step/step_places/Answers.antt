@@ -37,5 +37,5 @@ returns-clause-places c = λ p lt.
     let places = c.args.places.now in
     c.enter.ensures p (omega arith)
     ∙ ap (λ place. with_entered place (parts_at c.args.ins.now p)) (c.leave.ensures p (omega arith)
-        ∙ ap (λ place. with_left place (parts_at c.args.outs.now p)) (c.sweep.ensures.places p lt))
+    ∙ ap (λ place. with_left place (parts_at c.args.outs.now p)) (c.sweep.ensures.places p lt))
     ∙ together (place_at places p) (link_in places p) (link_out places p) (parts_at c.args.ins.now p) (parts_at c.args.outs.now p) (c.requires.can.held p lt)

@@ -1,12 +1,11 @@
-use Rattle.std.specs.Prelude.{All, map, slice_index, vec_capacity}
-use Rattle.std.proofs.Common.{◌≡◌, ◌+◌, ◌*◌, ◌<◌, ◌≤◌, ℕ, List, length, refl, sym, ap, subst, ◌∙◌, arith}
+use Rattle.std.specs.Prelude.{All, slice_index}
+use Rattle.std.proofs.Common.{◌≡◌, ℕ, length, sym, ap, subst, ◌∙◌, arith}
 use Rattle.std.proofs.lemmas.List.{length-map, with_items_is}
 use Rattle.network_file.specs.Network.{IsNetwork}
 use Rattle.flow_model.specs.Limits.{room_at}
 use Rattle.place_sweep.specs.Places.{place_at}
 use Rattle.place_sweep.specs.Space.{IsSpaceOf}
 use Rattle.timelines.specs.Followed.{IsThere}
-use Rattle.place_rows.specs.Placed.{ArePlaced}
 use Rattle.place_rows.proofs.Firsts.{AreOpened, opened-cell, opened-rows, opened-settled}
 use Rattle.place_rows.proofs.placed.PlacedRows.new.Goals as goal
 
@@ -26,7 +25,7 @@ invariant_of-result c =
     let after_long : length after ≡ length first = c.join_places.auto.places ∙ ap length value in
     let after_is = with_items_is c.in_ok-places.places after (c.join_places.auto.places ∙ c.deref_mut.ensures.len) in
     let only_most : (p : ℕ) → place_at after p ≡ record (place_at first p) { most = (place_at after p).most } =
-        rw value at c.join_places.ensures.only_most in
+    rw value at c.join_places.ensures.only_most in
     let opened : AreOpened net t cells rows origins first after = record {
       sound = sound;
       in_time = c.requires.in_time;
@@ -40,7 +39,7 @@ invariant_of-result c =
       only_most = only_most;
     } in
     let before_long : length c.in_ok-before.before.items ≡ length cells =
-        ap length c.in_ok-before.ensures ∙ length-map cells (slice_index c.args.earlier.now) in
+    ap length c.in_ok-before.ensures ∙ length-map cells (slice_index c.args.earlier.now) in
     rw after_is (opened-settled net t cells rows origins first after c.in_ok-before.before.items opened before_long)
 
 pub returns-clause-placed : goal.returns-clause-placed
@@ -59,7 +58,7 @@ returns-clause-placed c =
     let after_long : length after ≡ length first = c.join_places.auto.places ∙ ap length value in
     let after_is = with_items_is c.in_ok-places.places after (c.join_places.auto.places ∙ c.deref_mut.ensures.len) in
     let only_most : (p : ℕ) → place_at after p ≡ record (place_at first p) { most = (place_at after p).most } =
-        rw value at c.join_places.ensures.only_most in
+    rw value at c.join_places.ensures.only_most in
     let opened : AreOpened net t cells rows origins first after = record {
       sound = sound;
       in_time = c.requires.in_time;
@@ -73,7 +72,7 @@ returns-clause-placed c =
       only_most = only_most;
     } in
     let before_long : length c.in_ok-before.before.items ≡ length cells =
-        ap length c.in_ok-before.ensures ∙ length-map cells (slice_index c.args.earlier.now) in
+    ap length c.in_ok-before.ensures ∙ length-map cells (slice_index c.args.earlier.now) in
     rw after_is (record {
       around = c.requires.cells.around;
       tied = record {
@@ -112,7 +111,7 @@ returns-clause-rows c =
     let after_long : length after ≡ length first = c.join_places.auto.places ∙ ap length value in
     let after_is = with_items_is c.in_ok-places.places after (c.join_places.auto.places ∙ c.deref_mut.ensures.len) in
     let only_most : (p : ℕ) → place_at after p ≡ record (place_at first p) { most = (place_at after p).most } =
-        rw value at c.join_places.ensures.only_most in
+    rw value at c.join_places.ensures.only_most in
     let opened : AreOpened net t cells rows origins first after = record {
       sound = sound;
       in_time = c.requires.in_time;
@@ -126,5 +125,5 @@ returns-clause-rows c =
       only_most = only_most;
     } in
     let before_long : length c.in_ok-before.before.items ≡ length cells =
-        ap length c.in_ok-before.ensures ∙ length-map cells (slice_index c.args.earlier.now) in
+    ap length c.in_ok-before.ensures ∙ length-map cells (slice_index c.args.earlier.now) in
     rw after_is (opened-rows net t cells rows origins first after opened)

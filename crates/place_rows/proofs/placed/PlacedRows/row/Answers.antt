@@ -1,8 +1,8 @@
 use Rattle.std.specs.Prelude.{false}
-use Rattle.std.proofs.Common.{◌≡◌, ◌<◌, ℕ, length, get_or, sym, ap, ◌∙◌, arith}
+use Rattle.std.proofs.Common.{◌<◌, ℕ, length, get_or, sym, ap, ◌∙◌, arith}
 use Rattle.std.proofs.lemmas.List.{get_or_read}
 use Rattle.flow_model.specs.State.{row_at}
-use Rattle.place_sweep.specs.Places.{no_place, place_at}
+use Rattle.place_sweep.specs.Places.{no_place}
 use Rattle.place_rows.specs.Rows.{row_of, rows_of}
 use Rattle.place_rows.specs.declared.origin.Origin.{Origin}
 use Rattle.place_rows.proofs.Whole.{row_at-rows_of}

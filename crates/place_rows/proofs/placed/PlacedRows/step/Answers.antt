@@ -1,22 +1,16 @@
-use Rattle.std.specs.Prelude.{All, vec_capacity}
+use Rattle.std.specs.Prelude.{vec_capacity}
 use Rattle.std.specs.List.{sum_by}
-use Rattle.std.proofs.Common.{◌≡◌, ◌+◌, ◌*◌, ◌<◌, ◌≤◌, ℕ, List, length, get_or, refl, sym, ap, subst, ◌∙◌, arith}
+use Rattle.std.proofs.Common.{◌≡◌, ◌+◌, ◌<◌, ℕ, length, get_or, sym, ap, subst, ◌∙◌, arith}
 use Rattle.std.specs.Vec.{with_items}
 use Rattle.std.proofs.lemmas.List.{with_items_is}
-use Rattle.network_file.specs.Network.{IsNetwork, Network}
+use Rattle.network_file.specs.Network.{IsNetwork}
 use Rattle.place_sweep.specs.Parts.{parts_at}
 use Rattle.place_sweep.specs.Places.{place_at}
-use Rattle.place_sweep.specs.declared.part.Part.{Part}
-use Rattle.place_sweep.specs.declared.place.Place.{Place}
-use Rattle.timelines.specs.Followed.{AreFollowed, IsThere}
-use Rattle.timelines.specs.declared.followed.FollowedLink.{FollowedLink}
-use Rattle.place_rows.specs.Chains.{most_out}
-
 use Rattle.place_rows.specs.Moves.{ArePartsOf, IsSeen, demand_for}
 use Rattle.place_rows.specs.Placed.{AreInBounds, ArePlaced, CanAdvance, PlacedCells, rows_next}
 use Rattle.place_rows.specs.Rows.{rows_of}
 use Rattle.place_rows.proofs.Parting.{can_carry}
-use Rattle.place_rows.proofs.Whole.{AreSteps, IsFresh, can_step, fresh-of, gates-there, placed-after, rows-after, scene-fresh, seen-fresh, settled-after, steps-moved}
+use Rattle.place_rows.proofs.Whole.{AreSteps, can_step, fresh-of, gates-there, placed-after, rows-after, scene-fresh, seen-fresh, settled-after, steps-moved}
 use Rattle.place_rows.specs.declared.placed.PlacedRows.TheInside.{Inside}
 use Rattle.place_rows.proofs.placed.PlacedRows.step.Goals as goal
 
@@ -54,22 +48,22 @@ carry_all-requires-clause-each c = λ k d within.
     let seen_first : IsSeen n cells halo placed.places put = subst (λ v. IsSeen n cells halo v.places put) (sym c.self.view_is) given.seen in
     let first = c.refresh.new.places in
     let fresh = fresh-of net cells halo connectors t placed c.deref_mut-2.result.now first c.deref_mut.result.now c.refresh.new.links
-        laid c.deref_mut-2.ensures.value c.deref_mut.ensures.value c.refresh.auto.places
-        c.refresh.ensures.there c.refresh.ensures.most c.refresh.ensures.followed in
+    laid c.deref_mut-2.ensures.value c.deref_mut.ensures.value c.refresh.auto.places
+    c.refresh.ensures.there c.refresh.ensures.most c.refresh.ensures.followed in
     let first_long : length first ≡ c.self.inside.places.len = c.refresh.auto.places ∙ c.deref_mut-2.ensures.len in
     let first_is = with_items_is c.self.inside.places first first_long in
     let sight : c.deref.result.now ≡ first = c.deref.ensures.value ∙ first_is in
     let ties : c.deref-2.result.now ≡ placed.ties = c.deref-2.ensures.value in
     rw (sight, ties) (can_carry net t cells halo placed.ties first put (get_or placed.ties k d)
-        (scene-fresh net t n cells halo connectors placed first put sound before laid bounds seen_first fresh.long fresh.most)
-        (laid.tied.tied k d (rw ties at within)))
+    (scene-fresh net t n cells halo connectors placed first put sound before laid bounds seen_first fresh.long fresh.most)
+    (laid.tied.tied k d (rw ties at within)))
 
 pub put_demands-requires-clause-there : goal.put_demands-requires-clause-there
 put_demands-requires-clause-there c =
     let placed : PlacedCells = opened c.self.inside in
     let given = c.requires.can in
     let laid : ArePlaced c.args.net.now c.args.cells.now given.halo given.connectors c.args.t placed =
-        subst (ArePlaced c.args.net.now c.args.cells.now given.halo given.connectors c.args.t) (sym c.self.view_is) given.laid in
+    subst (ArePlaced c.args.net.now c.args.cells.now given.halo given.connectors c.args.t) (sym c.self.view_is) given.laid in
     let gates : c.deref-3.result.now ≡ placed.gates = c.deref-3.ensures.value in
     rw gates (gates-there c.args.net.now c.args.cells.now given.halo given.connectors c.args.t placed laid)
 
@@ -91,8 +85,8 @@ step_places-requires-clause-can c =
     let seen_first : IsSeen n cells halo placed.places put = subst (λ v. IsSeen n cells halo v.places put) (sym c.self.view_is) given.seen in
     let first = c.refresh.new.places in
     let fresh = fresh-of net cells halo connectors t placed c.deref_mut-2.result.now first c.deref_mut.result.now c.refresh.new.links
-        laid c.deref_mut-2.ensures.value c.deref_mut.ensures.value c.refresh.auto.places
-        c.refresh.ensures.there c.refresh.ensures.most c.refresh.ensures.followed in
+    laid c.deref_mut-2.ensures.value c.deref_mut.ensures.value c.refresh.auto.places
+    c.refresh.ensures.there c.refresh.ensures.most c.refresh.ensures.followed in
     let first_long : length first ≡ c.self.inside.places.len = c.refresh.auto.places ∙ c.deref_mut-2.ensures.len in
     let first_is = with_items_is c.self.inside.places first first_long in
     let sight : c.deref.result.now ≡ first = c.deref.ensures.value ∙ first_is in
@@ -103,9 +97,9 @@ step_places-requires-clause-can c =
     let ins = c.put_demands.new.ins.items in
     let seen = seen-fresh net t n cells halo connectors placed first put laid seen_first fresh.most in
     let parts : ArePartsOf net t n cells placed.ties outs carried =
-        rw ties at (c.carry_all.ensures.parts n cells halo (rw sight seen) (rw ties laid.tied)) in
+    rw ties at (c.carry_all.ensures.parts n cells halo (rw sight seen) (rw ties laid.tied)) in
     let demands : (p : ℕ) → parts_at ins p ≡ parts_at carried p + sum_by (demand_for net.plan t cells p) placed.gates =
-        rw gates at c.put_demands.ensures.parts in
+    rw gates at c.put_demands.ensures.parts in
     let there_in = c.put_demands.ensures.there parts.there_in in
     let places : c.deref_mut-3.result.now ≡ first = c.deref_mut-3.ensures.value ∙ first_is in
     rw (places, c.deref-4.ensures.value, c.deref-5.ensures.value)
@@ -131,8 +125,8 @@ returns-clause-rows c = λ can.
     let seen_first : IsSeen n cells halo placed.places put = subst (λ v. IsSeen n cells halo v.places put) (sym c.self.view_is) given.seen in
     let first = c.refresh.new.places in
     let fresh = fresh-of net cells halo connectors t placed c.deref_mut-2.result.now first c.deref_mut.result.now c.refresh.new.links
-        laid c.deref_mut-2.ensures.value c.deref_mut.ensures.value c.refresh.auto.places
-        c.refresh.ensures.there c.refresh.ensures.most c.refresh.ensures.followed in
+    laid c.deref_mut-2.ensures.value c.deref_mut.ensures.value c.refresh.auto.places
+    c.refresh.ensures.there c.refresh.ensures.most c.refresh.ensures.followed in
     let first_long : length first ≡ c.self.inside.places.len = c.refresh.auto.places ∙ c.deref_mut-2.ensures.len in
     let first_is = with_items_is c.self.inside.places first first_long in
     let sight : c.deref.result.now ≡ first = c.deref.ensures.value ∙ first_is in
@@ -143,9 +137,9 @@ returns-clause-rows c = λ can.
     let ins = c.put_demands.new.ins.items in
     let seen = seen-fresh net t n cells halo connectors placed first put laid seen_first fresh.most in
     let parts : ArePartsOf net t n cells placed.ties outs carried =
-        rw ties at (c.carry_all.ensures.parts n cells halo (rw sight seen) (rw ties laid.tied)) in
+    rw ties at (c.carry_all.ensures.parts n cells halo (rw sight seen) (rw ties laid.tied)) in
     let demands : (p : ℕ) → parts_at ins p ≡ parts_at carried p + sum_by (demand_for net.plan t cells p) placed.gates =
-        rw gates at c.put_demands.ensures.parts in
+    rw gates at c.put_demands.ensures.parts in
     let there_in = c.put_demands.ensures.there parts.there_in in
     let places : c.deref_mut-3.result.now ≡ first = c.deref_mut-3.ensures.value ∙ first_is in
     let after = c.step_places.new.places in
@@ -186,8 +180,8 @@ returns-clause-placed c = λ can.
     let seen_first : IsSeen n cells halo placed.places put = subst (λ v. IsSeen n cells halo v.places put) (sym c.self.view_is) given.seen in
     let first = c.refresh.new.places in
     let fresh = fresh-of net cells halo connectors t placed c.deref_mut-2.result.now first c.deref_mut.result.now c.refresh.new.links
-        laid c.deref_mut-2.ensures.value c.deref_mut.ensures.value c.refresh.auto.places
-        c.refresh.ensures.there c.refresh.ensures.most c.refresh.ensures.followed in
+    laid c.deref_mut-2.ensures.value c.deref_mut.ensures.value c.refresh.auto.places
+    c.refresh.ensures.there c.refresh.ensures.most c.refresh.ensures.followed in
     let first_long : length first ≡ c.self.inside.places.len = c.refresh.auto.places ∙ c.deref_mut-2.ensures.len in
     let first_is = with_items_is c.self.inside.places first first_long in
     let sight : c.deref.result.now ≡ first = c.deref.ensures.value ∙ first_is in
@@ -198,9 +192,9 @@ returns-clause-placed c = λ can.
     let ins = c.put_demands.new.ins.items in
     let seen = seen-fresh net t n cells halo connectors placed first put laid seen_first fresh.most in
     let parts : ArePartsOf net t n cells placed.ties outs carried =
-        rw ties at (c.carry_all.ensures.parts n cells halo (rw sight seen) (rw ties laid.tied)) in
+    rw ties at (c.carry_all.ensures.parts n cells halo (rw sight seen) (rw ties laid.tied)) in
     let demands : (p : ℕ) → parts_at ins p ≡ parts_at carried p + sum_by (demand_for net.plan t cells p) placed.gates =
-        rw gates at c.put_demands.ensures.parts in
+    rw gates at c.put_demands.ensures.parts in
     let there_in = c.put_demands.ensures.there parts.there_in in
     let places : c.deref_mut-3.result.now ≡ first = c.deref_mut-3.ensures.value ∙ first_is in
     let after = c.step_places.new.places in
@@ -245,8 +239,8 @@ returns-clause-before c = λ p within.
     let seen_first : IsSeen n cells halo placed.places put = subst (λ v. IsSeen n cells halo v.places put) (sym c.self.view_is) given.seen in
     let first = c.refresh.new.places in
     let fresh = fresh-of net cells halo connectors t placed c.deref_mut-2.result.now first c.deref_mut.result.now c.refresh.new.links
-        laid c.deref_mut-2.ensures.value c.deref_mut.ensures.value c.refresh.auto.places
-        c.refresh.ensures.there c.refresh.ensures.most c.refresh.ensures.followed in
+    laid c.deref_mut-2.ensures.value c.deref_mut.ensures.value c.refresh.auto.places
+    c.refresh.ensures.there c.refresh.ensures.most c.refresh.ensures.followed in
     let first_long : length first ≡ c.self.inside.places.len = c.refresh.auto.places ∙ c.deref_mut-2.ensures.len in
     let first_is = with_items_is c.self.inside.places first first_long in
     let sight : c.deref.result.now ≡ first = c.deref.ensures.value ∙ first_is in
@@ -257,9 +251,9 @@ returns-clause-before c = λ p within.
     let ins = c.put_demands.new.ins.items in
     let seen = seen-fresh net t n cells halo connectors placed first put laid seen_first fresh.most in
     let parts : ArePartsOf net t n cells placed.ties outs carried =
-        rw ties at (c.carry_all.ensures.parts n cells halo (rw sight seen) (rw ties laid.tied)) in
+    rw ties at (c.carry_all.ensures.parts n cells halo (rw sight seen) (rw ties laid.tied)) in
     let demands : (p : ℕ) → parts_at ins p ≡ parts_at carried p + sum_by (demand_for net.plan t cells p) placed.gates =
-        rw gates at c.put_demands.ensures.parts in
+    rw gates at c.put_demands.ensures.parts in
     let there_in = c.put_demands.ensures.there parts.there_in in
     let places : c.deref_mut-3.result.now ≡ first = c.deref_mut-3.ensures.value ∙ first_is in
     let noted = c.step_places.new.before in
@@ -289,8 +283,8 @@ invariant_of-self c =
     let seen_first : IsSeen n cells halo placed.places put = subst (λ v. IsSeen n cells halo v.places put) (sym c.self.view_is) given.seen in
     let first = c.refresh.new.places in
     let fresh = fresh-of net cells halo connectors t placed c.deref_mut-2.result.now first c.deref_mut.result.now c.refresh.new.links
-        laid c.deref_mut-2.ensures.value c.deref_mut.ensures.value c.refresh.auto.places
-        c.refresh.ensures.there c.refresh.ensures.most c.refresh.ensures.followed in
+    laid c.deref_mut-2.ensures.value c.deref_mut.ensures.value c.refresh.auto.places
+    c.refresh.ensures.there c.refresh.ensures.most c.refresh.ensures.followed in
     let first_long : length first ≡ c.self.inside.places.len = c.refresh.auto.places ∙ c.deref_mut-2.ensures.len in
     let first_is = with_items_is c.self.inside.places first first_long in
     let sight : c.deref.result.now ≡ first = c.deref.ensures.value ∙ first_is in
@@ -301,9 +295,9 @@ invariant_of-self c =
     let ins = c.put_demands.new.ins.items in
     let seen = seen-fresh net t n cells halo connectors placed first put laid seen_first fresh.most in
     let parts : ArePartsOf net t n cells placed.ties outs carried =
-        rw ties at (c.carry_all.ensures.parts n cells halo (rw sight seen) (rw ties laid.tied)) in
+    rw ties at (c.carry_all.ensures.parts n cells halo (rw sight seen) (rw ties laid.tied)) in
     let demands : (p : ℕ) → parts_at ins p ≡ parts_at carried p + sum_by (demand_for net.plan t cells p) placed.gates =
-        rw gates at c.put_demands.ensures.parts in
+    rw gates at c.put_demands.ensures.parts in
     let there_in = c.put_demands.ensures.there parts.there_in in
     let places : c.deref_mut-3.result.now ≡ first = c.deref_mut-3.ensures.value ∙ first_is in
     let after = c.step_places.new.places in
