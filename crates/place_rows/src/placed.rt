@@ -138,7 +138,7 @@ impl PlacedRows {
 
     /// What it held a step before.
     pub fn before(&self, i: u32) -> u64
-        requires { i < length self.now.origins }
+        requires { i < length self.now.before }
         ensures { result ≡ slice_index self.now.before i }
     {
         self.before[i as usize]
