@@ -4,7 +4,7 @@ ghost use Rattle.snapshot.specs.Rooms.{IsRoomFor};
 ghost use Rattle.region_slots.specs.FieldView.{IsPassOf};
 ghost use Rattle.network_run.specs.Enlisted.{AreEnlisted, IsEnlisted};
 
-use ctm_ports::OpenGate;
+use ctm_ports::Gate;
 use flow_ledger::Books;
 use network_file::Net;
 use region_cut::Chart;
@@ -16,11 +16,18 @@ use std::thread::{Threads, for_each_mut};
 use step_words::is_lawful;
 use worker_claim::{Member, drive};
 
-// How many shots have shown a field, and how many of these weren't sound.
+// The last step of the chain.
+const LAST: u64 = 200;
+
+// How many shots are taken of it.
+pub(crate) const SHOTS: u64 = 100;
+
+// How many shots have shown a field, how many of these weren't sound, and how many were taken on the way.
 #[derive(Drop)]
 pub(crate) struct Found {
     taken: AtomicU64,
     unsound: AtomicU64,
+    midway: AtomicU64,
 }
 
 impl Found {
@@ -28,23 +35,51 @@ impl Found {
         Found {
             taken: AtomicU64::new(0),
             unsound: AtomicU64::new(0),
+            midway: AtomicU64::new(0),
         }
     }
 
-    fn note(&self, sound: bool) {
+    fn note(&self, sound: bool, midway: bool) {
         self.taken.fetch_add(1, Ordering::SeqCst);
         if !sound {
             self.unsound.fetch_add(1, Ordering::SeqCst);
         }
+        if midway {
+            self.midway.fetch_add(1, Ordering::SeqCst);
+        }
     }
 
-    // How many there were, and how many weren't sound.
-    pub(crate) fn told(&self) -> (u64, u64) {
-        (
-            self.taken.load(Ordering::SeqCst),
-            self.unsound.load(Ordering::SeqCst),
-        )
+    // How many shots were taken.
+    pub(crate) fn taken(&self) -> u64 {
+        self.taken.load(Ordering::SeqCst)
     }
+
+    // How many of them weren't sound.
+    pub(crate) fn unsound(&self) -> u64 {
+        self.unsound.load(Ordering::SeqCst)
+    }
+
+    // How many of them were taken on the way.
+    pub(crate) fn midway(&self) -> u64 {
+        self.midway.load(Ordering::SeqCst)
+    }
+}
+
+// Whoever has brought region 0 half the way waits for a while until a shot was taken on the way.
+impl Gate for Found {
+    fn held(&self, region: u32, step: u64) {}
+
+    fn freed(&self, region: u32, step: u64) {
+        if region == 0 && step == LAST / 2 {
+            for _ in 0..1_000_000_000 {
+                if self.midway() > 0 {
+                    return;
+                }
+            }
+        }
+    }
+
+    fn watched(&self, done: bool) {}
 }
 
 // Has four members call the field at once: two take turns, one looks, and one shoots.
@@ -59,6 +94,7 @@ pub(crate) fn call_at_once<R: Threads + Sync>(
     goal: u64,
 )
     requires network { (field.now.terms.net.now ≡ net.now) × (field.now.terms.chart.now ≡ chart.now) }
+    requires charted { chart.now ≡ chart_of net.now chart.now.cut }
     requires one_each { length chart.now.cut ≡ length net.now.cells }
     requires enlisted { AreEnlisted field.now goal members.old }
     requires in_time { goal ≤ field.now.terms.net.now.steps }
@@ -67,11 +103,12 @@ pub(crate) fn call_at_once<R: Threads + Sync>(
 {
     let work = move |k: usize, member: &mut Member|
         requires { IsEnlisted field.now goal member.old × (goal ≤ field.now.terms.net.now.steps)
-            × (field.now.terms.net.now ≡ net.now) × (field.now.terms.chart.now ≡ chart.now) × (length chart.now.cut ≡ length net.now.cells) }
+            × (field.now.terms.net.now ≡ net.now) × (field.now.terms.chart.now ≡ chart.now)
+            × (chart.now ≡ chart_of net.now chart.now.cut) × (length chart.now.cut ≡ length net.now.cells) }
         ensures { IsEnlisted field.entry.now goal member.new }
     {
         match k {
-            0 | 1 => take_turns(field, member, goal),
+            0 | 1 => take_turns(field, member, found, goal),
             2 => look_round(field, member, goal),
             _ => shoot(alloc, net, chart, field, member, found, goal),
         }
@@ -80,7 +117,7 @@ pub(crate) fn call_at_once<R: Threads + Sync>(
 }
 
 // Drives to the goal.
-fn take_turns(field: &Field, member: &mut Member, goal: u64)
+fn take_turns(field: &Field, member: &mut Member, found: &Found, goal: u64)
     requires enlisted { IsEnlisted field.now goal member.old }
     requires in_time { goal ≤ field.now.terms.net.now.steps }
     ensures enlisted { IsEnlisted field.now goal member.new }
@@ -91,7 +128,7 @@ fn take_turns(field: &Field, member: &mut Member, goal: u64)
         goal,
         1_000_000,
         member.first,
-        &OpenGate,
+        found,
     );
 }
 
@@ -105,7 +142,7 @@ fn look_round(field: &Field, member: &mut Member, goal: u64)
     }
 }
 
-// Takes shots with three tries each, until a hundred have shown the field.
+// Takes shots with three tries each, until so many have shown the field.
 fn shoot(
     alloc: Global,
     net: &Net,
@@ -116,6 +153,7 @@ fn shoot(
     goal: u64,
 )
     requires network { (field.now.terms.net.now ≡ net.now) × (field.now.terms.chart.now ≡ chart.now) }
+    requires charted { chart.now ≡ chart_of net.now chart.now.cut }
     requires one_each { length chart.now.cut ≡ length net.now.cells }
     requires enlisted { IsEnlisted field.now goal member.old }
     ensures enlisted { IsEnlisted field.now goal member.new }
@@ -124,12 +162,21 @@ fn shoot(
         return;
     };
     for _ in 0..1_000_000 {
-        if found.told().0 == 100 {
+        if found.taken() == SHOTS {
             return;
         }
         if field.shot(&mut member.pass, &mut room, 3) == Shot::Taken {
-            found.note(is_lawful(room.steps(), net, chart) && balances(room.books(net)));
+            let sound = is_lawful(room.steps(), net, chart) && balances(room.books(net));
+            found.note(sound, is_midway(room.steps()));
         }
+    }
+}
+
+// Whether the first region stands between the first step and the last.
+fn is_midway(steps: &[u64]) -> bool {
+    match steps.first() {
+        Some(step) => step % LAST != 0,
+        None => false,
     }
 }
 

@@ -6,7 +6,7 @@ ghost use Rattle.network_run.specs.Enlisted.{AreEnlisted, IsEnlisted};
 
 use crate::charted;
 use crate::members::{dismiss, enlist};
-use crate::mixed_calls::{Found, call_at_once};
+use crate::mixed_calls::{Found, SHOTS, call_at_once};
 use crate::tests::{CUTTINGS, NETWORKS, cut_text, network, rows_of, whole_steps};
 use ctm_ports::OpenGate;
 use network_file::Net;
@@ -15,9 +15,10 @@ use region_slots::{Closed, Field};
 use region_step::Start;
 use signal_plan::NoMemory;
 use std::alloc::Global;
+use std::process::Abort;
 use std::test::Fail;
 use std::thread::Threads;
-use worker_claim::{Member, finish};
+use worker_claim::{Member, crew, finish};
 
 // A gate, six roads and an exit.
 const CHAIN: &str =
@@ -30,6 +31,8 @@ link,e,f; link,f,g; link,g,h; demand,a,0,150,1.7; limit,h,40,60,0; signal,e,6,2,
 enum Calls<'a> {
     // Forty turns, each on a region and by a member that are drawn.
     Drawn { seed: u32 },
+    // A drive each, in sweeps.
+    Swept,
     // Turns, looks and shots, in a thread of its own each.
     Mixed { found: &'a Found },
 }
@@ -98,6 +101,7 @@ fn make_calls<R: Threads + Sync>(
     calls: Calls,
 )
     requires network { (field.now.terms.net.now ≡ net.now) × (field.now.terms.chart.now ≡ chart.now) }
+    requires charted { chart.now ≡ chart_of net.now chart.now.cut }
     requires one_each { length chart.now.cut ≡ length net.now.cells }
     requires enlisted { AreEnlisted field.now net.now.steps members.old }
     ensures many { length members.new ≡ length members.old }
@@ -106,8 +110,28 @@ fn make_calls<R: Threads + Sync>(
     let last = net.steps;
     match calls {
         Calls::Drawn { seed } => wander(field, members, last, 40, seed),
+        Calls::Swept => crew(rt, field, members, last, 4096, &OpenGate),
         Calls::Mixed { found } => call_at_once(rt, alloc, net, chart, field, members, found, last),
     }
+}
+
+// Compares the rows of a field after such calls, finished and closed, with those of whole steps.
+fn compare_rows<R: Abort + Threads + Sync>(
+    rt: &R,
+    alloc: Global,
+    net: &Net,
+    chart: &Chart,
+    workers: u32,
+    calls: Calls,
+) -> Result<(), Fail>
+    requires chart { chart.now ≡ chart_of net.now chart.now.cut }
+    requires one_each { length chart.now.cut ≡ length net.now.cells }
+    requires workers { workers + 1 < 2 ^ 32 }
+{
+    let closed = closed_after(rt, alloc, net, chart, workers, calls)?;
+    let rows = rows_of(rt, alloc, net, chart, &closed.regions)?;
+    assert_eq!(rt; Some(&rows), whole_steps(alloc, net)?.last());
+    Ok(())
 }
 
 #[test]
@@ -116,16 +140,28 @@ fn turns_in_any_order_give_the_rows_of_whole_steps(rt: HostRuntime) -> Result<()
         for regions in CUTTINGS {
             let net = network(&rt, rt.alloc(), &cut_text(rt.alloc(), text, regions)?)?;
             let chart = charted(rt.alloc(), &net, 1)?;
-            let whole = whole_steps(rt.alloc(), &net)?;
             for workers in [1, 2, 4] {
-                let calls = Calls::Drawn {
-                    seed: regions[0].wrapping_add(5 * workers),
-                };
-                let closed = closed_after(&rt, rt.alloc(), &net, &chart, workers, calls)?;
-                let rows = rows_of(&rt, rt.alloc(), &net, &chart, &closed.regions)?;
-                assert_eq!(rt; Some(&rows), whole.last(), "{text}");
+                let seed = regions[0].wrapping_add(5 * workers);
+                compare_rows(
+                    &rt,
+                    rt.alloc(),
+                    &net,
+                    &chart,
+                    workers,
+                    Calls::Drawn { seed },
+                )?;
             }
         }
+    }
+    Ok(())
+}
+
+#[test]
+fn a_crew_that_sweeps_gives_the_rows_of_whole_steps(rt: HostRuntime) -> Result<(), Fail> {
+    for text in NETWORKS {
+        let net = network(&rt, rt.alloc(), text)?;
+        let chart = charted(rt.alloc(), &net, 4)?;
+        compare_rows(&rt, rt.alloc(), &net, &chart, 2, Calls::Swept)?;
     }
     Ok(())
 }
@@ -135,11 +171,16 @@ fn turns_looks_and_shots_at_once_give_the_rows_of_whole_steps(rt: HostRuntime) -
     let net = network(&rt, rt.alloc(), CHAIN)?;
     let chart = charted(rt.alloc(), &net, 8)?;
     let found = Found::none();
-    let calls = Calls::Mixed { found: &found };
-    let closed = closed_after(&rt, rt.alloc(), &net, &chart, 4, calls)?;
-    assert_eq!(rt; found.told(), (100, 0));
-    assert_eq!(rt; closed.steps.as_slice(), [200; 8].as_slice());
-    let rows = rows_of(&rt, rt.alloc(), &net, &chart, &closed.regions)?;
-    assert_eq!(rt; Some(&rows), whole_steps(rt.alloc(), &net)?.last());
+    compare_rows(
+        &rt,
+        rt.alloc(),
+        &net,
+        &chart,
+        4,
+        Calls::Mixed { found: &found },
+    )?;
+    assert_eq!(rt; found.taken(), SHOTS);
+    assert_eq!(rt; found.unsound(), 0);
+    assert!(rt; found.midway() > 0, "a shot was taken on the way");
     Ok(())
 }
