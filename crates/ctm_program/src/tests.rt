@@ -783,19 +783,19 @@ fn a_failing_output_ends_the_call(rt: HostRuntime) -> Result<(), Fail> {
 // Calls whose words are refused, whose input or output fails, and that are done.
 #[test]
 fn a_failing_standard_error_changes_no_status(rt: HostRuntime) -> Result<(), Fail> {
-    let none: &[u64] = &[];
+    let first = [0];
     for (word, reads, writes, tells, wanted, told) in [
-        ("drive", none, none, [0], 2, b"".as_slice()),
-        ("run", &[0], none, [0], 5, b""),
-        ("run", none, &[0], [0], 6, b""),
-        ("run", none, &[0], [1], 6, b"ctm: write"),
-        ("run", none, none, [0], 0, b""),
+        ("drive", 0, 0, [0], 2, ""),
+        ("run", 1, 0, [0], 5, ""),
+        ("run", 0, 1, [0], 6, ""),
+        ("run", 0, 1, [1], 6, "ctm: write"),
+        ("run", 0, 0, [0], 0, ""),
     ] {
-        let fails: [&[u64]; 3] = [reads, writes, &tells];
+        let fails: [&[u64]; 3] = [&first[..reads], &first[..writes], &tells];
         let (status, out, err) = failing_call(&rt, rt.alloc(), &[word], 10, fails)?;
         assert_eq!(rt; status, wanted, "{word}");
         assert_eq!(rt; out.bytes().is_empty(), wanted != 0);
-        assert_eq!(rt; err.bytes(), told);
+        assert_eq!(rt; err.bytes(), told.as_bytes());
     }
     Ok(())
 }

@@ -142,7 +142,7 @@ fn look_round(field: &Field, member: &mut Member, goal: u64)
     }
 }
 
-// Takes shots with three tries each, until so many have shown the field.
+// Takes shots with three tries each, until so many have shown the field, one of them on the way.
 fn shoot(
     alloc: Global,
     net: &Net,
@@ -162,7 +162,7 @@ fn shoot(
         return;
     };
     for _ in 0..1_000_000 {
-        if found.taken() == SHOTS {
+        if found.taken() >= SHOTS && found.midway() > 0 {
             return;
         }
         if field.shot(&mut member.pass, &mut room, 3) == Shot::Taken {

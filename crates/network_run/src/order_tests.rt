@@ -179,7 +179,7 @@ fn turns_looks_and_shots_at_once_give_the_rows_of_whole_steps(rt: HostRuntime) -
         4,
         Calls::Mixed { found: &found },
     )?;
-    assert_eq!(rt; found.taken(), SHOTS);
+    assert!(rt; found.taken() >= SHOTS);
     assert_eq!(rt; found.unsound(), 0);
     assert!(rt; found.midway() > 0, "a shot was taken on the way");
     Ok(())
