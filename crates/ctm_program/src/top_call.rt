@@ -27,9 +27,9 @@ pub fn ctm<R: Threads + Sync, S: Source, O: Sink, E: Sink, G: Gate>(
     err: &mut E,
     gate: &G,
 ) -> Status
-    // There is an input, which is what the source has left where it tells it, or the made network, and a text, of which all this holds: it is
-    // one of the answer to the input where any of it is written, and all of it is on out where the call is done. The last
-    // line: a task is done, but for faults that were counted in this call and want of memory.
+    // There is an input, which is what the source has left where it tells it, or the made network, and a text, of which all
+    // this holds: it is one of the answer to the input where any of it is written, and all of it is on out where the call
+    // is done. The last line: a task is done, but for faults that were counted in this call and want of memory.
     ensures answered { (input : List ℕ) × (text : List ℕ) × IsInputOf (requested words.now) (S.left source.old) input
         × IsStatusOf (answer_of words.now input) result
         × IsWritten (answer_of words.now input) result text

@@ -12,7 +12,7 @@ use region_slots::{Field, Pass, Shot};
 use snapshot::ShotRoom;
 use std::alloc::Global;
 use std::sync::atomic::{AtomicU64, Ordering};
-use std::thread::{Threads, for_each_mut};
+use std::thread::{Threads, for_each_mut, yield_now};
 use step_words::is_lawful;
 use worker_claim::{Member, drive};
 
@@ -169,6 +169,7 @@ fn shoot(
             let sound = is_lawful(room.steps(), net, chart) && balances(room.books(net));
             found.note(sound, is_midway(room.steps()));
         }
+        yield_now();
     }
 }
 

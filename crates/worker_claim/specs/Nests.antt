@@ -3,8 +3,8 @@ use Rattle.std.specs.Prelude.{◌≡◌, ℕ, ◌<◌, ◌≤◌, List, All, len
 use mathlib.Core.Option.{some}
 use lib.ListN.{get_elem?}
 
--- The rule of a deque: its numbers are below one that each of its passes knows, and that is 0 as long as there is one pass
--- alone.
+-- The rule of a deque: its numbers are below one that each of its passes knows, and that may be 0 only as long as there is
+-- one pass at most.
 pub record AreBelow (items views : List ℕ) : Type 0 where
   pub limit : ℕ
   pub below : All (λ r. r < limit) items

@@ -32,8 +32,8 @@ impl Nest {
         Nest { own, others }
     }
 
-    /// Takes out what the member's deque holds, with at most so many pops as there are regions, and pushes the numbers of
-    /// the regions that member `number` is to begin with, in order.
+    /// Takes out what the member's deque holds, with at most so many pops as there are regions, and pushes in order those
+    /// regions r of which `r·members/regions`, rounded down, is `number`. One for which there is no memory is left out.
     pub fn fill(&mut self, number: u32, members: u32, regions: u32)
         requires made { self.old ≡ record { members = members; regions = regions } }
         requires one_of { number < members }
