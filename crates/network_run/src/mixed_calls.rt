@@ -65,12 +65,13 @@ impl Found {
     }
 }
 
-// Whoever has brought region 0 half the way waits for a while until a shot was taken on the way.
+// Whoever has brought a region half the way waits for a while until a shot was taken on the way. No region gets past a
+// neighbour that isn't there yet, so that none is at the end before.
 impl Gate for Found {
     fn held(&self, region: u32, step: u64) {}
 
     fn freed(&self, region: u32, step: u64) {
-        if region == 0 && step == LAST / 2 {
+        if step == LAST / 2 {
             for _ in 0..1_000_000_000 {
                 if self.midway() > 0 {
                     return;
