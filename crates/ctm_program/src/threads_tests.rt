@@ -60,7 +60,8 @@ impl Gate for Notes {
 struct Meeting {
     first: AtomicU64,
     second: AtomicU64,
-    met: AtomicU64,
+    first_met: AtomicU64,
+    second_met: AtomicU64,
     notes: Notes,
 }
 
@@ -69,17 +70,24 @@ impl Meeting {
         Meeting {
             first: AtomicU64::new(0),
             second: AtomicU64::new(0),
-            met: AtomicU64::new(0),
+            first_met: AtomicU64::new(0),
+            second_met: AtomicU64::new(0),
             notes: Notes::new(),
         }
     }
 
-    // Comes to the meeting, and waits for the other for a while.
-    fn meet(&self, own: &AtomicU64, other: &AtomicU64) {
-        own.store(1, Ordering::SeqCst);
-        if is_set_in_time(other) {
-            self.met.fetch_add(1, Ordering::SeqCst);
-        }
+    // How many of the two have met the other.
+    fn met(&self) -> u64 {
+        let first = self.first_met.load(Ordering::SeqCst);
+        first.wrapping_add(self.second_met.load(Ordering::SeqCst))
+    }
+}
+
+// Comes to the meeting, and waits for the other for a while.
+fn meet(own: &AtomicU64, other: &AtomicU64, met: &AtomicU64) {
+    own.store(1, Ordering::SeqCst);
+    if is_set_in_time(other) {
+        met.store(1, Ordering::SeqCst);
     }
 }
 
@@ -97,8 +105,8 @@ impl Gate for Meeting {
     fn held(&self, region: u32, step: u64) {
         self.notes.held(region, step);
         match (region, step) {
-            (0, 0) => self.meet(&self.first, &self.second),
-            (2, 1) => self.meet(&self.second, &self.first),
+            (0, 0) => meet(&self.first, &self.second, &self.first_met),
+            (2, 1) => meet(&self.second, &self.first, &self.second_met),
             _ => {}
         }
     }
@@ -114,11 +122,7 @@ fn two_workers_work_at_once(rt: HostRuntime) -> Result<(), Fail> {
     let file = lines(rt.alloc(), CHAIN)?;
     let ended = call_past(&rt, rt.alloc(), "run --regions 4 --workers 2", file, &gate)?;
     assert!(rt; ended.gave(&lines(rt.alloc(), CHAIN_REPORT)?));
-    assert_eq!(rt;
-        gate.met.load(Ordering::SeqCst),
-        2,
-        "each waited for the other"
-    );
+    assert_eq!(rt; gate.met(), 2, "each waited for the other");
     assert!(rt;
         gate.notes.are_complete(4, 4),
         "each region was held at each step"
