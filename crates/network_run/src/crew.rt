@@ -128,8 +128,8 @@ impl Crew {
     }
 }
 
-// The region at which the sweeps of member `number` of so many begin, far from each other.
-fn first_region(number: u32, regions: u32, workers: u32) -> u32
+/// The region at which the sweeps of member `number` of so many begin, far from each other.
+pub(crate) fn first_region(number: u32, regions: u32, workers: u32) -> u32
     requires one_of { number < workers }
     requires some { 1 ≤ regions }
     ensures is { result ≡ number * regions / workers }

@@ -1,8 +1,9 @@
-ghost use Rattle.std.specs.Prelude.{◌≡◌, ◌≢◌, ◌+◌, ◌*◌, ◌/◌, ◌<◌, ◌≤◌, ℕ, [], length, slice_index, vec_capacity};
+ghost use Rattle.std.specs.Prelude.{◌≡◌, ◌≢◌, ◌+◌, ◌≤◌, ℕ, [], length, slice_index, vec_capacity};
 ghost use Rattle.region_slots.specs.FieldView.{IsPassOf};
 ghost use Rattle.network_run.specs.Crews.{IsReached};
 ghost use Rattle.network_run.specs.Enlisted.{AreEnlisted};
 
+use crate::crew::first_region;
 use region_slots::{Field, Pass};
 use worker_claim::Member;
 
@@ -25,16 +26,6 @@ pub(crate) fn enlist(field: &Field, pass: &mut Pass, members: &mut Vec<Member>, 
         let other = field.share(pass);
         members.push_reserved(Member::new(other, first));
     }
-}
-
-// The region at which the sweeps of member `j` of so many begin.
-fn first_region(j: u32, regions: u32, workers: u32) -> u32
-    requires one_of { j < workers }
-    requires some { 1 ≤ regions }
-    ensures is { result ≡ j * regions / workers }
-    ensures there { result < regions }
-{
-    (u64::from(j) * u64::from(regions) / u64::from(workers)) as u32
 }
 
 /// Unites a pass with those of all members.

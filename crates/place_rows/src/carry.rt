@@ -66,7 +66,7 @@ pub(crate) fn put_part(items: &mut Vec<Part>, spot: Spot, parts: u64)
     ensures room { vec_capacity items.old ≤ vec_capacity items.new }
 {
     if let Spot::Own(place) = spot {
-        let _ = items.push(Part { place, parts });
+        items.push_reserved(Part { place, parts });
     }
 }
 

@@ -59,6 +59,7 @@ impl LinkCourse {
         requires in_time { t ≤ MOST_STEPS }
         ensures value { result.value ≡ most_at self.old t }
         ensures steady { IsSteady (most_at self.old) t result.until }
+        ensures later { t < result.until }
         ensures step { self.new.step ≡ t }
         ensures course { (s : ℕ) → most_at self.new s ≡ most_at self.old s }
     {

@@ -10,6 +10,7 @@ pub fn light(signal: Option<Signal>, t: u64) -> Now<bool>
     requires in_time { t ≤ MOST_STEPS }
     ensures green { result.value ≡ light_at signal t }
     ensures steady { IsSteady (light_at signal) t result.until }
+    ensures later { t < result.until }
 {
     match signal {
         None => Now {
@@ -25,6 +26,7 @@ fn phase(signal: Signal, t: u64) -> Now<bool>
     requires in_time { t ≤ MOST_STEPS }
     ensures green { result.value ≡ shows_green t signal }
     ensures steady { IsSteady (λ s. shows_green s signal) t result.until }
+    ensures later { t < result.until }
 {
     let (cycle, from, to) = (
         u64::from(signal.cycle),

@@ -30,6 +30,7 @@ impl Model for Timeline {
 }
 
 impl Timeline {
+    ghost use Rattle.std.specs.Prelude.{◌^◌};
     ghost use Rattle.timelines.specs.Courses.{IsSteady, value_at};
 
     /// That of a value with these changes, at step 0.
@@ -58,6 +59,7 @@ impl Timeline {
     pub fn now(&self) -> Now<u64>
         ensures value { result.value ≡ value_at self.now self.now.step }
         ensures steady { IsSteady (value_at self.now) self.now.step result.until }
+        ensures later { self.now.step + 1 < 2 ^ 64 → self.now.step < result.until }
     {
         let until = if self.come < self.changes.len() {
             self.changes[self.come].step
