@@ -29,13 +29,14 @@ impl Pause {
     }
 }
 
-// Waits for a while until the flag is set.
-fn wait_for(flag: &AtomicU64) {
+// Waits for a while until the flag is set, and gives whether it was.
+pub(crate) fn wait_for(flag: &AtomicU64) -> bool {
     for _ in 0..1_000_000_000 {
         if flag.load(Ordering::SeqCst) != 0 {
-            return;
+            return true;
         }
     }
+    false
 }
 
 impl Gate for Pause {

@@ -1,4 +1,4 @@
-use crate::hints::{Below, Keeps, Opens, Tells};
+use crate::deque_rule::{Below, Keeps, Opens, Tells};
 use crate::thief::Thief;
 use crossbeam_deque::Worker;
 use signal_plan::NoMemory;

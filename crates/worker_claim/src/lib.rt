@@ -8,13 +8,13 @@
 #![tactic(auto)]
 
 mod deque;
+mod deque_rule;
 mod driven;
 mod driving;
 mod finishing;
 mod help_watching;
 mod helper;
 mod helping;
-mod hints;
 mod member;
 mod members;
 mod nest;

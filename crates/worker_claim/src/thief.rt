@@ -1,4 +1,4 @@
-use crate::hints::{Below, Keeps};
+use crate::deque_rule::{Below, Keeps};
 use crossbeam_deque::{Pass, Stealer};
 use std::alloc::Global;
 use std::marker::Model;

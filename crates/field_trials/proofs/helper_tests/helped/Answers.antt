@@ -1,7 +1,7 @@
 use Rattle.std.proofs.Common.{◌≡◌, [], ◌∷◌, sym, subst}
 use Rattle.std.proofs.lemmas.List.Elements.{All-cons, All-nil}
 use Rattle.worker_claim.specs.Helping.{AreHelpersOf, IsHelperOf}
-use Rattle.field_trials.proofs.hint_tests.helped.Goals as goal
+use Rattle.field_trials.proofs.helper_tests.helped.Goals as goal
 
 pub crew_hints-requires-clause-helpers : goal.crew_hints-requires-clause-helpers
 crew_hints-requires-clause-helpers g c = λ lifetimes outlive.

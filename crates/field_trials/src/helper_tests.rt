@@ -1,14 +1,12 @@
 ghost use Rattle.std.specs.Prelude.{◌≡◌};
 ghost use Rattle.region_cut.specs.Chart.{chart_of};
-ghost use Rattle.region_cut.specs.Cuttings.{region_count};
-ghost use Rattle.region_slots.specs.FieldView.{IsPassOf};
-ghost use Rattle.worker_claim.specs.Helping.{IsHelperOf};
 
-use crate::networks::charted;
+use crate::networks::{FOUR_REGIONS, charted};
+use crate::two_nests::{helper_at, two_nests};
 use ctm_ports::Gate;
 use network_file::Net;
 use region_cut::Chart;
-use region_slots::{Field, Pass};
+use region_slots::Field;
 use region_step::Start;
 use signal_plan::NoMemory;
 use std::alloc::Global;
@@ -16,12 +14,7 @@ use std::slice;
 use std::sync::atomic::{AtomicU64, Ordering};
 use std::test::Fail;
 use std::thread::Threads;
-use worker_claim::{Driven, Helper, Member, Nest, crew_hints, nests};
-
-// A gate, two roads and an exit, each a region of its own.
-const FOUR_REGIONS: &[u8] =
-    b"ctm,2\nsteps,4\ngate,g,2,8\nroad,a,6,2,1,1,0\nroad,b,6,2,1,1,0\nexit,x,2\nlink,g,a\nlink,a,b\nlink,b,x\n\
-region,g,0\nregion,a,1\nregion,b,2\nregion,x,3\n";
+use worker_claim::{Driven, crew_hints};
 
 // A gate that notes the regions at which turns began to work, as the digits of a number: 1 is region 0.
 #[derive(Drop)]
@@ -70,39 +63,12 @@ fn helped<R: Threads + Sync>(
     let goal = net.steps.min(way.goal);
     let start = Start::zero(alloc, net, chart)?;
     let (field, pass) = Field::open(alloc, net, chart, &start, 0, 1)?;
-    let regions = field.regions();
-    let mut nests = nests(alloc, 2, regions)?;
-    fill(&mut nests[0], filled.0, regions);
-    fill(&mut nests[1], filled.1, regions);
-    let nest = match nests.pop() {
-        Some(nest) => nest,
-        None => return Err(NoMemory),
-    };
-    let mut helper = helper_at(&field, pass, nest, way.first);
+    let (_other, own) = two_nests(alloc, filled, field.regions())?;
+    let mut helper = helper_at(&field, pass, own, way.first);
     let helpers = slice::from_mut(&mut helper);
     crew_hints(rt, &field, helpers, goal, way.sweeps, &gate);
     let driven = helper.member.driven;
     Ok((driven, gate.regions.load(Ordering::SeqCst)))
-}
-
-// A helper whose sweeps begin at a region of the field.
-fn helper_at(field: &Field, pass: Pass, nest: Nest, first: u32) -> Helper
-    requires belongs { IsPassOf field.now pass }
-    requires nest { nest.regions ≡ region_count field.now.terms.chart.now.cut }
-    ensures { IsHelperOf field.now result }
-{
-    let member = Member::new(pass, first % field.regions());
-    Helper { member, nest }
-}
-
-// Fills a nest once for each of these members.
-fn fill(nest: &mut Nest, members: &[u32], regions: u32)
-    requires { nest.old ≡ record { members = 2; regions = regions } }
-    ensures { nest.new ≡ nest.old }
-{
-    for &number in members {
-        nest.fill(number % 2, 2, regions);
-    }
 }
 
 // How many turns moved their region, found it behind, or found it at the goal, and whether all of a sweep did that.

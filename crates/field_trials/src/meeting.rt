@@ -1,0 +1,113 @@
+use crate::pause::wait_for;
+use ctm_ports::Gate;
+use std::sync::atomic::{AtomicU64, Ordering};
+
+// Whether one of two that wait for each other has come, and whether it has met the other, however often it comes.
+#[derive(Drop)]
+struct Party {
+    here: AtomicU64,
+    met: AtomicU64,
+}
+
+impl Party {
+    fn new() -> Party {
+        Party {
+            here: AtomicU64::new(0),
+            met: AtomicU64::new(0),
+        }
+    }
+
+    fn comes(&self) {
+        self.here.store(1, Ordering::SeqCst);
+    }
+
+    // Waits for a while for the other.
+    fn waits_for(&self, other: &Party) {
+        if wait_for(&other.here) {
+            self.met.store(1, Ordering::SeqCst);
+        }
+    }
+
+    fn has_met(&self) -> bool {
+        self.met.load(Ordering::SeqCst) != 0
+    }
+}
+
+// A gate at which the turn that holds region 0 at step 0 and the one that holds region 2 at step 1 wait for each other, so
+// that one thread alone waits in vain.
+#[derive(Drop)]
+pub(crate) struct Meeting {
+    first: Party,
+    second: Party,
+}
+
+impl Meeting {
+    pub(crate) fn new() -> Meeting {
+        Meeting {
+            first: Party::new(),
+            second: Party::new(),
+        }
+    }
+
+    // Whether each of the two has met the other.
+    pub(crate) fn took_place(&self) -> bool {
+        self.first.has_met() && self.second.has_met()
+    }
+}
+
+impl Gate for Meeting {
+    fn held(&self, region: u32, step: u64) {
+        let (own, other) = match (region, step) {
+            (0, 0) => (&self.first, &self.second),
+            (2, 1) => (&self.second, &self.first),
+            _ => return,
+        };
+        own.comes();
+        own.waits_for(other);
+    }
+
+    fn freed(&self, region: u32, step: u64) {}
+
+    fn watched(&self, done: bool) {}
+}
+
+// A gate at which the watcher waits until region 0 was taken to step 1, and the member who took it until the watcher has
+// shot, so that one thread alone waits in vain.
+#[derive(Drop)]
+pub(crate) struct Glance {
+    member: Party,
+    watcher: Party,
+}
+
+impl Glance {
+    pub(crate) fn new() -> Glance {
+        Glance {
+            member: Party::new(),
+            watcher: Party::new(),
+        }
+    }
+
+    // Whether each of the two has met the other.
+    pub(crate) fn took_place(&self) -> bool {
+        self.member.has_met() && self.watcher.has_met()
+    }
+}
+
+impl Gate for Glance {
+    fn held(&self, region: u32, step: u64) {}
+
+    fn freed(&self, region: u32, step: u64) {
+        if region == 0 && step == 1 {
+            self.member.comes();
+            self.member.waits_for(&self.watcher);
+        }
+    }
+
+    fn watched(&self, done: bool) {
+        if done {
+            self.watcher.comes();
+        } else {
+            self.watcher.waits_for(&self.member);
+        }
+    }
+}
