@@ -2,7 +2,7 @@
 use Rattle.std.specs.Prelude.{All, Bool, not, ◌||◌, map, slice_index, if◌then◌else◌}
 use Rattle.std.specs.List.{filter, list_any, range_with_len}
 use Rattle.std.specs.List.Sorted.{IsStrictlyIncreasing}
-use Rattle.std.proofs.Common.{◌≡◌, ◌≢◌, ℕ, ◌+◌, ◌<◌, inl, inr, true, false, List, [], ◌∷◌, ◌++◌, length, get_or, take, refl, sym, ap, ◌∙◌, arith}
+use Rattle.std.proofs.Common.{◌≡◌, ◌≢◌, ℕ, ◌+◌, ◌<◌, ◌≤◌, inl, inr, true, false, List, [], ◌∷◌, ◌++◌, length, get_or, take, refl, sym, ap, ◌∙◌, arith}
 use Rattle.std.proofs.lemmas.Bool.{cases_Bool}
 use Rattle.std.proofs.lemmas.List.{append-nil, map-append, take_more}
 use Rattle.std.proofs.lemmas.List.Elements.{All-push, filter-append}
@@ -160,6 +160,7 @@ pub record AreJoined (net : Network) (t : ℕ) (cells halo connectors : List ℕ
   pub followed : AreFollowed (most_out net cells connectors) places links t
   pub numbers : map (λ tie. tie.connector) ties ≡ odd_ones net cells connectors
   pub tied : All (IsTie net cells halo) ties
+  pub come : All (λ tie. tie.course.step ≤ t) ties
 
 pub joined-none : (net : Network) (t : ℕ) (cells halo connectors : List ℕ) (places : List Place) → ((p : ℕ) → (place_at places p).most ≡ 0) →
     AreJoined net t cells halo (take 0 connectors) places places [] []
@@ -170,6 +171,7 @@ joined-none net t cells halo connectors places none = record {
   followed = followed-none net cells connectors places t none;
   numbers = refl;
   tied = λ k d within. absurd (omega arith);
+  come = λ k d within. absurd (omega arith);
 }
 
 -- a chained connector more
@@ -195,15 +197,16 @@ joined-chained net t cells halo connectors first places after links later ties j
           (extends-more net cells connectors j p links within rising linked has.joined);
       numbers = has.numbers ∙ sym (odd-more net cells connectors j true within chained ∙ append-nil (odd_ones net cells (take j connectors)));
       tied = has.tied;
+      come = has.come;
     }
 
 -- another more
 pub joined-odd : (net : Network) (t : ℕ) (cells halo connectors : List ℕ) (first places : List Place) (links : List FollowedLink) (ties : List Tie) (tie : Tie)
     (j : ℕ) → j < length connectors → is_chained cells (connector_at net.connectors (get_or connectors j 0)) ≡ false →
-    tie.connector ≡ get_or connectors j 0 → IsTie net cells halo tie →
+    tie.connector ≡ get_or connectors j 0 → IsTie net cells halo tie → tie.course.step ≡ 0 →
     AreJoined net t cells halo (take j connectors) first places links ties →
     AreJoined net t cells halo (take (j + 1) connectors) first places links (ties ++ tie ∷ [])
-joined-odd net t cells halo connectors first places links ties tie j within odd number tied has = record {
+joined-odd net t cells halo connectors first places links ties tie j within odd number tied step has = record {
   only_most = has.only_most;
   links_there = has.links_there;
   joined = λ k d lt.
@@ -214,4 +217,5 @@ joined-odd net t cells halo connectors first places links ties tie j within odd 
   numbers = map-append (λ tie. tie.connector) ties (tie ∷ []) ∙ ap (λ list. list ++ tie.connector ∷ []) has.numbers
       ∙ ap (λ k. odd_ones net cells (take j connectors) ++ k ∷ []) number ∙ sym (odd-more net cells connectors j false within odd);
   tied = All-push (IsTie net cells halo) ties tie has.tied tied;
+  come = All-push (λ tie. tie.course.step ≤ t) ties tie has.come (omega arith);
 }

@@ -3,9 +3,12 @@ pub mod Links
 pub mod Flowing
 pub mod Stepping
 pub mod Parting
+pub mod Ties
 pub mod Whole
 pub mod Joins
 pub mod Known
 pub mod Extending
 pub mod Firsts
 pub mod Pushes
+pub mod Resting
+pub mod Waiting

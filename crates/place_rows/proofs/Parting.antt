@@ -1,7 +1,7 @@
 -- What one connector puts among the parts that leave places and enter them.
 use Rattle.std.specs.Prelude.{All, ◌==◌, Option, slice_index, if◌then◌else◌}
 use Rattle.std.specs.List.{sum_by}
-use Rattle.std.proofs.Common.{◌≡◌, ℕ, zero, suc, ◌<◌, ◌≤◌, ◌+◌, inl, inr, true, false, List, [], ◌∷◌, length, get_or, take, refl, sym, ap, ◌∙◌, arith}
+use Rattle.std.proofs.Common.{◌≡◌, ℕ, zero, suc, ◌<◌, ◌≤◌, ◌+◌, inl, inr, true, false, List, [], ◌∷◌, length, get_or, take, refl, sym, ap, subst, ◌∙◌, arith}
 use Rattle.std.proofs.lemmas.Bool.{cases_eq, eq-eqb, ne_eqb}
 use Rattle.std.proofs.lemmas.List.Sums.{sum_by_more}
 use Rattle.std.proofs.lemmas.List.{length_push}
@@ -19,7 +19,10 @@ use Rattle.place_sweep.specs.declared.place.Place.{Place}
 use Rattle.place_sweep.proofs.PartSums.{parts_at-none, parts_at-push}
 use Rattle.region_cut.proofs.Increasing.{position_is}
 use Rattle.region_cut.specs.ConnectorCells.{three_cells}
-use Rattle.place_rows.specs.Carrying.{CanCarry, IsSpotOf, IsThere, IsTie, carried_of, held_at, spot_at, with_ins, with_outs, with_part}
+use Rattle.connector_courses.specs.Following.{rule_of}
+use Rattle.connector_courses.specs.declared.rule.Rule.{Rule}
+use Rattle.connector_courses.specs.declared.rule.Rule.TheVariants.{Linking, Merging, Diverging}
+use Rattle.place_rows.specs.Carrying.{AreSpotsOf, CanCarry, IsSpotOf, IsThere, IsTie, carried_of, held_at, spot_at, three_held, with_ins, with_outs, with_part}
 use Rattle.place_rows.specs.Moves.{AreTied, ArePartsOf, IsScene, IsSeen, in_by, out_by}
 use Rattle.place_rows.specs.declared.spot.Spot.{Spot}
 use Rattle.place_rows.specs.declared.spot.Spot.TheVariants.{Own, Halo}
@@ -45,8 +48,8 @@ part-at net ties cells halo items i p parts (Halo j) apart within (there, is) =
 
 -- one connector more
 pub outs-more : (net : Network) (ties : List Tie) (cells halo : List ℕ) (connector : Connector) (tie : Tie) (flow : Flow) (outs : List Part) (p : ℕ) → AreTied net cells halo ties → p < length cells →
-    ((m : ℕ) → m < 3 → IsSpotOf cells halo (slice_index (three_cells connector) m) (spot_at tie m)) →
-    parts_at (with_outs connector tie flow outs) p ≡ parts_at outs p + leaving (slice_index cells p) connector flow
+    AreSpotsOf cells halo connector tie.cells →
+    parts_at (with_outs (rule_of connector) tie flow outs) p ≡ parts_at outs p + leaving (slice_index cells p) connector flow
 outs-more net ties cells halo (Link up down) tie flow outs p apart within spots =
     let one = part-at net ties cells halo outs up p flow.out1 (spot_at tie 0) apart within (spots 0 (omega arith)) in omega arith
 outs-more net ties cells halo (Merge up1 up2 down p1 p2) tie flow outs p apart within spots =
@@ -56,8 +59,8 @@ outs-more net ties cells halo (Diverge up down1 down2 b1 b2) tie flow outs p apa
     let one = part-at net ties cells halo outs up p flow.out1 (spot_at tie 0) apart within (spots 0 (omega arith)) in omega arith
 
 pub ins-more : (net : Network) (ties : List Tie) (cells halo : List ℕ) (connector : Connector) (tie : Tie) (flow : Flow) (ins : List Part) (p : ℕ) → AreTied net cells halo ties → p < length cells →
-    ((m : ℕ) → m < 3 → IsSpotOf cells halo (slice_index (three_cells connector) m) (spot_at tie m)) →
-    parts_at (with_ins connector tie flow ins) p ≡ parts_at ins p + entering (slice_index cells p) connector flow
+    AreSpotsOf cells halo connector tie.cells →
+    parts_at (with_ins (rule_of connector) tie flow ins) p ≡ parts_at ins p + entering (slice_index cells p) connector flow
 ins-more net ties cells halo (Link up down) tie flow ins p apart within spots =
     let one = part-at net ties cells halo ins down p flow.in1 (spot_at tie 1) apart within (spots 1 (omega arith)) in omega arith
 ins-more net ties cells halo (Merge up1 up2 down p1 p2) tie flow ins p apart within spots =
@@ -80,10 +83,11 @@ flow_between-three net t (Link up down) n = refl
 flow_between-three net t (Merge up1 up2 down p1 p2) n = refl
 flow_between-three net t (Diverge up down1 down2 b1 b2) n = refl
 
-pub carried-is : (net : Network) (t : ℕ) (n : ℕ → ℕ) (cells halo : List ℕ) (places : List Place) (put : List (Option ℕ)) (tie : Tie) →
+-- so do the tie's cells
+tie-held : (net : Network) (t : ℕ) (n : ℕ → ℕ) (cells halo : List ℕ) (places : List Place) (put : List (Option ℕ)) (tie : Tie) →
     IsSeen n cells halo places put → IsTie net cells halo tie →
-    carried_of net t tie places put ≡ flow_of net t n (connector_at net.connectors tie.connector)
-carried-is net t n cells halo places put tie seen tied =
+    flow_between net t (connector_at net.connectors tie.connector) (three_held tie places put) ≡ flow_of net t n (connector_at net.connectors tie.connector)
+tie-held net t n cells halo places put tie seen tied =
     let connector : Connector = connector_at net.connectors tie.connector in
     let at : (m : ℕ) → m < 3 → held_at places put (spot_at tie m) ≡ n (slice_index (three_cells connector) m) =
     λ m few. held-seen n cells halo places put (slice_index (three_cells connector) m) (spot_at tie m) seen (tied.spots m few) in
@@ -124,17 +128,25 @@ three_in_bounds net t (Diverge up down1 down2 b1 b2) a b c first second third = 
     at (suc (suc zero)) within = third
     at (suc (suc (suc j))) within = absurd (omega arith)
 
-pub can_carry : (net : Network) (t : ℕ) (cells halo : List ℕ) (ties : List Tie) (places : List Place) (put : List (Option ℕ)) (tie : Tie) →
-    IsScene net t cells halo ties places put → IsTie net cells halo tie → CanCarry net t tie places put
-can_carry net t cells halo ties places put tie scene tied =
+-- what a tie carries is the flow of its connector
+pub carried-is : (net : Network) (t : ℕ) (n : ℕ → ℕ) (cells halo : List ℕ) (ties : List Tie) (places : List Place) (put : List (Option ℕ)) (tie : Tie) →
+    IsScene net t cells halo ties places put → IsSeen n cells halo places put → IsTie net cells halo tie →
+    carried_of t tie places put ≡ flow_of net t n (connector_at net.connectors tie.connector)
+carried-is net t n cells halo ties places put tie scene seen tied =
     let connector : Connector = connector_at net.connectors tie.connector in
-    let at : (m : ℕ) → m < 3 → IsThere places put (spot_at tie m) × IsHeldInBounds net t (slice_index (three_cells connector) m) (held_at places put (spot_at tie m)) =
-    λ m few. spot-there net t cells halo ties places put (slice_index (three_cells connector) m) (spot_at tie m) scene (tied.spots m few) in
+    let at : (m : ℕ) → m < 3 → IsHeldInBounds net t (slice_index (three_cells connector) m) (held_at places put (spot_at tie m)) =
+    λ m few. (spot-there net t cells halo ties places put (slice_index (three_cells connector) m) (spot_at tie m) scene (tied.spots m few)).1 in
+    tied.course.flow t (three_held tie places put) scene.before
+    (three_in_bounds net t connector _ _ _ (at 0 (omega arith)) (at 1 (omega arith)) (at 2 (omega arith)))
+    ∙ tie-held net t n cells halo places put tie seen tied
+
+pub can_carry : (net : Network) (t : ℕ) (cells halo : List ℕ) (ties : List Tie) (places : List Place) (put : List (Option ℕ)) (tie : Tie) →
+    IsScene net t cells halo ties places put → IsTie net cells halo tie → tie.course.step ≤ t → CanCarry t tie places put
+can_carry net t cells halo ties places put tie scene tied step =
+    let connector : Connector = connector_at net.connectors tie.connector in
     record {
-      connector = tied.there;
-      before = scene.before;
-      spots = λ m few. (at m few).0;
-      held = three_in_bounds net t connector _ _ _ ((at 0 (omega arith)).1) ((at 1 (omega arith)).1) ((at 2 (omega arith)).1);
+      spots = λ m few. (spot-there net t cells halo ties places put (slice_index (three_cells connector) m) (spot_at tie m) scene (tied.spots m few)).0;
+      step = step;
     }
 
 -- the parts of one connector more
@@ -143,16 +155,16 @@ length-with_part : (items : List Part) (spot : Spot) (parts : ℕ) → length (w
 length-with_part items (Own p) parts = omega (arith, length_push items (record { place = p; parts = parts }))
 length-with_part items (Halo j) parts = omega arith
 
-pub length-with_outs : (connector : Connector) (tie : Tie) (flow : Flow) (outs : List Part) → length (with_outs connector tie flow outs) ≤ length outs + 2
-length-with_outs (Link up down) tie flow outs = omega (arith, length-with_part outs (spot_at tie 0) flow.out1)
-length-with_outs (Merge up1 up2 down p1 p2) tie flow outs =
+pub length-with_outs : (rule : Rule) (tie : Tie) (flow : Flow) (outs : List Part) → length (with_outs rule tie flow outs) ≤ length outs + 2
+length-with_outs Linking tie flow outs = omega (arith, length-with_part outs (spot_at tie 0) flow.out1)
+length-with_outs Merging tie flow outs =
     omega (arith, length-with_part outs (spot_at tie 0) flow.out1, length-with_part (with_part outs (spot_at tie 0) flow.out1) (spot_at tie 1) flow.out2)
-length-with_outs (Diverge up down1 down2 b1 b2) tie flow outs = omega (arith, length-with_part outs (spot_at tie 0) flow.out1)
+length-with_outs Diverging tie flow outs = omega (arith, length-with_part outs (spot_at tie 0) flow.out1)
 
-pub length-with_ins : (connector : Connector) (tie : Tie) (flow : Flow) (ins : List Part) → length (with_ins connector tie flow ins) ≤ length ins + 2
-length-with_ins (Link up down) tie flow ins = omega (arith, length-with_part ins (spot_at tie 1) flow.in1)
-length-with_ins (Merge up1 up2 down p1 p2) tie flow ins = omega (arith, length-with_part ins (spot_at tie 2) flow.in1)
-length-with_ins (Diverge up down1 down2 b1 b2) tie flow ins =
+pub length-with_ins : (rule : Rule) (tie : Tie) (flow : Flow) (ins : List Part) → length (with_ins rule tie flow ins) ≤ length ins + 2
+length-with_ins Linking tie flow ins = omega (arith, length-with_part ins (spot_at tie 1) flow.in1)
+length-with_ins Merging tie flow ins = omega (arith, length-with_part ins (spot_at tie 2) flow.in1)
+length-with_ins Diverging tie flow ins =
     omega (arith, length-with_part ins (spot_at tie 1) flow.in1, length-with_part (with_part ins (spot_at tie 1) flow.in1) (spot_at tie 2) flow.in2)
 
 there-with_part : (cells halo : List ℕ) (items : List Part) (i parts : ℕ) (spot : Spot) → IsSpotOf cells halo i spot →
@@ -161,8 +173,8 @@ there-with_part cells halo items i parts (Own q) (there, is) all = All-push (λ 
 there-with_part cells halo items i parts (Halo j) (there, is) all = all
 
 there-with_outs : (cells halo : List ℕ) (connector : Connector) (tie : Tie) (flow : Flow) (outs : List Part) →
-    ((m : ℕ) → m < 3 → IsSpotOf cells halo (slice_index (three_cells connector) m) (spot_at tie m)) →
-    All (λ part. part.place < length cells) outs → All (λ part. part.place < length cells) (with_outs connector tie flow outs)
+    AreSpotsOf cells halo connector tie.cells →
+    All (λ part. part.place < length cells) outs → All (λ part. part.place < length cells) (with_outs (rule_of connector) tie flow outs)
 there-with_outs cells halo (Link up down) tie flow outs spots all = there-with_part cells halo outs up flow.out1 (spot_at tie 0) (spots 0 (omega arith)) all
 there-with_outs cells halo (Merge up1 up2 down p1 p2) tie flow outs spots all =
     there-with_part cells halo (with_part outs (spot_at tie 0) flow.out1) up2 flow.out2 (spot_at tie 1) (spots 1 (omega arith))
@@ -171,8 +183,8 @@ there-with_outs cells halo (Diverge up down1 down2 b1 b2) tie flow outs spots al
     there-with_part cells halo outs up flow.out1 (spot_at tie 0) (spots 0 (omega arith)) all
 
 there-with_ins : (cells halo : List ℕ) (connector : Connector) (tie : Tie) (flow : Flow) (ins : List Part) →
-    ((m : ℕ) → m < 3 → IsSpotOf cells halo (slice_index (three_cells connector) m) (spot_at tie m)) →
-    All (λ part. part.place < length cells) ins → All (λ part. part.place < length cells) (with_ins connector tie flow ins)
+    AreSpotsOf cells halo connector tie.cells →
+    All (λ part. part.place < length cells) ins → All (λ part. part.place < length cells) (with_ins (rule_of connector) tie flow ins)
 there-with_ins cells halo (Link up down) tie flow ins spots all = there-with_part cells halo ins down flow.in1 (spot_at tie 1) (spots 1 (omega arith)) all
 there-with_ins cells halo (Merge up1 up2 down p1 p2) tie flow ins spots all =
     there-with_part cells halo ins down flow.in1 (spot_at tie 2) (spots 2 (omega arith)) all
@@ -191,16 +203,17 @@ parts-none net t n cells ties = record {
 
 -- one more
 pub parts-more : (net : Network) (t : ℕ) (n : ℕ → ℕ) (cells halo : List ℕ) (ties : List Tie) (places : List Place) (put : List (Option ℕ))
-    (j : ℕ) (tie : Tie) (outs ins : List Part) → IsSeen n cells halo places put → AreTied net cells halo ties → j < length ties → get_or ties j tie ≡ tie →
-    ArePartsOf net t n cells (take j ties) outs ins →
-    (let connector = connector_at net.connectors tie.connector in let flow = carried_of net t tie places put in
-    ArePartsOf net t n cells (take (j + 1) ties) (with_outs connector tie flow outs) (with_ins connector tie flow ins))
-parts-more net t n cells halo ties places put j tie outs ins seen tied there read before =
+    (j : ℕ) (tie : Tie) (outs ins : List Part) → IsScene net t cells halo ties places put → IsSeen n cells halo places put → j < length ties →
+    get_or ties j tie ≡ tie → ArePartsOf net t n cells (take j ties) outs ins →
+    (let flow = carried_of t tie places put in
+    ArePartsOf net t n cells (take (j + 1) ties) (with_outs tie.course.rule tie flow outs) (with_ins tie.course.rule tie flow ins))
+parts-more net t n cells halo ties places put j tie outs ins scene seen there read before =
     let connector : Connector = connector_at net.connectors tie.connector in
-    let flow : Flow = carried_of net t tie places put in
+    let flow : Flow = carried_of t tie places put in
+    let tied = scene.tied in
     let own : IsTie net cells halo tie = rw read at (tied.tied j tie there) in
-    let is = carried-is net t n cells halo places put tie seen own in
-    record {
+    let is = carried-is net t n cells halo ties places put tie scene seen own in
+    subst (λ rule. ArePartsOf net t n cells (take (j + 1) ties) (with_outs rule tie flow outs) (with_ins rule tie flow ins)) (sym own.course.rule) (record {
       there = there-with_outs cells halo connector tie flow outs own.spots before.there;
       there_in = there-with_ins cells halo connector tie flow ins own.spots before.there_in;
       taken = λ p within.
@@ -215,4 +228,4 @@ parts-more net t n cells halo ties places put j tie outs ins seen tied there rea
           ∙ ap (λ x. x + in_by net t n (slice_index cells p) tie.connector) (before.brought p within)
           ∙ sym (sum_by_more (λ one. in_by net t n (slice_index cells p) one.connector) ties j tie there
           ∙ ap (λ one. sum_by (λ one. in_by net t n (slice_index cells p) one.connector) (take j ties) + in_by net t n (slice_index cells p) one.connector) read);
-    }
+    })

@@ -2,10 +2,9 @@
 use Rattle.std.specs.Prelude.{All, Bool, Option, ◌==◌, map, slice_index, if◌then◌else◌}
 use Rattle.std.proofs.lemmas.List.Elements.{Contains-get_or}
 use Rattle.std.specs.List.{Contains, filter, range_with_len, sum_by}
-use Rattle.std.proofs.Common.{◌≡◌, ℕ, ◌+◌, ◌-◌, ◌^◌, ◌<◌, ◌≤◌, inl, inr, true, false, List, [], ◌∷◌, length, get_or, refl, sym, ap, ◌∙◌, subst, zero-add, arith}
+use Rattle.std.proofs.Common.{◌≡◌, ℕ, ◌+◌, ◌-◌, ◌^◌, ◌<◌, ◌≤◌, inl, inr, true, false, List, length, get_or, refl, sym, ap, ◌∙◌, subst, zero-add, arith}
 use Rattle.std.proofs.lemmas.Bool.{cases_Bool, cases_eq, eq-eqb, ne_eqb}
-use Rattle.std.proofs.lemmas.List.{ext_get_or}
-use Rattle.std.proofs.lemmas.List.Sums.{sum_by-cons}
+use Rattle.std.proofs.lemmas.List.{ext_get_or, get_or-map, length-map}
 use Rattle.std.proofs.lemmas.List.FromFn.{get_or-map-range_with_len, length-map-range_with_len}
 use Rattle.signal_plan.specs.Capacity.{capacity_at}
 use Rattle.signal_plan.specs.Demand.{demand_at}
@@ -34,7 +33,7 @@ use Rattle.place_sweep.specs.declared.place.Place.{Place}
 use Rattle.place_sweep.specs.declared.space.TheConstants.{BOUNDLESS}
 use Rattle.place_sweep.proofs.Flows.{held-fits}
 use Rattle.place_rows.specs.Chains.{AreAround, most_out, odd_ones}
-use Rattle.place_rows.specs.Placed.{AreInBounds, ArePlaced, PlacedCells, rows_next}
+use Rattle.place_rows.specs.Placed.{AreInBounds, ArePlaced, CanAdvance, PlacedCells, rows_next}
 use Rattle.timelines.specs.Followed.{AreFollowed, IsThere}
 use Rattle.timelines.specs.declared.followed.FollowedLink.{FollowedLink}
 use Rattle.region_cut.proofs.Ranges.{Contains-filter_range}
@@ -44,6 +43,12 @@ use Rattle.place_rows.specs.declared.origin.Origin.{Origin}
 use Rattle.place_rows.specs.declared.tie.Tie.{Tie}
 use Rattle.place_rows.proofs.Flowing.{HasPlaces, in-gate, in-total, odd_sum, out-total}
 use Rattle.place_rows.proofs.Stepping.{row-stepped, stepped-is_of}
+use Rattle.place_rows.proofs.Ties.{come-carried, demands-asked, demands-into, gates-asked, numbers-carried, sum_by-map, tied-carried}
+use Rattle.place_rows.specs.Carrying.{AreCarried}
+use Rattle.place_rows.specs.Resting.{IsRestOf}
+use Rattle.place_rows.specs.declared.rest.Rest.{Rest}
+use Rattle.place_rows.specs.Gates.{AreAsked, demand_into}
+use Rattle.place_rows.specs.declared.gate_place.GatePlace.{GatePlace}
 
 -- the rows of places, one by one
 pub row_at-rows_of : (origins : List Origin) (places : List Place) (p : ℕ) → p < length origins →
@@ -86,11 +91,6 @@ demand-sum net t cells p within =
 pub record IsMoved (net : Network) (t : ℕ) (n : ℕ → ℕ) (cells : List ℕ) (places : List Place) (outs ins : List Part) : Type 0 where
   pub leaves : (p : ℕ) → p < length cells → link_out places p + parts_at outs p ≡ outflow net t n (slice_index cells p)
   pub enters : (p : ℕ) → p < length cells → link_in places p + parts_at ins p ≡ inflow net t n (slice_index cells p)
-
-sum_by-map : {X : Type 0} (f : ℕ → ℕ) (g : X → ℕ) (xs : List X) → sum_by (λ x. f (g x)) xs ≡ sum_by f (map g xs)
-sum_by-map f g [] = refl
-sum_by-map f g (x ∷ xs) =
-    omega (arith, sum_by-cons (λ x. f (g x)) x xs, sum_by-cons f (g x) (map g xs), sum_by-map f g xs)
 
 pub moved : (net : Network) (t : ℕ) (n : ℕ → ℕ) (cells connectors : List ℕ) (ties : List Tie) (places : List Place) (outs carried ins : List Part) →
     IsNetwork net → AreAround net cells connectors → HasPlaces net t n cells connectors places →
@@ -306,16 +306,17 @@ fresh-of net cells halo connectors t placed places fresh first links has same_pl
       followed = followed (most_out net cells connectors) before;
     }
 
+-- what leaves and enters in the step: what the ties carry, and what the gates demand besides
+pub record AreBrought (net : Network) (cells : List ℕ) (t : ℕ) (n : ℕ → ℕ) (placed : PlacedCells) (outs carried ins : List Part) : Type 0 where
+  pub parts : ArePartsOf net t n cells placed.ties outs carried
+  pub demands : (p : ℕ) → parts_at ins p ≡ parts_at carried p + sum_by (demand_into t p) placed.gates
+  pub there_in : All (λ part. part.place < length cells) ins
+
 -- the parts of a step, one after the other
 pub record AreSteps (net : Network) (cells halo connectors : List ℕ) (t : ℕ) (n : ℕ → ℕ) (placed : PlacedCells) (fresh : List Place)
     (links : List FollowedLink) (outs carried ins : List Part) (after : List Place) : Type 0 where
-  pub long : length fresh ≡ length placed.places
-  pub most : (p : ℕ) → p < length placed.places → place_at fresh p ≡ record (place_at placed.places p) { most = most_out net cells connectors p t }
-  pub links_there : All (IsThere (length fresh) t) links
-  pub followed : AreFollowed (most_out net cells connectors) fresh links t
-  pub parts : ArePartsOf net t n cells placed.ties outs carried
-  pub demands : (p : ℕ) → parts_at ins p ≡ parts_at carried p + sum_by (demand_for net.plan t cells p) placed.gates
-  pub there_in : All (λ part. part.place < length cells) ins
+  pub renewed : IsFresh net cells connectors t placed fresh links
+  pub brought : AreBrought net cells t n placed outs carried ins
   pub long_after : length after ≡ length fresh
   pub stepped_each : (p : ℕ) → p < length fresh →
       place_at after p ≡ stepped (place_at fresh p) (link_in fresh p + parts_at ins p) (link_out fresh p + parts_at outs p)
@@ -350,11 +351,13 @@ scene-fresh net t n cells halo connectors placed fresh put sound before has boun
 
 -- the gates' places are there
 pub gates-there : (net : Network) (cells halo connectors : List ℕ) (t : ℕ) (placed : PlacedCells) → ArePlaced net cells halo connectors t placed →
-    All (λ p. p < length cells) placed.gates
+    All (λ gate. gate.place < length cells) placed.gates
 gates-there net cells halo connectors t placed has = λ k d within.
-    let listed : Contains placed.gates (get_or placed.gates k d) = Contains-get_or placed.gates k d within in
-    (Contains-filter_range (λ p. is_gate_at net.cells (slice_index cells p)) (length cells) (get_or placed.gates k d)
-    (subst (λ list. Contains list (get_or placed.gates k d)) has.gates listed)).0
+    let places : List ℕ = map (λ gate. gate.place) placed.gates in
+    let listed : Contains places (get_or places k 0) = Contains-get_or places k 0 (omega (arith, length-map placed.gates (λ (gate : GatePlace). gate.place))) in
+    let there = (Contains-filter_range (λ p. is_gate_at net.cells (slice_index cells p)) (length cells) (get_or places k 0)
+    (subst (λ list. Contains list (get_or places k 0)) has.gates listed)).0 in
+    rw (get_or-map (λ (gate : GatePlace). gate.place) placed.gates k d 0 within) at there
 
 pub steps-moved : (net : Network) (cells halo connectors : List ℕ) (t : ℕ) (n : ℕ → ℕ) (placed : PlacedCells) (fresh : List Place)
     (outs carried ins : List Part) (put : List (Option ℕ)) →
@@ -362,12 +365,14 @@ pub steps-moved : (net : Network) (cells halo connectors : List ℕ) (t : ℕ) (
     IsSeen n cells halo placed.places put → length fresh ≡ length placed.places →
     ((p : ℕ) → p < length placed.places → place_at fresh p ≡ record (place_at placed.places p) { most = most_out net cells connectors p t }) →
     ArePartsOf net t n cells placed.ties outs carried →
-    ((p : ℕ) → parts_at ins p ≡ parts_at carried p + sum_by (demand_for net.plan t cells p) placed.gates) →
+    ((p : ℕ) → parts_at ins p ≡ parts_at carried p + sum_by (demand_into t p) placed.gates) →
     IsMoved net t n cells fresh outs ins
 steps-moved net cells halo connectors t n placed fresh outs carried ins put sound before has bounds seen long most parts demands =
     moved net t n cells connectors placed.ties fresh outs carried ins sound has.around
     (has-places net t n cells halo connectors placed fresh put sound before has bounds seen long most) has.numbers parts
-    (subst (λ gates. (p : ℕ) → parts_at ins p ≡ parts_at carried p + sum_by (demand_for net.plan t cells p) gates) has.gates demands)
+    (λ p.
+    demands p
+    ∙ ap (λ x. parts_at carried p + x) (demands-into net t cells p placed.gates has.demands ∙ ap (sum_by (demand_for net.plan t cells p)) has.gates))
 
 -- each cell after the step
 pub cell-after : (net : Network) (cells halo connectors : List ℕ) (t : ℕ) (n : ℕ → ℕ) (placed : PlacedCells) (fresh : List Place) (links : List FollowedLink)
@@ -379,11 +384,11 @@ pub cell-after : (net : Network) (cells halo connectors : List ℕ) (t : ℕ) (n
     IsOf net (slice_index cells p) (origin_at placed.origins p) (place_at after p)
 cell-after net cells halo connectors t n placed fresh links outs carried ins after put p sound before has bounds seen steps within =
     let here : p < length placed.places = omega (arith, has.one_each) in
-    let there : p < length fresh = omega (arith, steps.long) in
-    let moves = steps-moved net cells halo connectors t n placed fresh outs carried ins put sound before has bounds seen steps.long steps.most steps.parts steps.demands in
+    let there : p < length fresh = omega (arith, steps.renewed.long) in
+    let moves = steps-moved net cells halo connectors t n placed fresh outs carried ins put sound before has bounds seen steps.renewed.long steps.renewed.most steps.brought.parts steps.brought.demands in
     row-after net t n (slice_index cells p) (origin_at placed.origins p) (place_at placed.places p) (place_at fresh p) (place_at after p)
     (most_out net cells connectors p t) (link_in fresh p + parts_at ins p) (link_out fresh p + parts_at outs p)
-    (ready net t n cells halo connectors placed put p sound before has bounds seen within) (steps.most p here) (steps.stepped_each p there)
+    (ready net t n cells halo connectors placed put p sound before has bounds seen within) (steps.renewed.most p here) (steps.stepped_each p there)
     (moves.enters p within) (moves.leaves p within)
 
 -- the rows after the step
@@ -426,42 +431,50 @@ follows-later most fresh after links t long same followed = record {
 }
 
 pub placed-after : (net : Network) (cells halo connectors : List ℕ) (t : ℕ) (n : ℕ → ℕ) (placed : PlacedCells) (fresh : List Place) (links : List FollowedLink)
-    (outs carried ins : List Part) (after : List Place) (before_list : List ℕ) (room room_in : ℕ) (put : List (Option ℕ)) →
+    (outs carried ins : List Part) (after : List Place) (before_list : List ℕ) (ties : List Tie) (gates : List GatePlace) (rest : Rest) (room room_in : ℕ) (put : List (Option ℕ)) →
     IsNetwork net → t < net.steps → ArePlaced net cells halo connectors t placed → AreInBounds net cells halo t placed put →
     IsSeen n cells halo placed.places put → AreSteps net cells halo connectors t n placed fresh links outs carried ins after →
-    length before_list ≡ length placed.before → placed.room ≤ room → placed.room_in ≤ room_in →
+    length before_list ≡ length placed.before → AreCarried t placed.ties ties → AreAsked t placed.gates gates → IsRestOf after before_list rest → placed.room ≤ room → placed.room_in ≤ room_in →
     ArePlaced net cells halo connectors (t + 1) (record {
       places = after;
       origins = placed.origins;
       before = before_list;
       links = links;
-      ties = placed.ties;
-      gates = placed.gates;
+      ties = ties;
+      gates = gates;
+      rest = rest;
       room = room;
       room_in = room_in;
     })
-placed-after net cells halo connectors t n placed fresh links outs carried ins after before_list room room_in put sound before has bounds seen steps long wide wide_in =
-    let same : length after ≡ length cells = steps.long_after ∙ steps.long ∙ has.one_each in
+placed-after net cells halo connectors t n placed fresh links outs carried ins after before_list ties gates rest room room_in put sound before has bounds seen steps long
+    ties_are gates_are resting wide wide_in =
+    let same : length after ≡ length cells = steps.long_after ∙ steps.renewed.long ∙ has.one_each in
+    let ties_long = ties_are.long in
+    let gates_long = gates_are.long in
     record {
       around = has.around;
-      tied = has.tied;
-      numbers = has.numbers;
+      known = has.known;
+      tied = tied-carried net cells halo t placed.ties ties has.tied ties_are;
+      numbers = numbers-carried t placed.ties ties ties_are ∙ has.numbers;
       one_each = same;
       origin_each = has.origin_each;
       before_each = long ∙ has.before_each;
       own = λ p within.
           (cell-after net cells halo connectors t n placed fresh links outs carried ins after put p sound before has bounds seen steps within).1;
       space = λ p within.
-          let there : p < length fresh = omega (arith, steps.long, has.one_each) in
+          let there : p < length fresh = omega (arith, steps.renewed.long, has.one_each) in
           let here : p < length placed.places = omega (arith, has.one_each) in
-          let is = ap (λ place. place.space) (steps.stepped_each p there) ∙ ap (λ place. place.space) (steps.most p here) in
+          let is = ap (λ place. place.space) (steps.stepped_each p there) ∙ ap (λ place. place.space) (steps.renewed.most p here) in
           subst (λ space. IsSpaceOf space (room_at net.cells (slice_index cells p))) (sym is) (has.space p within);
-      gates = has.gates;
+      come = come-carried t placed.ties ties ties_are;
+      gates = gates-asked t placed.gates gates gates_are ∙ has.gates;
+      demands = demands-asked net cells t placed.gates gates gates_are has.demands;
       links = λ k d within.
-          let there = steps.links_there k d within in
+          let there = steps.renewed.links_there k d within in
           record { place = omega (arith, there.place, steps.long_after); step = omega (arith, there.step) };
       followed = follows-later (most_out net cells connectors) fresh after links t steps.long_after
-          (λ p there. ap (λ place. place.most) (steps.stepped_each p there)) steps.followed;
+          (λ p there. ap (λ place. place.most) (steps.stepped_each p there)) steps.renewed.followed;
+      rest = resting;
       room = omega (arith, has.room, wide);
       room_in = omega (arith, has.room_in, wide_in);
     }
@@ -474,7 +487,7 @@ pub settled-after : (net : Network) (cells halo connectors : List ℕ) (t : ℕ)
     length before_list ≡ length placed.before → AreSettled placed.origins after before_list
 unfolding row_by
 settled-after net cells halo connectors t n placed fresh links outs carried ins after before_list put sound before has bounds seen steps long = record {
-  one_each = steps.long_after ∙ steps.long ∙ has.one_each ∙ sym has.origin_each;
+  one_each = steps.long_after ∙ steps.renewed.long ∙ has.one_each ∙ sym has.origin_each;
   before_each = long ∙ has.before_each ∙ sym has.origin_each;
   each = λ p inside.
       let within : p < length cells = omega (arith, has.origin_each) in
@@ -490,3 +503,16 @@ settled-after net cells halo connectors t n placed fresh links outs carried ins 
         fits = omega arith;
       };
 }
+
+-- what a step says of the cells as they are kept it says of them as contracts see them
+pub rows-read : (net : Network) (cells : List ℕ) (t : ℕ) (placed old : PlacedCells) (put : List (Option ℕ)) (origins : List Origin) (places : List Place) → placed ≡ old →
+    ((can : CanAdvance net cells t placed put) → rows_of origins places ≡ rows_next net t can.n cells (rows_of placed.origins placed.places)) →
+    (can : CanAdvance net cells t old put) → rows_of origins places ≡ rows_next net t can.n cells (rows_of old.origins old.places)
+rows-read net cells t placed old put origins places is says =
+    subst (λ from. (can : CanAdvance net cells t from put) → rows_of origins places ≡ rows_next net t can.n cells (rows_of from.origins from.places)) is says
+
+pub placed-read : (net : Network) (cells : List ℕ) (t : ℕ) (placed old : PlacedCells) (put : List (Option ℕ)) (new : PlacedCells) → placed ≡ old →
+    ((can : CanAdvance net cells t placed put) → ArePlaced net cells can.halo can.connectors (t + 1) new) →
+    (can : CanAdvance net cells t old put) → ArePlaced net cells can.halo can.connectors (t + 1) new
+placed-read net cells t placed old put new is says =
+    subst (λ from. (can : CanAdvance net cells t from put) → ArePlaced net cells can.halo can.connectors (t + 1) new) is says

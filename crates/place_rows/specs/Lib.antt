@@ -2,6 +2,8 @@ pub mod Chains
 pub mod Rows
 pub mod Carrying
 pub mod Moves
+pub mod Gates
+pub mod Resting
 pub mod Placed
 pub mod Joining
 pub mod First

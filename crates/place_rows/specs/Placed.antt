@@ -1,5 +1,5 @@
 -- The rows of some cells, kept as places side by side.
-use Rattle.std.specs.Prelude.{◌≡◌, ◌≢◌, ℕ, ◌+◌, ◌*◌, ◌^◌, ◌<◌, ◌≤◌, All, List, Option, None, length, map, slice_index, slice_index_or, unwrap_or}
+use Rattle.std.specs.Prelude.{◌≡◌, ◌≢◌, ℕ, ◌+◌, ◌*◌, ◌^◌, ◌<◌, ◌≤◌, All, List, Option, None, length, map, slice_index, slice_index_or, unwrap_or, true}
 use Rattle.std.specs.List.{filter, range_with_len}
 use Rattle.std.specs.List.Sorted.{IsStrictlyIncreasing}
 use Rattle.network_file.specs.Connectors.{connector_at}
@@ -13,13 +13,18 @@ use Rattle.flow_model.specs.declared.row.Row.{Row}
 use Rattle.place_sweep.specs.Places.{place_at}
 use Rattle.place_sweep.specs.Space.{IsSpaceOf}
 use Rattle.place_sweep.specs.declared.place.Place.{Place}
+use Rattle.timelines.specs.Courses.{value_at}
 use Rattle.timelines.specs.Followed.{AreFollowed, IsThere}
 use Rattle.timelines.specs.declared.followed.FollowedLink.{FollowedLink}
 use Rattle.place_rows.specs.Chains.{AreAround, most_out, odd_ones}
 use Rattle.place_rows.specs.Joining.{AreKnown}
 use Rattle.place_rows.specs.Moves.{AreTied, IsSeen}
+use Rattle.place_rows.specs.Resting.{IsRestOf, PutNothing}
 use Rattle.place_rows.specs.Rows.{IsOf, origin_at, rows_of}
+use Rattle.place_rows.specs.Gates.{IsGateOf}
+use Rattle.place_rows.specs.declared.gate_place.GatePlace.{GatePlace}
 use Rattle.place_rows.specs.declared.origin.Origin.{Origin}
+use Rattle.place_rows.specs.declared.rest.Rest.{Rest}
 use Rattle.place_rows.specs.declared.tie.Tie.{Tie}
 
 pub record PlacedCells : Type 0 where
@@ -30,8 +35,10 @@ pub record PlacedCells : Type 0 where
   -- the links to neighbours whose most changes, and the other connectors
   pub links : List FollowedLink
   pub ties : List Tie
-  -- the places of gates
-  pub gates : List ℕ
+  -- the gates among them
+  pub gates : List GatePlace
+  -- whether they hold nothing, as far as it is known
+  pub rest : Rest
   -- for how many parts there is room
   pub room : ℕ
   pub room_in : ℕ
@@ -39,6 +46,7 @@ pub record PlacedCells : Type 0 where
 -- what holds of the cells' places as step t begins
 pub record ArePlaced (net : Network) (cells halo connectors : List ℕ) (t : ℕ) (placed : PlacedCells) : Type 0 where
   pub around : AreAround net cells connectors
+  pub known : All (λ k. AreKnown cells halo (connector_at net.connectors k)) connectors
   pub tied : AreTied net cells halo placed.ties
   pub numbers : map (λ tie. tie.connector) placed.ties ≡ odd_ones net cells connectors
   pub one_each : length placed.places ≡ length cells
@@ -46,9 +54,12 @@ pub record ArePlaced (net : Network) (cells halo connectors : List ℕ) (t : ℕ
   pub before_each : length placed.before ≡ length cells
   pub own : (p : ℕ) → p < length cells → IsOf net (slice_index cells p) (origin_at placed.origins p) (place_at placed.places p)
   pub space : (p : ℕ) → p < length cells → IsSpaceOf (place_at placed.places p).space (room_at net.cells (slice_index cells p))
-  pub gates : placed.gates ≡ filter (λ p. is_gate_at net.cells (slice_index cells p)) (range_with_len 0 (length cells))
+  pub come : All (λ tie. tie.course.step ≤ t) placed.ties
+  pub gates : map (λ gate. gate.place) placed.gates ≡ filter (λ p. is_gate_at net.cells (slice_index cells p)) (range_with_len 0 (length cells))
+  pub demands : All (IsGateOf net cells t) placed.gates
   pub links : All (IsThere (length placed.places) t) placed.links
   pub followed : AreFollowed (most_out net cells connectors) placed.places placed.links t
+  pub rest : IsRestOf placed.places placed.before placed.rest
   pub room : 2 * length placed.ties ≤ placed.room
   pub room_in : 2 * length placed.ties + length placed.gates ≤ placed.room_in
 
@@ -66,6 +77,12 @@ pub record CanAdvance (net : Network) (cells : List ℕ) (t : ℕ) (placed : Pla
   pub laid : ArePlaced net cells halo connectors t placed
   pub bounds : AreInBounds net cells halo t placed put
   pub seen : IsSeen n cells halo placed.places put
+
+-- by what is known of them the cells hold nothing and held nothing a step before, and nothing comes to them in step t
+pub record RestThrough (t : ℕ) (placed : PlacedCells) (put : List (Option ℕ)) : Type 0 where
+  pub still : placed.rest.still ≡ true
+  pub put_nothing : PutNothing put
+  pub demand_nothing : All (λ gate. value_at gate.course t ≡ 0) placed.gates
 
 -- the rows of these cells after step t, where all cells around them hold n as it begins
 unfoldable pub rows_next : Network → (t : ℕ) → (ℕ → ℕ) → (cells : List ℕ) → List Row → List Row

@@ -1,47 +1,44 @@
-ghost use Rattle.std.specs.Prelude.{◌≡◌, ◌+◌, ◌*◌, ◌≤◌, ℕ, All, List, length, vec_capacity};
-ghost use Rattle.place_rows.specs.Moves.{AreTied, ArePartsOf, IsSeen};
-ghost use Rattle.network_file.specs.Connectors.{connector_at};
-ghost use Rattle.place_rows.specs.Carrying.{CanCarry, carried_of, with_ins, with_outs, with_part};
+ghost use Rattle.std.specs.Prelude.{◌≡◌, ◌+◌, ◌*◌, ◌<◌, ◌≤◌, ℕ, All, List, length, vec_capacity};
+ghost use Rattle.network_file.specs.Network.{Network};
+ghost use Rattle.connector_courses.specs.Flows.{flow_at};
+ghost use Rattle.place_rows.specs.Moves.{ArePartsOf, IsScene, IsSeen};
+ghost use Rattle.place_rows.specs.Carrying.{AreCarried, CanCarry, IsCarried, IsThere, carried_of, spot_at, three_held, with_ins, with_outs, with_part};
 
 use crate::spot::{Sight, Spot};
 use crate::tie::Tie;
-use flow_model::{Flow, flow};
-use network_file::{Connector, Net};
+use connector_courses::Rule;
+use flow_model::Flow;
 use place_sweep::Part;
+use signal_plan::MOST_STEPS;
 
 /// What one connector takes in step `t` and what it brings.
-pub(crate) fn carry(
-    net: &Net,
-    t: u64,
-    tie: &Tie,
-    sight: &Sight,
-    outs: &mut Vec<Part>,
-    ins: &mut Vec<Part>,
-)
-    requires can { CanCarry net.now t tie.now sight.now.places.now sight.now.put.now }
+pub(crate) fn carry(t: u64, tie: &mut Tie, sight: &Sight, outs: &mut Vec<Part>, ins: &mut Vec<Part>)
+    requires in_time { t ≤ MOST_STEPS }
+    requires can { CanCarry t tie.old sight.now.places.now sight.now.put.now }
     requires room { length outs.old.items + 2 ≤ vec_capacity outs.old }
     requires room_in { length ins.old.items + 2 ≤ vec_capacity ins.old }
-    ensures outs { outs.new.items ≡ with_outs (connector_at net.now.connectors tie.now.connector) tie.now
-        (carried_of net.now t tie.now sight.now.places.now sight.now.put.now) outs.old.items }
-    ensures ins { ins.new.items ≡ with_ins (connector_at net.now.connectors tie.now.connector) tie.now
-        (carried_of net.now t tie.now sight.now.places.now sight.now.put.now) ins.old.items }
+    ensures tie { IsCarried t tie.old tie.new }
+    ensures outs { outs.new.items ≡ with_outs tie.old.course.rule tie.old
+        (carried_of t tie.old sight.now.places.now sight.now.put.now) outs.old.items }
+    ensures ins { ins.new.items ≡ with_ins tie.old.course.rule tie.old
+        (carried_of t tie.old sight.now.places.now sight.now.put.now) ins.old.items }
     ensures room { vec_capacity outs.old ≤ vec_capacity outs.new }
     ensures room_in { vec_capacity ins.old ≤ vec_capacity ins.new }
 {
-    let flow = carried(net, t, tie, sight);
-    let connector = net.connectors[tie.connector as usize];
+    tie.course.refresh(t);
+    let flow = carried(tie, sight);
     let [a, b, c] = tie.cells;
-    match connector {
-        Connector::Link { .. } => {
+    match tie.course.rule() {
+        Rule::Linking => {
             put_part(outs, a, flow.out1);
             put_part(ins, b, flow.in1);
         }
-        Connector::Merge { .. } => {
+        Rule::Merging => {
             put_part(outs, a, flow.out1);
             put_part(outs, b, flow.out2);
             put_part(ins, c, flow.in1);
         }
-        Connector::Diverge { .. } => {
+        Rule::Diverging => {
             put_part(outs, a, flow.out1);
             put_part(ins, b, flow.in1);
             put_part(ins, c, flow.in2);
@@ -49,14 +46,14 @@ pub(crate) fn carry(
     }
 }
 
-// What it carries.
-fn carried(net: &Net, t: u64, tie: &Tie, sight: &Sight) -> Flow
-    requires { CanCarry net.now t tie.now sight.now.places.now sight.now.put.now }
-    ensures { result ≡ carried_of net.now t tie.now sight.now.places.now sight.now.put.now }
+// What it carries at its step.
+fn carried(tie: &Tie, sight: &Sight) -> Flow
+    requires { (m : ℕ) → m < 3 → IsThere sight.now.places.now sight.now.put.now (spot_at tie.now m) }
+    ensures { result ≡ flow_at tie.now.course tie.now.course.step (three_held tie.now sight.now.places.now sight.now.put.now) }
 {
     let [a, b, c] = tie.cells;
     let n = [sight.held(a), sight.held(b), sight.held(c)];
-    flow(net, t, tie.connector, n)
+    tie.course.flow(n)
 }
 
 /// So many parts, where the spot is that of a place. There is room for it.
@@ -70,27 +67,28 @@ pub(crate) fn put_part(items: &mut Vec<Part>, spot: Spot, parts: u64)
     }
 }
 
-/// What all these connectors take and bring in step `t`.
+/// What all these connectors take and bring in step `t`, whatever network they are of.
 pub(crate) fn carry_all(
-    net: &Net,
     t: u64,
-    ties: &[Tie],
+    ties: &mut [Tie],
     sight: &Sight,
     outs: &mut Vec<Part>,
     ins: &mut Vec<Part>,
 )
-    requires each { All (λ tie. CanCarry net.now t tie sight.now.places.now sight.now.put.now) ties.now }
-    requires room { 2 * length ties.now ≤ vec_capacity outs.old }
-    requires room_in { 2 * length ties.now ≤ vec_capacity ins.old }
-    ensures parts { (n : ℕ → ℕ) (cells halo : List ℕ) → IsSeen n cells halo sight.now.places.now sight.now.put.now →
-        AreTied net.now cells halo ties.now → ArePartsOf net.now t n cells ties.now outs.new.items ins.new.items }
-    ensures few { length ins.new.items ≤ 2 * length ties.now }
+    requires in_time { t ≤ MOST_STEPS }
+    requires each { All (λ tie. CanCarry t tie sight.now.places.now sight.now.put.now) ties.old }
+    requires room { 2 * length ties.old ≤ vec_capacity outs.old }
+    requires room_in { 2 * length ties.old ≤ vec_capacity ins.old }
+    ensures ties { AreCarried t ties.old ties.new }
+    ensures parts { (net : Network) (n : ℕ → ℕ) (cells halo : List ℕ) → IsScene net t cells halo ties.old sight.now.places.now sight.now.put.now →
+        IsSeen n cells halo sight.now.places.now sight.now.put.now → ArePartsOf net t n cells ties.old outs.new.items ins.new.items }
+    ensures few { length ins.new.items ≤ 2 * length ties.old }
     ensures room { vec_capacity outs.old ≤ vec_capacity outs.new }
     ensures room_in { vec_capacity ins.old ≤ vec_capacity ins.new }
 {
     outs.clear();
     ins.clear();
-    for tie in ties {
-        carry(net, t, tie, sight, outs, ins);
+    for m in 0..ties.len() {
+        carry(t, &mut ties[m], sight, outs, ins);
     }
 }

@@ -1,15 +1,13 @@
 ghost use Rattle.std.specs.Prelude.{◌≡◌, ◌<◌, ◌≤◌, length};
 ghost use Rattle.flow_model.specs.Bounds.{IsRowInBounds, first_at};
-ghost use Rattle.flow_model.specs.Limits.{room_at};
 ghost use Rattle.network_file.specs.Cells.{is_exit_at};
-ghost use Rattle.place_sweep.specs.Space.{IsSpaceOf};
 ghost use Rattle.place_rows.specs.First.{IsFirst, IsOriginOf};
 
 use crate::origin::Origin;
+use connector_courses::space_of;
 use flow_model::Row;
 use network_file::{Kind, Net};
-use ordinary_link::Room;
-use place_sweep::{Place, Space};
+use place_sweep::Place;
 
 /// What never changes of cell `i`.
 pub(crate) fn origin_of(net: &Net, i: u32) -> Origin
@@ -37,22 +35,5 @@ pub(crate) fn place_of(net: &Net, t: u64, i: u32, row: &Row) -> Place
         held: row.wait + row.gone,
         most: 0,
         space: space_of(net, i),
-    }
-}
-
-// The space of cell `i`.
-fn space_of(net: &Net, i: u32) -> Space
-    requires there { i < length net.now.cells }
-    ensures { IsSpaceOf result (room_at net.now.cells i) }
-{
-    let cell = &net.cells[i as usize];
-    match cell.kind {
-        Kind::Road => Space::of(Some(Room {
-            most: cell.room,
-            num: cell.num,
-            den: cell.den,
-        })),
-        Kind::Gate => Space::of(None),
-        Kind::Exit => Space::of(None),
     }
 }

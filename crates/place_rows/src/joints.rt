@@ -49,6 +49,7 @@ pub(crate) fn join_places(
     ensures followed { IfOk result (λ joints. AreFollowed (most_out net.now cells.now connectors.now) places.new joints.links.items t) }
     ensures numbers { IfOk result (λ joints. map (λ tie. tie.connector) joints.ties.items ≡ odd_ones net.now cells.now connectors.now) }
     ensures tied { IfOk result (λ joints. All (IsTie net.now cells.now halo.now) joints.ties.items) }
+    ensures come { IfOk result (λ joints. All (λ tie. tie.course.step ≤ t) joints.ties.items) }
 {
     let _steps = net.steps;
     let mut links = Vec::new(alloc);
@@ -56,7 +57,7 @@ pub(crate) fn join_places(
     for k in connectors {
         match chained(cells, net.connectors[*k as usize]) {
             Some(p) => join_next(alloc, net, t, cells, p, places, &mut links)?,
-            None => ties.push(tied(net, *k, cells, halo))?,
+            None => ties.push(tied(alloc, net, *k, cells, halo)?)?,
         }
     }
     Ok(Joints { links, ties })

@@ -5,10 +5,13 @@ ghost use Rattle.flow_model.specs.Bounds.{IsRowInBounds};
 ghost use Rattle.flow_model.specs.State.{row_at};
 ghost use Rattle.place_sweep.specs.Places.{place_at};
 ghost use Rattle.place_rows.specs.First.{IsFirst, IsOriginOf};
+ghost use Rattle.place_rows.specs.Gates.{IsGateOf};
 ghost use Rattle.place_rows.specs.Rows.{origin_at};
 
 use crate::first::{origin_of, place_of};
+use crate::gate_place::GatePlace;
 use crate::origin::Origin;
+use connector_courses::DemandCourse;
 use flow_model::Row;
 use network_file::{Kind, Net};
 use place_sweep::Place;
@@ -68,17 +71,21 @@ pub(crate) fn earlier_of(
     Ok(before)
 }
 
-/// The places of the gates among these cells.
-pub(crate) fn gates_of(alloc: Global, net: &Net, cells: &[u32]) -> Result<Vec<u32>, NoMemory>
+/// The gates among these cells, at step 0.
+pub(crate) fn gates_of(alloc: Global, net: &Net, cells: &[u32]) -> Result<Vec<GatePlace>, NoMemory>
     requires there { All (λ i. i < length net.now.cells) cells.now }
     requires few { length cells.now < 2 ^ 32 }
-    ensures { IfOk result (λ gates. gates.items ≡
+    ensures places { IfOk result (λ gates. map (λ gate. gate.place) gates.items ≡
         filter (λ p. is_gate_at net.now.cells (slice_index cells.now p)) (range_with_len 0 (length cells.now))) }
+    ensures demands { IfOk result (λ gates. All (IsGateOf net.now cells.now 0) gates.items) }
 {
     let mut gates = Vec::new(alloc);
     for p in 0..cells.len() {
         if is_gate(net, cells[p]) {
-            gates.push(p as u32)?;
+            gates.push(GatePlace {
+                place: p as u32,
+                course: DemandCourse::new(alloc, &net.plan, cells[p])?,
+            })?;
         }
     }
     Ok(gates)

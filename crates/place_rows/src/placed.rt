@@ -1,22 +1,25 @@
-ghost use Rattle.std.specs.Prelude.{◌≡◌, ◌+◌, ◌<◌, ◌≤◌, ℕ, All, IfOk, length, map, slice_index};
+ghost use Rattle.std.specs.Prelude.{◌≡◌, ◌+◌, ◌<◌, ◌≤◌, ℕ, All, IfOk, IsTrue, length, map, slice_index};
 ghost use Rattle.flow_model.specs.Bounds.{IsRowInBounds};
 ghost use Rattle.flow_model.specs.State.{occupancy, row_at};
 ghost use Rattle.place_sweep.specs.Places.{place_at};
-ghost use Rattle.place_rows.specs.Placed.{AreCells, ArePlaced, CanAdvance, rows_next};
+ghost use Rattle.place_rows.specs.Placed.{AreCells, ArePlaced, CanAdvance, RestThrough, rows_next};
+ghost use Rattle.place_rows.specs.Gates.{AreKept};
 ghost use Rattle.place_rows.specs.Rows.{rows_of};
 
 use crate::carry::carry_all;
 use crate::cells::Cells;
-use crate::demands::put_demands;
+use crate::demands::{nothing_demanded, put_demands};
+use crate::gate_place::GatePlace;
 use crate::joints::join_places;
 use crate::opening::{earlier_of, gates_of, origins_of, places_of};
 use crate::origin::Origin;
+use crate::rest::{Rest, nothing_put};
 use crate::spot::Sight;
 use crate::tie::Tie;
 use flow_model::Row;
 use network_file::Net;
 use place_sweep::{Part, Place, step_places};
-use signal_plan::NoMemory;
+use signal_plan::{MOST_STEPS, NoMemory};
 use std::alloc::Global;
 use std::marker::Model;
 use timelines::{FollowedLink, refresh};
@@ -29,7 +32,8 @@ pub struct PlacedRows {
     before: Vec<u64>,
     links: Vec<FollowedLink>,
     ties: Vec<Tie>,
-    gates: Vec<u32>,
+    gates: Vec<GatePlace>,
+    rest: Rest,
     // What leaves and enters in a step by these ties and gates.
     outs: Vec<Part>,
     ins: Vec<Part>,
@@ -49,6 +53,7 @@ impl Model for PlacedRows {
       links = rows.links.items;
       ties = rows.ties.items;
       gates = rows.gates.items;
+      rest = rows.rest;
       room = vec_capacity rows.outs;
       room_in = vec_capacity rows.ins;
     } };
@@ -100,6 +105,7 @@ impl PlacedRows {
             links: joints.links,
             ties: joints.ties,
             gates,
+            rest: Rest::UNKNOWN,
             outs,
             ins,
         })
@@ -144,8 +150,37 @@ impl PlacedRows {
         self.before[i as usize]
     }
 
-    /// Takes the cells through step `t`, by what was put for each cell of their halo.
+    /// Takes the cells through step `t`, by what was put for each cell of their halo. Where they rest and nothing comes,
+    /// their places are not looked at.
     pub fn step(&mut self, net: &Net, t: u64, cells: &[u32], put: &[Option<u64>])
+        requires in_time { t < net.now.steps }
+        requires can { CanAdvance net.now cells.now t self.old put.now }
+        ensures rows { (can : CanAdvance net.now cells.now t self.old put.now) → rows_of self.new.origins self.new.places ≡
+            rows_next net.now t can.n cells.now (rows_of self.old.origins self.old.places) }
+        ensures placed { (can : CanAdvance net.now cells.now t self.old put.now) →
+            ArePlaced net.now cells.now can.halo can.connectors (t + 1) self.new }
+        ensures before { (p : ℕ) → p < length cells.now → slice_index self.new.before p ≡ (place_at self.old.places p).n }
+    {
+        let _steps = net.steps;
+        if self.rests_through(t, put) {
+            return;
+        }
+        self.take_step(net, t, cells, put);
+    }
+
+    // Whether the cells hold nothing, held nothing a step before, and nothing comes to them in step `t`.
+    fn rests_through(&mut self, t: u64, put: &[Option<u64>]) -> bool
+        requires in_time { t ≤ MOST_STEPS }
+        requires step { All (λ gate. gate.course.step ≤ t) self.old.gates }
+        ensures only_gates { self.new ≡ record self.old { gates = self.new.gates } }
+        ensures gates { AreKept t self.old.gates self.new.gates }
+        ensures rests { IsTrue result → RestThrough t self.old put.now }
+    {
+        self.rest.still && nothing_put(put) && nothing_demanded(t, &mut self.gates)
+    }
+
+    // Takes them through it by their places.
+    fn take_step(&mut self, net: &Net, t: u64, cells: &[u32], put: &[Option<u64>])
         requires in_time { t < net.now.steps }
         requires can { CanAdvance net.now cells.now t self.old put.now }
         ensures rows { (can : CanAdvance net.now cells.now t self.old put.now) → rows_of self.new.origins self.new.places ≡
@@ -160,8 +195,9 @@ impl PlacedRows {
             places: &self.places,
             put,
         };
-        carry_all(net, t, &self.ties, &sight, &mut self.outs, &mut self.ins);
-        put_demands(net, t, cells, &self.gates, &mut self.ins);
+        carry_all(t, &mut self.ties, &sight, &mut self.outs, &mut self.ins);
+        put_demands(t, &mut self.gates, &mut self.ins);
         step_places(&mut self.places, &mut self.before, &self.outs, &self.ins);
+        self.rest = self.rest.after(&self.places);
     }
 }

@@ -1,34 +1,58 @@
-ghost use Rattle.std.specs.Prelude.{◌≡◌, ◌<◌, ◌^◌, length};
+ghost use Rattle.std.specs.Prelude.{◌≡◌, ◌<◌, ◌^◌, IfOk, length};
 ghost use Rattle.std.specs.List.Sorted.{IsStrictlyIncreasing};
 ghost use Rattle.network_file.specs.Connectors.{connector_at};
-ghost use Rattle.place_rows.specs.Carrying.{IsSpotOf, IsTie};
+ghost use Rattle.place_rows.specs.Carrying.{IsSpotOf, IsTie, AreSpotsOf};
 ghost use Rattle.place_rows.specs.Joining.{AreKnown, IsKnown};
 
 use crate::spot::Spot;
 use crate::tie::Tie;
+use connector_courses::ConnectorCourse;
 use network_file::Net;
 use region_cut::{place, three_cells};
+use signal_plan::NoMemory;
+use std::alloc::Global;
 
-/// The tie of connector `k`.
-pub(crate) fn tied(net: &Net, k: u32, cells: &[u32], halo: &[u32]) -> Tie
+/// The tie of connector `k`, at step 0.
+pub(crate) fn tied(
+    alloc: Global,
+    net: &Net,
+    k: u32,
+    cells: &[u32],
+    halo: &[u32],
+) -> Result<Tie, NoMemory>
     requires there { k < length net.now.connectors }
     requires known { AreKnown cells.now halo.now (connector_at net.now.connectors k) }
     requires increasing { IsStrictlyIncreasing cells.now }
     requires halo_increasing { IsStrictlyIncreasing halo.now }
     requires few { length cells.now < 2 ^ 32 }
     requires few_halo { length halo.now < 2 ^ 32 }
-    ensures connector { result.connector ≡ k }
-    ensures tie { IsTie net.now cells.now halo.now result }
+    ensures connector { IfOk result (λ tie. tie.connector ≡ k) }
+    ensures tie { IfOk result (IsTie net.now cells.now halo.now) }
+    ensures step { IfOk result (λ tie. tie.course.step ≡ 0) }
+{
+    Ok(Tie {
+        connector: k,
+        cells: spots_of(net, k, cells, halo),
+        course: ConnectorCourse::new(alloc, net, k)?,
+    })
+}
+
+// The spots of the cells of connector `k`.
+fn spots_of(net: &Net, k: u32, cells: &[u32], halo: &[u32]) -> [Spot; 3]
+    requires there { k < length net.now.connectors }
+    requires known { AreKnown cells.now halo.now (connector_at net.now.connectors k) }
+    requires increasing { IsStrictlyIncreasing cells.now }
+    requires halo_increasing { IsStrictlyIncreasing halo.now }
+    requires few { length cells.now < 2 ^ 32 }
+    requires few_halo { length halo.now < 2 ^ 32 }
+    ensures { AreSpotsOf cells.now halo.now (connector_at net.now.connectors k) result }
 {
     let [a, b, c] = three_cells(net.connectors[k as usize]);
-    Tie {
-        connector: k,
-        cells: [
-            spot_of(a, cells, halo),
-            spot_of(b, cells, halo),
-            spot_of(c, cells, halo),
-        ],
-    }
+    [
+        spot_of(a, cells, halo),
+        spot_of(b, cells, halo),
+        spot_of(c, cells, halo),
+    ]
 }
 
 // The spot of a cell, among the region's own or in its halo.

@@ -3,3 +3,4 @@ pub mod Capacity
 pub mod Places
 pub mod Parts
 pub mod Steps
+pub mod Holding

@@ -94,3 +94,16 @@ fn a_ratio_rounds_down_and_a_red_light_stops(rt: HostRuntime) {
     assert_eq!(rt; link_capacity(7, 5, true), 5);
     assert_eq!(rt; link_capacity(7, 5, false), 0);
 }
+
+#[test]
+fn a_place_that_holds_something_is_found_from_anywhere(rt: HostRuntime) {
+    let mut places = PAIR;
+    assert_eq!(rt; holding(&places, 0), Some(0));
+    assert_eq!(rt; holding(&places, 1), Some(1));
+    assert_eq!(rt; holding(&places, 9), Some(0));
+    places[1].n = 0;
+    assert_eq!(rt; holding(&places, 1), Some(0));
+    places[0].n = 0;
+    assert_eq!(rt; holding(&places, 1), None);
+    assert_eq!(rt; holding(&[], 3), None);
+}

@@ -1,107 +1,137 @@
 -- One step of a region: it can be made, and it is that of the recurrences.
 use Rattle.std.specs.Prelude.{Option, None, map, replicate, slice_index, slice_index_or, unwrap_or, if◌then◌else◌}
-use Rattle.std.specs.List.{Contains}
-use Rattle.std.proofs.Common.{◌≡◌, ℕ, suc, zero-add, ◌<◌, ◌≤◌, ◌+◌, ◌*◌, inl, inr, Bool, true, false, List, [], ◌++◌, length, get_or, refl, sym, ap, subst, ◌∙◌, arith}
-use Rattle.std.proofs.lemmas.Bool.{cases_Bool}
-use Rattle.std.proofs.lemmas.List.{length-append, length-map, length-replicate}
+use Rattle.std.proofs.Common.{◌≡◌, ℕ, suc, zero-add, ◌<◌, ◌≤◌, ◌+◌, ◌*◌, Bool, true, false, List, [], ◌++◌, length, refl, sym, ap, subst, ◌∙◌, arith}
+use Rattle.std.proofs.lemmas.List.{ext_get_or, get_or-map, length-append, length-map, length-replicate}
 use Rattle.std.proofs.lemmas.List.Elements.{Contains-get_or}
 use Rattle.std.proofs.lemmas.List.FromFn.{get_or-map-range_with_len, length-map-range_with_len}
 use Rattle.std.proofs.Math.Nat.{mul-suc}
-use Rattle.network_file.specs.Cells.{is_gate_at}
 use Rattle.network_file.specs.Network.{IsNetwork, Network}
-use Rattle.flow_model.specs.Flows.{inflow, outflow}
-use Rattle.flow_model.specs.Rows.{empty_row, moved_row, next_row, row_by}
-use Rattle.flow_model.specs.State.{row_at}
+use Rattle.flow_model.specs.Bounds.{IsRowInBounds}
+use Rattle.flow_model.specs.Rows.{empty_row, next_row}
+use Rattle.flow_model.specs.State.{occupancy, row_at}
 use Rattle.flow_model.specs.declared.row.Row.{Row}
-use Rattle.flow_model.proofs.Bounds.{changes, moved_row-in_bounds, small}
-use Rattle.flow_model.proofs.Flows.{entered_by-gate}
 use Rattle.flow_model.proofs.States.{next_row-in_bounds}
 use Rattle.region_cut.specs.Chart.{ChartLists, chart_of, list_at}
 use Rattle.region_cut.specs.Cuttings.{region_count}
+use Rattle.place_sweep.specs.Places.{place_at}
+use Rattle.place_rows.specs.Moves.{IsSeen}
+use Rattle.place_rows.specs.Placed.{AreInBounds, ArePlaced, CanAdvance, PlacedCells, rows_next}
+use Rattle.place_rows.specs.Rows.{rows_of}
+use Rattle.place_rows.proofs.Whole.{row_at-rows_of}
 use Rattle.region_step.specs.Advance.{HasHaloPut, HasRowsInBounds, advanced, known, next_rows_of, rows_after}
-use Rattle.region_step.specs.Carrying.{CanChangeAt, IsChangeOf, IsScene, change_at, enters_in_all, rows_changed}
 use Rattle.region_step.specs.Opened.{IsIn, halo_cells}
 use Rattle.region_step.specs.Recording.{is_recorded, note_of, notes_of, recorded_after}
 use Rattle.region_step.specs.Region.{RegionState, RegionValue}
-use Rattle.region_step.specs.declared.change.Change.{Change}
 use Rattle.region_step.specs.declared.note.Note.{Note}
-use Rattle.region_step.specs.declared.tie.Tie.{Tie}
 use Rattle.region_step.proofs.Ground.{ground}
-use Rattle.region_step.proofs.Lists.{map_range_same}
-use Rattle.region_step.proofs.Places.{known-own}
+use Rattle.region_step.proofs.Places.{known-halo, known-own}
 use Rattle.region_step.proofs.Room.{recorded_after-next}
 
-pub scene : (net : Network) (chart : ChartLists) (region : RegionValue) → IsNetwork net → IsIn net chart region → region.state.step < net.steps →
-    HasRowsInBounds net chart region.state → HasHaloPut net chart region.state →
-    IsScene net region.state.step (list_at chart.cells region.state.number) (halo_cells chart region.state.number) region.layout.ties region.state.rows region.state.put
-scene net chart region sound inside before bounds halo =
-    let r : ℕ = region.state.number in
-    let here = ground net chart.cut chart r sound inside.charted inside.one_of.there in
+-- what its step stands on, by what was read from it
+
+bounds_of : (net : Network) (chart : ChartLists) (region : RegionValue) → IsIn net chart region → HasRowsInBounds net chart region.state → HasHaloPut net chart region.state →
+    AreInBounds net (list_at chart.cells region.state.number) (halo_cells chart region.state.number) region.state.step region.layout.placed region.state.put
+bounds_of net chart region inside bounds halo =
+    let cells : List ℕ = list_at chart.cells region.state.number in
     record {
-      sound = sound;
-      before = before;
-      apart = here.apart;
-      there = λ k d within. (here.own (get_or (list_at chart.cells r) k d) (Contains-get_or (list_at chart.cells r) k d within)).0;
-      tied = inside.ties.each;
-      whole = λ i k own there touched. subst (λ numbers. Contains numbers k) (sym inside.ties.numbers) (here.whole i k own there touched);
-      row_each = inside.one_of.rows;
-      put_each = inside.one_of.put ∙ sym (length-map (list_at chart.halo r) (λ halo. halo.cell));
-      own = bounds.each;
+      own = λ p within. subst (λ rows. IsRowInBounds net region.state.step (slice_index cells p) (row_at rows p)) inside.row_each (bounds.each p within);
+      put_each = inside.one_of.put ∙ sym (length-map (list_at chart.halo region.state.number) (λ halo. halo.cell));
       around = λ j within.
           let told = halo.each j within in
           let put : unwrap_or (slice_index_or region.state.put j None) 0 ≡ told.0 = ap (λ n. unwrap_or n 0) told.1 in
           rw put told.2;
     }
 
--- the same of what was read from the region
-pub scene-read : (net : Network) (chart : ChartLists) (region : RegionValue) (t : ℕ) (cells halo : List ℕ) (ties : List Tie) (rows : List Row) (put : List (Option ℕ)) →
-    IsNetwork net → IsIn net chart region → region.state.step < net.steps → HasRowsInBounds net chart region.state → HasHaloPut net chart region.state →
-    t ≡ region.state.step → cells ≡ list_at chart.cells region.state.number → halo ≡ halo_cells chart region.state.number → ties ≡ region.layout.ties →
-    rows ≡ region.state.rows → put ≡ region.state.put → IsScene net t cells halo ties rows put
-scene-read net chart region t cells halo ties rows put sound inside before bounds told at own around tied row_each put_each =
-    rw (at, own, around, tied, row_each, put_each) (scene net chart region sound inside before bounds told)
-
--- what enters in all is the inflow, and so the row can change
-enters-is : (net : Network) (t i : ℕ) (n : ℕ → ℕ) (change : Change) → IsChangeOf net t n i change → enters_in_all net t i change ≡ inflow net t n i
-enters-is net t i n change is = elim (cases_Bool (is_gate_at net.cells i)) [
-  | inl gate ↦ rw gate (sym (entered_by-gate net.connectors net t i n gate))
-  | inr other ↦ rw other (is.enters other)
-]
-
-pub can_change : (net : Network) (t : ℕ) (cells halo : List ℕ) (ties : List Tie) (rows : List Row) (put : List (Option ℕ)) (all : List Change) (p : ℕ) →
-    IsScene net t cells halo ties rows put → p < length cells → IsChangeOf net t (known cells halo rows put) (slice_index cells p) (change_at all p) →
-    CanChangeAt net t cells rows all p
-can_change net t cells halo ties rows put all p scene within is =
-    let n : ℕ → ℕ = known cells halo rows put in
-    let i : ℕ = slice_index cells p in
-    let row : Row = row_at rows p in
-    let has : i < length net.cells = scene.there p 0 within in
-    let own : n i ≡ row.n = known-own cells halo rows put p scene.apart within in
-    let change = rw own at (changes net t i n (inflow net t n i) (outflow net t n i) scene.sound has (λ gate. entered_by-gate net.connectors net t i n gate) (omega arith) (omega arith)) in
-    let after = small net (t + 1) i (moved_row net i row (inflow net t n i) (outflow net t n i)) scene.sound (omega (arith, scene.before)) has
-    (moved_row-in_bounds net t i row (inflow net t n i) (outflow net t n i) scene.sound scene.before has (scene.own p within) change) in
-    let now = small net t i row scene.sound (omega (arith, scene.before)) has (scene.own p within) in
-    let enters = enters-is net t i n (change_at all p) is in
+seen_of : (net : Network) (chart : ChartLists) (region : RegionValue) → IsNetwork net → IsIn net chart region →
+    IsSeen (known (list_at chart.cells region.state.number) (halo_cells chart region.state.number) region.state.rows region.state.put)
+    (list_at chart.cells region.state.number) (halo_cells chart region.state.number) region.layout.placed.places region.state.put
+seen_of net chart region sound inside =
+    let cells : List ℕ = list_at chart.cells region.state.number in
+    let around : List ℕ = halo_cells chart region.state.number in
+    let placed : PlacedCells = region.layout.placed in
+    let apart = (ground net chart.cut chart region.state.number sound inside.charted inside.one_of.there).apart in
     record {
-      there = has;
-      can = rw (enters, is.leaves) (record {
-        held = change.held;
-        n = omega (arith, after.n, change.held, change.sent);
-        come = omega (arith, after.come);
-        gone = omega (arith, after.gone);
-        wait = omega (arith, now.wait, now.n);
-      });
+      own = λ p within.
+          known-own cells around region.state.rows region.state.put p apart within ∙ ap (λ rows. occupancy rows p) inside.row_each ∙
+          ap (λ row. row.n) (row_at-rows_of placed.origins placed.places p (omega (arith, inside.placed.origin_each, within)));
+      around = λ j within. known-halo cells around region.state.rows region.state.put j apart within;
     }
 
--- the rows are those of the recurrences
-pub rows_changed-is : (net : Network) (t : ℕ) (cells : List ℕ) (rows : List Row) (all : List Change) (n : ℕ → ℕ) →
-    ((p : ℕ) → p < length cells → IsChangeOf net t n (slice_index cells p) (change_at all p)) → rows_changed net t cells rows all ≡ rows_after net t n cells rows
-unfolding rows_changed rows_after row_by
-rows_changed-is net t cells rows all n is =
-    map_range_same
-    (λ p. moved_row net (slice_index cells p) (row_at rows p) (enters_in_all net t (slice_index cells p) (change_at all p)) (change_at all p).leaves)
-    (λ p. next_row net t n (slice_index cells p) (row_at rows p)) (length cells)
-    (λ p within. rw (enters-is net t (slice_index cells p) n (change_at all p) (is p within), (is p within).leaves) refl)
+can_advance : (net : Network) (chart : ChartLists) (region : RegionValue) → IsNetwork net → IsIn net chart region → HasRowsInBounds net chart region.state → HasHaloPut net chart region.state →
+    CanAdvance net (list_at chart.cells region.state.number) region.state.step region.layout.placed region.state.put
+can_advance net chart region sound inside bounds halo = record {
+  halo = halo_cells chart region.state.number;
+  connectors = list_at chart.connectors region.state.number;
+  n = known (list_at chart.cells region.state.number) (halo_cells chart region.state.number) region.state.rows region.state.put;
+  laid = inside.placed;
+  bounds = bounds_of net chart region inside bounds halo;
+  seen = seen_of net chart region sound inside;
+}
+
+-- the same of a region as it was read, and of lists that were read from it
+pub can_advance-read : (net : Network) (chart : ChartLists) (read region : RegionValue) (cells : List ℕ) (put : List (Option ℕ)) → read ≡ region →
+    IsNetwork net → IsIn net chart region → HasRowsInBounds net chart region.state → HasHaloPut net chart region.state →
+    cells ≡ list_at chart.cells read.state.number → put ≡ read.state.put → CanAdvance net cells read.state.step read.layout.placed put
+can_advance-read net chart read region cells put is sound inside bounds halo own told =
+    rw (own, told, is) (can_advance net chart region sound inside bounds halo)
+
+-- the cells of a region after its step: their rows, and what they held before
+pub record HasStepped (net : Network) (chart : ChartLists) (region : RegionValue) (new : PlacedCells) : Type 0 where
+  pub placed : ArePlaced net (list_at chart.cells region.state.number) (halo_cells chart region.state.number) (list_at chart.connectors region.state.number) (region.state.step + 1) new
+  pub rows : rows_of new.origins new.places ≡ next_rows_of net chart region.state
+  pub before : new.before ≡ map (λ row. row.n) region.state.rows
+
+next-is : (net : Network) (chart : ChartLists) (region : RegionValue) → IsIn net chart region →
+    rows_next net region.state.step (known (list_at chart.cells region.state.number) (halo_cells chart region.state.number) region.state.rows region.state.put)
+    (list_at chart.cells region.state.number) (rows_of region.layout.placed.origins region.layout.placed.places) ≡ next_rows_of net chart region.state
+unfolding rows_next rows_after
+next-is net chart region inside = rw (← inside.row_each) refl
+
+before-is : (net : Network) (chart : ChartLists) (region : RegionValue) (before : List ℕ) → IsIn net chart region → length before ≡ length (list_at chart.cells region.state.number) →
+    ((p : ℕ) → p < length (list_at chart.cells region.state.number) → slice_index before p ≡ (place_at region.layout.placed.places p).n) →
+    before ≡ map (λ row. row.n) region.state.rows
+before-is net chart region before inside long each =
+    let placed : PlacedCells = region.layout.placed in
+    ext_get_or 0 before (map (λ row. row.n) region.state.rows) (long ∙ sym (length-map region.state.rows (λ row. row.n) ∙ inside.one_of.rows))
+    (λ p lt.
+    let within : p < length (list_at chart.cells region.state.number) = omega (arith, lt, long) in
+    each p within ∙
+    sym (get_or-map (λ row. row.n) region.state.rows p empty_row 0 (omega (arith, within, inside.one_of.rows)) ∙ ap (λ rows. occupancy rows p) inside.row_each ∙
+    ap (λ row. row.n) (row_at-rows_of placed.origins placed.places p (omega (arith, inside.placed.origin_each, within)))))
+
+-- the step of places says so
+abbrev SaysRows : (net : Network) (t : ℕ) (cells : List ℕ) (placed : PlacedCells) (put : List (Option ℕ)) (new : PlacedCells) → Type 0
+SaysRows net t cells placed put new =
+    (can : CanAdvance net cells t placed put) → rows_of new.origins new.places ≡ rows_next net t can.n cells (rows_of placed.origins placed.places)
+
+abbrev SaysPlaced : (net : Network) (t : ℕ) (cells : List ℕ) (placed : PlacedCells) (put : List (Option ℕ)) (new : PlacedCells) → Type 0
+SaysPlaced net t cells placed put new = (can : CanAdvance net cells t placed put) → ArePlaced net cells can.halo can.connectors (t + 1) new
+
+abbrev SaysBefore : (cells : List ℕ) (placed new : PlacedCells) → Type 0
+SaysBefore cells placed new = (p : ℕ) → p < length cells → slice_index new.before p ≡ (place_at placed.places p).n
+
+stepped : (net : Network) (chart : ChartLists) (region : RegionValue) (new : PlacedCells) →
+    IsNetwork net → IsIn net chart region → HasRowsInBounds net chart region.state → HasHaloPut net chart region.state →
+    SaysRows net region.state.step (list_at chart.cells region.state.number) region.layout.placed region.state.put new →
+    SaysPlaced net region.state.step (list_at chart.cells region.state.number) region.layout.placed region.state.put new →
+    SaysBefore (list_at chart.cells region.state.number) region.layout.placed new → HasStepped net chart region new
+unfolding can_advance
+stepped net chart region new sound inside bounds halo rows placed before =
+    let can = can_advance net chart region sound inside bounds halo in
+    let laid = placed can in
+    record {
+      placed = laid;
+      rows = rows can ∙ next-is net chart region inside;
+      before = before-is net chart region new.before inside laid.before_each before;
+    }
+
+pub stepped-read : (net : Network) (chart : ChartLists) (read region : RegionValue) (cells : List ℕ) (put : List (Option ℕ)) (new : PlacedCells) → read ≡ region →
+    IsNetwork net → IsIn net chart region → HasRowsInBounds net chart region.state → HasHaloPut net chart region.state →
+    cells ≡ list_at chart.cells read.state.number → put ≡ read.state.put →
+    SaysRows net read.state.step cells read.layout.placed put new → SaysPlaced net read.state.step cells read.layout.placed put new → SaysBefore cells read.layout.placed new →
+    HasStepped net chart region new
+stepped-read net chart read region cells put new is sound inside bounds halo own told =
+    rw (own, told, is) (stepped net chart region new sound inside bounds halo)
 
 -- what holds of it after the step
 
@@ -131,7 +161,7 @@ advanced-in_bounds net chart region sound is there before bounds =
     }
 
 -- a step's notes leave room for those to come
-noted-room : (cells trail later room : ℕ) (recorded : Bool) (rows : List Row) → length rows ≡ cells → trail + cells * ((if recorded then 1 else 0) + later) ≤ room →
+pub noted-room : (cells trail later room : ℕ) (recorded : Bool) (rows : List Row) → length rows ≡ cells → trail + cells * ((if recorded then 1 else 0) + later) ≤ room →
     trail + length (if recorded then notes_of rows else []) + cells * later ≤ room
 noted-room cells trail later room true rows long fits =
     let one : 1 + later ≡ suc later = omega arith in
@@ -142,11 +172,12 @@ noted-room cells trail later room false rows long fits =
     let same : cells * (0 + later) ≡ cells * later = ap (λ n. cells * n) none in
     omega (arith, fits, same)
 
--- a region with the same ties and borders, and no less room, that has come a step on
+-- a region with the same borders, its cells placed a step on, and no less room, that has come a step on
 pub advanced-inside : (net : Network) (chart : ChartLists) (old new : RegionValue) → IsIn net chart old → old.state.step < net.steps → new.state ≡ advanced net chart old.state →
-    new.layout.ties ≡ old.layout.ties → new.layout.border ≡ old.layout.border → old.layout.room ≤ new.layout.room → IsIn net chart new
+    ArePlaced net (list_at chart.cells old.state.number) (halo_cells chart old.state.number) (list_at chart.connectors old.state.number) (old.state.step + 1) new.layout.placed →
+    new.state.rows ≡ rows_of new.layout.placed.origins new.layout.placed.places → new.layout.border ≡ old.layout.border → old.layout.room ≤ new.layout.room → IsIn net chart new
 unfolding advanced
-advanced-inside net chart old new inside before is ties border room =
+advanced-inside net chart old new inside before is placed row_each border room =
     let r : ℕ = old.state.number in
     let cells : List ℕ = list_at chart.cells r in
     let rows : List Row = next_rows_of net chart old.state in
@@ -164,7 +195,8 @@ advanced-inside net chart old new inside before is ties border room =
         border = inside.one_of.border;
       });
       in_time = rw is (omega (arith, before));
-      ties = rw (is, ties) inside.ties;
+      placed = rw is placed;
+      row_each = row_each;
       room = rw is (omega (
         arith,
         room,
@@ -187,12 +219,6 @@ notes-fit net chart region rows inside before long recorded =
     let one : 1 + later ≡ suc later = omega arith in
     let more : cells * (1 + later) ≡ cells * later + cells = ap (λ n. cells * n) one ∙ mul-suc cells later in
     omega (arith, room, long, more)
-
--- the rows of what was read from the region
-pub next_rows-read : (net : Network) (chart : ChartLists) (region : RegionValue) (t : ℕ) (cells halo : List ℕ) (rows : List Row) (put : List (Option ℕ)) →
-    t ≡ region.state.step → cells ≡ list_at chart.cells region.state.number → halo ≡ halo_cells chart region.state.number → rows ≡ region.state.rows → put ≡ region.state.put →
-    rows_after net t (known cells halo rows put) cells rows ≡ next_rows_of net chart region.state
-next_rows-read net chart region t cells halo rows put at own around row_each put_each = rw (at, own, around, row_each, put_each) refl
 
 pub length-next_rows_of : (net : Network) (chart : ChartLists) (region : RegionState) → length (next_rows_of net chart region) ≡ length (list_at chart.cells region.number)
 length-next_rows_of net chart region = length-rows_after net region.step _ (list_at chart.cells region.number) region.rows

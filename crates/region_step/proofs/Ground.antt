@@ -14,16 +14,16 @@ use Rattle.network_file.specs.declared.connector.Connector.TheVariants.{Link, Me
 use Rattle.region_cut.specs.Chart.{ChartLists, border_of, cells_in, chart_of, connectors_of, halo_at, halo_of, list_at}
 use Rattle.region_cut.specs.ConnectorCells.{three_cells}
 use Rattle.region_cut.specs.Cuttings.{region_at, region_count}
-use Rattle.region_cut.specs.Joins.{is_halo}
+use Rattle.region_cut.specs.Joins.{is_halo, touches_region}
 use Rattle.region_cut.specs.declared.halo.Halo.{Halo}
 use Rattle.region_cut.proofs.Anys.{Contains-from_test, test_from_Contains}
 use Rattle.region_cut.proofs.ChartParts.{chart-border, chart-cells, chart-connectors, chart-halo}
 use Rattle.region_cut.proofs.ConnectorCells.{few_cells, touches-there}
 use Rattle.region_cut.proofs.Meetings.{halo-by, halo-from, touches-touches_region}
 use Rattle.region_cut.proofs.Membership.{Contains-border_of, Contains-cells_in, Contains-connectors_of, Contains-halo_of, cells_in-Contains, cells_in-increasing, connectors_of-Contains, halo_of-Contains, halo_of-increasing}
-use Rattle.region_step.specs.Carrying.{AreApart}
+use Rattle.region_step.specs.Apart.{AreApart}
 use Rattle.region_step.specs.Opened.{halo_cells}
-use Rattle.region_step.specs.Ties.{AreKnown, IsKnown}
+use Rattle.place_rows.specs.Joining.{AreKnown, IsKnown}
 
 -- what holds of the lists of region r
 pub record IsGround (net : Network) (cut : List ℕ) (r : ℕ) (cells halo connectors border : List ℕ) : Type 0 where
@@ -37,6 +37,8 @@ pub record IsGround (net : Network) (cut : List ℕ) (r : ℕ) (cells halo conne
   pub there : All (λ k. k < length net.connectors) connectors
   pub known : All (λ k. AreKnown cells halo (connector_at net.connectors k)) connectors
   pub whole : (i k : ℕ) → Contains cells i → k < length net.connectors → touches i (connector_at net.connectors k) ≡ true → Contains connectors k
+  pub touched : (i k : ℕ) → Contains cells i → touches i (connector_at net.connectors k) ≡ true → touches_region cut r (connector_at net.connectors k) ≡ true
+  pub numbers : connectors ≡ filter (λ k. touches_region cut r (connector_at net.connectors k)) (range_with_len 0 (length net.connectors))
   pub inside : All (Contains cells) border
 
 length-filter-le : {X : Type 0} (p : X → Bool) (xs : List X) → length (filter p xs) ≤ length xs
@@ -107,6 +109,11 @@ few-of-halo net cut r sound =
       length-range_with_len 0 (length net.cells),
     )
 
+numbers-of : (net : Network) (cut : List ℕ) (r : ℕ) →
+    connectors_of net cut r ≡ filter (λ k. touches_region cut r (connector_at net.connectors k)) (range_with_len 0 (length net.connectors))
+unfolding connectors_of
+numbers-of net cut r = refl
+
 lists-ground : (net : Network) (cut : List ℕ) (r : ℕ) → IsNetwork net →
     IsGround net cut r (cells_in net cut r) (map (λ other. other.cell) (halo_of net cut r)) (connectors_of net cut r) (border_of net cut r)
 lists-ground net cut r sound = record {
@@ -132,6 +139,8 @@ lists-ground net cut r sound = record {
   };
   whole = λ i k own there touched. connectors_of-Contains net cut r k there
       (touches-touches_region cut r i (connector_at net.connectors k) touched ((Contains-cells_in net cut r i own).1));
+  touched = λ i k own touched. touches-touches_region cut r i (connector_at net.connectors k) touched ((Contains-cells_in net cut r i own).1);
+  numbers = numbers-of net cut r;
   inside = λ j d within.
       let here = Contains-border_of net cut r _ (Contains-get_or (border_of net cut r) j d within) in
       cells_in-Contains net cut r _ here.0 here.1;

@@ -1,9 +1,7 @@
-pub mod Known
 pub mod Lists
 pub mod Places
-pub mod Changes
-pub mod Carrying
 pub mod Ground
+pub mod RegionCells
 pub mod Grids
 pub mod GridStates
 pub mod StartLaws

@@ -1,8 +1,8 @@
--- What the cell at a place holds: each cell that a region knows has one place.
+-- What a cell holds that a region knows: each has one place.
 use Rattle.std.specs.Prelude.{eqb, ◌==◌, Option, None, unwrap_or, slice_index, slice_index_or}
 use Rattle.std.specs.List.{list_any, position_or_len}
 use Rattle.std.specs.List.Sorted.{IsStrictlyIncreasing}
-use Rattle.std.proofs.Common.{◌≡◌, ◌≢◌, ℕ, ◌<◌, inl, inr, false, List, length, refl, sym, ap, ◌∙◌}
+use Rattle.std.proofs.Common.{◌≡◌, ◌≢◌, ℕ, ◌<◌, inl, inr, false, List, length, refl, sym, ◌∙◌}
 use Rattle.std.proofs.lemmas.Bool.{cases_Bool}
 use Rattle.std.proofs.lemmas.List.Elements.{Contains-get_or}
 use Rattle.flow_model.specs.State.{occupancy}
@@ -10,10 +10,7 @@ use Rattle.flow_model.specs.declared.row.Row.{Row}
 use Rattle.region_cut.proofs.Anys.{Contains-from_test, test_from_Contains}
 use Rattle.region_cut.proofs.Increasing.{position_is}
 use Rattle.region_step.specs.Advance.{known}
-use Rattle.region_step.specs.Carrying.{AreApart, held_at}
-use Rattle.region_step.specs.Layout.{IsPlaceOf}
-use Rattle.region_step.specs.declared.place.Place.{Place}
-use Rattle.region_step.specs.declared.place.Place.TheVariants.{Own, Halo}
+use Rattle.region_step.specs.Apart.{AreApart}
 
 -- a cell of the halo is none of its own
 pub halo-not_own : (cells halo : List ℕ) (q : ℕ) → AreApart cells halo → q < length halo → list_any (eqb (slice_index halo q)) cells ≡ false
@@ -50,8 +47,3 @@ known-halo cells halo rows put q apart within =
     let other = halo-not_own cells halo q apart within in
     let place : position_or_len (λ j. j == slice_index halo q) halo ≡ q = position_is halo q (slice_index halo q) apart.halo_rising within refl in
     rw (other, place) refl
-
-pub held_at-known : (cells halo : List ℕ) (rows : List Row) (put : List (Option ℕ)) (i : ℕ) (place : Place) → AreApart cells halo → IsPlaceOf cells halo i place →
-    held_at rows put place ≡ known cells halo rows put i
-held_at-known cells halo rows put i (Own p) apart (there, is) = sym (known-own cells halo rows put p apart there) ∙ ap (known cells halo rows put) is
-held_at-known cells halo rows put i (Halo p) apart (there, is) = sym (known-halo cells halo rows put p apart there) ∙ ap (known cells halo rows put) is

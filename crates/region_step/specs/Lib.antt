@@ -4,11 +4,9 @@ pub mod Start
 pub mod Fitting
 pub mod Grid
 pub mod Layout
-pub mod Ties
-pub mod CellRows
 pub mod Opening
+pub mod Apart
 pub mod Opened
 pub mod Advance
-pub mod Carrying
 pub mod Laws
 pub mod Standing

@@ -21,7 +21,7 @@ pub record RegionState : Type 0 where
   -- for each place of its halo what was put there for the step to come
   pub put : List (Option ℕ)
 
--- its state, and what its body found out about the network when it was opened
+-- its state, and what its body keeps
 pub record RegionValue : Type 0 where
   pub state : RegionState
   pub layout : Layout

@@ -2,20 +2,13 @@
 #![tactic(auto)]
 
 mod bounds;
-mod carry;
-mod cell_rows;
-mod change;
 mod first_regions;
 mod note;
 mod opening;
-mod place;
+mod placing;
 mod recording;
 mod region;
-mod rows;
-mod sight;
 mod start;
-mod tie;
-mod wiring;
 
 pub use first_regions::open_regions;
 pub use note::Note;

@@ -1,46 +1,11 @@
 ghost use Rattle.std.specs.Prelude.{◌≡◌, ◌<◌, ◌^◌, All, IfOk, None, length, map, replicate, slice_index};
 ghost use Rattle.std.specs.List.{Contains};
 ghost use Rattle.std.specs.List.Sorted.{IsStrictlyIncreasing};
-ghost use Rattle.flow_model.specs.State.{row_at};
-ghost use Rattle.region_step.specs.Opening.{ArePlaces, earlier_row};
+ghost use Rattle.region_step.specs.Opening.{ArePlaces};
 
-use flow_model::Row;
 use region_cut::{Halo, place};
 use signal_plan::NoMemory;
 use std::alloc::Global;
-
-/// The rows of these cells.
-pub(crate) fn rows_of(alloc: Global, rows: &[Row], cells: &[u32]) -> Result<Vec<Row>, NoMemory>
-    requires { All (λ i. i < length rows.now) cells.now }
-    ensures { IfOk result (λ own. own.items ≡ map (row_at rows.now) cells.now) }
-{
-    let mut own = Vec::new(alloc);
-    for i in cells {
-        own.push(rows[*i as usize])?;
-    }
-    Ok(own)
-}
-
-/// Rows that hold what these cells held earlier.
-pub(crate) fn earlier_rows(
-    alloc: Global,
-    earlier: &[u64],
-    cells: &[u32],
-) -> Result<Vec<Row>, NoMemory>
-    requires { All (λ i. i < length earlier.now) cells.now }
-    ensures { IfOk result (λ own. own.items ≡ map (λ i. earlier_row (slice_index earlier.now i)) cells.now) }
-{
-    let mut own = Vec::new(alloc);
-    for i in cells {
-        own.push(Row {
-            n: earlier[*i as usize],
-            come: 0,
-            gone: 0,
-            wait: 0,
-        })?;
-    }
-    Ok(own)
-}
 
 /// The cells of a halo.
 pub(crate) fn halo_cells(alloc: Global, halo: &[Halo]) -> Result<Vec<u32>, NoMemory>

@@ -1,9 +1,10 @@
 ghost use Rattle.std.specs.Prelude.{◌≡◌, ◌+◌, ◌*◌, ◌<◌, ◌≤◌, ◌^◌, ◌++◌, [], IfOk, IsTrue, if◌then◌else◌, length, vec_capacity};
 ghost use Rattle.signal_plan.specs.declared.bounds.TheConstants.{MOST_STEPS};
+ghost use Rattle.place_rows.specs.Rows.{rows_of};
 ghost use Rattle.region_step.specs.Recording.{is_recorded, notes_of, recorded_after};
 
 use crate::note::Note;
-use flow_model::Row;
+use place_rows::PlacedRows;
 use signal_plan::NoMemory;
 use std::alloc::Global;
 
@@ -14,22 +15,22 @@ pub fn is_recorded(steps: u64, every: u64, t: u64) -> bool
     every != 0 && (t % every == 0 || t == steps)
 }
 
-/// The trail of cells whose rows at their first step are these, with room for all notes to come.
+/// The trail of cells as they stand at their first step, with room for all notes to come.
 pub(crate) fn first_notes(
     alloc: Global,
-    rows: &[Row],
+    cells: &PlacedRows,
     steps: u64,
     every: u64,
     step: u64,
 ) -> Result<Vec<Note>, NoMemory>
-    requires few { length rows.now < 2 ^ 32 }
+    requires few { length cells.now.origins < 2 ^ 32 }
     requires few_steps { steps ≤ MOST_STEPS }
     requires in_time { step ≤ steps }
-    ensures notes { IfOk result (λ trail. trail.items ≡ (if is_recorded steps every step then notes_of rows.now else [])) }
-    ensures room { IfOk result (λ trail. length trail.items + length rows.now * recorded_after steps every step ≤ vec_capacity trail) }
+    ensures notes { IfOk result (λ trail. trail.items ≡ (if is_recorded steps every step then notes_of (rows_of cells.now.origins cells.now.places) else [])) }
+    ensures room { IfOk result (λ trail. length trail.items + length cells.now.origins * recorded_after steps every step ≤ vec_capacity trail) }
 {
-    let mut trail = Vec::with_capacity(alloc, room_for(rows.len(), steps, every, step))?;
-    note_step(&mut trail, rows, is_recorded(steps, every, step));
+    let mut trail = Vec::with_capacity(alloc, room_for(cells.count(), steps, every, step))?;
+    note_step(&mut trail, cells, is_recorded(steps, every, step));
     Ok(trail)
 }
 
@@ -47,24 +48,29 @@ fn room_for(cells: usize, steps: u64, every: u64, from: u64) -> usize
     cells * blocks as usize
 }
 
-/// Appends what is noted of these rows where their step is recorded. There is room for it.
-pub(crate) fn note_step(trail: &mut Vec<Note>, rows: &[Row], recorded: bool)
-    requires room { IsTrue recorded → length trail.old.items + length rows.now ≤ vec_capacity trail.old }
-    ensures notes { trail.new.items ≡ trail.old.items ++ (if recorded then notes_of rows.now else []) }
+/// Appends what is noted of these cells where their step is recorded. There is room for it.
+pub(crate) fn note_step(trail: &mut Vec<Note>, cells: &PlacedRows, recorded: bool)
+    requires few { length cells.now.origins < 2 ^ 32 }
+    requires room { IsTrue recorded → length trail.old.items + length cells.now.origins ≤ vec_capacity trail.old }
+    ensures notes { trail.new.items ≡ trail.old.items ++ (if recorded then notes_of (rows_of cells.now.origins cells.now.places) else []) }
     ensures room { vec_capacity trail.old ≤ vec_capacity trail.new }
 {
     if recorded {
-        note_rows(trail, rows);
+        note_rows(trail, cells);
     }
 }
 
-// Appends what is noted of these rows.
-fn note_rows(trail: &mut Vec<Note>, rows: &[Row])
-    requires room { length trail.old.items + length rows.now ≤ vec_capacity trail.old }
-    ensures notes { trail.new.items ≡ trail.old.items ++ notes_of rows.now }
+// Appends what is noted of these cells.
+fn note_rows(trail: &mut Vec<Note>, cells: &PlacedRows)
+    requires few { length cells.now.origins < 2 ^ 32 }
+    requires room { length trail.old.items + length cells.now.origins ≤ vec_capacity trail.old }
+    ensures notes { trail.new.items ≡ trail.old.items ++ notes_of (rows_of cells.now.origins cells.now.places) }
     ensures room { vec_capacity trail.old ≤ vec_capacity trail.new }
 {
-    for row in rows {
-        let _ = trail.push(Note::of(row));
+    for i in 0..cells.count() as u32 {
+        trail.push_reserved(Note {
+            n: cells.held(i),
+            gone: cells.gone(i),
+        });
     }
 }

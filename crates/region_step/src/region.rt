@@ -5,14 +5,14 @@ ghost use Rattle.region_cut.specs.Chart.{ChartLists, chart_of, list_at};
 ghost use Rattle.region_cut.specs.Cuttings.{region_count};
 ghost use Rattle.region_cut.specs.LawfulSteps.{AreLawful};
 
-use crate::cell_rows::CellRows;
 use crate::note::Note;
-use crate::opening::nothing_put;
+use crate::opening::{border_places, nothing_put};
+use crate::placing::place_cells;
 use crate::recording::{first_notes, is_recorded, note_step};
 use crate::start::Start;
-use crate::wiring::Wiring;
 use flow_model::Row;
 use network_file::Net;
+use place_rows::PlacedRows;
 use region_cut::Chart;
 use signal_plan::NoMemory;
 use std::alloc::Global;
@@ -28,14 +28,16 @@ pub struct Region {
     started: u64,
     every: u64,
     step: u64,
-    wiring: Wiring,
-    cells: CellRows,
+    cells: PlacedRows,
+    // The place of each border cell among its cells.
+    border: Vec<u32>,
     put: Vec<Option<u64>>,
     trail: Vec<Note>,
 }
 
 impl Model for Region {
     ghost use Rattle.std.specs.Prelude.{vec_capacity};
+    ghost use Rattle.place_rows.specs.Rows.{rows_of};
     ghost use Rattle.region_step.specs.Region.{RegionValue};
 
     ghost Value = { RegionValue };
@@ -46,12 +48,12 @@ impl Model for Region {
         started = region.started;
         every = region.every;
         step = region.step;
-        rows = region.cells.rows;
+        rows = rows_of region.cells.origins region.cells.places;
         before = region.cells.before;
         trail = region.trail.items;
         put = region.put.items;
       };
-      layout = record { ties = region.wiring.ties.items; border = region.wiring.border.items; room = vec_capacity region.trail };
+      layout = record { placed = region.cells; border = region.border.items; room = vec_capacity region.trail };
     } };
 }
 
@@ -88,18 +90,17 @@ impl Region {
     {
         let steps = net.steps;
         let step = start.steps[r as usize];
-        let cells = chart.cells(r);
-        let wiring = Wiring::new(alloc, net, chart, r)?;
-        let own = CellRows::new(alloc, &start.rows, &start.earlier, cells)?;
+        let cells = place_cells(alloc, net, chart, start, r)?;
+        let border = border_places(alloc, chart.border(r), chart.cells(r))?;
         let put = nothing_put(alloc, chart.halo(r).len())?;
-        let trail = first_notes(alloc, own.rows(), steps, every, step)?;
+        let trail = first_notes(alloc, &cells, steps, every, step)?;
         Ok(Region {
             number: r,
             started: step,
             every,
             step,
-            wiring,
-            cells: own,
+            cells,
+            border,
             put,
             trail,
         })
@@ -124,7 +125,7 @@ impl Region {
         requires { i < length self.now.state.rows }
         ensures { result ≡ row_at self.now.state.rows i }
     {
-        self.cells.rows()[i as usize]
+        self.cells.row(i)
     }
 
     /// What its `i`-th cell held a step before, in parts.
@@ -151,7 +152,7 @@ impl Region {
             result ≡ occupancy self.now.state.rows p }
     {
         let _cells = chart.regions();
-        self.cells.held(self.wiring.border[j as usize])
+        self.cells.held(self.border[j as usize])
     }
 
     /// Tells what the `j`-th cell of its halo holds at its step, in parts.
@@ -181,12 +182,10 @@ impl Region {
     {
         let steps = net.steps;
         let cells = chart.cells(self.number);
-        let halo = chart.halo(self.number);
-        self.cells
-            .step(net, self.step, &self.wiring.ties, cells, halo, &self.put);
+        self.cells.step(net, self.step, cells, &self.put);
         self.step += 1;
         let recorded = is_recorded(steps, self.every, self.step);
-        note_step(&mut self.trail, self.cells.rows(), recorded);
+        note_step(&mut self.trail, &self.cells, recorded);
         clear(&mut self.put);
     }
 }

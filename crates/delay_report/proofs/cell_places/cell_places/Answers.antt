@@ -1,14 +1,14 @@
 use Rattle.std.proofs.Common.{◌≡◌, ◌<◌, inl, inr, [], ◌∷◌, ◌++◌, length, arith, ap, refl, subst, sym, ◌∙◌}
-use Rattle.std.specs.Prelude.{slice_index}
+use Rattle.std.specs.Prelude.{slice_index, ◌==◌}
 use Rattle.std.proofs.Math.Seq.{get_or-append_seam}
-use Rattle.std.proofs.lemmas.Bool.{cases_lt}
+use Rattle.std.proofs.lemmas.Bool.{cases_lt, eq-eqb}
 use Rattle.std.proofs.lemmas.List.{get_or_append_left, length-append}
 use Rattle.network_file.specs.Network.{IsNetwork}
 use Rattle.region_cut.specs.Chart.{list_at}
 use Rattle.region_cut.specs.Cuttings.{region_at, region_count}
+use Rattle.region_cut.proofs.Anys.{finds}
 use Rattle.region_cut.proofs.Membership.{place-in, region_at-there}
 use Rattle.region_step.proofs.Ground.{ground}
-use Rattle.region_step.proofs.Known.{listed}
 use Rattle.delay_report.specs.Places.{IsPlaceOf}
 use Rattle.delay_report.proofs.cell_places.cell_places.Goals as goal
 
@@ -33,7 +33,7 @@ place-requires-clause-listed c =
     let lists = ground c.args.net.now c.args.chart.now.cut c.args.chart.now c.region_of.result (subst IsNetwork c.net.view_is c.net.invariant) c.requires.chart within in
     let cells : length c.net.inside.cells.items ≡ length c.args.net.now.cells = ap (λ net. length net.cells) c.net.view_is in
     let there : c.loop-i.i < length c.args.net.now.cells = omega (arith, c.loop-i-test.true, c.len-i-end.ensures, c.net.inside.cells.ok.0, cells) in
-    rw c.cells-cells.ensures.list (listed (list_at c.args.chart.now.cells c.region_of.result) c.loop-i.i (lists.has c.loop-i.i there (sym c.region_of.ensures)))
+    rw c.cells-cells.ensures.list (finds (λ j. j == c.loop-i.i) (list_at c.args.chart.now.cells c.region_of.result) c.loop-i.i (lists.has c.loop-i.i there (sym c.region_of.ensures)) (eq-eqb c.loop-i.i c.loop-i.i refl))
 
 pub loop-i-preserved : goal.loop-i-preserved
 loop-i-preserved c =

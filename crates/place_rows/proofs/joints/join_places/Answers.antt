@@ -5,7 +5,7 @@ use Rattle.region_cut.proofs.ConnectorCells.{read_connector}
 use Rattle.timelines.specs.Followed.{IsThere}
 use Rattle.place_rows.specs.Chains.{is_chained, is_link}
 use Rattle.place_rows.proofs.Extending.{joined-chained, joined-none, joined-odd}
-use Rattle.place_rows.proofs.joints.join_places.Goals.{in-Some+in_ok-join_next-in-Some, in-None+in_ok-push-in-None}
+use Rattle.place_rows.proofs.joints.join_places.Goals.{in-Some+in_ok-join_next-in-Some, in-None+in_ok-tied-in-None+in_ok-push-in-None}
 use Rattle.place_rows.proofs.joints.join_places.Goals as goal
 
 pub loop-k-init : goal.loop-k-init
@@ -36,9 +36,9 @@ loop-k-preserved c =
           rw (w.places-is, w.links-is, w.ties-is)
           (joined-chained net t cells halo connectors c.args.places.now c.loop-k.places w.join_next.new.places c.loop-k.links.items w.join_next.new.links.items
           c.loop-k.ties.items j w.in-Some.p within c.requires.increasing linked c.loop-k.invariant there done.at w.join_next.ensures.only_most done.followed)
-      | in-None+in_ok-push-in-None w ↦
+      | in-None+in_ok-tied-in-None+in_ok-push-in-None w ↦
           let odd : is_chained cells (connector_at net.connectors k) ≡ false = rw read w.in-None.ensures in
           rw (w.places-is, w.links-is, w.ties-is, w.in_ok-push-in-None.ensures.items)
-          (joined-odd net t cells halo connectors c.args.places.now c.loop-k.places c.loop-k.links.items c.loop-k.ties.items w.tied.result j within odd
-          w.tied.ensures.connector w.tied.ensures.tie c.loop-k.invariant)
+          (joined-odd net t cells halo connectors c.args.places.now c.loop-k.places c.loop-k.links.items c.loop-k.ties.items w.in_ok-tied-in-None.field-0 j within odd
+          w.in_ok-tied-in-None.ensures.connector w.in_ok-tied-in-None.ensures.tie w.in_ok-tied-in-None.ensures.step c.loop-k.invariant)
     ]

@@ -1,8 +1,11 @@
 use Rattle.std.specs.Prelude.{vec_capacity}
 use Rattle.std.proofs.Common.{◌≡◌, ◌≤◌, ◌++◌, take}
+use Rattle.place_rows.specs.Rows.{rows_of}
 use Rattle.region_step.specs.Recording.{notes_of}
 use Rattle.region_step.proofs.recording.note_rows.Given as goal
 
-abbrev pub invariant-loop-row : goal.invariant-loop-row
-invariant-loop-row l =
-    (l.trail.items ≡ l.initial.trail.items ++ notes_of (take l.row-index l.rows)) × (vec_capacity l.initial.trail ≤ vec_capacity l.trail)
+abbrev pub invariant-loop-i : goal.invariant-loop-i
+invariant-loop-i l = record {
+  notes : l.trail.items ≡ l.initial.trail.items ++ notes_of (take l.i (rows_of l.cells.origins l.cells.places));
+  room : vec_capacity l.initial.trail ≤ vec_capacity l.trail;
+}

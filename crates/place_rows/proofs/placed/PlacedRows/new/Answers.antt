@@ -75,6 +75,7 @@ returns-clause-placed c =
     ap length c.in_ok-before.ensures ∙ length-map cells (slice_index c.args.earlier.now) in
     rw after_is (record {
       around = c.requires.cells.around;
+      known = c.requires.cells.known;
       tied = record {
         rising = c.requires.cells.around.rising;
         apart = c.requires.cells.apart;
@@ -88,9 +89,12 @@ returns-clause-placed c =
       space = λ p within.
           subst (λ space. IsSpaceOf space (room_at net.cells (slice_index cells p))) (sym (ap (λ place. place.space) (only_most p)))
           (opened.first_is p within).space;
-      gates = c.in_ok-gates.ensures;
+      come = c.in_ok-joints.ensures.come;
+      gates = c.in_ok-gates.ensures.places;
+      demands = λ k d within. let is = c.in_ok-gates.ensures.demands k d within in record { demand = is.demand; step = omega (arith, is.step) };
       links = subst (λ n. All (IsThere n t) c.in_ok-joints.joints.links.items) (sym (after_long ∙ opened.first_each)) c.in_ok-joints.ensures.links;
       followed = c.in_ok-joints.ensures.followed;
+      rest = record { empty = λ no. absurd cc; still = λ no. absurd cc; before = λ no. absurd cc };
       room = omega (arith, c.in_ok-outs.ensures.capacity, c.len.ensures, c.in_ok-joints.joints.ties.ok.0);
       room_in = omega (arith, c.in_ok-ins.ensures.capacity, c.len-2.ensures, c.len-3.ensures, c.in_ok-joints.joints.ties.ok.0, c.in_ok-gates.gates.ok.0);
     })

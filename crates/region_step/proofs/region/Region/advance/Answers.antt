@@ -1,74 +1,66 @@
-use Rattle.std.specs.Prelude.{Option, None, map, replicate, if◌then◌else◌}
-use Rattle.std.proofs.Common.{◌≡◌, ℕ, ◌+◌, ◌<◌, true, [], ◌++◌, length, ap, arith, subst, sym, ◌∙◌}
+use Rattle.std.specs.Prelude.{Option, None, replicate, if◌then◌else◌}
+use Rattle.std.proofs.Common.{◌≡◌, ℕ, ◌+◌, ◌<◌, true, [], ◌++◌, length, ap, arith, refl, subst, sym, ◌∙◌}
 use Rattle.std.proofs.lemmas.List.{length-replicate, with_items_is}
 use Rattle.network_file.specs.Network.{IsNetwork}
-use Rattle.region_cut.specs.Chart.{list_at}
 use Rattle.region_cut.specs.Cuttings.{region_count}
-use Rattle.region_step.specs.Opened.{halo_cells}
 use Rattle.region_step.specs.Advance.{HasRowsInBounds, advanced, next_rows_of}
 use Rattle.region_step.specs.Recording.{is_recorded, notes_of}
 use Rattle.region_step.specs.Region.{RegionState}
-use Rattle.region_step.proofs.Advancing.{advanced-built, advanced-in_bounds, advanced-inside, length-next_rows_of, next_rows-read, notes-fit, scene-read}
+use Rattle.region_step.proofs.Advancing.{advanced-built, advanced-in_bounds, advanced-inside, can_advance-read, length-next_rows_of, notes-fit, stepped-read}
+use Rattle.region_step.proofs.Ground.{ground}
 use Rattle.region_step.proofs.GridStates.{grid_state-next, grid_state-number}
 use Rattle.region_step.proofs.region.Region.advance.Goals as goal
 
-pub step-requires : goal.step-requires
-step-requires c =
-    scene-read c.args.net.now c.args.chart.now c.args.self.now c.self.inside.step c.cells-cells.result.now (map (λ halo. halo.cell) c.halo-halo.result.now) c.deref.result.now c.self.inside.cells.rows c.deref-2.result.now
-    (subst IsNetwork c.net.view_is c.net.invariant) c.requires.opened c.requires.in_time c.requires.in_bounds c.requires.halo
-    (ap (λ region. region.state.step) c.self.view_is)
-    (c.cells-cells.ensures.list ∙ ap (λ region. list_at c.args.chart.now.cells region.state.number) c.self.view_is)
-    (ap (map (λ halo. halo.cell)) c.halo-halo.ensures.list ∙ ap (λ region. halo_cells c.args.chart.now region.state.number) c.self.view_is)
-    (c.deref.ensures.value ∙ ap (λ region. region.layout.ties) c.self.view_is)
-    (ap (λ region. region.state.rows) c.self.view_is)
-    (c.deref-2.ensures.value ∙ ap (λ region. region.state.put) c.self.view_is)
+pub step-requires-clause-can : goal.step-requires-clause-can
+step-requires-clause-can c =
+    can_advance-read c.args.net.now c.args.chart.now _ c.args.self.now _ _ c.self.view_is (subst IsNetwork c.net.view_is c.net.invariant)
+    c.requires.opened c.requires.in_bounds c.requires.halo c.cells-cells.ensures.list c.deref.ensures.value
 
 pub note_step-requires : goal.note_step-requires
 note_step-requires c =
-    let rows = c.rows.ensures ∙ c.step.ensures.rows ∙
-    next_rows-read c.args.net.now c.args.chart.now c.args.self.now c.self.inside.step c.cells-cells.result.now (map (λ halo. halo.cell) c.halo-halo.result.now) c.self.inside.cells.rows c.deref-2.result.now
-    (ap (λ region. region.state.step) c.self.view_is)
-    (c.cells-cells.ensures.list ∙ ap (λ region. list_at c.args.chart.now.cells region.state.number) c.self.view_is)
-    (ap (map (λ halo. halo.cell)) c.halo-halo.ensures.list ∙ ap (λ region. halo_cells c.args.chart.now region.state.number) c.self.view_is)
-    (ap (λ region. region.state.rows) c.self.view_is) (c.deref-2.ensures.value ∙ ap (λ region. region.state.put) c.self.view_is) in
+    let done = stepped-read c.args.net.now c.args.chart.now _ c.args.self.now _ _ c.step.new.self c.self.view_is (subst IsNetwork c.net.view_is c.net.invariant)
+    c.requires.opened c.requires.in_bounds c.requires.halo c.cells-cells.ensures.list c.deref.ensures.value c.step.ensures.rows c.step.ensures.placed c.step.ensures.before in
+    let sound = subst IsNetwork c.net.view_is c.net.invariant in
+    let here = ground c.args.net.now c.args.chart.now.cut c.args.chart.now c.args.self.now.state.number sound c.requires.opened.charted c.requires.opened.one_of.there in
+    let long = done.placed.origin_each in
     let steps : c.net.inside.steps ≡ c.args.net.now.steps = ap (λ net. net.steps) c.net.view_is in
     record {
+      few = omega (arith, long, here.few);
       room = λ recorded.
           let here : is_recorded c.args.net.now.steps c.args.self.now.state.every (c.args.self.now.state.step + 1) ≡ true =
           sym (c.is_recorded-recorded.ensures ∙ ap (λ n. is_recorded n c.self.inside.every (c.self.inside.step + 1)) steps ∙
           ap (λ region. is_recorded c.args.net.now.steps region.state.every (region.state.step + 1)) c.self.view_is) ∙ recorded in
-          let fit = notes-fit c.args.net.now c.args.chart.now c.args.self.now c.rows.result.now c.requires.opened c.requires.in_time
-          (ap length rows ∙ length-next_rows_of c.args.net.now c.args.chart.now c.args.self.now.state) here in
-          rw (← ap (λ region. length region.state.trail) c.self.view_is, ← ap (λ region. region.layout.room) c.self.view_is) at fit;
+          let fit = notes-fit c.args.net.now c.args.chart.now c.args.self.now (next_rows_of c.args.net.now c.args.chart.now c.args.self.now.state) c.requires.opened c.requires.in_time
+          (length-next_rows_of c.args.net.now c.args.chart.now c.args.self.now.state) here in
+          let trail = ap (λ region. length region.state.trail) c.self.view_is in
+          let room = ap (λ region. region.layout.room) c.self.view_is in
+          omega (arith, fit, trail, room, long, length-next_rows_of c.args.net.now c.args.chart.now c.args.self.now.state);
     }
 
 pub returns-clause-state : goal.returns-clause-state
 returns-clause-state c =
+    let done = stepped-read c.args.net.now c.args.chart.now _ c.args.self.now _ _ c.step.new.self c.self.view_is (subst IsNetwork c.net.view_is c.net.invariant)
+    c.requires.opened c.requires.in_bounds c.requires.halo c.cells-cells.ensures.list c.deref.ensures.value c.step.ensures.rows c.step.ensures.placed c.step.ensures.before in
     let old : RegionState = c.args.self.now.state in
-    let rows = c.step.ensures.rows ∙
-    next_rows-read c.args.net.now c.args.chart.now c.args.self.now c.self.inside.step c.cells-cells.result.now (map (λ halo. halo.cell) c.halo-halo.result.now) c.self.inside.cells.rows c.deref-2.result.now
-    (ap (λ region. region.state.step) c.self.view_is)
-    (c.cells-cells.ensures.list ∙ ap (λ region. list_at c.args.chart.now.cells region.state.number) c.self.view_is)
-    (ap (map (λ halo. halo.cell)) c.halo-halo.ensures.list ∙ ap (λ region. halo_cells c.args.chart.now region.state.number) c.self.view_is)
-    (ap (λ region. region.state.rows) c.self.view_is) (c.deref-2.ensures.value ∙ ap (λ region. region.state.put) c.self.view_is) in
     let steps : c.net.inside.steps ≡ c.args.net.now.steps = ap (λ net. net.steps) c.net.view_is in
     let recorded : c.is_recorded-recorded.result ≡ is_recorded c.args.net.now.steps old.every (old.step + 1) =
     c.is_recorded-recorded.ensures ∙ ap (λ n. is_recorded n c.self.inside.every (c.self.inside.step + 1)) steps ∙
     ap (λ region. is_recorded c.args.net.now.steps region.state.every (region.state.step + 1)) c.self.view_is in
-    let trail = c.note_step.ensures.notes ∙ ap (λ notes. c.self.inside.trail.items ++ (if c.is_recorded-recorded.result then notes_of notes else [])) (c.rows.ensures ∙ rows) ∙
+    let trail = c.note_step.ensures.notes ∙ ap (λ notes. c.self.inside.trail.items ++ (if c.is_recorded-recorded.result then notes_of notes else [])) done.rows ∙
     ap (λ b. c.self.inside.trail.items ++ (if b then notes_of (next_rows_of c.args.net.now c.args.chart.now old) else [])) recorded ∙
     ap (λ region. region.state.trail ++ (if is_recorded c.args.net.now.steps old.every (old.step + 1) then notes_of (next_rows_of c.args.net.now c.args.chart.now old) else [])) c.self.view_is in
     let cleared : c.clear.new.put ≡ replicate (length c.self.inside.put.items) None = c.clear.ensures ∙ ap (λ put. replicate (length put) None) c.deref_mut.ensures.value in
     let long : length c.clear.new.put ≡ c.self.inside.put.len = omega (arith, ap length cleared, length-replicate {A = Option ℕ} (length c.self.inside.put.items) None, c.self.inside.put.ok.0) in
     let put = with_items_is c.self.inside.put c.clear.new.put long ∙ cleared ∙ ap (λ region. replicate (length region.state.put) None) c.self.view_is in
     advanced-built c.args.net.now c.args.chart.now old _ (ap (λ region. region.state.number) c.self.view_is) (ap (λ region. region.state.started) c.self.view_is)
-    (ap (λ region. region.state.every) c.self.view_is) (ap (λ region. region.state.step + 1) c.self.view_is) rows
-    (c.step.ensures.before ∙ ap (λ region. map (λ row. row.n) region.state.rows) c.self.view_is) trail put
+    (ap (λ region. region.state.every) c.self.view_is) (ap (λ region. region.state.step + 1) c.self.view_is) done.rows done.before trail put
 
 pub returns-clause-opened : goal.returns-clause-opened
 returns-clause-opened c =
+    let done = stepped-read c.args.net.now c.args.chart.now _ c.args.self.now _ _ c.step.new.self c.self.view_is (subst IsNetwork c.net.view_is c.net.invariant)
+    c.requires.opened c.requires.in_bounds c.requires.halo c.cells-cells.ensures.list c.deref.ensures.value c.step.ensures.rows c.step.ensures.placed c.step.ensures.before in
     advanced-inside c.args.net.now c.args.chart.now c.args.self.now _ c.requires.opened c.requires.in_time (returns-clause-state c)
-    (ap (λ region. region.layout.ties) c.self.view_is) (ap (λ region. region.layout.border) c.self.view_is)
+    done.placed refl (ap (λ region. region.layout.border) c.self.view_is)
     (rw (ap (λ region. region.layout.room) c.self.view_is) at c.note_step.ensures.room)
 
 pub returns-clause-bounds : goal.returns-clause-bounds

@@ -1,11 +1,13 @@
-use Rattle.std.specs.Prelude.{map, replicate, slice_index, None, if◌then◌else◌}
+use Rattle.std.specs.Prelude.{replicate, slice_index, None, if◌then◌else◌}
 use Rattle.std.proofs.Common.{◌≡◌, ◌≤◌, ℕ, List, [], length, get_or, arith, ap, refl, subst, sym, ◌∙◌}
 use Rattle.std.proofs.lemmas.List.{get_or_default, length-map, length-replicate}
 use Rattle.network_file.specs.Network.{IsNetwork}
 use Rattle.flow_model.specs.State.{row_at}
+use Rattle.flow_model.specs.declared.row.Row.{Row}
+use Rattle.place_rows.specs.Rows.{rows_of}
 use Rattle.region_cut.specs.Chart.{list_at}
 use Rattle.region_step.specs.Recording.{is_recorded, notes_of}
-use Rattle.region_step.proofs.Ground.{cells-within, ground}
+use Rattle.region_step.proofs.Ground.{ground}
 use Rattle.region_step.proofs.Grids.{are_the_recurrences, stay_in_bounds}
 use Rattle.region_step.proofs.GridStates.{grid_state-put, grid_state-start}
 use Rattle.region_step.specs.Advance.{HasRowsInBounds}
@@ -13,75 +15,64 @@ use Rattle.region_step.specs.Laws.{grid_state}
 use Rattle.region_step.proofs.Steps.{grid_state-in_bounds}
 use Rattle.region_step.proofs.region.Region.open.Goals as goal
 
-pub new-requires-2-clause-there : goal.new-requires-2-clause-there
-new-requires-2-clause-there c =
-    cells-within c.args.net.now c.args.chart.now.cut c.args.chart.now c.args.r c.cells-cells.result.now c.deref.result.now (subst IsNetwork c.net.view_is c.net.invariant)
-    c.requires.chart c.requires.there c.cells-cells.ensures.list (ap length (c.deref.ensures.value ∙ ap (λ start. start.rows) c.start.view_is) ∙ c.requires.fits.rows)
+pub border_places-requires-clause-inside : goal.border_places-requires-clause-inside
+border_places-requires-clause-inside c =
+    let here = ground c.args.net.now c.args.chart.now.cut c.args.chart.now c.args.r (subst IsNetwork c.net.view_is c.net.invariant) c.requires.chart c.requires.there in
+    rw (c.cells.ensures.list, c.border.ensures.list) here.inside
 
-pub new-requires-2-clause-there_earlier : goal.new-requires-2-clause-there_earlier
-new-requires-2-clause-there_earlier c =
-    cells-within c.args.net.now c.args.chart.now.cut c.args.chart.now c.args.r c.cells-cells.result.now c.deref-2.result.now (subst IsNetwork c.net.view_is c.net.invariant)
-    c.requires.chart c.requires.there c.cells-cells.ensures.list (ap length (c.deref-2.ensures.value ∙ ap (λ start. start.earlier) c.start.view_is) ∙ c.requires.fits.earlier)
+pub border_places-requires-clause-few : goal.border_places-requires-clause-few
+border_places-requires-clause-few c =
+    let here = ground c.args.net.now c.args.chart.now.cut c.args.chart.now c.args.r (subst IsNetwork c.net.view_is c.net.invariant) c.requires.chart c.requires.there in
+    omega (arith, ap length c.cells.ensures.list, here.few)
 
 pub first_notes-requires-clause-few : goal.first_notes-requires-clause-few
 first_notes-requires-clause-few c =
     let here = ground c.args.net.now c.args.chart.now.cut c.args.chart.now c.args.r (subst IsNetwork c.net.view_is c.net.invariant) c.requires.chart c.requires.there in
-    let long : length c.rows.result.now ≡ length (list_at c.args.chart.now.cells c.args.r) =
-    ap length (c.rows.ensures ∙ c.in_ok-own.ensures.rows) ∙ length-map c.cells-cells.result.now (row_at c.deref.result.now) ∙ ap length c.cells-cells.ensures.list in
-    omega (arith, long, here.few)
+    omega (arith, c.in_ok-cells.ensures.placed.origin_each, here.few)
 
 step-is : (c : goal.In_ok-trail) → c.index-step.result.now ≡ slice_index c.args.start.now.steps c.args.r
 step-is c =
     c.index-step.ensures ∙ ap (λ start. get_or start.steps c.args.r c.index-step.result.now) c.start.view_is ∙
     get_or_default c.args.start.now.steps c.args.r c.index-step.result.now 0 (omega (arith, c.requires.fits.one_each, c.requires.there))
 
-rows-are : (c : goal.In_ok-trail) → c.in_ok-own.own.rows ≡ map (row_at c.args.start.now.rows) (list_at c.args.chart.now.cells c.args.r)
-rows-are c =
-    let read = c.deref.ensures.value ∙ ap (λ start. start.rows) c.start.view_is in
-    c.in_ok-own.ensures.rows ∙ ap (λ rows. map (row_at rows) c.cells-cells.result.now) read ∙ ap (map (row_at c.args.start.now.rows)) c.cells-cells.ensures.list
-
-before-are : (c : goal.In_ok-trail) → c.in_ok-own.own.before ≡ map (slice_index c.args.start.now.earlier) (list_at c.args.chart.now.cells c.args.r)
-before-are c =
-    let read = c.deref-2.ensures.value ∙ ap (λ start. start.earlier) c.start.view_is in
-    c.in_ok-own.ensures.before ∙ ap (λ earlier. map (slice_index earlier) c.cells-cells.result.now) read ∙ ap (map (slice_index c.args.start.now.earlier)) c.cells-cells.ensures.list
-
 put-is : (c : goal.In_ok-trail) → c.in_ok-put.put.items ≡ replicate (length (list_at c.args.chart.now.halo c.args.r)) None
 put-is c = c.in_ok-put.ensures ∙ ap (λ n. replicate n None) (ap length c.halo.ensures.list)
 
 notes-are : (c : goal.In_ok-trail) → c.in_ok-trail.trail.items ≡
-    (if is_recorded c.args.net.now.steps c.args.every (slice_index c.args.start.now.steps c.args.r) then notes_of c.in_ok-own.own.rows else [])
+    (if is_recorded c.args.net.now.steps c.args.every (slice_index c.args.start.now.steps c.args.r) then notes_of (rows_of c.in_ok-cells.cells.origins c.in_ok-cells.cells.places) else [])
 notes-are c =
     let steps : c.net.inside.steps ≡ c.args.net.now.steps = ap (λ net. net.steps) c.net.view_is in
-    c.in_ok-trail.ensures.notes ∙ ap (λ rows. if is_recorded c.net.inside.steps c.args.every c.index-step.result.now then notes_of rows else []) c.rows.ensures ∙
-    ap (λ n. if is_recorded n c.args.every c.index-step.result.now then notes_of c.in_ok-own.own.rows else []) steps ∙
-    ap (λ s. if is_recorded c.args.net.now.steps c.args.every s then notes_of c.in_ok-own.own.rows else []) (step-is c)
+    let rows : List Row = rows_of c.in_ok-cells.cells.origins c.in_ok-cells.cells.places in
+    c.in_ok-trail.ensures.notes ∙
+    ap (λ n. if is_recorded n c.args.every c.index-step.result.now then notes_of rows else []) steps ∙
+    ap (λ s. if is_recorded c.args.net.now.steps c.args.every s then notes_of rows else []) (step-is c)
 
 pub returns-clause-opened : goal.returns-clause-opened
 returns-clause-opened c =
     let cells : List ℕ = list_at c.args.chart.now.cells c.args.r in
     let steps : c.net.inside.steps ≡ c.args.net.now.steps = ap (λ net. net.steps) c.net.view_is in
-    let rows_long : length c.in_ok-own.own.rows ≡ length cells = ap length (rows-are c) ∙ length-map cells (row_at c.args.start.now.rows) in
-    let deref_long : length c.rows.result.now ≡ length cells = ap length c.rows.ensures ∙ rows_long in
+    let laid = c.in_ok-cells.ensures.placed in
     let step_within : c.index-step.result.now ≤ c.args.net.now.steps = omega (arith, step-is c, c.requires.fits.in_time c.args.r 0 (omega (arith, c.requires.fits.one_each, c.requires.there))) in
     record {
       charted = c.requires.chart;
       one_of = record {
         there = c.requires.there;
-        rows = rows_long;
-        before = ap length (before-are c) ∙ length-map cells (slice_index c.args.start.now.earlier);
+        rows = ap length c.in_ok-cells.ensures.rows ∙ length-map cells (row_at c.args.start.now.rows);
+        before = ap length c.in_ok-cells.ensures.before ∙ length-map cells (slice_index c.args.start.now.earlier);
         put = ap length (put-is c) ∙ length-replicate (length (list_at c.args.chart.now.halo c.args.r)) None;
-        border = c.in_ok-wiring.ensures.border;
+        border = rw (c.cells.ensures.list, c.border.ensures.list) at c.in_ok-border.ensures;
       };
       in_time = step_within;
-      ties = c.in_ok-wiring.ensures.ties;
-      room = rw (steps, deref_long) at c.in_ok-trail.ensures.room;
+      placed = rw (step-is c) laid;
+      row_each = refl;
+      room = rw (steps, laid.origin_each) at c.in_ok-trail.ensures.room;
     }
 
 pub returns-clause-state : goal.returns-clause-state
 returns-clause-state c =
     let steps : c.net.inside.steps ≡ c.args.net.now.steps = ap (λ net. net.steps) c.net.view_is in
     grid_state-start c.args.net.now c.args.chart.now c.args.start.now c.args.every c.args.r _ (subst IsNetwork c.net.view_is c.net.invariant) c.requires.chart c.requires.there
-    refl (step-is c) refl (step-is c) (rows-are c) (before-are c)
+    refl (step-is c) refl (step-is c) c.in_ok-cells.ensures.rows c.in_ok-cells.ensures.before
     (notes-are c)
     (put-is c)
 
@@ -102,18 +93,6 @@ returns-clause-bounds c = stay_in_bounds c.args.net.now c.args.chart.now.cut c.a
 pub returns-clause-recurrences : goal.returns-clause-recurrences
 returns-clause-recurrences c = are_the_recurrences c.args.net.now c.args.chart.now.cut c.args.start.now (subst IsNetwork c.net.view_is c.net.invariant)
 
-pub returns-in_err-wiring-clause-bounds : goal.returns-in_err-wiring-clause-bounds
-returns-in_err-wiring-clause-bounds c = stay_in_bounds c.args.net.now c.args.chart.now.cut c.args.start.now (subst IsNetwork c.net.view_is c.net.invariant) c.requires.fits
-
-pub returns-in_err-wiring-clause-recurrences : goal.returns-in_err-wiring-clause-recurrences
-returns-in_err-wiring-clause-recurrences c = are_the_recurrences c.args.net.now c.args.chart.now.cut c.args.start.now (subst IsNetwork c.net.view_is c.net.invariant)
-
-pub returns-in_err-own-clause-bounds : goal.returns-in_err-own-clause-bounds
-returns-in_err-own-clause-bounds c = stay_in_bounds c.args.net.now c.args.chart.now.cut c.args.start.now (subst IsNetwork c.net.view_is c.net.invariant) c.requires.fits
-
-pub returns-in_err-own-clause-recurrences : goal.returns-in_err-own-clause-recurrences
-returns-in_err-own-clause-recurrences c = are_the_recurrences c.args.net.now c.args.chart.now.cut c.args.start.now (subst IsNetwork c.net.view_is c.net.invariant)
-
 pub returns-in_err-put-clause-bounds : goal.returns-in_err-put-clause-bounds
 returns-in_err-put-clause-bounds c = stay_in_bounds c.args.net.now c.args.chart.now.cut c.args.start.now (subst IsNetwork c.net.view_is c.net.invariant) c.requires.fits
 
@@ -125,3 +104,15 @@ returns-in_err-trail-clause-bounds c = stay_in_bounds c.args.net.now c.args.char
 
 pub returns-in_err-trail-clause-recurrences : goal.returns-in_err-trail-clause-recurrences
 returns-in_err-trail-clause-recurrences c = are_the_recurrences c.args.net.now c.args.chart.now.cut c.args.start.now (subst IsNetwork c.net.view_is c.net.invariant)
+
+pub returns-in_err-cells-clause-bounds : goal.returns-in_err-cells-clause-bounds
+returns-in_err-cells-clause-bounds c = stay_in_bounds c.args.net.now c.args.chart.now.cut c.args.start.now (subst IsNetwork c.net.view_is c.net.invariant) c.requires.fits
+
+pub returns-in_err-cells-clause-recurrences : goal.returns-in_err-cells-clause-recurrences
+returns-in_err-cells-clause-recurrences c = are_the_recurrences c.args.net.now c.args.chart.now.cut c.args.start.now (subst IsNetwork c.net.view_is c.net.invariant)
+
+pub returns-in_err-border-clause-bounds : goal.returns-in_err-border-clause-bounds
+returns-in_err-border-clause-bounds c = stay_in_bounds c.args.net.now c.args.chart.now.cut c.args.start.now (subst IsNetwork c.net.view_is c.net.invariant) c.requires.fits
+
+pub returns-in_err-border-clause-recurrences : goal.returns-in_err-border-clause-recurrences
+returns-in_err-border-clause-recurrences c = are_the_recurrences c.args.net.now c.args.chart.now.cut c.args.start.now (subst IsNetwork c.net.view_is c.net.invariant)

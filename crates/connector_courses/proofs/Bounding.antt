@@ -1,0 +1,101 @@
+-- What bounds the flow of a connector, by what it is made of.
+use Rattle.std.specs.Prelude.{Option, Some, None}
+use Rattle.std.proofs.Common.{◌≡◌, ℕ, ◌<◌, ◌≤◌, refl, sym, ap, subst, ◌∙◌, arith}
+use Rattle.timelines.specs.Courses.{IsSteady}
+use Rattle.signal_plan.specs.declared.bounds.TheConstants.{MOST_STEPS}
+use Rattle.connector_courses.specs.Courses.{AreInForce, AreKept, HaveCome, cell_most, limits_at, limits_in, moved_to}
+use Rattle.connector_courses.specs.Weights.{AreWeights, weights_at}
+use Rattle.connector_courses.specs.declared.courses.Courses.{Courses}
+use Rattle.connector_courses.specs.declared.limits.Limits.{Limits}
+
+pub limits-are : (courses : Courses) (limits : Limits) (t : ℕ) → limits.first ≡ cell_most courses.first t → limits.second ≡ cell_most courses.second t →
+    limits.third ≡ cell_most courses.third t → limits.weights ≡ weights_at courses.weights t → limits ≡ limits_at courses t
+unfolding limits_at
+limits-are courses limits t first second third weights = rw (← first, ← second, ← third, ← weights) refl
+
+pub limits-same : (courses : Courses) (s t : ℕ) → cell_most courses.first s ≡ cell_most courses.first t →
+    cell_most courses.second s ≡ cell_most courses.second t → cell_most courses.third s ≡ cell_most courses.third t →
+    weights_at courses.weights s ≡ weights_at courses.weights t → limits_at courses s ≡ limits_at courses t
+unfolding limits_at
+limits-same courses s t first second third weights = rw (first, second, third, weights) refl
+
+-- the steps that were come to have no part in them
+pub limits-moved : (courses : Courses) (t s : ℕ) → limits_at (moved_to courses t) s ≡ limits_at courses s
+unfolding limits_at cell_most weights_at
+limits-moved courses t s = refl
+
+pub weights-moved : (courses : Courses) (t : ℕ) → AreWeights courses.weights → AreWeights (moved_to courses t).weights
+unfolding weights_at
+weights-moved courses t within = record { first = within.first; second = within.second }
+
+pub come-moved : (courses : Courses) (t : ℕ) → HaveCome (moved_to courses t) t
+come-moved courses t = record {
+  first = omega arith;
+  second = omega arith;
+  third = omega arith;
+  weight = omega arith;
+  weight_second = omega arith;
+}
+
+-- what is in force once they have come to step t
+pub in_force-moved : (courses : Courses) (limits : Limits) (t until : ℕ) → limits ≡ limits_at courses t → IsSteady (limits_at courses) t until → t < until →
+    AreWeights courses.weights → AreInForce (moved_to courses t) limits t until
+in_force-moved courses limits t until is steady later weights = record {
+  steady = λ s from within. limits-moved courses t s ∙ steady s from within ∙ sym is;
+  later = later;
+  come = come-moved courses t;
+  weights = weights-moved courses t weights;
+}
+
+-- where nothing changes by step t it stays in force
+pub in_force-later : (courses : Courses) (limits : Limits) (step t until : ℕ) → AreInForce courses limits step until → step ≤ t → t < until →
+    AreInForce courses limits t until
+in_force-later courses limits step t until has forward before =
+    let come = has.come in
+    record {
+      steady = λ s from within. has.steady s (omega arith) within;
+      later = before;
+      come = record {
+        first = omega (arith, come.first);
+        second = omega (arith, come.second);
+        third = omega (arith, come.third);
+        weight = omega (arith, come.weight);
+        weight_second = omega (arith, come.weight_second);
+      };
+      weights = has.weights;
+    }
+
+-- the weights that are in force
+weights-in_force : (courses : Courses) (limits : Limits) (step until : ℕ) → AreInForce courses limits step until →
+    (1 ≤ limits.weights.0) × (1 ≤ limits.weights.1)
+unfolding limits_at
+weights-in_force courses limits step until has =
+    let weights = ap (λ one. one.weights) (has.steady step (omega arith) has.later) in
+    (subst (λ pair. 1 ≤ pair.0) weights (has.weights.first step).0, subst (λ pair. 1 ≤ pair.1) weights (has.weights.second step).0)
+
+pub kept-weights : (courses : Option Courses) (limits : Limits) (step until : ℕ) → AreKept courses limits step until →
+    (1 ≤ limits.weights.0) × (1 ≤ limits.weights.1)
+kept-weights None limits step until has = (has.first.0, has.second.0)
+kept-weights (Some courses) limits step until has = weights-in_force courses limits step until has
+
+-- what is kept is in force at its step
+pub kept-limits : (courses : Option Courses) (limits : Limits) (step until : ℕ) → AreKept courses limits step until → limits_in courses limits step ≡ limits
+unfolding limits_in
+kept-limits None limits step until has = refl
+kept-limits (Some courses) limits step until has = has.steady step (omega arith) has.later
+
+-- and later, where nothing changes by then
+pub kept-later : (courses : Option Courses) (limits : Limits) (step t until : ℕ) → AreKept courses limits step until → step ≤ t → t < until →
+    AreKept courses limits t until
+kept-later None limits step t until has forward before = has
+kept-later (Some courses) limits step t until has forward before = in_force-later courses limits step t until has forward before
+
+pub kept-lasting : (courses : Option Courses) (limits : Limits) (step t until : ℕ) → courses ≡ None → AreKept courses limits step until → t ≤ MOST_STEPS →
+    AreKept courses limits t until
+kept-lasting None limits step t until none has in_time = has
+kept-lasting (Some courses) limits step t until none has in_time = cc
+
+-- the limits in each step are the same once they have come to step t
+pub limits_in-moved : (courses : Courses) (old new : Limits) (t s : ℕ) → limits_in (Some (moved_to courses t)) new s ≡ limits_in (Some courses) old s
+unfolding limits_in
+limits_in-moved courses old new t s = limits-moved courses t s

@@ -1,0 +1,5 @@
+pub mod Cells
+pub mod Weights
+pub mod Bounding
+pub mod Spaces
+pub mod Made

@@ -1,0 +1,90 @@
+-- What bounds the flow of a connector from step to step.
+use Rattle.std.specs.Prelude.{◌≡◌, ℕ, ◌<◌, ◌≤◌, Bool, true, false, List, Option, Some, None, slice_index, if◌then◌else◌}
+use Rattle.signal_plan.specs.Capacity.{capacity_at}
+use Rattle.signal_plan.specs.Green.{green_at}
+use Rattle.signal_plan.specs.Records.{PlanRecords}
+use Rattle.signal_plan.specs.declared.bounds.TheConstants.{MOST_STEPS}
+use Rattle.timelines.specs.Courses.{light_at, value_at}
+use Rattle.connector_courses.specs.Weights.{AreWeights, IsWeight, weights_at}
+use Rattle.connector_courses.specs.declared.cell_course.CellCourse.{CellCourse}
+use Rattle.connector_courses.specs.declared.courses.Courses.{Courses}
+use Rattle.connector_courses.specs.declared.limits.Limits.{Limits}
+use Rattle.connector_courses.specs.declared.rule.Rule.{Rule}
+use Rattle.connector_courses.specs.declared.rule.Rule.TheVariants.{Linking, Merging, Diverging}
+use Rattle.connector_courses.specs.declared.weight_course.WeightCourse.{WeightCourse}
+
+-- the most that the cell sends or receives in step t
+unfoldable pub cell_most : CellCourse → (t : ℕ) → ℕ
+cell_most cell t = if light_at cell.signal t then value_at cell.capacity t else 0
+
+-- the light of a cell that sends; one that receives is never held back
+abbrev pub green_by : PlanRecords → (cell : ℕ) → (sends : Bool) → (t : ℕ) → Bool
+green_by plan cell sends t = if sends then green_at plan cell t else true
+
+-- the most that the cell sends or receives by the plan
+unfoldable pub most_by : PlanRecords → (cell : ℕ) → (sends : Bool) → (t : ℕ) → ℕ
+most_by plan cell sends t = if green_by plan cell sends t then capacity_at plan cell t else 0
+
+-- the second cell of a merge sends, and that of any other connector receives
+abbrev pub sends_second : Rule → Bool
+sends_second Linking = false
+sends_second Merging = true
+sends_second Diverging = false
+
+-- what bounds the flow in step t
+unfoldable pub limits_at : Courses → (t : ℕ) → Limits
+limits_at courses t = record {
+  first = cell_most courses.first t;
+  second = cell_most courses.second t;
+  third = cell_most courses.third t;
+  weights = weights_at courses.weights t;
+}
+
+-- the same by the plan, of a connector of these cells
+abbrev pub limits_by : PlanRecords → Rule → (cells : List ℕ) → WeightCourse → (t : ℕ) → Limits
+limits_by plan rule cells weights t = record {
+  first = most_by plan (slice_index cells 0) true t;
+  second = most_by plan (slice_index cells 1) (sends_second rule) t;
+  third = most_by plan (slice_index cells 2) false t;
+  weights = weights_at weights t;
+}
+
+-- each has come to no step past t
+pub record HaveCome (courses : Courses) (t : ℕ) : Type 0 where
+  pub first : courses.first.capacity.step ≤ t
+  pub second : courses.second.capacity.step ≤ t
+  pub third : courses.third.capacity.step ≤ t
+  pub weight : courses.weights.first.step ≤ t
+  pub weight_second : courses.weights.second.step ≤ t
+
+-- as they are once they have come to step t
+abbrev pub moved_to : Courses → (t : ℕ) → Courses
+moved_to courses t = record {
+  first = record courses.first { capacity = record courses.first.capacity { step = t } };
+  second = record courses.second { capacity = record courses.second.capacity { step = t } };
+  third = record courses.third { capacity = record courses.third.capacity { step = t } };
+  weights = record { first = record courses.weights.first { step = t }; second = record courses.weights.second { step = t } };
+}
+
+-- these limits are in force from the step on until another
+pub record AreInForce (courses : Courses) (limits : Limits) (step until : ℕ) : Type 0 where
+  pub steady : (t : ℕ) → step ≤ t → t < until → limits_at courses t ≡ limits
+  pub later : step < until
+  pub come : HaveCome courses step
+  pub weights : AreWeights courses.weights
+
+-- they stay past the last step that there may be
+pub record AreLasting (limits : Limits) (until : ℕ) : Type 0 where
+  pub later : MOST_STEPS < until
+  pub first : IsWeight limits.weights.0
+  pub second : IsWeight limits.weights.1
+
+-- where nothing changes no courses are kept
+abbrev pub AreKept : Option Courses → Limits → (step until : ℕ) → Type 0
+AreKept None limits step until = AreLasting limits until
+AreKept (Some courses) limits step until = AreInForce courses limits step until
+
+-- what bounds the flow in step t by the courses that are kept, or by limits that never change
+unfoldable pub limits_in : Option Courses → Limits → (t : ℕ) → Limits
+limits_in None limits t = limits
+limits_in (Some courses) limits t = limits_at courses t

@@ -1,0 +1,86 @@
+ghost use Rattle.std.specs.Prelude.{◌≡◌, ◌≤◌, ◌<◌, ℕ, All, IfOk, length};
+ghost use Rattle.timelines.specs.Courses.{IsSteady};
+ghost use Rattle.connector_courses.specs.Courses.{HaveCome, limits_at, limits_by, moved_to, sends_second};
+ghost use Rattle.connector_courses.specs.Weights.{AreWeights};
+
+use crate::cell_course::CellCourse;
+use crate::limits::Limits;
+use crate::rule::Rule;
+use crate::weight_course::WeightCourse;
+use signal_plan::{MOST_STEPS, NoMemory, Plan};
+use std::alloc::Global;
+use timelines::Now;
+
+/// What bounds the flow of a connector, followed forward from step 0.
+#[derive(Debug, Drop)]
+pub(crate) struct Courses {
+    pub(crate) first: CellCourse,
+    pub(crate) second: CellCourse,
+    pub(crate) third: CellCourse,
+    pub(crate) weights: WeightCourse,
+}
+
+impl Courses {
+    /// Those of a connector of these cells that carries by this rule with these weights.
+    pub(crate) fn new(
+        alloc: Global,
+        plan: &Plan,
+        rule: Rule,
+        cells: [u32; 3],
+        weights: WeightCourse,
+    ) -> Result<Courses, NoMemory>
+        requires cells { All (λ i. i < length plan.now.cells) cells }
+        requires step { weights.first.step ≡ 0 }
+        requires step_second { weights.second.step ≡ 0 }
+        ensures limits { IfOk result (λ courses. (t : ℕ) → limits_at courses t ≡ limits_by plan.now rule cells weights t) }
+        ensures weights { IfOk result (λ courses. courses.weights ≡ weights) }
+        ensures step { IfOk result (λ courses. HaveCome courses 0) }
+    {
+        let [a, b, c] = cells;
+        Ok(Courses {
+            first: CellCourse::new(alloc, plan, a, true)?,
+            second: CellCourse::new(alloc, plan, b, sends_second(rule))?,
+            third: CellCourse::new(alloc, plan, c, false)?,
+            weights,
+        })
+    }
+
+    /// Follows them to step `t`, and tells what is in force from there on.
+    pub(crate) fn move_to(&mut self, t: u64) -> Now<Limits>
+        requires forward { HaveCome self.old t }
+        requires in_time { t ≤ MOST_STEPS }
+        requires weights { AreWeights self.old.weights }
+        ensures value { result.value ≡ limits_at self.old t }
+        ensures steady { IsSteady (limits_at self.old) t result.until }
+        ensures later { t < result.until }
+        ensures moved { self.new ≡ moved_to self.old t }
+    {
+        let first = self.first.move_to(t);
+        let second = self.second.move_to(t);
+        let third = self.third.move_to(t);
+        let weights = self.weights.move_to(t);
+        Now {
+            value: Limits {
+                first: first.value,
+                second: second.value,
+                third: third.value,
+                weights: weights.value,
+            },
+            until: first
+                .until
+                .min(second.until)
+                .min(third.until)
+                .min(weights.until),
+        }
+    }
+}
+
+// Whether the second of its cells sends.
+fn sends_second(rule: Rule) -> bool
+    ensures { result ≡ sends_second rule }
+{
+    match rule {
+        Rule::Merging => true,
+        Rule::Linking | Rule::Diverging => false,
+    }
+}

@@ -1,0 +1,22 @@
+//! What a connector carries in a step, and what a gate demands, followed forward step by step.
+//!
+//! A course keeps what its cells send and receive at most at its step, and up to which step that stays. As long as it
+//! stays a step asks nothing of the plan, however many records it has.
+#![tactic(auto)]
+
+mod carrying;
+mod cell_course;
+mod cell_space;
+mod connector_course;
+mod courses;
+mod demand_course;
+mod limits;
+mod rule;
+#[cfg(test)]
+mod tests;
+mod weight_course;
+
+pub use cell_space::space_of;
+pub use connector_course::ConnectorCourse;
+pub use demand_course::DemandCourse;
+pub use rule::Rule;

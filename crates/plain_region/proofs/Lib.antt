@@ -1,0 +1,5 @@
+pub mod Places
+pub mod Changes
+pub mod Carrying
+pub mod Advancing
+pub mod Telling

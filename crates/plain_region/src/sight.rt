@@ -1,0 +1,29 @@
+ghost use Rattle.std.specs.Prelude.{◌≡◌};
+ghost use Rattle.plain_region.specs.Carrying.{held_at, IsThere};
+
+use crate::place::Place;
+use flow_model::Row;
+
+/// What a region sees of the cells around it as its step begins: its own by their rows, those of its halo by what was
+/// put there.
+#[derive(Clone, Copy)]
+pub(crate) struct Sight<'a> {
+    pub(crate) rows: &'a [Row],
+    pub(crate) put: &'a [Option<u64>],
+}
+
+impl Sight<'_> {
+    /// What the cell at a place holds.
+    pub(crate) fn held(&self, place: Place) -> u64
+        requires { IsThere self.now.rows.now self.now.put.now place }
+        ensures { result ≡ held_at self.now.rows.now self.now.put.now place }
+    {
+        match place {
+            Place::Own(p) => self.rows[p as usize].n,
+            Place::Halo(p) => match self.put[p as usize] {
+                Some(n) => n,
+                None => 0,
+            },
+        }
+    }
+}
