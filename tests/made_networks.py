@@ -1,18 +1,19 @@
-"""Networks that are made of a number, for the tests and for bench/stress: the same number makes the same network."""
+"""Networks that are made of a number, for the tests and for scripts of bench: the same number makes the same network."""
 
 import random
 
 
-def made_network(seed, cells, steps, parts=1, regions=0):
+def made_network(seed, cells, steps, parts=1, regions=0, filled=1):
     """A network file, as bytes, of about so many cells in so many parts that nothing joins, with lots of junctions.
 
     Each part grows from a gate by links, merges and diverges, some of which lead back to roads that stand before them
     in the file, and ends in exits and in roads out of which nothing leads. There are signals, limits, demands and
     turns, and amounts that don't come out even. The cells stand in the file in an order of their own. Where `regions`
-    isn't 0, the file deals the cells out to as many regions, or to as many as there are cells.
+    isn't 0, the file deals the cells out to as many regions, or to as many as there are cells. Where `filled` is below 1,
+    only so many of the roads and gates, of 1, hold something at first, and only so many of the demands bring anything.
     """
     draw = random.Random(seed)
-    made = Making(draw, steps)
+    made = Making(draw, steps, filled)
     for part in range(parts):
         made.grow(cells * (part + 1) // parts)
     return made.text(regions)
@@ -21,9 +22,10 @@ def made_network(seed, cells, steps, parts=1, regions=0):
 class Making:
     """A network while it is made: the record of each cell, those of the connectors, and those that stand behind."""
 
-    def __init__(self, draw, steps):
+    def __init__(self, draw, steps, filled):
         self.draw = draw
         self.steps = steps
+        self.filled = filled
         self.cells = []
         self.connectors = []
         self.behind = []
@@ -33,6 +35,10 @@ class Making:
         """An amount up to a number of vehicles: a whole one, or one that doesn't come out even."""
         parts = self.draw.randint(0, most * 1_000_000)
         return f"{parts // 1_000_000}" if self.draw.random() < 0.5 else f"{parts / 1_000_000:.6f}"
+
+    def held(self, most):
+        """An amount, or 0 where nothing is to be there."""
+        return self.amount(most) if self.filled == 1 or self.draw.random() < self.filled else "0"
 
     def range(self):
         """The first step of a range of steps and the one past its last."""
@@ -55,16 +61,16 @@ class Making:
         return name
 
     def gate(self):
-        name = self.cell("gate", f"{self.draw.randint(1, 6)},{self.amount(20)}")
+        name = self.cell("gate", f"{self.draw.randint(1, 6)},{self.held(20)}")
         for _ in range(self.draw.randint(1, 3)):
-            self.behind.append(f"demand,{name},{self.range()},{self.amount(3)}")
+            self.behind.append(f"demand,{name},{self.range()},{self.held(3)}")
         return name
 
     def road(self):
         room = self.draw.randint(2, 20)
         slow = self.draw.randint(1, 5)
         fast = self.draw.randint(slow, 7)
-        return self.cell("road", f"{room},{self.draw.randint(1, 8)},{slow},{fast},{self.amount(room)}")
+        return self.cell("road", f"{room},{self.draw.randint(1, 8)},{slow},{fast},{self.held(room)}")
 
     def next_road(self, ends):
         """A road into which nothing leads: a new one, or one that was kept for a way back."""
