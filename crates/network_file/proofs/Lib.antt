@@ -1,7 +1,6 @@
 pub mod CellLemmas
 pub mod ConnectorLemmas
 pub mod NetworkFacts
-pub mod NumberLemmas
 pub mod ReadingLemmas
 pub mod RecordLemmas
 pub mod SoundLemmas
@@ -10,6 +9,7 @@ mod ConvertedLemmas
 mod CuttingLemmas
 mod JoinedLemmas
 mod KindWords
+mod NameLemmas
 mod PlainLines
 mod PlainText
 mod TakenFields

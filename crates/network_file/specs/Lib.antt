@@ -11,9 +11,9 @@ pub mod Fields
 pub mod FileRecords
 pub mod Formats
 pub mod Marks
+pub mod NameIndexing
 pub mod NetView
 pub mod Network
-pub mod NumbersByName
 pub mod Reading
 pub mod Refused
 pub mod Regions

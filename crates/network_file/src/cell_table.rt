@@ -1,18 +1,26 @@
 ghost use Rattle.std.specs.Prelude.{◌≡◌, ◌<◌, ◌≤◌, ◌*◌, ◌^◌, sum_by, ◌++◌, ◌∷◌, [], None, IfOk, IfSome, length};
 ghost use Rattle.network_file.specs.Cells.{cell_named, is_exit_at, is_gate_at};
+ghost use Rattle.network_file.specs.declared.limits.TheConstants.{MOST_BYTES};
 ghost use Rattle.signal_plan.specs.declared.bounds.TheConstants.{MOST_RECORDS};
 
 use crate::cell::{Cell, Kind};
+use crate::limits::MOST_BYTES;
+use crate::name_index::NameIndex;
 use signal_plan::{MOST_RECORDS, NoMemory};
 use std::alloc::Global;
-use std::collections::BTreeMap;
 use std::marker::Model;
 
-/// The cells read so far, in order, with the number of each under its name.
+/// The cells read so far, in order, with an index of their names.
 #[derive(Drop)]
 pub(crate) struct CellTable {
+    // Behind a pointer, since each record hands the table on.
+    parts: Box<CellParts>,
+}
+
+#[derive(Drop)]
+struct CellParts {
     cells: Vec<Cell>,
-    numbers: BTreeMap<Vec<u8>, u32>,
+    index: NameIndex,
 }
 
 impl Model for CellTable {
@@ -21,30 +29,32 @@ impl Model for CellTable {
 
     ghost Value = { List Cell };
 
-    ghost use Rattle.std.specs.Prelude.{◌≡◌, ◌≤◌, ℕ, length};
-    ghost use Rattle.network_file.specs.Cells.{cell_named};
-    ghost use Rattle.network_file.specs.NumbersByName.{number_under};
-    ghost use Rattle.signal_plan.specs.declared.bounds.TheConstants.{MOST_RECORDS};
+    ghost use Rattle.network_file.specs.NameIndexing.{IsIndexOf};
 
-    ghost view = { λ a. a.cells.items };
+    ghost view = { λ a. a.parts.value.cells.items };
 
-    ghost invariant = { λ a. (length a.cells.items ≤ MOST_RECORDS) × ((name : List ℕ) → number_under a.numbers name ≡ cell_named a.cells.items name) };
+    ghost invariant = { λ a. IsIndexOf a.parts.value.index a.parts.value.cells.items };
 }
 
 impl CellTable {
-    pub(crate) fn new(alloc: Global) -> CellTable
-        ensures { result ≡ [] }
+    /// Without cells, for those of a file.
+    pub(crate) fn of_file(alloc: Global, bytes: &[u8]) -> Result<CellTable, NoMemory>
+        requires { length bytes.now ≤ MOST_BYTES }
+        ensures { IfOk result (λ cells. cells ≡ []) }
     {
-        CellTable {
+        let parts = CellParts {
             cells: Vec::new(alloc),
-            numbers: BTreeMap::new(alloc),
-        }
+            index: NameIndex::of_file(alloc, bytes)?,
+        };
+        Ok(CellTable {
+            parts: Box::new(alloc, parts)?,
+        })
     }
 
     pub(crate) fn len(&self) -> usize
         ensures { result ≡ length self.now }
     {
-        self.cells.len()
+        self.parts.cells.len()
     }
 
     /// The number of the cell of this name.
@@ -52,13 +62,13 @@ impl CellTable {
         ensures value { result ≡ cell_named self.now name.now }
         ensures there { IfSome result (λ cell. cell < length self.now) }
     {
-        self.numbers.get(name).copied()
+        self.parts.index.find(&self.parts.cells, name)
     }
 
     pub(crate) fn is_gate(&self, cell: u32) -> bool
         ensures { result ≡ is_gate_at self.now cell }
     {
-        match self.cells.get(cell as usize) {
+        match self.parts.cells.get(cell as usize) {
             Some(cell) => matches!(cell.kind, Kind::Gate),
             None => false,
         }
@@ -67,7 +77,7 @@ impl CellTable {
     pub(crate) fn is_exit(&self, cell: u32) -> bool
         ensures { result ≡ is_exit_at self.now cell }
     {
-        match self.cells.get(cell as usize) {
+        match self.parts.cells.get(cell as usize) {
             Some(cell) => matches!(cell.kind, Kind::Exit),
             None => false,
         }
@@ -79,33 +89,29 @@ impl CellTable {
         ensures bound { result ≤ MOST_RECORDS * 2 ^ 64 }
     {
         let mut total = 0;
-        for cell in &self.cells {
+        for cell in &self.parts.cells {
             total += u128::from(cell.first);
         }
         total
     }
 
     /// With one more cell, whose name no cell has yet.
-    pub(crate) fn with(self, alloc: Global, cell: Cell) -> Result<CellTable, NoMemory>
+    pub(crate) fn with(self, cell: Cell) -> Result<CellTable, NoMemory>
         requires room { length self < MOST_RECORDS }
         requires fresh { cell_named self cell.name ≡ None }
         ensures { IfOk result (λ more. more ≡ self ++ cell ∷ []) }
     {
-        let CellTable {
-            mut cells,
-            mut numbers,
-        } = self;
-        let mut name = Vec::new(alloc);
-        name.extend_from_slice(cell.name.bytes())?;
-        numbers.insert(name, cells.len() as u32)?;
+        let CellTable { mut parts } = self;
+        let CellParts { cells, index } = &mut *parts;
+        index.add(cells, &cell)?;
         cells.push(cell)?;
-        Ok(CellTable { cells, numbers })
+        Ok(CellTable { parts })
     }
 
     pub(crate) fn into_cells(self) -> Vec<Cell>
         ensures { result.items ≡ self }
     {
-        let CellTable { cells, .. } = self;
+        let CellParts { cells, .. } = Box::into_inner(self.parts);
         cells
     }
 }

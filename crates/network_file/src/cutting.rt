@@ -23,7 +23,7 @@ fn marked(alloc: Global, numbers: &[u32]) -> Result<Marks, NoMemory>
 {
     let mut seen = Marks::new(alloc);
     for number in numbers {
-        seen = seen.with(*number)?;
+        seen.mark(*number)?;
     }
     Ok(seen)
 }

@@ -7,13 +7,14 @@ ghost use Rattle.signal_plan.specs.Green.{is_signalled};
 ghost use Rattle.network_file.specs.Formats.{most_records};
 ghost use Rattle.network_file.specs.Regions.{region_in};
 ghost use Rattle.network_file.specs.Taking.{taken_before};
+ghost use Rattle.network_file.specs.declared.limits.TheConstants.{MOST_BYTES};
 ghost use Rattle.network_file.specs.Network.{IsSoundCell, IsSoundConnector};
 
 use crate::cell::Cell;
 use crate::cell_table::CellTable;
 use crate::connector::Connector;
 use crate::connector_table::ConnectorTable;
-use crate::limits::{MOST_CAPACITY, MOST_REGIONS};
+use crate::limits::{MOST_BYTES, MOST_CAPACITY, MOST_REGIONS};
 use crate::record_kind::RecordKind;
 use crate::region_table::RegionTable;
 use fixed_flow::MOST_PARTS;
@@ -28,7 +29,7 @@ pub(crate) struct NetDraft {
     pub(crate) steps: Option<u64>,
     pub(crate) cells: CellTable,
     pub(crate) connectors: ConnectorTable,
-    pub(crate) plan: Plan,
+    pub(crate) plan: Box<Plan>,
     pub(crate) regions: RegionTable,
 }
 
@@ -39,25 +40,30 @@ impl Model for NetDraft {
 
     ghost use Rattle.network_file.specs.Draft.{IsSoundDraft};
 
-    ghost view = { λ a. record { format = a.format; steps = a.steps; cells = a.cells; connectors = a.connectors; plan = a.plan; regions = a.regions } };
+    ghost view = { λ a. record { format = a.format; steps = a.steps; cells = a.cells; connectors = a.connectors; plan = a.plan.value; regions = a.regions } };
 
-    ghost invariant = { λ a. IsSoundDraft (record { format = a.format; steps = a.steps; cells = a.cells; connectors = a.connectors; plan = a.plan; regions = a.regions }) };
+    ghost invariant = { λ a. IsSoundDraft (record { format = a.format; steps = a.steps; cells = a.cells; connectors = a.connectors; plan = a.plan.value; regions = a.regions }) };
 }
 
 impl NetDraft {
-    /// Without records, in a format.
-    pub(crate) fn new(alloc: Global, format: u32) -> NetDraft
-        requires { (format ≡ 1) ⊎ (format ≡ 2) }
-        ensures { result ≡ empty_draft format }
+    /// Without records, for those of a file of a format.
+    pub(crate) fn of_file(alloc: Global, bytes: &[u8], format: u32) -> Result<NetDraft, NoMemory>
+        requires known { (format ≡ 1) ⊎ (format ≡ 2) }
+        requires few { length bytes.now ≤ MOST_BYTES }
+        ensures { IfOk result (λ draft. draft ≡ empty_draft format) }
     {
-        NetDraft {
+        let cells = CellTable::of_file(alloc, bytes)?;
+        let connectors = ConnectorTable::new(alloc)?;
+        let plan = Box::new(alloc, Plan::open(alloc))?;
+        let regions = RegionTable::new(alloc)?;
+        Ok(NetDraft {
             format,
             steps: None,
-            cells: CellTable::new(alloc),
-            connectors: ConnectorTable::new(alloc),
-            plan: Plan::open(alloc),
-            regions: RegionTable::new(alloc),
-        }
+            cells,
+            connectors,
+            plan,
+            regions,
+        })
     }
 
     /// With the number of steps.
@@ -73,12 +79,7 @@ impl NetDraft {
     }
 
     /// With one more cell, of this capacity.
-    pub(crate) fn add_cell(
-        self,
-        alloc: Global,
-        cell: Cell,
-        capacity: u64,
-    ) -> Result<NetDraft, NoMemory>
+    pub(crate) fn add_cell(self, cell: Cell, capacity: u64) -> Result<NetDraft, NoMemory>
         requires room { length self.cells < most_records self.format }
         requires fresh { cell_named self.cells cell.name ≡ None }
         requires sound { IsSoundCell cell }
@@ -87,7 +88,7 @@ impl NetDraft {
     {
         let mut plan = self.plan;
         plan.put_cell(capacity)?;
-        let cells = self.cells.with(alloc, cell)?;
+        let cells = self.cells.with(cell)?;
         Ok(NetDraft {
             cells,
             plan,

@@ -4,6 +4,7 @@
 //! bytes -> records (`csv`) -> a draft that takes one record at a time -> the network.
 #![tactic(auto)]
 
+mod buckets;
 mod cell;
 mod cell_table;
 mod code;
@@ -19,6 +20,7 @@ mod format;
 mod limits;
 mod marks;
 mod name;
+mod name_index;
 mod net;
 mod reading;
 mod record_kind;

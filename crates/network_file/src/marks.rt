@@ -1,4 +1,4 @@
-ghost use Rattle.std.specs.Prelude.{◌≡◌, ◌||◌, ◌==◌, ℕ, false, IfOk};
+ghost use Rattle.std.specs.Prelude.{◌≡◌, ◌||◌, ◌==◌, ℕ, false, OnOk};
 ghost use Rattle.network_file.specs.Marks.{is_marked};
 
 use signal_plan::NoMemory;
@@ -36,16 +36,15 @@ impl Marks {
         }
     }
 
-    /// With one more number in the set.
-    pub(crate) fn with(self, i: u32) -> Result<Marks, NoMemory>
-        ensures { IfOk result (λ more. (j : ℕ) → is_marked more j ≡ ((j == i) || is_marked self j)) }
+    /// Puts one more number into the set.
+    pub(crate) fn mark(&mut self, i: u32) -> Result<(), NoMemory>
+        ensures { OnOk result ((j : ℕ) → is_marked self.new j ≡ ((j == i) || is_marked self.old j)) }
     {
-        let Marks { mut marks } = self;
         let at = i as usize;
-        if marks.len() <= at {
-            marks.resize(at + 1, false)?;
+        if self.marks.len() <= at {
+            self.marks.resize(at + 1, false)?;
         }
-        marks[at] = true;
-        Ok(Marks { marks })
+        self.marks[at] = true;
+        Ok(())
     }
 }

@@ -31,7 +31,7 @@ pub(crate) fn read_file(alloc: Global, bytes: &[u8]) -> Result<Net, NetRefusal>
     let Some(format) = format_of(&row) else {
         return Err(NetRefusal::at(1, Code::NoHeader));
     };
-    let mut draft = NetDraft::new(alloc, format);
+    let mut draft = NetDraft::of_file(alloc, bytes, format)?;
     let mut place = 2;
     while next_record(&mut reader, &mut row)? {
         draft = match take_record(alloc, draft, &row) {
@@ -73,7 +73,7 @@ fn complete(alloc: Global, draft: NetDraft) -> Result<Net, RecordRefusal>
         steps,
         cells: cells.into_cells(),
         connectors: connectors.into_connectors(),
-        plan,
+        plan: Box::into_inner(plan),
         regions,
     })
 }

@@ -84,7 +84,7 @@ fn take_road(alloc: Global, draft: NetDraft, row: &ByteRecord) -> Result<NetDraf
         den,
         first,
     };
-    Ok(draft.add_cell(alloc, cell, capacity)?)
+    Ok(draft.add_cell(cell, capacity)?)
 }
 
 #[tactic(auto, unfolding(crate::specs::Taking::take_gate))]
@@ -96,7 +96,7 @@ fn take_gate(alloc: Global, draft: NetDraft, row: &ByteRecord) -> Result<NetDraf
     let capacity = amount_within(MOST_CAPACITY, field(row, 2))?;
     let first = amount_within(MOST_PARTS, field(row, 3))?;
     let cell = Cell::without_room(name, Kind::Gate, first);
-    Ok(draft.add_cell(alloc, cell, capacity)?)
+    Ok(draft.add_cell(cell, capacity)?)
 }
 
 #[tactic(auto, unfolding(crate::specs::Taking::take_exit))]
@@ -107,7 +107,7 @@ fn take_exit(alloc: Global, draft: NetDraft, row: &ByteRecord) -> Result<NetDraf
     let name = new_name(alloc, &draft.cells, field(row, 1))?;
     let capacity = amount_within(MOST_CAPACITY, field(row, 2))?;
     let cell = Cell::without_room(name, Kind::Exit, 0);
-    Ok(draft.add_cell(alloc, cell, capacity)?)
+    Ok(draft.add_cell(cell, capacity)?)
 }
 
 #[tactic(auto, unfolding(crate::specs::Taking::take_link))]
@@ -160,7 +160,7 @@ fn take_diverge(draft: NetDraft, row: &ByteRecord) -> Result<NetDraft, RecordRef
 fn take_signal(draft: NetDraft, row: &ByteRecord) -> Result<NetDraft, RecordRefusal>
     ensures { Answers result (take_signal draft (fields_of row.now)) }
 {
-    let cell = signal_cell(&draft.cells, &draft.plan, field(row, 1))?;
+    let cell = signal_cell(&draft.cells, &*draft.plan, field(row, 1))?;
     let cycle = whole_within(1, MOST_STEPS, field(row, 2))?;
     let offset = whole_within(0, cycle - 1, field(row, 3))?;
     let (from, to) = range_within(cycle, field(row, 4), field(row, 5))?;

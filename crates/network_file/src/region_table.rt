@@ -1,4 +1,4 @@
-ghost use Rattle.std.specs.Prelude.{◌≡◌, ◌==◌, ◌++◌, ◌∷◌, [], ℕ, None, IfOk, MatchOption, if◌then◌else◌, length, slice_index_or, false, true};
+ghost use Rattle.std.specs.Prelude.{◌≡◌, ◌==◌, ◌++◌, ◌∷◌, [], ℕ, None, IfOk, OnOk, MatchOption, if◌then◌else◌, length, slice_index_or, false, true};
 ghost use Rattle.network_file.specs.Regions.{all_have_regions, region_in, region_numbers};
 
 use crate::region_record::RegionRecord;
@@ -9,6 +9,12 @@ use std::marker::Model;
 /// The region records read so far, in order, with the number of each cell's region under the cell.
 #[derive(Drop)]
 pub(crate) struct RegionTable {
+    // Behind a pointer, since each record hands the table on.
+    parts: Box<RegionParts>,
+}
+
+#[derive(Drop)]
+struct RegionParts {
     records: Vec<RegionRecord>,
     numbers: Vec<Option<u32>>,
 }
@@ -22,32 +28,35 @@ impl Model for RegionTable {
     ghost use Rattle.std.specs.Prelude.{◌≡◌, ℕ, None, slice_index_or};
     ghost use Rattle.network_file.specs.Regions.{region_in};
 
-    ghost view = { λ a. a.records.items };
+    ghost view = { λ a. a.parts.value.records.items };
 
-    ghost invariant = { λ a. (cell : ℕ) → slice_index_or a.numbers.items cell None ≡ region_in a.records.items cell };
+    ghost invariant = { λ a. (cell : ℕ) → slice_index_or a.parts.value.numbers.items cell None ≡ region_in a.parts.value.records.items cell };
 }
 
 impl RegionTable {
-    pub(crate) fn new(alloc: Global) -> RegionTable
-        ensures { result ≡ [] }
+    pub(crate) fn new(alloc: Global) -> Result<RegionTable, NoMemory>
+        ensures { IfOk result (λ regions. regions ≡ []) }
     {
-        RegionTable {
+        let parts = RegionParts {
             records: Vec::new(alloc),
             numbers: Vec::new(alloc),
-        }
+        };
+        Ok(RegionTable {
+            parts: Box::new(alloc, parts)?,
+        })
     }
 
     pub(crate) fn is_empty(&self) -> bool
         ensures { result ≡ (length self.now == 0) }
     {
-        self.records.is_empty()
+        self.parts.records.is_empty()
     }
 
     /// The number of the cell's region, where a record gave it one.
     pub(crate) fn number_of(&self, cell: u32) -> Option<u32>
         ensures { result ≡ region_in self.now cell }
     {
-        match self.numbers.get(cell as usize) {
+        match self.parts.numbers.get(cell as usize) {
             Some(number) => *number,
             None => None,
         }
@@ -58,13 +67,11 @@ impl RegionTable {
         requires { region_in self cell ≡ None }
         ensures { IfOk result (λ more. more ≡ self ++ record { cell = cell; number = number } ∷ []) }
     {
-        let RegionTable {
-            mut records,
-            numbers,
-        } = self;
-        let numbers = with_number(numbers, cell, number)?;
+        let RegionTable { mut parts } = self;
+        let RegionParts { records, numbers } = &mut *parts;
+        put_number(numbers, cell, number)?;
         records.push(RegionRecord { cell, number })?;
-        Ok(RegionTable { records, numbers })
+        Ok(RegionTable { parts })
     }
 
     /// The number of each of so many cells, where each has one.
@@ -83,20 +90,15 @@ impl RegionTable {
     }
 }
 
-// The numbers with that of one more cell.
-fn with_number(
-    numbers: Vec<Option<u32>>,
-    cell: u32,
-    number: u32,
-) -> Result<Vec<Option<u32>>, NoMemory>
-    ensures { IfOk result (λ more. (i : ℕ) → slice_index_or more.items i None
-        ≡ (if i == cell then Some number else slice_index_or numbers.items i None)) }
+// Puts the number of one more cell's region.
+fn put_number(numbers: &mut Vec<Option<u32>>, cell: u32, number: u32) -> Result<(), NoMemory>
+    ensures { OnOk result ((i : ℕ) → slice_index_or numbers.new.items i None
+        ≡ (if i == cell then Some number else slice_index_or numbers.old.items i None)) }
 {
-    let mut numbers = numbers;
     let at = cell as usize;
     if numbers.len() <= at {
         numbers.resize(at + 1, None)?;
     }
     numbers[at] = Some(number);
-    Ok(numbers)
+    Ok(())
 }

@@ -1,5 +1,6 @@
 use Rattle.std.proofs.Common.{rules, ◌≡◌, ◌∙◌, ◌∷◌, [], Bor, List, ℕ, Some, arith, length, sym, ap}
 use Rattle.std.specs.Prelude.{Result}
+use Rattle.std.proofs.lemmas.Result.{err_from_is_err_and}
 use Rattle.csv.specs.Records.{fields_of}
 use Rattle.network_file.specs.FileRecords.{records_left, file_records_of}
 use Rattle.network_file.specs.Network.{Network}
@@ -28,7 +29,7 @@ loop-draft-init c =
     sym c.open_records-reader.ensures.left ∙ c.in_ok-next_record.ensures.found c.if-not-branch.false in
     record {
       reading = c.in_ok-next_record.ensures.reading c.if-not-branch.false;
-      same = rw c.new-draft.ensures (network_of-headed c.args.bytes.now (fields_of c.next_record.new.row) rest c.in-Some.format all (sym c.format_of.ensures.value ∙ c.in-Some.is));
+      same = rw c.in_ok-draft.ensures (network_of-headed c.args.bytes.now (fields_of c.next_record.new.row) rest c.in-Some.format all (sym c.format_of.ensures.value ∙ c.in-Some.is));
       few = omega (arith, length-file_records_of c.args.bytes.now, ap length all);
     }
 
@@ -63,3 +64,8 @@ pub returns-clause-refusal : goal.returns-clause-refusal
 returns-clause-refusal c =
     let whole = completes (network_of c.args.bytes.now) c.loop-draft.place c.loop-draft.draft _ c.loop-draft.invariant.same (c.in_ok-next_record-2.ensures.end c.if-branch.false) in
     rw (c.at-in-Err-complete.ensures, whole) (completed-refused c.loop-draft.place c.loop-draft.draft c.in-Err-complete.refusal c.in-Err-complete.ensures)
+
+pub returns-in_err-next_record-2-clause-refusal : goal.returns-in_err-next_record-2-clause-refusal
+returns-in_err-next_record-2-clause-refusal c =
+    let p = err_from_is_err_and c.from_residual-in_err-next_record-2.result c.from_residual-in_err-next_record-2.ensures.1 in
+    rw (p.1, p.2) tt

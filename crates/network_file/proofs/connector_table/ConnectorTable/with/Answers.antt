@@ -17,10 +17,10 @@ list_any-push p xs x = rw (list_any-append p xs (x ∷ [])) (either (p x) (list_
 
 pub invariant_of-result : goal.invariant_of-result
 invariant_of-result c =
-    let old = c.self.inside.connectors.items in
+    let old = c.self.inside.parts.value.connectors.items in
     let grown : c.push.new.self.items ≡ old ++ c.args.connector ∷ [] = search rules in
     rw grown (
-      λ i. c.in_ok-left.ensures i ∙ rw (c.self.invariant.0 i) (list_any-push (leads_out_of i) old c.args.connector),
-      λ i. c.in_ok-entered.ensures i ∙ rw (c.self.invariant.1 i) (list_any-push (leads_into i) old c.args.connector),
-      λ i. c.in_ok-diverging.ensures i ∙ rw (c.self.invariant.2 i) (list_any-push (diverges_from i) old c.args.connector),
+      λ i. c.in_ok-mark_upstream.ensures i ∙ rw (c.deref_mut.ensures.value, c.self.invariant.0 i) (list_any-push (leads_out_of i) old c.args.connector),
+      λ i. c.in_ok-mark_downstream.ensures i ∙ rw (c.deref_mut.ensures.value, c.self.invariant.1 i) (list_any-push (leads_into i) old c.args.connector),
+      λ i. c.in_ok-mark_diverging.ensures i ∙ rw (c.deref_mut.ensures.value, c.self.invariant.2 i) (list_any-push (diverges_from i) old c.args.connector),
     )

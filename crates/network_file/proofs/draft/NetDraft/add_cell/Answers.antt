@@ -7,13 +7,13 @@ pub invariant_of-result : goal.invariant_of-result
 invariant_of-result c =
     let draft = c.self.inside in
     let cells : c.in_ok-cells.cells ≡ draft.cells ++ c.args.cell ∷ [] = search rules in
-    let plan : c.put_cell.new.self ≡ with_cell draft.plan c.args.capacity = search rules in
+    let plan : c.put_cell.new.self ≡ with_cell draft.plan.value c.args.capacity = search rules in
     let given = rw (← c.self.view_is) at c.requires in
     record {
       format = c.self.invariant.format;
       some_steps = c.self.invariant.some_steps;
       few_steps = c.self.invariant.few_steps;
-      sound = rw (cells, plan) (HasSoundParts-add_cell draft.format draft.cells draft.connectors draft.plan c.args.cell c.args.capacity c.self.invariant.sound given.room
+      sound = rw (cells, plan) (HasSoundParts-add_cell draft.format draft.cells draft.connectors draft.plan.value c.args.cell c.args.capacity c.self.invariant.sound given.room
           given.fresh given.sound given.capacity);
       regions = rw cells (regions-add_cell draft.cells c.args.cell draft.regions c.self.invariant.regions);
     }

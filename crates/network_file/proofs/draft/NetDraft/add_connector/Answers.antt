@@ -11,7 +11,7 @@ invariant_of-result c =
       format = c.self.invariant.format;
       some_steps = c.self.invariant.some_steps;
       few_steps = c.self.invariant.few_steps;
-      sound = rw connectors (HasSoundParts-add_connector draft.format draft.cells draft.connectors draft.plan c.args.connector c.self.invariant.sound given.room
+      sound = rw connectors (HasSoundParts-add_connector draft.format draft.cells draft.connectors draft.plan.value c.args.connector c.self.invariant.sound given.room
           given.sound given.up_free given.down_free);
       regions = c.self.invariant.regions;
     }

@@ -1,12 +1,14 @@
-use Rattle.std.proofs.Common.{arith}
+use Rattle.std.proofs.Common.{◌≡◌, ◌⊎◌, ℕ, arith, rules}
 use Rattle.std.specs.List.{IsDistinct}
 use Rattle.std.proofs.lemmas.List.Elements.{All-nil}
-use Rattle.network_file.proofs.draft.NetDraft.new.Goals as goal
+use Rattle.signal_plan.specs.Records.{no_records}
+use Rattle.network_file.specs.Draft.{IsSoundDraft, empty_draft}
+use Rattle.network_file.proofs.draft.NetDraft.of_file.Goals as goal
 
-pub invariant_of-result : goal.invariant_of-result
+sound-empty_draft : (format : ℕ) → (format ≡ 1) ⊎ (format ≡ 2) → IsSoundDraft (empty_draft format)
 unfolding IsDistinct
-invariant_of-result c = rw (c.new.ensures, c.new-2.ensures, c.open.ensures, c.new-3.ensures) (record {
-  format = c.requires;
+sound-empty_draft format known = record {
+  format = known;
   some_steps = λ steps none. cc none;
   few_steps = λ steps none. cc none;
   sound = record {
@@ -30,4 +32,9 @@ invariant_of-result c = rw (c.new.ensures, c.new-2.ensures, c.open.ensures, c.ne
     };
   };
   regions = All-nil _;
-})
+}
+
+pub invariant_of-result : goal.invariant_of-result
+invariant_of-result c =
+    let plan : c.in_ok-plan.plan.value ≡ no_records = search rules in
+    rw (c.in_ok-cells.ensures, c.in_ok-connectors.ensures, plan, c.in_ok-regions.ensures) (sound-empty_draft c.args.format c.requires.known)
