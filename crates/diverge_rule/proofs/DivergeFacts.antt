@@ -1,7 +1,7 @@
 -- The rule takes as many whole parts as are allowed, and its flows keep the laws.
-use Rattle.std.proofs.Common.{◌≡◌, ℕ, ◌+◌, ◌*◌, ◌/◌, ◌≤◌, arith}
-use Rattle.std.proofs.Math.Nat.{mul-le-mul_right, div-mul-le_self}
-use Rattle.std.proofs.lemmas.Nat.{le-div}
+use Rattle.std.proofs.Common.{◌≡◌, ℕ, ◌+◌, ◌*◌, ◌/◌, ◌<◌, ◌≤◌, min, arith}
+use Rattle.std.proofs.Math.Nat.{div-mul-le_self, mul-le-mul_right}
+use Rattle.std.proofs.lemmas.Nat.{div_below, le-div}
 use Rattle.diverge_rule.specs.Allowed.{IsAllowed}
 use Rattle.diverge_rule.specs.Diverge.{whole_parts, diverge_of}
 
@@ -18,6 +18,13 @@ whole_parts-IsAllowed s r1 r2 b1 b2 = record {
   first = within _ r1 b1 (omega arith);
   second = within _ r2 b2 (omega arith);
 }
+
+-- a branch with room for all of these parts doesn't bind, and one without does
+pub all_within : (parts room share : ℕ) → 1 ≤ share → parts * share ≤ room → parts ≡ min parts (room / share)
+all_within parts room share some fits = omega (arith, le-div parts room share some fits)
+
+pub room_within : (parts room share : ℕ) → 1 ≤ share → room < parts * share → room / share ≡ min parts (room / share)
+room_within parts room share some full = omega (arith, div_below room share parts some full)
 
 -- ---- the laws of the flows, for callers that cite the definition
 

@@ -1,4 +1,4 @@
-ghost use Rattle.std.specs.Prelude.{◌≡◌, ℕ, ◌+◌, ◌*◌, ◌<◌, ◌≤◌, ◌⊎◌};
+ghost use Rattle.std.specs.Prelude.{◌≡◌, ℕ, ◌+◌, ◌*◌, ◌/◌, ◌<◌, ◌≤◌, ◌^◌, ◌⊎◌, min};
 ghost use Rattle.diverge_rule.specs.Diverge.{diverge_of};
 ghost use Rattle.diverge_rule.specs.Allowed.{IsAllowed};
 
@@ -29,11 +29,41 @@ pub fn diverge_flow(s: u64, r1: u64, r2: u64, b1: u32, b2: u32) -> Split
     ensures blocked { (r1 < b1) ⊎ (r2 < b2) → result.out ≡ 0 }
 {
     let (share1, share2) = (b1 as u64, b2 as u64);
-    let parts = (s / (share1 + share2)).min(r1 / share1).min(r2 / share2);
-    Split {
-        parts,
-        out: parts * (share1 + share2),
-        to1: parts * share1,
-        to2: parts * share2,
+    let parts = parts_within(s / (share1 + share2), r1, r2, share1, share2);
+    Split::of(parts, share1, share2)
+}
+
+/// The same of a sender that has both turning shares whole so many times. Where that is known mostly nothing is divided.
+pub fn diverge_by_whole(whole: u64, r1: u64, r2: u64, b1: u32, b2: u32) -> Split
+    requires first_turns { 1 ≤ b1 }
+    requires second_turns { 1 ≤ b2 }
+    requires fits { whole * (b1 + b2) < 2 ^ 64 }
+    ensures { (s : ℕ) → whole ≡ s / (b1 + b2) → result ≡ diverge_of s r1 r2 b1 b2 }
+{
+    let (share1, share2) = (b1 as u64, b2 as u64);
+    let parts = parts_within(whole, r1, r2, share1, share2);
+    Split::of(parts, share1, share2)
+}
+
+// As many of these parts as both branches have room for.
+fn parts_within(whole: u64, r1: u64, r2: u64, share1: u64, share2: u64) -> u64
+    requires first { 1 ≤ share1 }
+    requires second { 1 ≤ share2 }
+    requires fits { whole * (share1 + share2) < 2 ^ 64 }
+    ensures { result ≡ min (min whole (r1 / share1)) (r2 / share2) }
+{
+    within(within(whole, r1, share1), r2, share2)
+}
+
+// As many of these parts as one branch has room for, mostly all: then nothing is divided.
+#[tactic(auto, using(crate::proofs::DivergeFacts::all_within, crate::proofs::DivergeFacts::room_within))]
+fn within(parts: u64, room: u64, share: u64) -> u64
+    requires some { 1 ≤ share }
+    requires fits { parts * share < 2 ^ 64 }
+    ensures { result ≡ min parts (room / share) }
+{
+    if parts * share <= room {
+        return parts;
     }
+    room / share
 }

@@ -9,5 +9,5 @@ mod split;
 #[cfg(test)]
 mod tests;
 
-pub use flow::diverge_flow;
+pub use flow::{diverge_by_whole, diverge_flow};
 pub use split::Split;

@@ -1,10 +1,10 @@
 -- The rows of all cells at each step: the recurrences.
-use Rattle.std.specs.Prelude.{ℕ, zero, suc, List, map, length, slice_index_or}
+use Rattle.std.specs.Prelude.{ℕ, zero, suc, List, map, length, slice_index, slice_index_or}
 use Rattle.std.specs.List.{range_with_len}
 use Rattle.network_file.specs.Network.{Network}
 use Rattle.network_file.specs.declared.connector.Connector.{Connector}
 use Rattle.flow_model.specs.Flows.{entered_by, left_by}
-use Rattle.flow_model.specs.Rows.{empty_row, first_row, moved_row}
+use Rattle.flow_model.specs.Rows.{empty_row, first_row, moved_row, next_row}
 use Rattle.flow_model.specs.declared.row.Row.{Row}
 
 -- the row of cell i
@@ -28,6 +28,11 @@ rows_by connectors net t rows =
 -- all rows after step t
 abbrev pub next_rows : Network → (t : ℕ) → List Row → List Row
 next_rows net t rows = rows_by net.connectors net t rows
+
+-- the rows of these cells after step t, by their rows and by what all cells around them hold as it begins
+unfoldable pub rows_after : Network → (t : ℕ) → (ℕ → ℕ) → (cells : List ℕ) → List Row → List Row
+rows_after net t n cells rows =
+    map (λ p. next_row net t n (slice_index cells p) (row_at rows p)) (range_with_len 0 (length cells))
 
 -- State(t): all rows at step t
 unfoldable pub state_at : Network → (t : ℕ) → List Row

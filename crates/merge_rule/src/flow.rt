@@ -1,9 +1,8 @@
-ghost use Rattle.std.specs.Prelude.{◌≡◌, ◌+◌, ◌<◌, ◌≤◌, ◌↔◌, ◌-ℤ◌, pos};
-ghost use Rattle.fixed_flow.specs.Middle.{middle_of};
-ghost use Rattle.merge_rule.specs.Merge.{first_flow, second_flow, merge_of};
+ghost use Rattle.std.specs.Prelude.{◌≡◌, ℕ, ◌+◌, ◌-◌, ◌<◌, ◌≤◌, ◌↔◌, max, min, pos};
+ghost use Rattle.merge_rule.specs.Merge.{first_flow, first_share, second_flow, merge_of};
 ghost use Rattle.merge_rule.specs.Exchange.{exchanged_merge_of, IsUnrounded};
 
-use fixed_flow::{middle, share_floor};
+use fixed_flow::share_floor;
 
 /// What the first and the second sender, of `s1` and `s2` parts, send into a room of `r` parts in one step.
 ///
@@ -33,17 +32,29 @@ pub fn merge_flow(s1: u64, s2: u64, r: u64, p1: u32, p2: u32) -> (u64, u64)
         return (s1, s2);
     }
     let share = share_floor(r, p1 as u64, p1 as u64 + p2 as u64);
-    (
-        shared_flow(s1, s2, r, share),
-        shared_flow(s2, s1, r, r - share),
-    )
+    merge_by_share(s1, s2, r, share)
 }
 
-// What one sender sends where there is no room for all, by its share of the room.
-fn shared_flow(sent: u64, other: u64, r: u64, share: u64) -> u64
-    requires { r < sent + other }
-    ensures { pos result ≡ middle_of (pos sent) (pos r -ℤ pos other) (pos share) }
+/// The same where the first sender's share of the room by the priorities is known.
+pub fn merge_by_share(s1: u64, s2: u64, r: u64, share: u64) -> (u64, u64)
+    requires { share ≤ r }
+    ensures flows { (p1 p2 : ℕ) → 1 ≤ p1 + p2 → share ≡ first_share r p1 p2 → result ≡ merge_of s1 s2 r p1 p2 }
+    ensures receives { result.0 + result.1 ≤ r }
 {
-    let left_by_other = r as i128 - other as i128;
-    middle(sent as i128, left_by_other, share as i128) as u64
+    if r as u128 >= s1 as u128 + s2 as u128 {
+        (s1, s2)
+    } else {
+        (
+            shared_flow(s1, s2, r, share),
+            shared_flow(s2, s1, r, r - share),
+        )
+    }
+}
+
+// What one sender sends where there is no room for all: the middle of what it has, of its share, and of what the other leaves,
+// which is as good as 0 where it is less.
+fn shared_flow(sent: u64, other: u64, r: u64, share: u64) -> u64
+    ensures { result ≡ max (r - other) (min sent share) }
+{
+    sent.min(share).max(r.saturating_sub(other))
 }

@@ -8,4 +8,4 @@ mod flow;
 #[cfg(test)]
 mod tests;
 
-pub use flow::merge_flow;
+pub use flow::{merge_by_share, merge_flow};

@@ -1,14 +1,14 @@
-use Rattle.std.proofs.Common.{◌≡◌, ℕ, ◌+◌, ◌*◌, ◌/◌, sym, ap, ◌∙◌, arith, mul_comm}
+use Rattle.std.proofs.Common.{◌≡◌, ℕ, ◌+◌, ◌*◌, ◌/◌, sym, ap, ◌∙◌, arith, mul_comm, subst}
 use Rattle.merge_rule.specs.Merge.{first_share}
-use Rattle.merge_rule.proofs.MergeFacts.{first_share-le, first_flow-room, second_flow-room, first_flow-shared, second_flow-shared, IsMerge, IsMerge-is, IsMerge-first_sends, IsMerge-second_sends, IsMerge-receives, IsMerge-none_is_lost, IsMerge-exchanged_first, IsMerge-exchanged_second, IsMerge-exchanged_same}
+use Rattle.merge_rule.proofs.MergeFacts.{first_share-le, first_flow-room, second_flow-room, merge_of-IsMerge, IsMerge, IsMerge-is, IsMerge-first_sends, IsMerge-second_sends, IsMerge-receives, IsMerge-none_is_lost, IsMerge-exchanged_first, IsMerge-exchanged_second, IsMerge-exchanged_same}
 use Rattle.merge_rule.proofs.flow.merge_flow.Goals as goal
 
 -- the share that the code takes is that of the rule
 share_is : (r p1 p2 share : ℕ) → share ≡ r * p1 / (p1 + p2) → share ≡ first_share r p1 p2
 share_is r p1 p2 share e = e ∙ ap (λ n. n / (p1 + p2)) (mul_comm r p1)
 
-pub overflow_sub-r : goal.overflow_sub-r
-overflow_sub-r c = omega (arith, share_is c.args.r c.args.p1 c.args.p2 _ c.share_floor-share.ensures, first_share-le c.args.r c.args.p1 c.args.p2 c.requires)
+pub merge_by_share-requires : goal.merge_by_share-requires
+merge_by_share-requires c = omega (arith, share_is c.args.r c.args.p1 c.args.p2 _ c.share_floor-share.ensures, first_share-le c.args.r c.args.p1 c.args.p2 c.requires)
 
 -- ---- where there is room for all
 
@@ -39,16 +39,11 @@ returns-then-r-s1-clause-exchanged_same c = IsMerge-exchanged_same (merged_in_ro
 
 -- ---- where the room is shared
 
-merged : (c : goal.After-shared_flow-2) → IsMerge c.args.s1 c.args.s2 c.args.r c.args.p1 c.args.p2 (c.shared_flow.result, c.shared_flow-2.result)
+merged : (c : goal.After-merge_by_share) → IsMerge c.args.s1 c.args.s2 c.args.r c.args.p1 c.args.p2 c.merge_by_share.result
 merged c =
-    let s1 = c.args.s1 in
-    let s2 = c.args.s2 in
-    let r = c.args.r in
-    let share = share_is r c.args.p1 c.args.p2 c.share_floor-share.result c.share_floor-share.ensures in record {
-      some = c.requires;
-      first = (rw share at c.shared_flow.ensures) ∙ sym (first_flow-shared s1 s2 r c.args.p1 c.args.p2 c.if-r-s1.false);
-      second = (rw share at c.shared_flow-2.ensures) ∙ sym (second_flow-shared s1 s2 r c.args.p1 c.args.p2 c.requires c.if-r-s1.false);
-    }
+    let share = share_is c.args.r c.args.p1 c.args.p2 c.share_floor-share.result c.share_floor-share.ensures in
+    subst (λ flows. IsMerge c.args.s1 c.args.s2 c.args.r c.args.p1 c.args.p2 flows) (sym (c.merge_by_share.ensures.flows c.args.p1 c.args.p2 c.requires share))
+    (merge_of-IsMerge c.args.s1 c.args.s2 c.args.r c.args.p1 c.args.p2 c.requires)
 
 pub returns-clause-first_rule : goal.returns-clause-first_rule
 returns-clause-first_rule c = (merged c).first
