@@ -1,6 +1,6 @@
 -- What bounds the flow of a connector, by what it is made of.
 use Rattle.std.specs.Prelude.{Option, Some, None}
-use Rattle.std.proofs.Common.{◌≡◌, ℕ, ◌<◌, ◌≤◌, refl, sym, ap, subst, ◌∙◌, arith}
+use Rattle.std.proofs.Common.{◌≡◌, ℕ, ◌<◌, ◌≤◌, refl, sym, ◌∙◌, arith}
 use Rattle.timelines.specs.Courses.{IsSteady}
 use Rattle.signal_plan.specs.declared.bounds.TheConstants.{MOST_STEPS}
 use Rattle.connector_courses.specs.Courses.{AreInForce, AreKept, HaveCome, cell_most, limits_at, limits_in, moved_to}
@@ -64,19 +64,6 @@ in_force-later courses limits step t until has forward before =
       };
       weights = has.weights;
     }
-
--- the weights that are in force
-weights-in_force : (courses : Courses) (limits : Limits) (step until : ℕ) → AreInForce courses limits step until →
-    (1 ≤ limits.weights.0) × (1 ≤ limits.weights.1)
-unfolding limits_at
-weights-in_force courses limits step until has =
-    let weights = ap (λ one. one.weights) (has.steady step (omega arith) has.later) in
-    (subst (λ pair. 1 ≤ pair.0) weights (has.weights.first step).0, subst (λ pair. 1 ≤ pair.1) weights (has.weights.second step).0)
-
-pub kept-weights : (courses : Option Courses) (limits : Limits) (step until : ℕ) → AreKept courses limits step until →
-    (1 ≤ limits.weights.0) × (1 ≤ limits.weights.1)
-kept-weights None limits step until has = (has.first.0, has.second.0)
-kept-weights (Some courses) limits step until has = weights-in_force courses limits step until has
 
 -- what is kept is in force at its step
 pub kept-limits : (courses : Option Courses) (limits : Limits) (step until : ℕ) → AreKept courses limits step until → limits_in courses limits step ≡ limits

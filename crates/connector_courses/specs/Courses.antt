@@ -5,7 +5,7 @@ use Rattle.signal_plan.specs.Green.{green_at}
 use Rattle.signal_plan.specs.Records.{PlanRecords}
 use Rattle.signal_plan.specs.declared.bounds.TheConstants.{MOST_STEPS}
 use Rattle.timelines.specs.Courses.{light_at, value_at}
-use Rattle.connector_courses.specs.Weights.{AreWeights, IsWeight, weights_at}
+use Rattle.connector_courses.specs.Weights.{AreWeights, weights_at}
 use Rattle.connector_courses.specs.declared.cell_course.CellCourse.{CellCourse}
 use Rattle.connector_courses.specs.declared.courses.Courses.{Courses}
 use Rattle.connector_courses.specs.declared.limits.Limits.{Limits}
@@ -73,15 +73,9 @@ pub record AreInForce (courses : Courses) (limits : Limits) (step until : ℕ) :
   pub come : HaveCome courses step
   pub weights : AreWeights courses.weights
 
--- they stay past the last step that there may be
-pub record AreLasting (limits : Limits) (until : ℕ) : Type 0 where
-  pub later : MOST_STEPS < until
-  pub first : IsWeight limits.weights.0
-  pub second : IsWeight limits.weights.1
-
--- where nothing changes no courses are kept
+-- where nothing changes no courses are kept, and the limits stay past the last step that there may be
 abbrev pub AreKept : Option Courses → Limits → (step until : ℕ) → Type 0
-AreKept None limits step until = AreLasting limits until
+AreKept None limits step until = MOST_STEPS < until
 AreKept (Some courses) limits step until = AreInForce courses limits step until
 
 -- what bounds the flow in step t by the courses that are kept, or by limits that never change

@@ -35,6 +35,10 @@ carried_by Diverging limits second_space third_space n =
     diverge_carries (min limits.first (slice_index n 0)) (received limits.second second_space (slice_index n 1))
     (received limits.third third_space (slice_index n 2)) limits.weights.0 limits.weights.1
 
+-- nothing is carried
+abbrev pub no_flow : Flow
+no_flow = record { out1 = 0; out2 = 0; in1 = 0; in2 = 0 }
+
 -- what bounds its flow in step t
 abbrev pub limits_of : ConnectorValues → (t : ℕ) → Limits
 limits_of course t = limits_in course.courses course.limits t

@@ -1,4 +1,5 @@
 pub mod Weights
+pub mod Factors
 pub mod Courses
 pub mod Flows
 pub mod Following

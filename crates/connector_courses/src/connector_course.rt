@@ -1,4 +1,4 @@
-ghost use Rattle.std.specs.Prelude.{◌≡◌, ◌≤◌, ◌<◌, ℕ, All, IfOk, List, length};
+ghost use Rattle.std.specs.Prelude.{◌≡◌, ◌≤◌, ◌<◌, ℕ, All, IfOk, IsTrue, List, length};
 ghost use Rattle.network_file.specs.Connectors.{connector_at};
 ghost use Rattle.connector_courses.specs.Following.{IsCourseOf, IsMadeOf};
 ghost use Rattle.connector_courses.specs.Weights.{AreWeights};
@@ -6,9 +6,11 @@ ghost use Rattle.connector_courses.specs.Weights.{AreWeights};
 use crate::carrying::carried;
 use crate::cell_space::space_of;
 use crate::courses::Courses;
+use crate::idling::{carries_nothing, sends_nothing};
 use crate::limits::Limits;
 use crate::rule::Rule;
 use crate::weight_course::WeightCourse;
+use crate::weight_pair::WeightPair;
 use flow_model::Flow;
 use network_file::{Connector, Net};
 use place_sweep::Space;
@@ -52,7 +54,7 @@ impl Model for ConnectorCourse {
 }
 
 impl ConnectorCourse {
-    ghost use Rattle.connector_courses.specs.Flows.{flow_at};
+    ghost use Rattle.connector_courses.specs.Flows.{flow_at, no_flow};
 
     /// That of connector `k`, at step 0.
     pub fn new(alloc: Global, net: &Net, k: u32) -> Result<ConnectorCourse, NoMemory>
@@ -105,7 +107,7 @@ impl ConnectorCourse {
     {
         if self.until <= t {
             if let Some(courses) = &mut self.courses {
-                let now = courses.move_to(t);
+                let now = courses.move_to(t, self.limits.weights);
                 self.limits = now.value;
                 self.until = now.until;
             }
@@ -126,6 +128,35 @@ impl ConnectorCourse {
             n,
         )
     }
+
+    /// A step before which the connector carries nothing as long as its cells hold `n` parts: 0 where it carries something,
+    /// `u64::MAX` where nothing changes, or nothing is there to send.
+    pub fn idle_until(&self, n: [u64; 3]) -> u64
+        ensures { (s : ℕ) → self.now.step ≤ s → s < result → flow_at self.now s n ≡ no_flow }
+    {
+        if !carries_nothing(self.flow(n)) {
+            0
+        } else if self.stays_idle(n) {
+            u64::MAX
+        } else {
+            self.until
+        }
+    }
+
+    // Whether no change of its limits lets it carry something, where it carries nothing at its step.
+    fn stays_idle(&self, n: [u64; 3]) -> bool
+        requires { flow_at self.now self.now.step n ≡ no_flow }
+        ensures { IsTrue result → (s : ℕ) → flow_at self.now s n ≡ no_flow }
+    {
+        match &self.courses {
+            None => true,
+            Some(courses) => sends_nothing(
+                self.rule,
+                courses.weights.least(self.limits.weights),
+                n,
+            ),
+        }
+    }
 }
 
 // That of a connector of these cells that carries by this rule with these weights.
@@ -143,7 +174,7 @@ fn made_of(
     ensures { IfOk result (IsMadeOf net.now rule cells weights) }
 {
     let mut courses = Courses::new(alloc, &net.plan, rule, cells, weights)?;
-    let now = courses.move_to(0);
+    let now = courses.move_to(0, WeightPair::new(1, 1));
     let [_, second, third] = cells;
     let (second_space, third_space) = (space_of(net, second), space_of(net, third));
     if now.until >= net.steps {

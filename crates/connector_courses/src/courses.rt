@@ -7,6 +7,7 @@ use crate::cell_course::CellCourse;
 use crate::limits::Limits;
 use crate::rule::Rule;
 use crate::weight_course::WeightCourse;
+use crate::weight_pair::WeightPair;
 use signal_plan::{MOST_STEPS, NoMemory, Plan};
 use std::alloc::Global;
 use timelines::Now;
@@ -45,8 +46,8 @@ impl Courses {
         })
     }
 
-    /// Follows them to step `t`, and tells what is in force from there on.
-    pub(crate) fn move_to(&mut self, t: u64) -> Now<Limits>
+    /// Follows them to step `t`, and tells what is in force from there on. The weights that were in force mostly still are.
+    pub(crate) fn move_to(&mut self, t: u64, were: WeightPair) -> Now<Limits>
         requires forward { HaveCome self.old t }
         requires in_time { t ≤ MOST_STEPS }
         requires weights { AreWeights self.old.weights }
@@ -64,7 +65,7 @@ impl Courses {
                 first: first.value,
                 second: second.value,
                 third: third.value,
-                weights: weights.value,
+                weights: were.renewed(weights.value),
             },
             until: first
                 .until

@@ -10,11 +10,13 @@ mod cell_space;
 mod connector_course;
 mod courses;
 mod demand_course;
+mod idling;
 mod limits;
 mod rule;
 #[cfg(test)]
 mod tests;
 mod weight_course;
+mod weight_pair;
 
 pub use cell_space::space_of;
 pub use connector_course::ConnectorCourse;

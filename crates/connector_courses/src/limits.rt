@@ -1,3 +1,5 @@
+use crate::weight_pair::WeightPair;
+
 /// What bounds the flow of a connector in a step, whatever its cells hold.
 #[derive(Clone, Copy, Debug, PartialEq, Eq)]
 pub(crate) struct Limits {
@@ -7,6 +9,6 @@ pub(crate) struct Limits {
     pub(crate) second: u64,
     /// The most that the third receives.
     pub(crate) third: u64,
-    /// The priorities of a merge, the turning shares of a diverge, 1 to 1,000 each.
-    pub(crate) weights: (u32, u32),
+    /// The priorities of a merge, the turning shares of a diverge.
+    pub(crate) weights: WeightPair,
 }

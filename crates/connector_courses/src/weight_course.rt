@@ -1,8 +1,9 @@
-ghost use Rattle.std.specs.Prelude.{◌≡◌, ◌≤◌, ◌<◌, ℕ, IfOk, length, map};
+ghost use Rattle.std.specs.Prelude.{◌≡◌, ◌≤◌, ◌<◌, ◌+◌, ℕ, IfOk, IsTrue, length, map};
 ghost use Rattle.signal_plan.specs.Turning.{shares_at};
 ghost use Rattle.timelines.specs.Courses.{IsSteady};
 ghost use Rattle.connector_courses.specs.Weights.{AreWeights, changed_first, changed_second, weights_at};
 
+use crate::weight_pair::WeightPair;
 use signal_plan::{Change, MOST_STEPS, NoMemory, Plan};
 use std::alloc::Global;
 use timelines::{Now, Timeline};
@@ -45,6 +46,26 @@ impl WeightCourse {
             first: Timeline::new(u64::from(own.0), first),
             second: Timeline::new(u64::from(own.1), second),
         })
+    }
+
+    /// So much at least both are together in each step, where these are in force in one.
+    pub(crate) fn least(&self, now: WeightPair) -> u64
+        requires weights { AreWeights self.now }
+        requires now { (t : ℕ) × (weights_at self.now t ≡ now) }
+        ensures { (s : ℕ) → result ≤ (weights_at self.now s).0 + (weights_at self.now s).1 }
+    {
+        if self.is_constant() {
+            u64::from(now.first()) + u64::from(now.second())
+        } else {
+            1
+        }
+    }
+
+    // Whether they never change.
+    fn is_constant(&self) -> bool
+        ensures { IsTrue result → (s t : ℕ) → weights_at self.now s ≡ weights_at self.now t }
+    {
+        self.first.is_constant() && self.second.is_constant()
     }
 
     /// Follows them to step `t`, and tells which are in force from there on.

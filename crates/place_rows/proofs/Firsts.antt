@@ -1,20 +1,23 @@
 -- The place of a cell as it is opened has the cell's row.
 use Rattle.std.specs.Prelude.{All, map, slice_index}
-use Rattle.std.proofs.Common.{◌≡◌, ℕ, ◌<◌, ◌≤◌, inl, inr, true, false, List, length, refl, sym, ap, ◌∙◌, arith}
+use Rattle.std.proofs.Common.{◌≡◌, ℕ, ◌<◌, ◌≤◌, inl, inr, true, false, List, length, refl, sym, ap, subst, ◌∙◌, arith}
 use Rattle.std.proofs.lemmas.Bool.{cases_Bool}
 use Rattle.std.proofs.lemmas.List.{ext_get_or, get_or-map, length-map}
 use Rattle.network_file.specs.Cells.{is_exit_at}
 use Rattle.network_file.specs.Network.{IsNetwork, Network}
-use Rattle.flow_model.specs.Bounds.{IsRowInBounds}
+use Rattle.flow_model.specs.Bounds.{IsHeldInBounds, IsRowInBounds}
+use Rattle.flow_model.specs.Limits.{room_at}
 use Rattle.flow_model.specs.Rows.{empty_row}
 use Rattle.flow_model.specs.State.{row_at}
 use Rattle.flow_model.specs.declared.row.Row.{Row}
 use Rattle.flow_model.proofs.Bounds.{small}
 use Rattle.place_sweep.specs.Places.{place_at}
+use Rattle.place_sweep.specs.Space.{IsSpaceOf}
 use Rattle.place_sweep.specs.declared.place.Place.{Place}
+use Rattle.place_sweep.proofs.Flows.{held-fits}
 use Rattle.place_rows.specs.First.{IsFirst, IsOriginOf}
 use Rattle.place_rows.specs.Rows.{AreSettled, IsOf, origin_at, row_of, rows_of}
-use Rattle.place_rows.proofs.Whole.{length-rows_of, row_at-rows_of}
+use Rattle.place_rows.proofs.Whole.{has-space, length-rows_of, row_at-rows_of}
 use Rattle.place_rows.specs.declared.origin.Origin.{Origin}
 
 row_same : (row : Row) {n come gone wait : ℕ} → n ≡ row.n → come ≡ row.come → gone ≡ row.gone → wait ≡ row.wait →
@@ -103,5 +106,14 @@ opened-settled net t cells rows origins first after before opened long = record 
       let gone = ap (λ row. row.gone) cell.0 in
       let few_n = few.n in
       let few_gone = few.gone in
-      record { began = cell.1.began; sums = cell.1.sums; fits = omega arith };
+      let space : IsSpaceOf (place_at after p).space (room_at net.cells i) =
+      subst (λ space. IsSpaceOf space (room_at net.cells i)) (sym (ap (λ place. place.space) (opened.only_most p))) (opened.first_is p within).space in
+      let held : IsHeldInBounds net t i (place_at after p).n = subst (IsHeldInBounds net t i) (sym n) (opened.bounds p 0 within).held in
+      record {
+        began = cell.1.began;
+        sums = cell.1.sums;
+        fits = omega arith;
+        room = held-fits (place_at after p).n 0 (place_at after p).space (room_at net.cells i) space
+            (has-space net t i (place_at after p).n 0 (opened.there p 0 within) held (omega arith));
+      };
 }

@@ -10,5 +10,5 @@ pub mod Known
 pub mod Extending
 pub mod Firsts
 pub mod Pushes
-pub mod Resting
-pub mod Waiting
+pub mod Stays
+pub mod Pausing

@@ -70,7 +70,7 @@ ins-more net ties cells halo (Diverge up down1 down2 b1 b2) tie flow ins p apart
     let two = part-at net ties cells halo (with_part ins (spot_at tie 1) flow.in1) down2 p flow.in2 (spot_at tie 2) apart within (spots 2 (omega arith)) in omega arith
 
 -- what a tie's connector carries is its flow where the cells hold n
-held-seen : (n : ℕ → ℕ) (cells halo : List ℕ) (places : List Place) (put : List (Option ℕ)) (i : ℕ) (spot : Spot) → IsSeen n cells halo places put →
+pub held-seen : (n : ℕ → ℕ) (cells halo : List ℕ) (places : List Place) (put : List (Option ℕ)) (i : ℕ) (spot : Spot) → IsSeen n cells halo places put →
     IsSpotOf cells halo i spot → held_at places put spot ≡ n i
 held-seen n cells halo places put i (Own p) seen (there, is) = sym (seen.own p there) ∙ ap n is
 held-seen n cells halo places put i (Halo j) seen (there, is) = sym (seen.around j there) ∙ ap n is

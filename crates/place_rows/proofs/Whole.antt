@@ -18,7 +18,7 @@ use Rattle.flow_model.specs.Bounds.{IsHeldInBounds, IsRowInBounds}
 use Rattle.flow_model.specs.Flows.{inflow, outflow}
 use Rattle.flow_model.specs.Limits.{room_at, room_by}
 use Rattle.flow_model.specs.Rows.{empty_row, moved_row, next_row, row_by}
-use Rattle.flow_model.specs.State.{row_at}
+use Rattle.flow_model.specs.State.{row_at, rows_after}
 use Rattle.flow_model.specs.declared.row.Row.{Row}
 use Rattle.flow_model.proofs.Bounds.{IsChange, IsSmall, changes, moved_row-in_bounds, small}
 use Rattle.flow_model.proofs.CellKinds.{cell_at}
@@ -33,7 +33,7 @@ use Rattle.place_sweep.specs.declared.place.Place.{Place}
 use Rattle.place_sweep.specs.declared.space.TheConstants.{BOUNDLESS}
 use Rattle.place_sweep.proofs.Flows.{held-fits}
 use Rattle.place_rows.specs.Chains.{AreAround, most_out, odd_ones}
-use Rattle.place_rows.specs.Placed.{AreInBounds, ArePlaced, CanAdvance, PlacedCells, rows_next}
+use Rattle.place_rows.specs.Placed.{AreInBounds, ArePlaced, CanAdvance, PlacedCells}
 use Rattle.timelines.specs.Followed.{AreFollowed, IsThere}
 use Rattle.timelines.specs.declared.followed.FollowedLink.{FollowedLink}
 use Rattle.region_cut.proofs.Ranges.{Contains-filter_range}
@@ -45,8 +45,8 @@ use Rattle.place_rows.proofs.Flowing.{HasPlaces, in-gate, in-total, odd_sum, out
 use Rattle.place_rows.proofs.Stepping.{row-stepped, stepped-is_of}
 use Rattle.place_rows.proofs.Ties.{come-carried, demands-asked, demands-into, gates-asked, numbers-carried, sum_by-map, tied-carried}
 use Rattle.place_rows.specs.Carrying.{AreCarried}
-use Rattle.place_rows.specs.Resting.{IsRestOf}
-use Rattle.place_rows.specs.declared.rest.Rest.{Rest}
+use Rattle.place_rows.specs.Pausing.{IsPauseOf}
+use Rattle.place_rows.specs.declared.pause.Pause.{Pause}
 use Rattle.place_rows.specs.Gates.{AreAsked, demand_into}
 use Rattle.place_rows.specs.declared.gate_place.GatePlace.{GatePlace}
 
@@ -128,7 +128,7 @@ moved net t n cells connectors ties places outs carried ins sound around has num
 }
 
 -- a cell has space for what it holds and a step's capacity
-has-space : (net : Network) (t i n q : ℕ) → i < length net.cells → IsHeldInBounds net t i n → n + q ≤ BOUNDLESS → HasSpace n q (room_at net.cells i)
+pub has-space : (net : Network) (t i n q : ℕ) → i < length net.cells → IsHeldInBounds net t i n → n + q ≤ BOUNDLESS → HasSpace n q (room_at net.cells i)
 has-space net t i n q has bounds few =
     let here = cell_at net.cells i has in
     let room = rw here.1 at bounds.road in
@@ -147,6 +147,7 @@ pub record IsReady (net : Network) (t : ℕ) (n : ℕ → ℕ) (i : ℕ) (origin
   pub row : IsRowInBounds net t i (row_of origin place)
   pub small : IsSmall (row_of origin place)
   pub change : IsChange net t i place.n (inflow net t n i) (outflow net t n i)
+  pub next : IsRowInBounds net (t + 1) i (moved_row net i (row_of origin place) (inflow net t n i) (outflow net t n i))
   pub after : IsSmall (moved_row net i (row_of origin place) (inflow net t n i) (outflow net t n i))
 
 pub ready : (net : Network) (t : ℕ) (n : ℕ → ℕ) (cells halo connectors : List ℕ) (placed : PlacedCells) (put : List (Option ℕ)) (p : ℕ) →
@@ -164,6 +165,8 @@ ready net t n cells halo connectors placed put p sound before has bounds seen wi
     let change : IsChange net t i place.n (inflow net t n i) (outflow net t n i) =
     subst (λ x. IsChange net t i x (inflow net t n i) (outflow net t n i)) held
     (changes net t i n (inflow net t n i) (outflow net t n i) sound there (λ gate. entered_by-gate net.connectors net t i n gate) (omega arith) (omega arith)) in
+    let next : IsRowInBounds net (t + 1) i (moved_row net i (row_of origin place) (inflow net t n i) (outflow net t n i)) =
+    moved_row-in_bounds net t i (row_of origin place) (inflow net t n i) (outflow net t n i) sound before there row change in
     record {
       there = there;
       held = held;
@@ -171,8 +174,8 @@ ready net t n cells halo connectors placed put p sound before has bounds seen wi
       row = row;
       small = small net t i (row_of origin place) sound (omega (arith, before)) there row;
       change = change;
-      after = small net (t + 1) i (moved_row net i (row_of origin place) (inflow net t n i) (outflow net t n i)) sound (omega (arith, before)) there
-          (moved_row-in_bounds net t i (row_of origin place) (inflow net t n i) (outflow net t n i) sound before there row change);
+      next = next;
+      after = small net (t + 1) i (moved_row net i (row_of origin place) (inflow net t n i) (outflow net t n i)) sound (omega (arith, before)) there next;
     }
 
 -- the sum of what a road or a gate held fits
@@ -272,14 +275,14 @@ row-after net t n i origin place fresh after most enters leaves is fresh_is afte
     let of_cell = stepped-is_of net t i origin place (inflow net t n i) (outflow net t n i) is.is_of is.change fits in
     rw (after_is, fresh_is, came, went) (row, record { first = of_cell.first; exit = of_cell.exit; began = of_cell.began; sums = of_cell.sums })
 
-pub length-rows_next : (net : Network) (t : ℕ) (n : ℕ → ℕ) (cells : List ℕ) (rows : List Row) → length (rows_next net t n cells rows) ≡ length cells
-unfolding rows_next
-length-rows_next net t n cells rows = length-map-range_with_len (λ p. next_row net t n (slice_index cells p) (row_at rows p)) 0 (length cells)
+pub length-rows_after : (net : Network) (t : ℕ) (n : ℕ → ℕ) (cells : List ℕ) (rows : List Row) → length (rows_after net t n cells rows) ≡ length cells
+unfolding rows_after
+length-rows_after net t n cells rows = length-map-range_with_len (λ p. next_row net t n (slice_index cells p) (row_at rows p)) 0 (length cells)
 
-pub row_at-rows_next : (net : Network) (t : ℕ) (n : ℕ → ℕ) (cells : List ℕ) (rows : List Row) (p : ℕ) → p < length cells →
-    row_at (rows_next net t n cells rows) p ≡ next_row net t n (slice_index cells p) (row_at rows p)
-unfolding rows_next
-row_at-rows_next net t n cells rows p within =
+pub row_at-rows_after : (net : Network) (t : ℕ) (n : ℕ → ℕ) (cells : List ℕ) (rows : List Row) (p : ℕ) → p < length cells →
+    row_at (rows_after net t n cells rows) p ≡ next_row net t n (slice_index cells p) (row_at rows p)
+unfolding rows_after
+row_at-rows_after net t n cells rows p within =
     get_or-map-range_with_len (λ p. next_row net t n (slice_index cells p) (row_at rows p)) 0 (length cells) p p empty_row within (zero-add p)
 
 -- the places once each has the most of its link in step t
@@ -396,16 +399,16 @@ pub rows-after : (net : Network) (cells halo connectors : List ℕ) (t : ℕ) (n
     (outs carried ins : List Part) (after : List Place) (put : List (Option ℕ)) →
     IsNetwork net → t < net.steps → ArePlaced net cells halo connectors t placed → AreInBounds net cells halo t placed put →
     IsSeen n cells halo placed.places put → AreSteps net cells halo connectors t n placed fresh links outs carried ins after →
-    rows_of placed.origins after ≡ rows_next net t n cells (rows_of placed.origins placed.places)
+    rows_of placed.origins after ≡ rows_after net t n cells (rows_of placed.origins placed.places)
 rows-after net cells halo connectors t n placed fresh links outs carried ins after put sound before has bounds seen steps =
-    ext_get_or empty_row (rows_of placed.origins after) (rows_next net t n cells (rows_of placed.origins placed.places))
-    (length-rows_of placed.origins after ∙ has.origin_each ∙ sym (length-rows_next net t n cells (rows_of placed.origins placed.places)))
+    ext_get_or empty_row (rows_of placed.origins after) (rows_after net t n cells (rows_of placed.origins placed.places))
+    (length-rows_of placed.origins after ∙ has.origin_each ∙ sym (length-rows_after net t n cells (rows_of placed.origins placed.places)))
     (λ p lt.
     let inside : p < length placed.origins = omega (arith, length-rows_of placed.origins after) in
     let within : p < length cells = omega (arith, has.origin_each) in
     row_at-rows_of placed.origins after p inside
     ∙ (cell-after net cells halo connectors t n placed fresh links outs carried ins after put p sound before has bounds seen steps within).0
-    ∙ sym (row_at-rows_next net t n cells (rows_of placed.origins placed.places) p within
+    ∙ sym (row_at-rows_after net t n cells (rows_of placed.origins placed.places) p within
     ∙ ap (next_row net t n (slice_index cells p)) (row_at-rows_of placed.origins placed.places p inside)))
 
 -- the links follow on
@@ -431,10 +434,10 @@ follows-later most fresh after links t long same followed = record {
 }
 
 pub placed-after : (net : Network) (cells halo connectors : List ℕ) (t : ℕ) (n : ℕ → ℕ) (placed : PlacedCells) (fresh : List Place) (links : List FollowedLink)
-    (outs carried ins : List Part) (after : List Place) (before_list : List ℕ) (ties : List Tie) (gates : List GatePlace) (rest : Rest) (room room_in : ℕ) (put : List (Option ℕ)) →
+    (outs carried ins : List Part) (after : List Place) (before_list : List ℕ) (ties : List Tie) (gates : List GatePlace) (pause : Pause) (seen_list : List (Option ℕ)) (room room_in : ℕ) (put : List (Option ℕ)) →
     IsNetwork net → t < net.steps → ArePlaced net cells halo connectors t placed → AreInBounds net cells halo t placed put →
     IsSeen n cells halo placed.places put → AreSteps net cells halo connectors t n placed fresh links outs carried ins after →
-    length before_list ≡ length placed.before → AreCarried t placed.ties ties → AreAsked t placed.gates gates → IsRestOf after before_list rest → placed.room ≤ room → placed.room_in ≤ room_in →
+    length before_list ≡ length placed.before → AreCarried t placed.ties ties → AreAsked t placed.gates gates → IsPauseOf after before_list links ties seen_list (t + 1) pause → length seen_list ≡ length halo → placed.room ≤ room → placed.room_in ≤ room_in →
     ArePlaced net cells halo connectors (t + 1) (record {
       places = after;
       origins = placed.origins;
@@ -442,12 +445,13 @@ pub placed-after : (net : Network) (cells halo connectors : List ℕ) (t : ℕ) 
       links = links;
       ties = ties;
       gates = gates;
-      rest = rest;
+      pause = pause;
+      seen = seen_list;
       room = room;
       room_in = room_in;
     })
-placed-after net cells halo connectors t n placed fresh links outs carried ins after before_list ties gates rest room room_in put sound before has bounds seen steps long
-    ties_are gates_are resting wide wide_in =
+placed-after net cells halo connectors t n placed fresh links outs carried ins after before_list ties gates pause seen_list room room_in put sound before has bounds seen steps long
+    ties_are gates_are pausing seen_each wide wide_in =
     let same : length after ≡ length cells = steps.long_after ∙ steps.renewed.long ∙ has.one_each in
     let ties_long = ties_are.long in
     let gates_long = gates_are.long in
@@ -474,7 +478,8 @@ placed-after net cells halo connectors t n placed fresh links outs carried ins a
           record { place = omega (arith, there.place, steps.long_after); step = omega (arith, there.step) };
       followed = follows-later (most_out net cells connectors) fresh after links t steps.long_after
           (λ p there. ap (λ place. place.most) (steps.stepped_each p there)) steps.renewed.followed;
-      rest = resting;
+      pause = pausing;
+      seen_each = seen_each;
       room = omega (arith, has.room, wide);
       room_in = omega (arith, has.room_in, wide_in);
     }
@@ -497,19 +502,28 @@ settled-after net cells halo connectors t n placed fresh links outs carried ins 
       let gone_is = ap (λ row. row.gone) next.0 in
       let few = is.after.n in
       let few_gone = is.after.gone in
+      let i : ℕ = slice_index cells p in
+      let there : p < length fresh = omega (arith, steps.renewed.long, has.one_each) in
+      let here : p < length placed.places = omega (arith, has.one_each) in
+      let space_is = ap (λ place. place.space) (steps.stepped_each p there) ∙ ap (λ place. place.space) (steps.renewed.most p here) in
+      let space : IsSpaceOf (place_at after p).space (room_at net.cells i) =
+      subst (λ space. IsSpaceOf space (room_at net.cells i)) (sym space_is) (has.space p within) in
+      let held : IsHeldInBounds net (t + 1) i (place_at after p).n = subst (IsHeldInBounds net (t + 1) i) (sym n_is) is.next.held in
       record {
         began = next.1.began;
         sums = next.1.sums;
         fits = omega arith;
+        room = held-fits (place_at after p).n 0 (place_at after p).space (room_at net.cells i) space
+            (has-space net (t + 1) i (place_at after p).n 0 is.there held (omega arith));
       };
 }
 
 -- what a step says of the cells as they are kept it says of them as contracts see them
 pub rows-read : (net : Network) (cells : List ℕ) (t : ℕ) (placed old : PlacedCells) (put : List (Option ℕ)) (origins : List Origin) (places : List Place) → placed ≡ old →
-    ((can : CanAdvance net cells t placed put) → rows_of origins places ≡ rows_next net t can.n cells (rows_of placed.origins placed.places)) →
-    (can : CanAdvance net cells t old put) → rows_of origins places ≡ rows_next net t can.n cells (rows_of old.origins old.places)
+    ((can : CanAdvance net cells t placed put) → rows_of origins places ≡ rows_after net t can.n cells (rows_of placed.origins placed.places)) →
+    (can : CanAdvance net cells t old put) → rows_of origins places ≡ rows_after net t can.n cells (rows_of old.origins old.places)
 rows-read net cells t placed old put origins places is says =
-    subst (λ from. (can : CanAdvance net cells t from put) → rows_of origins places ≡ rows_next net t can.n cells (rows_of from.origins from.places)) is says
+    subst (λ from. (can : CanAdvance net cells t from put) → rows_of origins places ≡ rows_after net t can.n cells (rows_of from.origins from.places)) is says
 
 pub placed-read : (net : Network) (cells : List ℕ) (t : ℕ) (placed old : PlacedCells) (put : List (Option ℕ)) (new : PlacedCells) → placed ≡ old →
     ((can : CanAdvance net cells t placed put) → ArePlaced net cells can.halo can.connectors (t + 1) new) →

@@ -3,7 +3,8 @@ pub mod Rows
 pub mod Carrying
 pub mod Moves
 pub mod Gates
-pub mod Resting
+pub mod Waiting
+pub mod Pausing
 pub mod Placed
 pub mod Joining
 pub mod First

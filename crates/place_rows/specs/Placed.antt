@@ -1,5 +1,5 @@
 -- The rows of some cells, kept as places side by side.
-use Rattle.std.specs.Prelude.{◌≡◌, ◌≢◌, ℕ, ◌+◌, ◌*◌, ◌^◌, ◌<◌, ◌≤◌, All, List, Option, None, length, map, slice_index, slice_index_or, unwrap_or, true}
+use Rattle.std.specs.Prelude.{◌≡◌, ◌≢◌, ℕ, ◌+◌, ◌*◌, ◌^◌, ◌<◌, ◌≤◌, All, List, Option, None, length, map, slice_index, slice_index_or, unwrap_or}
 use Rattle.std.specs.List.{filter, range_with_len}
 use Rattle.std.specs.List.Sorted.{IsStrictlyIncreasing}
 use Rattle.network_file.specs.Connectors.{connector_at}
@@ -7,9 +7,7 @@ use Rattle.network_file.specs.Cells.{is_gate_at}
 use Rattle.network_file.specs.Network.{Network}
 use Rattle.flow_model.specs.Bounds.{IsHeldInBounds, IsRowInBounds}
 use Rattle.flow_model.specs.Limits.{room_at}
-use Rattle.flow_model.specs.Rows.{next_row}
 use Rattle.flow_model.specs.State.{row_at}
-use Rattle.flow_model.specs.declared.row.Row.{Row}
 use Rattle.place_sweep.specs.Places.{place_at}
 use Rattle.place_sweep.specs.Space.{IsSpaceOf}
 use Rattle.place_sweep.specs.declared.place.Place.{Place}
@@ -19,12 +17,12 @@ use Rattle.timelines.specs.declared.followed.FollowedLink.{FollowedLink}
 use Rattle.place_rows.specs.Chains.{AreAround, most_out, odd_ones}
 use Rattle.place_rows.specs.Joining.{AreKnown}
 use Rattle.place_rows.specs.Moves.{AreTied, IsSeen}
-use Rattle.place_rows.specs.Resting.{IsRestOf, PutNothing}
+use Rattle.place_rows.specs.Pausing.{IsPauseOf}
 use Rattle.place_rows.specs.Rows.{IsOf, origin_at, rows_of}
 use Rattle.place_rows.specs.Gates.{IsGateOf}
 use Rattle.place_rows.specs.declared.gate_place.GatePlace.{GatePlace}
 use Rattle.place_rows.specs.declared.origin.Origin.{Origin}
-use Rattle.place_rows.specs.declared.rest.Rest.{Rest}
+use Rattle.place_rows.specs.declared.pause.Pause.{Pause}
 use Rattle.place_rows.specs.declared.tie.Tie.{Tie}
 
 pub record PlacedCells : Type 0 where
@@ -37,8 +35,9 @@ pub record PlacedCells : Type 0 where
   pub ties : List Tie
   -- the gates among them
   pub gates : List GatePlace
-  -- whether they hold nothing, as far as it is known
-  pub rest : Rest
+  -- for how long nothing moves among them, and what was seen of their halo when that was found
+  pub pause : Pause
+  pub seen : List (Option ℕ)
   -- for how many parts there is room
   pub room : ℕ
   pub room_in : ℕ
@@ -59,7 +58,8 @@ pub record ArePlaced (net : Network) (cells halo connectors : List ℕ) (t : ℕ
   pub demands : All (IsGateOf net cells t) placed.gates
   pub links : All (IsThere (length placed.places) t) placed.links
   pub followed : AreFollowed (most_out net cells connectors) placed.places placed.links t
-  pub rest : IsRestOf placed.places placed.before placed.rest
+  pub pause : IsPauseOf placed.places placed.before placed.links placed.ties placed.seen t placed.pause
+  pub seen_each : length placed.seen ≡ length halo
   pub room : 2 * length placed.ties ≤ placed.room
   pub room_in : 2 * length placed.ties + length placed.gates ≤ placed.room_in
 
@@ -78,15 +78,11 @@ pub record CanAdvance (net : Network) (cells : List ℕ) (t : ℕ) (placed : Pla
   pub bounds : AreInBounds net cells halo t placed put
   pub seen : IsSeen n cells halo placed.places put
 
--- by what is known of them the cells hold nothing and held nothing a step before, and nothing comes to them in step t
-pub record RestThrough (t : ℕ) (placed : PlacedCells) (put : List (Option ℕ)) : Type 0 where
-  pub still : placed.rest.still ≡ true
-  pub put_nothing : PutNothing put
+-- nothing moves among the cells in step t: their pause isn't over, their halo holds what was seen, and no gate demands anything
+pub record WaitThrough (t : ℕ) (placed : PlacedCells) (put : List (Option ℕ)) : Type 0 where
+  pub paused : t < placed.pause.until
+  pub same : placed.seen ≡ put
   pub demand_nothing : All (λ gate. value_at gate.course t ≡ 0) placed.gates
-
--- the rows of these cells after step t, where all cells around them hold n as it begins
-unfoldable pub rows_next : Network → (t : ℕ) → (ℕ → ℕ) → (cells : List ℕ) → List Row → List Row
-rows_next net t n cells rows = map (λ p. next_row net t n (slice_index cells p) (row_at rows p)) (range_with_len 0 (length cells))
 
 -- cells, their halo and the connectors that touch them, as a region has them
 pub record AreCells (net : Network) (cells halo connectors : List ℕ) : Type 0 where

@@ -33,11 +33,12 @@ pub record IsOf (net : Network) (i : ℕ) (origin : Origin) (place : Place) : Ty
   pub began : origin.is_exit ≡ false → origin.first ≤ place.n + place.gone
   pub sums : origin.is_exit ≡ false → place.gone ≤ place.held
 
--- no sum of the place runs below 0 or too large
+-- no sum of the place runs below 0 or too large, and it has room for what it holds
 pub record IsSettled (origin : Origin) (place : Place) : Type 0 where
   pub began : origin.is_exit ≡ false → origin.first ≤ place.n + place.gone
   pub sums : origin.is_exit ≡ false → place.gone ≤ place.held
   pub fits : place.n + place.gone < 2 ^ 64
+  pub room : place.n ≤ place.space.most
 
 -- so is each, with an occupancy of a step before for each
 pub record AreSettled (origins : List Origin) (places : List Place) (before : List ℕ) : Type 0 where

@@ -51,9 +51,16 @@ fn carried(tie: &Tie, sight: &Sight) -> Flow
     requires { (m : ℕ) → m < 3 → IsThere sight.now.places.now sight.now.put.now (spot_at tie.now m) }
     ensures { result ≡ flow_at tie.now.course tie.now.course.step (three_held tie.now sight.now.places.now sight.now.put.now) }
 {
+    tie.course.flow(held_by(tie, sight))
+}
+
+/// What the cells at its spots hold.
+pub(crate) fn held_by(tie: &Tie, sight: &Sight) -> [u64; 3]
+    requires { (m : ℕ) → m < 3 → IsThere sight.now.places.now sight.now.put.now (spot_at tie.now m) }
+    ensures { result ≡ three_held tie.now sight.now.places.now sight.now.put.now }
+{
     let [a, b, c] = tie.cells;
-    let n = [sight.held(a), sight.held(b), sight.held(c)];
-    tie.course.flow(n)
+    [sight.held(a), sight.held(b), sight.held(c)]
 }
 
 /// So many parts, where the spot is that of a place. There is room for it.

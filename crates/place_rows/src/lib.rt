@@ -11,12 +11,14 @@ mod joining;
 mod joints;
 mod opening;
 mod origin;
+mod pause;
 mod placed;
-mod rest;
 mod spot;
 mod tie;
 mod tying;
+mod waiting;
 
 pub use cells::Cells;
 pub use chain::chained;
+pub use opening::nothing_put;
 pub use placed::PlacedRows;

@@ -1,4 +1,4 @@
-ghost use Rattle.std.specs.Prelude.{◌≡◌, ◌<◌, ◌≤◌, ◌^◌, ℕ, All, IfOk, length, map, slice_index};
+ghost use Rattle.std.specs.Prelude.{◌≡◌, ◌<◌, ◌≤◌, ◌^◌, ℕ, All, IfOk, None, length, map, replicate, slice_index};
 ghost use Rattle.std.specs.List.{filter, range_with_len};
 ghost use Rattle.network_file.specs.Cells.{is_gate_at};
 ghost use Rattle.flow_model.specs.Bounds.{IsRowInBounds};
@@ -69,6 +69,17 @@ pub(crate) fn earlier_of(
         before.push(earlier[*i as usize])?;
     }
     Ok(before)
+}
+
+/// Nothing is put at so many places yet.
+pub fn nothing_put(alloc: Global, places: usize) -> Result<Vec<Option<u64>>, NoMemory>
+    ensures { IfOk result (λ put. put.items ≡ replicate places None) }
+{
+    let mut put = Vec::new(alloc);
+    for _ in 0..places {
+        put.push(None)?;
+    }
+    Ok(put)
 }
 
 /// The gates among these cells, at step 0.

@@ -1,5 +1,5 @@
 -- The flow between two places is that of the link between their cells.
-use Rattle.std.proofs.Common.{◌≡◌, ℕ, ◌+◌, ◌≤◌, Bool, true, false, Option, Some, None, min, arith}
+use Rattle.std.proofs.Common.{◌≡◌, ℕ, ◌≤◌, Bool, true, false, Option, Some, None, min, arith}
 use Rattle.ordinary_link.specs.LinkFlow.{link_flow_of}
 use Rattle.ordinary_link.specs.Receiving.{receiving_flow}
 use Rattle.ordinary_link.specs.Sending.{sending_flow}

@@ -3,4 +3,4 @@ pub mod Capacity
 pub mod Places
 pub mod Parts
 pub mod Steps
-pub mod Holding
+pub mod Moving

@@ -28,7 +28,7 @@ pub fn sweep(places: &mut [Place], before: &mut [u64])
 
 // What the link out of the place of this number carries.
 #[inline(always)]
-fn carried_from(places: &[Place], p: usize) -> u64
+pub(crate) fn carried_from(places: &[Place], p: usize) -> u64
     requires there { p + 1 < length places.now }
     requires fits { (place_at places.now (p + 1)).n ≤ (place_at places.now (p + 1)).space.most }
     ensures flow { result ≡ carried (place_at places.now p) (place_at places.now (p + 1)) }

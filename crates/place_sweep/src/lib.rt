@@ -6,7 +6,7 @@
 
 mod capacity;
 mod chain;
-mod held;
+mod movement;
 mod part;
 mod place;
 mod space;
@@ -16,7 +16,7 @@ mod tests;
 
 pub use capacity::link_capacity;
 pub use chain::sweep;
-pub use held::holding;
+pub use movement::moving;
 pub use part::{Part, enter, leave};
 pub use place::Place;
 pub use space::{BOUNDLESS, Space};

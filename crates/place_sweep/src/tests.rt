@@ -95,15 +95,23 @@ fn a_ratio_rounds_down_and_a_red_light_stops(rt: HostRuntime) {
     assert_eq!(rt; link_capacity(7, 5, false), 0);
 }
 
+// The link that is found from one place on, of three places of which the first two hold 5 and 2 parts and have links that
+// carry so much at most.
+fn found(most: [u64; 2], from: usize) -> Option<usize> {
+    let places = [
+        place(5, most[0], None),
+        place(2, most[1], None),
+        place(0, 0, None),
+    ];
+    moving(&places, from)
+}
+
 #[test]
-fn a_place_that_holds_something_is_found_from_anywhere(rt: HostRuntime) {
-    let mut places = PAIR;
-    assert_eq!(rt; holding(&places, 0), Some(0));
-    assert_eq!(rt; holding(&places, 1), Some(1));
-    assert_eq!(rt; holding(&places, 9), Some(0));
-    places[1].n = 0;
-    assert_eq!(rt; holding(&places, 1), Some(0));
-    places[0].n = 0;
-    assert_eq!(rt; holding(&places, 1), None);
-    assert_eq!(rt; holding(&[], 3), None);
+fn a_link_that_carries_something_is_found_from_anywhere(rt: HostRuntime) {
+    assert_eq!(rt; found([3, 9], 0), Some(0));
+    assert_eq!(rt; found([3, 9], 1), Some(1));
+    assert_eq!(rt; found([3, 0], 1), Some(0));
+    assert_eq!(rt; found([0, 9], 7), Some(1));
+    assert_eq!(rt; found([0, 0], 1), None);
+    assert_eq!(rt; moving(&[], 3), None);
 }

@@ -9,12 +9,12 @@ use Rattle.network_file.specs.Cells.{is_gate_at}
 use Rattle.network_file.specs.Network.{IsNetwork, Network}
 use Rattle.flow_model.specs.Flows.{inflow, outflow}
 use Rattle.flow_model.specs.Rows.{moved_row, next_row, row_by}
-use Rattle.flow_model.specs.State.{row_at}
+use Rattle.flow_model.specs.State.{row_at, rows_after}
 use Rattle.flow_model.specs.declared.row.Row.{Row}
 use Rattle.flow_model.proofs.Bounds.{changes, moved_row-in_bounds, small}
 use Rattle.flow_model.proofs.Flows.{entered_by-gate}
 use Rattle.region_cut.specs.Chart.{ChartLists, list_at}
-use Rattle.region_step.specs.Advance.{HasHaloPut, HasRowsInBounds, advanced, known, next_rows_of, rows_after}
+use Rattle.region_step.specs.Advance.{HasHaloPut, HasRowsInBounds, advanced, known, next_rows_of}
 use Rattle.region_step.specs.Opened.{halo_cells}
 use Rattle.region_step.proofs.Advancing.{length-next_rows_of}
 use Rattle.region_step.proofs.Ground.{ground}

@@ -5,7 +5,7 @@ use Rattle.region_cut.specs.Chart.{ChartLists, chart_of, list_at}
 use Rattle.region_cut.specs.Cuttings.{region_count}
 use Rattle.region_step.specs.Opened.{halo_cells}
 use Rattle.plain_region.specs.Layout.{AreTies}
-use Rattle.plain_region.specs.Opening.{ArePlaces}
+use Rattle.region_step.specs.Opening.{ArePlaces}
 use Rattle.plain_region.specs.Plain.{PlainValue}
 
 -- the region is one of this chart

@@ -1,5 +1,5 @@
 ghost use Rattle.std.specs.Prelude.{◌≡◌, ◌<◌, All, IfOk, length, map, slice_index};
-ghost use Rattle.flow_model.specs.State.{occupancy, row_at};
+ghost use Rattle.flow_model.specs.State.{occupancy, row_at, rows_after};
 
 use crate::carry::carry_all;
 use crate::change::Change;
@@ -36,7 +36,7 @@ impl Model for CellRows {
 }
 
 impl CellRows {
-    ghost use Rattle.region_step.specs.Advance.{known, rows_after};
+    ghost use Rattle.region_step.specs.Advance.{known};
     ghost use Rattle.plain_region.specs.Carrying.{IsScene};
 
     /// Those of these cells, by what all cells of a start hold.

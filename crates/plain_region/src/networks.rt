@@ -66,6 +66,14 @@ link,in,a\nmerge,a,ramp,b,2,1\ndiverge,b,c,off,3,1\nlink,c,d\nlink,d,out\n\
 signal,c,5,2,0,3\nlimit,d,10,20,0\nlimit,d,155,160,0.5\nturn,b,100,158,1,1\n\
 demand,in,150,156,3\ndemand,ramp,152,154,2\n";
 
+// All wait, behind shut cells, at a red light or too few for the shares of a diverge, and move again at some steps: as a
+// cell opens, as the light turns, as more come.
+pub(crate) const WAITING: &[u8] = b"ctm,2\nsteps,300\n\
+gate,in,2,3\ngate,ramp,1,0.5\nroad,a,6,2,1,2,3\nroad,b,6,2,1,1,0.000004\nroad,c,6,2,2,3,2\nroad,d,6,2,1,2,0\nexit,off,1\nexit,out,2\n\
+link,in,a\nmerge,a,ramp,b,2,1\ndiverge,b,c,off,3,2\nlink,c,d\nlink,d,out\n\
+signal,c,50,7,0,5\nlimit,in,0,40,0\nlimit,a,0,60,0\nlimit,ramp,0,110,0\nlimit,out,160,190,0\nturn,b,200,300,1,1\n\
+demand,in,210,212,1\ndemand,ramp,230,231,0.25\n";
+
 // Large cells, whose ratios seldom divide what is free in them.
 pub(crate) const LARGE: &[u8] = b"ctm,2\nsteps,60\n\
 gate,in,100000,1000000\nroad,a,100000,100000,999,1000,100000\nroad,b,100000,100000,999,1000,49999.999999\n\

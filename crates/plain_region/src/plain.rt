@@ -6,10 +6,11 @@ ghost use Rattle.region_cut.specs.Cuttings.{region_count};
 
 use crate::cell_rows::CellRows;
 use crate::notes::{make_room, note_step};
-use crate::opening::{first_notes, nothing_put};
+use crate::opening::first_notes;
 use crate::wiring::Wiring;
 use flow_model::Row;
 use network_file::Net;
+use place_rows::nothing_put;
 use region_cut::Chart;
 use region_step::{Note, Start, is_recorded};
 use signal_plan::NoMemory;

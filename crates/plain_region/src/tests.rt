@@ -6,6 +6,7 @@ use crate::PlainRegion;
 use crate::alike::first_difference;
 use crate::networks::{
     AT_REST, BACKWARDS, BOTTLENECK, CHANGES, FULL, JUNCTIONS, LARGE, LONE_CELLS, RING, SIGNALS,
+    WAITING,
 };
 use crate::rounds::open_all;
 use network_file::{MOST_BYTES, MOST_REGIONS, Net};
@@ -143,6 +144,11 @@ fn large_cells_with_uneven_ratios(rt: HostRuntime) -> Result<(), Fail> {
 #[test]
 fn a_network_at_rest_before_and_after(rt: HostRuntime) -> Result<(), Fail> {
     compare(&rt, rt.alloc(), AT_REST)
+}
+
+#[test]
+fn cells_that_wait_and_move_again(rt: HostRuntime) -> Result<(), Fail> {
+    compare(&rt, rt.alloc(), WAITING)
 }
 
 #[test]

@@ -3,13 +3,13 @@ ghost use Rattle.region_cut.specs.Chart.{chart_of, list_at};
 ghost use Rattle.region_cut.specs.Cuttings.{region_count};
 ghost use Rattle.plain_region.specs.Layout.{AreTies};
 ghost use Rattle.region_step.specs.Opened.{halo_cells};
-ghost use Rattle.plain_region.specs.Opening.{ArePlaces};
+ghost use Rattle.region_step.specs.Opening.{ArePlaces};
 ghost use Rattle.std.specs.Prelude.{◌≡◌};
 
-use crate::opening::{border_places, halo_cells};
 use crate::tie::{Tie, ties};
 use network_file::Net;
 use region_cut::Chart;
+use region_step::{border_places, halo_cells};
 use signal_plan::NoMemory;
 use std::alloc::Global;
 

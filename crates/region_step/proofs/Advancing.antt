@@ -1,24 +1,23 @@
 -- One step of a region: it can be made, and it is that of the recurrences.
 use Rattle.std.specs.Prelude.{Option, None, map, replicate, slice_index, slice_index_or, unwrap_or, if◌then◌else◌}
-use Rattle.std.proofs.Common.{◌≡◌, ℕ, suc, zero-add, ◌<◌, ◌≤◌, ◌+◌, ◌*◌, Bool, true, false, List, [], ◌++◌, length, refl, sym, ap, subst, ◌∙◌, arith}
+use Rattle.std.proofs.Common.{◌≡◌, ℕ, suc, ◌<◌, ◌≤◌, ◌+◌, ◌*◌, Bool, true, false, List, [], ◌++◌, length, refl, sym, ap, subst, ◌∙◌, arith}
 use Rattle.std.proofs.lemmas.List.{ext_get_or, get_or-map, length-append, length-map, length-replicate}
 use Rattle.std.proofs.lemmas.List.Elements.{Contains-get_or}
-use Rattle.std.proofs.lemmas.List.FromFn.{get_or-map-range_with_len, length-map-range_with_len}
 use Rattle.std.proofs.Math.Nat.{mul-suc}
 use Rattle.network_file.specs.Network.{IsNetwork, Network}
 use Rattle.flow_model.specs.Bounds.{IsRowInBounds}
-use Rattle.flow_model.specs.Rows.{empty_row, next_row}
-use Rattle.flow_model.specs.State.{occupancy, row_at}
+use Rattle.flow_model.specs.Rows.{empty_row}
+use Rattle.flow_model.specs.State.{occupancy, row_at, rows_after}
 use Rattle.flow_model.specs.declared.row.Row.{Row}
 use Rattle.flow_model.proofs.States.{next_row-in_bounds}
 use Rattle.region_cut.specs.Chart.{ChartLists, chart_of, list_at}
 use Rattle.region_cut.specs.Cuttings.{region_count}
 use Rattle.place_sweep.specs.Places.{place_at}
 use Rattle.place_rows.specs.Moves.{IsSeen}
-use Rattle.place_rows.specs.Placed.{AreInBounds, ArePlaced, CanAdvance, PlacedCells, rows_next}
+use Rattle.place_rows.specs.Placed.{AreInBounds, ArePlaced, CanAdvance, PlacedCells}
 use Rattle.place_rows.specs.Rows.{rows_of}
-use Rattle.place_rows.proofs.Whole.{row_at-rows_of}
-use Rattle.region_step.specs.Advance.{HasHaloPut, HasRowsInBounds, advanced, known, next_rows_of, rows_after}
+use Rattle.place_rows.proofs.Whole.{length-rows_after, row_at-rows_after, row_at-rows_of}
+use Rattle.region_step.specs.Advance.{HasHaloPut, HasRowsInBounds, advanced, known, next_rows_of}
 use Rattle.region_step.specs.Opened.{IsIn, halo_cells}
 use Rattle.region_step.specs.Recording.{is_recorded, note_of, notes_of, recorded_after}
 use Rattle.region_step.specs.Region.{RegionState, RegionValue}
@@ -82,9 +81,8 @@ pub record HasStepped (net : Network) (chart : ChartLists) (region : RegionValue
   pub before : new.before ≡ map (λ row. row.n) region.state.rows
 
 next-is : (net : Network) (chart : ChartLists) (region : RegionValue) → IsIn net chart region →
-    rows_next net region.state.step (known (list_at chart.cells region.state.number) (halo_cells chart region.state.number) region.state.rows region.state.put)
+    rows_after net region.state.step (known (list_at chart.cells region.state.number) (halo_cells chart region.state.number) region.state.rows region.state.put)
     (list_at chart.cells region.state.number) (rows_of region.layout.placed.origins region.layout.placed.places) ≡ next_rows_of net chart region.state
-unfolding rows_next rows_after
 next-is net chart region inside = rw (← inside.row_each) refl
 
 before-is : (net : Network) (chart : ChartLists) (region : RegionValue) (before : List ℕ) → IsIn net chart region → length before ≡ length (list_at chart.cells region.state.number) →
@@ -102,7 +100,7 @@ before-is net chart region before inside long each =
 -- the step of places says so
 abbrev SaysRows : (net : Network) (t : ℕ) (cells : List ℕ) (placed : PlacedCells) (put : List (Option ℕ)) (new : PlacedCells) → Type 0
 SaysRows net t cells placed put new =
-    (can : CanAdvance net cells t placed put) → rows_of new.origins new.places ≡ rows_next net t can.n cells (rows_of placed.origins placed.places)
+    (can : CanAdvance net cells t placed put) → rows_of new.origins new.places ≡ rows_after net t can.n cells (rows_of placed.origins placed.places)
 
 abbrev SaysPlaced : (net : Network) (t : ℕ) (cells : List ℕ) (placed : PlacedCells) (put : List (Option ℕ)) (new : PlacedCells) → Type 0
 SaysPlaced net t cells placed put new = (can : CanAdvance net cells t placed put) → ArePlaced net cells can.halo can.connectors (t + 1) new
@@ -134,16 +132,6 @@ stepped-read net chart read region cells put new is sound inside bounds halo own
     rw (own, told, is) (stepped net chart region new sound inside bounds halo)
 
 -- what holds of it after the step
-
-pub length-rows_after : (net : Network) (t : ℕ) (n : ℕ → ℕ) (cells : List ℕ) (rows : List Row) → length (rows_after net t n cells rows) ≡ length cells
-unfolding rows_after
-length-rows_after net t n cells rows = length-map-range_with_len (λ p. next_row net t n (slice_index cells p) (row_at rows p)) 0 (length cells)
-
-row_at-rows_after : (net : Network) (t : ℕ) (n : ℕ → ℕ) (cells : List ℕ) (rows : List Row) (p : ℕ) → p < length cells →
-    row_at (rows_after net t n cells rows) p ≡ next_row net t n (slice_index cells p) (row_at rows p)
-unfolding rows_after
-row_at-rows_after net t n cells rows p within =
-    get_or-map-range_with_len (λ p. next_row net t n (slice_index cells p) (row_at rows p)) 0 (length cells) p p empty_row within (zero-add p)
 
 pub advanced-in_bounds : (net : Network) (chart : ChartLists) (region : RegionState) → IsNetwork net → chart ≡ chart_of net chart.cut → region.number < region_count chart.cut →
     region.step < net.steps → HasRowsInBounds net chart region → HasRowsInBounds net chart (advanced net chart region)

@@ -12,13 +12,13 @@ use Rattle.std.proofs.Common.{zero-add}
 use Rattle.network_file.specs.Connectors.{are_joined}
 use Rattle.network_file.specs.Network.{IsNetwork, Network}
 use Rattle.flow_model.specs.Rows.{empty_row, next_row}
-use Rattle.flow_model.specs.State.{row_at}
+use Rattle.flow_model.specs.State.{row_at, rows_after}
 use Rattle.flow_model.specs.declared.row.Row.{Row}
 use Rattle.flow_model.proofs.Locality.{next_row-local}
 use Rattle.region_cut.specs.Chart.{ChartLists, chart_of, list_at}
 use Rattle.region_cut.specs.Cuttings.{region_at, region_count}
 use Rattle.region_cut.proofs.Meetings.{joined-halo, joined-there}
-use Rattle.region_step.specs.Advance.{advanced, known, rows_after}
+use Rattle.region_step.specs.Advance.{advanced, known}
 use Rattle.region_step.specs.Grid.{grid_before, grid_held, grid_row}
 use Rattle.region_step.specs.Laws.{grid_rows, grid_state, grid_trail, with_halo}
 use Rattle.region_step.specs.Opened.{halo_cells}

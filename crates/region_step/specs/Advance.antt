@@ -1,10 +1,9 @@
 -- One step of a region, by its own rows and by what was put for its halo.
 use Rattle.std.specs.Prelude.{◌≡◌, ℕ, ◌+◌, ◌<◌, ◌==◌, eqb, List, [], ◌++◌, Option, Some, None, length, map, replicate, slice_index, slice_index_or, unwrap_or, if◌then◌else◌}
-use Rattle.std.specs.List.{list_any, position_or_len, range_with_len}
+use Rattle.std.specs.List.{list_any, position_or_len}
 use Rattle.network_file.specs.Network.{Network}
 use Rattle.flow_model.specs.Bounds.{IsHeldInBounds, IsRowInBounds}
-use Rattle.flow_model.specs.Rows.{next_row}
-use Rattle.flow_model.specs.State.{occupancy, row_at}
+use Rattle.flow_model.specs.State.{occupancy, row_at, rows_after}
 use Rattle.flow_model.specs.declared.row.Row.{Row}
 use Rattle.region_cut.specs.Chart.{ChartLists, list_at}
 use Rattle.region_step.specs.Opened.{halo_cells}
@@ -16,11 +15,6 @@ unfoldable pub known : (cells halo : List ℕ) → List Row → (put : List (Opt
 known cells halo rows put i =
     if list_any (eqb i) cells then occupancy rows (position_or_len (λ j. j == i) cells)
     else unwrap_or (slice_index_or put (position_or_len (λ j. j == i) halo) None) 0
-
--- the rows of these cells after step t, by their rows and by what all cells around them hold as it begins
-unfoldable pub rows_after : Network → (t : ℕ) → (ℕ → ℕ) → (cells : List ℕ) → List Row → List Row
-rows_after net t n cells rows =
-    map (λ p. next_row net t n (slice_index cells p) (row_at rows p)) (range_with_len 0 (length cells))
 
 -- the rows of a region after its step
 abbrev pub next_rows_of : Network → ChartLists → RegionState → List Row

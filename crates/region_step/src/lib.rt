@@ -12,6 +12,7 @@ mod start;
 
 pub use first_regions::open_regions;
 pub use note::Note;
+pub use opening::{border_places, halo_cells};
 pub use recording::is_recorded;
 pub use region::Region;
 pub use start::Start;

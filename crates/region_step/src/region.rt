@@ -6,13 +6,13 @@ ghost use Rattle.region_cut.specs.Cuttings.{region_count};
 ghost use Rattle.region_cut.specs.LawfulSteps.{AreLawful};
 
 use crate::note::Note;
-use crate::opening::{border_places, nothing_put};
+use crate::opening::border_places;
 use crate::placing::place_cells;
 use crate::recording::{first_notes, is_recorded, note_step};
 use crate::start::Start;
 use flow_model::Row;
 use network_file::Net;
-use place_rows::PlacedRows;
+use place_rows::{PlacedRows, nothing_put};
 use region_cut::Chart;
 use signal_plan::NoMemory;
 use std::alloc::Global;

@@ -1,4 +1,4 @@
-use Rattle.std.proofs.Common.{◌≡◌, true}
+use Rattle.std.proofs.Common.{true}
 use Rattle.place_sweep.proofs.Flows.{link_flow-is}
 use Rattle.place_sweep.proofs.capacity.link_capacity.Goals as goal
 

@@ -1,5 +1,5 @@
-use Rattle.std.proofs.Common.{◌≡◌, ℕ, ◌+◌, ◌-◌, ◌%◌, ◌^◌, ◌<◌, ◌≤◌, List, length, refl, sym, ap, ◌∙◌, arith}
-use Rattle.place_sweep.specs.Places.{link_in, link_out, moved, place_at, swept}
+use Rattle.std.proofs.Common.{◌≡◌, ℕ, ◌+◌, ◌-◌, ◌≤◌, refl, ap, ◌∙◌, arith}
+use Rattle.place_sweep.specs.Places.{link_in, link_out, moved, place_at}
 use Rattle.place_sweep.specs.Parts.{parts_at, with_entered, with_left}
 use Rattle.place_sweep.specs.Steps.{stepped}
 use Rattle.place_sweep.specs.declared.place.Place.{Place}

@@ -3,19 +3,9 @@ use Rattle.std.specs.Prelude.{Option}
 use Rattle.std.proofs.Common.{ap, ◌∙◌}
 use Rattle.connector_courses.specs.Flows.{ConnectorValues, flow_at}
 use Rattle.connector_courses.specs.declared.courses.Courses.{Courses}
-use Rattle.connector_courses.proofs.Bounding.{kept-limits, kept-weights}
+use Rattle.connector_courses.proofs.Bounding.{kept-limits}
 use Rattle.connector_courses.proofs.Made.{flow-within}
 use Rattle.connector_courses.proofs.connector_course.ConnectorCourse.flow.Goals as goal
-
-pub carried-requires-clause-some_first : goal.carried-requires-clause-some_first
-carried-requires-clause-some_first c =
-    let course = c.self.inside in
-    (kept-weights (option_map (λ own. own.value) course.courses) course.limits course.step course.until c.self.invariant).0
-
-pub carried-requires-clause-some_second : goal.carried-requires-clause-some_second
-carried-requires-clause-some_second c =
-    let course = c.self.inside in
-    (kept-weights (option_map (λ own. own.value) course.courses) course.limits course.step course.until c.self.invariant).1
 
 pub returns : goal.returns
 returns c =

@@ -1,10 +1,11 @@
-use Rattle.std.proofs.Common.{arith}
+use Rattle.std.proofs.Common.{◌∙◌, arith}
 use Rattle.connector_courses.proofs.Bounding.{limits-are, limits-same}
 use Rattle.connector_courses.proofs.courses.Courses.move_to.Goals as goal
 
 pub returns-clause-value : goal.returns-clause-value
 returns-clause-value c =
-    limits-are c.args.self.now _ c.args.t c.move_to-first.ensures.value c.move_to-second.ensures.value c.move_to-third.ensures.value c.move_to-weights.ensures.value
+    limits-are c.args.self.now _ c.args.t c.move_to-first.ensures.value c.move_to-second.ensures.value c.move_to-third.ensures.value
+    (c.renewed.ensures ∙ c.move_to-weights.ensures.value)
 
 pub returns-clause-steady : goal.returns-clause-steady
 returns-clause-steady c = λ s from before.

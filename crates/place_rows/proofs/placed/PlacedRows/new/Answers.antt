@@ -1,12 +1,13 @@
-use Rattle.std.specs.Prelude.{All, slice_index}
+use Rattle.std.specs.Prelude.{All, None, slice_index}
 use Rattle.std.proofs.Common.{◌≡◌, ℕ, length, sym, ap, subst, ◌∙◌, arith}
-use Rattle.std.proofs.lemmas.List.{length-map, with_items_is}
+use Rattle.std.proofs.lemmas.List.{length-map, length-replicate, with_items_is}
 use Rattle.network_file.specs.Network.{IsNetwork}
 use Rattle.flow_model.specs.Limits.{room_at}
 use Rattle.place_sweep.specs.Places.{place_at}
 use Rattle.place_sweep.specs.Space.{IsSpaceOf}
 use Rattle.timelines.specs.Followed.{IsThere}
 use Rattle.place_rows.proofs.Firsts.{AreOpened, opened-cell, opened-rows, opened-settled}
+use Rattle.place_rows.proofs.Stays.{waited-none}
 use Rattle.place_rows.proofs.placed.PlacedRows.new.Goals as goal
 
 pub invariant_of-result : goal.invariant_of-result
@@ -40,7 +41,7 @@ invariant_of-result c =
     } in
     let before_long : length c.in_ok-before.before.items ≡ length cells =
     ap length c.in_ok-before.ensures ∙ length-map cells (slice_index c.args.earlier.now) in
-    rw after_is (opened-settled net t cells rows origins first after c.in_ok-before.before.items opened before_long)
+    rw (after_is, waited-none after) (opened-settled net t cells rows origins first after c.in_ok-before.before.items opened before_long)
 
 pub returns-clause-placed : goal.returns-clause-placed
 returns-clause-placed c =
@@ -73,7 +74,7 @@ returns-clause-placed c =
     } in
     let before_long : length c.in_ok-before.before.items ≡ length cells =
     ap length c.in_ok-before.ensures ∙ length-map cells (slice_index c.args.earlier.now) in
-    rw after_is (record {
+    rw (after_is, waited-none after) (record {
       around = c.requires.cells.around;
       known = c.requires.cells.known;
       tied = record {
@@ -94,7 +95,8 @@ returns-clause-placed c =
       demands = λ k d within. let is = c.in_ok-gates.ensures.demands k d within in record { demand = is.demand; step = omega (arith, is.step) };
       links = subst (λ n. All (IsThere n t) c.in_ok-joints.joints.links.items) (sym (after_long ∙ opened.first_each)) c.in_ok-joints.ensures.links;
       followed = c.in_ok-joints.ensures.followed;
-      rest = record { empty = λ no. absurd cc; still = λ no. absurd cc; before = λ no. absurd cc };
+      pause = record { idle = λ s none. absurd (omega (arith, none)); owed = omega arith; kept = λ some. absurd (omega (arith, some)) };
+      seen_each = ap length c.in_ok-seen.ensures ∙ length-replicate (length halo) None;
       room = omega (arith, c.in_ok-outs.ensures.capacity, c.len.ensures, c.in_ok-joints.joints.ties.ok.0);
       room_in = omega (arith, c.in_ok-ins.ensures.capacity, c.len-2.ensures, c.len-3.ensures, c.in_ok-joints.joints.ties.ok.0, c.in_ok-gates.gates.ok.0);
     })
@@ -130,4 +132,4 @@ returns-clause-rows c =
     } in
     let before_long : length c.in_ok-before.before.items ≡ length cells =
     ap length c.in_ok-before.ensures ∙ length-map cells (slice_index c.args.earlier.now) in
-    rw after_is (opened-rows net t cells rows origins first after opened)
+    rw (after_is, waited-none after) (opened-rows net t cells rows origins first after opened)

@@ -1,4 +1,4 @@
-use Rattle.std.specs.Prelude.{vec_capacity}
+use Rattle.std.specs.Prelude.{map, vec_capacity}
 use Rattle.std.proofs.Common.{◌≡◌, ◌+◌, ◌<◌, ℕ, List, length, get_or, sym, ap, subst, ◌∙◌, arith}
 use Rattle.std.specs.Vec.{with_items}
 use Rattle.std.proofs.lemmas.List.{with_items_is}
@@ -10,7 +10,8 @@ use Rattle.place_sweep.specs.declared.place.Place.{Place}
 use Rattle.place_rows.specs.Moves.{ArePartsOf}
 use Rattle.place_rows.specs.Placed.{CanAdvance, PlacedCells}
 use Rattle.place_rows.proofs.Parting.{can_carry}
-use Rattle.place_rows.proofs.Resting.{rest-after}
+use Rattle.place_rows.specs.Waiting.{waited}
+use Rattle.place_rows.proofs.Stays.{waited-unowed}
 use Rattle.place_rows.proofs.Whole.{AreBrought, AreSteps, IsFresh, can_step, fresh-of, gates-there, placed-after, placed-read, rows-after, rows-read, scene-fresh, seen-fresh, settled-after, steps-moved}
 use Rattle.place_rows.specs.declared.placed.PlacedRows.TheInside.{Inside}
 use Rattle.place_rows.proofs.placed.PlacedRows.take_step.Goals.{After-deref-3}
@@ -28,10 +29,21 @@ opened rows = record {
   links = rows.links.items;
   ties = rows.ties.items;
   gates = rows.gates.items;
-  rest = rows.rest;
+  pause = rows.pause;
+  seen = rows.seen.items;
   room = vec_capacity rows.outs;
   room_in = vec_capacity rows.ins;
 }
+
+-- as contracts see them
+abbrev viewed : Inside → PlacedCells
+viewed rows = record (opened rows) { places = map (waited rows.pause.owed) rows.places.items }
+
+opened-is : (rows : Inside) (now : PlacedCells) → viewed rows ≡ now → now.pause.owed ≡ 0 → opened rows ≡ now
+opened-is rows now is none =
+    let same : map (waited rows.pause.owed) rows.places.items ≡ rows.places.items =
+    waited-unowed rows.pause.owed rows.places.items (ap (λ cells. cells.pause.owed) is ∙ none) in
+    rw same at is
 
 pub carry_all-requires-clause-each : goal.carry_all-requires-clause-each
 carry_all-requires-clause-each c = λ k d within.
@@ -40,7 +52,7 @@ carry_all-requires-clause-each c = λ k d within.
     let cells = c.args.cells.now in
     let placed : PlacedCells = opened c.self.inside in
     let first = c.refresh.new.places in
-    let can : CanAdvance net cells t placed c.args.put.now = subst (λ from. CanAdvance net cells t from c.args.put.now) (sym c.self.view_is) c.requires.can in
+    let can : CanAdvance net cells t placed c.args.put.now = subst (λ from. CanAdvance net cells t from c.args.put.now) (sym (opened-is c.self.inside c.args.self.now c.self.view_is c.requires.none_owed)) c.requires.can in
     let new = fresh-of net cells can.halo can.connectors t placed c.deref_mut-2.result.now first c.deref_mut.result.now c.refresh.new.links
     can.laid c.deref_mut-2.ensures.value c.deref_mut.ensures.value c.refresh.auto.places c.refresh.ensures.there c.refresh.ensures.most c.refresh.ensures.followed in
     let sight : c.deref.result.now ≡ first = c.deref.ensures.value ∙ with_items_is c.self.inside.places first (c.refresh.auto.places ∙ c.deref_mut-2.ensures.len) in
@@ -52,7 +64,7 @@ carry_all-requires-clause-each c = λ k d within.
 
 pub put_demands-requires-clause-step : goal.put_demands-requires-clause-step
 put_demands-requires-clause-step c =
-    let can = subst (λ from. CanAdvance c.args.net.now c.args.cells.now c.args.t from c.args.put.now) (sym c.self.view_is) c.requires.can in
+    let can = subst (λ from. CanAdvance c.args.net.now c.args.cells.now c.args.t from c.args.put.now) (sym (opened-is c.self.inside c.args.self.now c.self.view_is c.requires.none_owed)) c.requires.can in
     rw c.deref_mut-4.ensures.value (λ k d within. (can.laid.demands k d within).step)
 
 -- once the ties have carried and the gates have demanded
@@ -61,7 +73,10 @@ abbrev Can : After-deref-3 → Type 0
 Can c = CanAdvance c.args.net.now c.args.cells.now c.args.t (opened c.self.inside) c.args.put.now
 
 can-step : (c : After-deref-3) → Can c
-can-step c = subst (λ from. CanAdvance c.args.net.now c.args.cells.now c.args.t from c.args.put.now) (sym c.self.view_is) c.requires.can
+can-step c = subst (λ from. CanAdvance c.args.net.now c.args.cells.now c.args.t from c.args.put.now) (sym (opened-is c.self.inside c.args.self.now c.self.view_is c.requires.none_owed)) c.requires.can
+
+none-owed : (c : After-deref-3) → c.self.inside.pause.owed ≡ 0
+none-owed c = ap (λ cells. cells.pause.owed) c.self.view_is ∙ c.requires.none_owed
 
 sound : (c : After-deref-3) → IsNetwork c.args.net.now
 sound c = subst IsNetwork c.net.view_is c.net.invariant
@@ -136,8 +151,8 @@ returns-clause-rows c =
     let after = c.step_places.new.places in
     let places : c.deref_mut-5.result.now ≡ first = c.deref_mut-5.ensures.value ∙ fresh-is e in
     let after_is = with_items_is (with_items c.self.inside.places first) after (c.step_places.auto.places ∙ ap length places ∙ c.refresh.auto.places ∙ c.deref_mut-2.ensures.len) in
-    rw after_is (
-    rows-read c.args.net.now c.args.cells.now c.args.t (opened c.self.inside) c.args.self.now c.args.put.now c.self.inside.origins.items after c.self.view_is
+    rw (after_is, waited-unowed c.self.inside.pause.owed after (none-owed e)) (
+    rows-read c.args.net.now c.args.cells.now c.args.t (opened c.self.inside) c.args.self.now c.args.put.now c.self.inside.origins.items after (opened-is c.self.inside c.args.self.now c.self.view_is c.requires.none_owed)
     (λ can.
     rows-after c.args.net.now c.args.cells.now can.halo can.connectors c.args.t can.n (opened c.self.inside) first c.refresh.new.links
     c.carry_all.new.outs.items c.carry_all.new.ins.items c.put_demands.new.ins.items after c.args.put.now (sound e) c.requires.in_time can.laid can.bounds can.seen
@@ -153,29 +168,30 @@ returns-clause-placed c =
     let links = c.refresh.new.links in
     let ties = c.carry_all.new.ties in
     let gates = c.put_demands.new.gates in
-    let rest = c.after-self-inside in
+    let pause = c.self.inside.pause in
+    let none = none-owed e in
+    let until : pause.until ≡ 0 = ap (λ cells. cells.pause.until) c.self.view_is ∙ c.requires.awake in
     let places : c.deref_mut-5.result.now ≡ first = c.deref_mut-5.ensures.value ∙ fresh-is e in
     let after_is = with_items_is (with_items c.self.inside.places first) after (c.step_places.auto.places ∙ ap length places ∙ c.refresh.auto.places ∙ c.deref_mut-2.ensures.len) in
     let noted_long : length noted ≡ length placed.before = c.step_places.auto.before ∙ ap length c.deref_mut-6.ensures.value in
     rw (
       after_is,
+      waited-unowed pause.owed after none,
       with_items_is c.self.inside.links links (c.refresh.auto.links ∙ c.deref_mut.ensures.len),
       with_items_is c.self.inside.before noted (c.step_places.auto.before ∙ c.deref_mut-6.ensures.len),
       with_items_is c.self.inside.ties ties (c.carry_all.auto.ties ∙ c.deref_mut-3.ensures.len),
       with_items_is c.self.inside.gates gates (c.put_demands.auto.gates ∙ c.deref_mut-4.ensures.len),
     )
-    (placed-read c.args.net.now c.args.cells.now c.args.t placed c.args.self.now c.args.put.now _ c.self.view_is
+    (placed-read c.args.net.now c.args.cells.now c.args.t placed c.args.self.now c.args.put.now _ (opened-is c.self.inside c.args.self.now c.self.view_is c.requires.none_owed)
     (λ can.
     let new = fresh e can in
     placed-after c.args.net.now c.args.cells.now can.halo can.connectors c.args.t can.n placed first links
-    c.carry_all.new.outs.items c.carry_all.new.ins.items c.put_demands.new.ins.items after noted ties gates rest.result
+    c.carry_all.new.outs.items c.carry_all.new.ins.items c.put_demands.new.ins.items after noted ties gates pause c.self.inside.seen.items
     (vec_capacity c.carry_all.new.outs) (vec_capacity c.put_demands.new.ins) c.args.put.now (sound e) c.requires.in_time can.laid can.bounds can.seen
     (steps e can c.deref_mut-5.result.now after places c.step_places.auto.places (rw (c.deref-2.ensures.value, c.deref-3.ensures.value) at c.step_places.ensures.places)) noted_long
     (rw c.deref_mut-3.ensures.value at c.carry_all.ensures.ties) (rw c.deref_mut-4.ensures.value at c.put_demands.ensures.gates)
-    (rest-after placed.places first after placed.before noted c.self.inside.rest rest.result can.laid.rest
-    (rw (c.deref-4.ensures.value ∙ after_is) at rest.ensures.empty) rest.ensures.still rest.ensures.before
-    (noted_long ∙ can.laid.before_each ∙ sym can.laid.one_each) new.long
-    (rw places at c.step_places.ensures.before) (λ q there. ap (λ place. place.n) (new.most q there)))
+    (record { idle = λ s less. absurd (omega (arith, less, until)); owed = omega (arith, none); kept = λ some. absurd (omega (arith, none, some)) })
+    can.laid.seen_each
     c.carry_all.ensures.room
     (omega (arith, c.carry_all.ensures.room_in, c.put_demands.ensures.room))))
 
@@ -189,7 +205,7 @@ returns-clause-before c = λ p within.
     let there : p < length c.deref_mut-5.result.now = omega (arith, ap length places, new.long) in
     rw (with_items_is c.self.inside.before c.step_places.new.before (c.step_places.auto.before ∙ c.deref_mut-6.ensures.len)) (
     c.step_places.ensures.before p there ∙ ap (λ list. (place_at list p).n) places ∙ ap (λ place. place.n) (new.most p here)
-    ∙ ap (λ cells. (place_at cells.places p).n) c.self.view_is
+    ∙ ap (λ cells. (place_at cells.places p).n) (opened-is c.self.inside c.args.self.now c.self.view_is c.requires.none_owed)
     )
 
 pub invariant_of-self : goal.invariant_of-self
@@ -201,7 +217,7 @@ invariant_of-self c =
     let noted = c.step_places.new.before in
     let places : c.deref_mut-5.result.now ≡ first = c.deref_mut-5.ensures.value ∙ fresh-is e in
     let after_is = with_items_is (with_items c.self.inside.places first) after (c.step_places.auto.places ∙ ap length places ∙ c.refresh.auto.places ∙ c.deref_mut-2.ensures.len) in
-    rw (after_is, with_items_is c.self.inside.before noted (c.step_places.auto.before ∙ c.deref_mut-6.ensures.len))
+    rw (after_is, waited-unowed c.self.inside.pause.owed after (none-owed e), with_items_is c.self.inside.before noted (c.step_places.auto.before ∙ c.deref_mut-6.ensures.len))
     (settled-after c.args.net.now c.args.cells.now can.halo can.connectors c.args.t can.n (opened c.self.inside) first c.refresh.new.links
     c.carry_all.new.outs.items c.carry_all.new.ins.items c.put_demands.new.ins.items after noted c.args.put.now (sound e) c.requires.in_time can.laid can.bounds can.seen
     (steps e can c.deref_mut-5.result.now after places c.step_places.auto.places (rw (c.deref-2.ensures.value, c.deref-3.ensures.value) at c.step_places.ensures.places))
