@@ -1,5 +1,5 @@
 -- How a call ends, by what it may write and why it may write nothing.
-use Rattle.std.specs.Prelude.{◌≡◌, ℕ, List, Option, ◌⊎◌, ⊤}
+use Rattle.std.specs.Prelude.{◌≡◌, ℕ, List, Option, Some, ◌⊎◌, ⊤}
 use Rattle.std.specs.Io.KnownBytes.{Appends}
 use Rattle.ctm_ports.specs.Written.{AppendsPrefix}
 use Rattle.call_ending.specs.Lines.{read_fault_line, write_fault_line, no_memory_line}
@@ -34,9 +34,9 @@ pub record IsDone (IsText : List ℕ → Type 0) (IsRead : Type 0) (status : Sta
   pub err_kept : err.Kept
 
 -- 2. The answer is that there is no text: err has its line, and out is as it was.
-pub record IsRefused (IsWhy : Why → Type 0) (status : Status) (out err : SinkUse) : Type 0 where
+pub record IsRefused (answered : Option Why) (status : Status) (out err : SinkUse) : Type 0 where
   pub why : Why
-  pub is_why : IsWhy why
+  pub answer : answered ≡ Some why
   pub ends : status ≡ why.status
   pub told : IsTold why.line err
   pub out_kept : out.Kept
@@ -75,14 +75,24 @@ pub record IsUnwritten (answered : Status) (line : List ℕ) (status : Status) (
 
 -- how a call ends, by the texts that answer it, or why none does, by whether its input is read to the end, and by whether a
 -- read of it failed
-abbrev pub HasEnded : (IsText : List ℕ → Type 0) (IsWhy : Why → Type 0) (IsRead ReadFailed : Type 0) → Status → (out err : SinkUse) → Type 0
-HasEnded IsText IsWhy IsRead ReadFailed status out err =
+abbrev pub HasEnded : (IsText : List ℕ → Type 0) (why : Option Why) (IsRead ReadFailed : Type 0) → Status → (out err : SinkUse) → Type 0
+HasEnded IsText why IsRead ReadFailed status out err =
     IsDone IsText IsRead status out err
-    ⊎ IsRefused IsWhy status out err
+    ⊎ IsRefused why status out err
     ⊎ HasReadFault ReadFailed status out err
     ⊎ HasWriteFault IsText status out err
     ⊎ IsOutOfMemory IsText status out err
 
--- how a call ends that has this text
+-- the writing of a text was cut off since memory for it was refused
+pub record IsWriteRefused (IsText : List ℕ → Type 0) (status : Status) (out err : SinkUse) : Type 0 where
+  pub ends : status ≡ NoMemory
+  pub wanted : out.Wanted
+  pub cut_off : IsCutOff IsText out
+  pub told : IsTold no_memory_line err
+
+-- how a call ends that has this text: all of it is written, or out failed, or out had no memory for it
 abbrev pub HasWritten : (text : List ℕ) → Status → (out err : SinkUse) → Type 0
-HasWritten text status out err = HasEnded (λ written. written ≡ text) (λ why. ⊥) ⊤ ⊥ status out err
+HasWritten text status out err =
+    IsDone (λ written. written ≡ text) ⊤ status out err
+    ⊎ HasWriteFault (λ written. written ≡ text) status out err
+    ⊎ IsWriteRefused (λ written. written ≡ text) status out err

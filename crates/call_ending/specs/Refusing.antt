@@ -1,7 +1,5 @@
 -- Refusals: their status and their line, and which of them an answer allows.
-use Rattle.std.specs.Prelude.{◌≡◌, ℕ, List, Option, Some, None, Result, Ok, Err, ⊤}
-use Rattle.std.specs.declared.alloc.Global.{Global}
-use Rattle.std.specs.declared.vec.Vec.{Vec}
+use Rattle.std.specs.Prelude.{◌≡◌, ℕ, List, Option, Some, ⊤}
 use Rattle.call_ending.specs.Lines.{read_fault_line, write_fault_line, no_memory_line}
 use Rattle.call_ending.specs.declared.refusal.Line.{Line}
 use Rattle.call_ending.specs.declared.refusal.Line.TheVariants.{Fixed, Made}
@@ -31,9 +29,9 @@ line_of refusal.ReadFault = read_fault_line
 line_of refusal.WriteFault = write_fault_line
 line_of refusal.NoMemory = no_memory_line
 
--- the refusal is the answer's own, or memory was refused on the way to it
-abbrev pub IsRefusalOf : Option Why → Refusal → Type 0
-IsRefusalOf why (refusal.Told status line) = why ≡ Some (record { status = status; line = bytes_of line })
-IsRefusalOf why refusal.ReadFault = ⊥
-IsRefusalOf why refusal.WriteFault = ⊥
-IsRefusalOf why refusal.NoMemory = ⊤
+-- the refusal is the answer's own, or a read or a request for memory failed on the way to it
+abbrev pub IsRefusalOf : Option Why → (ReadFailed : Type 0) → Refusal → Type 0
+IsRefusalOf why ReadFailed (refusal.Told status line) = why ≡ Some (record { status = status; line = bytes_of line })
+IsRefusalOf why ReadFailed refusal.ReadFault = ReadFailed
+IsRefusalOf why ReadFailed refusal.WriteFault = ⊥
+IsRefusalOf why ReadFailed refusal.NoMemory = ⊤

@@ -8,11 +8,7 @@ use crate::status::Status;
 use ctm_ports::{Sink, Written, write_all};
 
 /// Ends a call: writes its text on `out`, or tells on `err` why there is none or why it wasn't written.
-pub fn end<O: Sink, E: Sink>(
-    answer: Result<Vec<u8>, Refusal>,
-    out: &mut O,
-    err: &mut E,
-) -> Status
+pub fn end<O: Sink, E: Sink>(answer: Result<Vec<u8>, Refusal>, out: &mut O, err: &mut E) -> Status
     ensures text { IfOk answer (λ text. HasWritten text.items result
         (sink_use (O.taken out.old) (O.taken out.new) (out.new ≡ out.old) (Rose (O.faults out.old) (O.faults out.new)) (Rose (O.wants out.old) (O.wants out.new)))
         (sink_use (E.taken err.old) (E.taken err.new) (err.new ≡ err.old) (Rose (E.faults err.old) (E.faults err.new)) (Rose (E.wants err.old) (E.wants err.new)))) }
