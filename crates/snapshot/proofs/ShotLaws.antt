@@ -11,6 +11,7 @@ use Rattle.network_file.specs.Network.{IsNetwork, Network}
 use Rattle.flow_model.specs.Bounds.{KeepsRooms}
 use Rattle.flow_model.specs.Rows.{empty_row}
 use Rattle.flow_model.specs.State.{row_at, state_at}
+use Rattle.flow_model.specs.declared.row.Row.{Row}
 use Rattle.flow_model.proofs.CellKinds.{road_at-there}
 use Rattle.flow_model.proofs.States.{state_at-in_bounds}
 use Rattle.flow_ledger.specs.UnevenSteps.{StandAt}
