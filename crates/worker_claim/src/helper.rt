@@ -65,8 +65,8 @@ impl Helper {
         driven
     }
 
-    // A turn on a region whose number comes from the deques, or a sweep where none comes, as far as the turns left go. A
-    // number that there was no memory for comes back with a sweep, so one that waits doesn't wait for that number's region.
+    // A turn on a region whose number comes from the deques, or a sweep where none comes, as far as the turns left go. With a
+    // number that there was no memory for it sweeps once it waits, since it may wait for that number's region.
     fn work<G: Gate>(
         &mut self,
         field: &Field,
