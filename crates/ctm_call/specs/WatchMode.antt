@@ -41,7 +41,7 @@ cutting_of net regions = if length net.regions == 0 then even_cutting (length ne
 -- then the report
 pub record HasShotsAndReport (net : Network) (request : Request) (whole : List ℕ) : Type 0 where
   pub shots : List ℕ
-  pub are : AreShots net (cutting_of net request.regions) request.shots request.shots shots
+  pub are : AreShots net (cutting_of net request.regions) request.shots shots
   pub text : whole ≡ shots ++ report_of net request.every
 
 abbrev pub IsWatchText : Task → List ℕ → Type 0

@@ -46,7 +46,7 @@ pub fn watched_regions<R: Threads + Sync, G: Gate>(
     requires one_each { length chart.now.cut ≡ length net.now.cells }
     requires workers { (1 ≤ workers) × (workers ≤ 16) }
     requires shots { (1 ≤ shots) × (shots + 1 < 2 ^ 32) }
-    ensures shots { IfOk result (λ watched. AreShots net.now chart.now.cut shots shots watched.shots.items) }
+    ensures shots { IfOk result (λ watched. AreShots net.now chart.now.cut shots watched.shots.items) }
     ensures stand { IfOk result (λ watched. AllStand net.now chart.now (zero_start net.now chart.now.cut) every
         (replicate (region_count chart.now.cut) net.now.steps) watched.regions.items) }
 {
@@ -93,7 +93,7 @@ fn take_shots<R: Threads + Sync, G: Gate>(
     ensures belongs { IsOk result → IsPassOf field.now pass.new }
     ensures share { IsOk result → pass.new.knows.share ≡ pass.old.knows.share }
     ensures last { IsOk result → AllReach (region_count chart.now.cut) net.now.steps pass.new.knows }
-    ensures shots { IsOk result → AreShots net.now chart.now.cut shots shots text.new.items }
+    ensures shots { IsOk result → AreShots net.now chart.now.cut shots text.new.items }
 {
     let _steps = net.steps;
     for i in 0..shots {

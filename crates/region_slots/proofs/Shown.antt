@@ -3,12 +3,14 @@ use Rattle.std.specs.Prelude.{slice_index}
 use Rattle.std.proofs.Common.{◌≡◌, ℕ, ◌<◌, ◌≤◌, List, [], length, refl, sym, ap, subst, ◌∙◌, arith}
 use Rattle.std.proofs.lemmas.List.{ext_get_or}
 use Rattle.atomic_table.specs.Seated.{TableId}
+use Rattle.network_file.specs.Network.{Network}
 use Rattle.region_cut.specs.Cuttings.{region_at, region_count}
 use Rattle.region_cut.specs.LawfulSteps.{AreLawful}
 use Rattle.region_cut.proofs.Membership.{region_at-there}
 use Rattle.region_step.specs.Grid.{grid_before, grid_row}
 use Rattle.snapshot.specs.Rooms.{IsRoomFor, RoomValue}
 use Rattle.snapshot.specs.Snapshots.{IsSnapshot}
+use Rattle.snapshot.proofs.ShotLaws.{books-kept, snapshot-rooms, snapshot-stand}
 use Rattle.snapshot.proofs.Showing.{shown-before, shown-row, shown-step}
 use Rattle.border_rows.specs.declared.view.Terms.{Terms}
 use Rattle.border_rows.specs.declared.view.View.{View}
@@ -53,12 +55,18 @@ pub has-shot : (terms : Terms) (table : TableId) (old : View) (me : Mine) (room 
     AreLawful terms.net.now terms.chart.now.cut me.0.seen → ((r : ℕ) → r < region_count terms.chart.now.cut → slice_index terms.start.now.steps r ≤ slice_index me.0.seen r) →
     IsRoomFor terms.chart.now room → AreShown terms me.0.seen 0 room → HasShot terms old (record me.0 { holds = [] }) room
 has-shot terms table old me room field has lawful started fits shown =
+    let net : Network = terms.net.now in
+    let cut : List ℕ = terms.chart.now.cut in
     let steps : room.steps ≡ me.0.seen = shown-steps terms me.0.seen room lawful.one_each fits shown in
+    let shows : IsSnapshot net cut terms.start.now room = shown-snapshot terms table me.0.seen room field fits shown lawful started in
     record {
-      snapshot = shown-snapshot terms table me.0.seen room field fits shown lawful started;
+      snapshot = shows;
       seen = sym steps;
       later = λ r there. omega (arith, has.unmoved.seen.later r, ap (λ l. slice_index l r) steps);
       looks = has.looks;
+      rooms = snapshot-rooms net cut terms.start.now room field.sound field.fits shows;
+      recurrences = λ true_start. (snapshot-stand net cut terms.start.now room field.sound field.lawful true_start shows).each;
+      books = λ true_start. books-kept net cut room.steps room.rows field.sound (snapshot-stand net cut terms.start.now room field.sound field.lawful true_start shows);
     }
 
 -- what the whole share knows of the steps

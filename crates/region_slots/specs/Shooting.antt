@@ -1,7 +1,11 @@
 -- What a shot finds of a field, and what it leaves of a pass.
-use Rattle.std.specs.Prelude.{◌≡◌, ℕ, ◌+◌, ◌<◌, ◌≤◌, List, max, slice_index}
-use Rattle.region_cut.specs.Cuttings.{region_count}
+use Rattle.std.specs.Prelude.{◌≡◌, ℕ, ◌+◌, ◌<◌, ◌≤◌, List, length, max, slice_index}
+use Rattle.flow_model.specs.Bounds.{KeepsRooms}
+use Rattle.flow_model.specs.State.{row_at, state_at}
+use Rattle.region_cut.specs.Cuttings.{region_at, region_count}
+use Rattle.region_step.specs.Start.{IsTrueStart}
 use Rattle.snapshot.specs.Rooms.{IsRoomFor, RoomValue}
+use Rattle.snapshot.specs.Shots.{KeepsBooks}
 use Rattle.snapshot.specs.Snapshots.{IsSnapshot}
 use Rattle.border_rows.specs.declared.view.Terms.{Terms}
 use Rattle.border_rows.specs.declared.view.View.{View}
@@ -23,12 +27,17 @@ pub record IsUnmoved (old new : View) : Type 0 where
   pub looks : (q : ℕ) → slice_index old.looks q ≤ slice_index new.looks q
 
 -- the room shows a lawful snapshot, whose steps were all looked at in this call and are what the pass has seen now, no less
--- than before
+-- than before. No road holds more than its room. From a true start the row of each cell is that of the plain recurrences at
+-- the step of its region, and the books balance.
 pub record HasShot (terms : Terms) (old new : View) (room : RoomValue) : Type 0 where
   pub snapshot : IsSnapshot terms.net.now terms.chart.now.cut terms.start.now room
   pub seen : new.seen ≡ room.steps
   pub later : (r : ℕ) → r < region_count terms.chart.now.cut → slice_index old.seen r ≤ slice_index room.steps r
   pub looks : (r : ℕ) → r < region_count terms.chart.now.cut → slice_index new.looks r ≡ slice_index old.looks r + 1
+  pub rooms : KeepsRooms terms.net.now room.rows
+  pub recurrences : IsTrueStart terms.net.now terms.chart.now.cut terms.start.now → (i : ℕ) → i < length terms.net.now.cells →
+      row_at room.rows i ≡ row_at (state_at terms.net.now (slice_index room.steps (region_at terms.chart.now.cut i))) i
+  pub books : IsTrueStart terms.net.now terms.chart.now.cut terms.start.now → KeepsBooks terms.net.now terms.chart.now.cut room.rows
 
 -- the steps of all regions as the whole share finds them: they are its moves since the start, and none lies past both the
 -- start and its reach

@@ -1,14 +1,17 @@
 use crate::field::Field;
+use crate::pauses::Pauses;
 use crate::plays::Gather;
 use atomic_table::Seat;
 use border_rows::View;
 use region_step::Region;
 use snapshot::ShotRoom;
-use std::thread::yield_now;
+
+/// The most times that others are let go on between two tries of a region.
+const MOST_PAUSES: u32 = 64;
 
 // What a shot does with the regions, in order of number.
 impl<'a> Field<'a> {
-    ghost use Rattle.std.specs.Prelude.{◌≡◌, ◌≢◌, ◌+◌, ◌<◌, ◌≤◌, ℕ, [], ◌∷◌, None, Some, IsTrue, false, slice_index};
+    ghost use Rattle.std.specs.Prelude.{◌≡◌, ◌≢◌, ◌+◌, ◌*◌, ◌<◌, ◌≤◌, ℕ, [], ◌∷◌, None, Some, IsTrue, false, slice_index};
     ghost use Rattle.std.specs.List.{Contains};
     ghost use Rattle.atomic_table.specs.Table.{rest};
     ghost use Rattle.region_cut.specs.Cuttings.{region_count};
@@ -57,23 +60,34 @@ impl<'a> Field<'a> {
         ensures untried { (q : ℕ) → q ≢ region → slice_index seat.new.me.0.held_found q ≡ slice_index seat.old.me.0.held_found q }
         ensures never_whole { seat.old.me.0.share ≡ self.now.terms.seats → IsTrue result }
     {
-        if !self.takes_within(seat, region, tries) {
+        let mut pauses = Pauses::none();
+        if !self.takes_within(seat, region, tries, &mut pauses) {
             return false;
         }
         self.learns(seat, region);
         true
     }
 
-    // Tries to take a region, so many times at most, and gives whether the seat has it now.
-    fn takes_within(&self, seat: &mut Seat<Region, View<'static>>, region: u32, tries: u32) -> bool
+    // Tries to take a region, so many times at most, and gives whether the seat has it now. Between two tries it lets others
+    // go on, the longer the more often it found the region taken: a turn on a large region lasts longer than a few tries
+    // do, and whoever has the region may be waiting for a processor.
+    fn takes_within(
+        &self,
+        seat: &mut Seat<Region, View<'static>>,
+        region: u32,
+        tries: u32,
+        pauses: &mut Pauses,
+    ) -> bool
         requires seat { IsSeatOf self.now seat.old }
         requires there { region < region_count self.now.terms.chart.now.cut }
         requires tries { 1 ≤ tries }
         requires others { (hold : Hold) → Contains seat.old.me.0.holds hold → hold.region ≢ region }
         requires counts { HasCounts (region_count self.now.terms.chart.now.cut) seat.old.me.0 }
+        requires first { pauses.old ≡ 0 }
         ensures same { (seat.new.id ≡ seat.old.id) × (seat.new.table_id ≡ seat.old.table_id) }
         ensures taken { IsTrue result → (failed : ℕ) × (view : ViewValue) × HasTried seat.old.me.0 view region failed × (failed < tries) × (seat.new.me ≡ (taken view region, seat.old.me.1)) }
         ensures held { result ≡ false → HasTried seat.old.me.0 seat.new.me.0 region tries × (seat.new.me.1 ≡ seat.old.me.1) }
+        ensures paused { pauses.new ≤ 64 * tries }
         ensures never_whole { seat.old.me.0.share ≡ self.now.terms.seats → IsTrue result }
     {
         let mut failed = 0;
@@ -83,7 +97,7 @@ impl<'a> Field<'a> {
             }
             failed += 1;
             if failed < tries {
-                pause(failed);
+                pauses.pause(failed.min(MOST_PAUSES));
             }
         }
         false
@@ -149,13 +163,5 @@ impl<'a> Field<'a> {
             left -= 1;
             self.frees(seat, left);
         }
-    }
-}
-
-// Lets others go on, the longer the more often a region was found taken: a turn on a large region lasts longer than a few
-// tries do, and whoever has the region may be waiting for a processor.
-fn pause(failed: u32) {
-    for _ in 0..failed {
-        yield_now();
     }
 }

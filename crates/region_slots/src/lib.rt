@@ -2,8 +2,9 @@
 //!
 //! `open` makes a field and a pass with all of its seats; `share` and `unite` cut passes and join them; `turn` takes a
 //! region one step on where nothing stands in its way, `look` tells the step that a region has published, and `shot` shows
-//! all regions in a room; `close` hands them out. `steps` has the atomic steps of a turn one by one, `parts` what a turn
-//! does with a region, `gather` what a shot does with all of them, and `plays` what each step tells.
+//! all regions in a room; `close` hands them out. `Pauses` counts how often a call lets other threads go on. `steps` has
+//! the atomic steps of a turn one by one, `parts` what a turn does with a region, `gather` what a shot does with all of
+//! them, and `plays` what each step tells.
 #![tactic(auto)]
 
 mod close;
@@ -13,6 +14,7 @@ mod gather;
 mod look;
 mod open;
 mod parts;
+mod pauses;
 mod plays;
 mod rule;
 mod share;
@@ -22,5 +24,6 @@ mod turn;
 
 pub use close::Closed;
 pub use field::{Field, Pass};
+pub use pauses::Pauses;
 pub use shot::Shot;
 pub use turn::Turn;

@@ -1,5 +1,6 @@
 -- The rows of a shot, and the shots of a run one after the other.
-use Rattle.std.specs.Prelude.{slice_index}
+use Rattle.std.specs.Prelude.{flat_map, slice_index}
+use Rattle.std.specs.List.{range_with_len}
 use Rattle.std.proofs.Common.{◌≡◌, ℕ, ◌+◌, ◌<◌, ◌≤◌, inl, inr, List, [], ◌∷◌, ◌++◌, length, refl, sym, ap, subst, ◌∙◌, arith}
 use Rattle.std.proofs.Math.ListN.{get_or-append}
 use Rattle.std.proofs.Math.Seq.{get_or-append_seam}
@@ -10,6 +11,7 @@ use Rattle.network_file.specs.Network.{IsNetwork, Network}
 use Rattle.flow_model.specs.Bounds.{KeepsRooms}
 use Rattle.flow_model.specs.Rows.{empty_row}
 use Rattle.flow_model.specs.State.{row_at, state_at}
+use Rattle.flow_model.specs.declared.row.Row.{Row}
 use Rattle.flow_model.proofs.CellKinds.{road_at-there}
 use Rattle.flow_model.proofs.States.{state_at-in_bounds}
 use Rattle.flow_ledger.specs.UnevenSteps.{StandAt}
@@ -26,9 +28,10 @@ use Rattle.region_step.proofs.StartLaws.{zero_start-lawful, zero_start-true, zer
 use Rattle.snapshot.specs.Rooms.{IsRoomFor, RoomValue}
 use Rattle.snapshot.specs.RunLaws.{step_of}
 use Rattle.snapshot.specs.RunLaws.{AreRowsAt}
-use Rattle.snapshot.specs.Shots.{AreShots, IsShotBetween, goal_of, rows_at, shot_of}
+use Rattle.snapshot.specs.Shots.{KeepsBooks, AreShots, IsShotBetween, goal_of, rows_at, shot_of}
 use Rattle.snapshot.specs.Snapshots.{IsSnapshot}
 use Rattle.snapshot.proofs.Crossing.{flights-crossing, nothing-inside}
+use Rattle.snapshot.proofs.RunLaws.{stand_at}
 
 -- one row for each cell
 
@@ -47,17 +50,22 @@ rows_at-stand net cut steps lawful = record {
   each = λ i there. row_at-rows_at net cut steps i there;
 }
 
+-- so the books balance
+pub books-kept : (net : Network) (cut steps : List ℕ) (rows : List Row) → IsNetwork net → StandAt net (step_of cut steps) rows → KeepsBooks net cut rows
+books-kept net cut steps rows sound stand = record {
+  balanced = books-law net rows sound (step_of cut steps) stand;
+  none_within = λ k there one. nothing-inside net cut steps rows k sound stand there one;
+  in_flight = flights-crossing net cut steps rows sound stand;
+}
+
 -- lawful steps between two goals are those of a shot
 pub shot-between : (net : Network) (cut : List ℕ) (from to : ℕ) (steps : List ℕ) → IsNetwork net → AreLawful net cut steps →
     ((r : ℕ) → r < region_count cut → (from ≤ slice_index steps r) × (slice_index steps r ≤ to)) → IsShotBetween net cut from to steps
 shot-between net cut from to steps sound lawful between =
     let stand = rows_at-stand net cut steps lawful in
     record {
-      lawful = lawful;
-      between = between;
-      balanced = books-law net (rows_at net cut steps) sound (step_of cut steps) stand;
-      inside = λ k there one. nothing-inside net cut steps (rows_at net cut steps) k sound stand there one;
-      in_flight = flights-crossing net cut steps (rows_at net cut steps) sound stand;
+      stand = record { lawful = lawful; between = between };
+      books = books-kept net cut steps (rows_at net cut steps) sound stand;
       rooms = record {
         each = λ i road.
             let there = road_at-there net.cells i road in
@@ -78,13 +86,20 @@ shown-rows net chart room sound one_each fits shows =
     shows.rows i there ∙ recurrences (step_of cut room.steps i) i there (omega (arith, zeros (region_count cut) (region_at cut i))) ∙
     sym (row_at-rows_at net cut room.steps i there))
 
+-- the text of the first shots, `count` of `shots` that are taken in all
+pub record AreFirstShots (net : Network) (cut : List ℕ) (shots count : ℕ) (text : List ℕ) : Type 0 where
+  pub steps : List (List ℕ)
+  pub one_each : length steps ≡ count
+  pub each : (i : ℕ) → i < count → IsShotBetween net cut (goal_of net.steps shots i) (goal_of net.steps shots (i + 1)) (list_at steps i)
+  pub lines : text ≡ flat_map (λ i. shot_of net cut (i + 1) (list_at steps i)) (range_with_len 0 count)
+
 -- before the first shot
-pub shots-none : (net : Network) (cut : List ℕ) (shots : ℕ) → AreShots net cut shots 0 []
+pub shots-none : (net : Network) (cut : List ℕ) (shots : ℕ) → AreFirstShots net cut shots 0 []
 shots-none net cut shots = record { steps = []; one_each = refl; each = λ i none. absurd (omega (arith, none)); lines = refl }
 
 -- one shot more
-pub shots-more : (net : Network) (cut : List ℕ) (shots k : ℕ) (text steps : List ℕ) → AreShots net cut shots k text →
-    IsShotBetween net cut (goal_of net.steps shots k) (goal_of net.steps shots (k + 1)) steps → AreShots net cut shots (k + 1) (text ++ shot_of net cut (k + 1) steps)
+pub shots-more : (net : Network) (cut : List ℕ) (shots k : ℕ) (text steps : List ℕ) → AreFirstShots net cut shots k text →
+    IsShotBetween net cut (goal_of net.steps shots k) (goal_of net.steps shots (k + 1)) steps → AreFirstShots net cut shots (k + 1) (text ++ shot_of net cut (k + 1) steps)
 unfolding lines_of
 shots-more net cut shots k text steps are next =
     let all : List (List ℕ) = are.steps ++ steps ∷ [] in
@@ -105,6 +120,10 @@ shots-more net cut shots k text steps are next =
           ap (λ taken. lines_of (line all) k ++ shot_of net cut (k + 1) taken) last ∙ sym (lines_of-more (line all) k);
     }
 
+-- all of them
+pub shots-all : (net : Network) (cut : List ℕ) (shots : ℕ) (text : List ℕ) → AreFirstShots net cut shots shots text → AreShots net cut shots text
+shots-all net cut shots text are = record { steps = are.steps; one_each = are.one_each; each = are.each; lines = are.lines }
+
 -- what a snapshot of a true start shows, whatever the steps at which its regions start: rows of the recurrences, so that the
 -- laws of books and flights hold of them
 pub snapshot-rows : (net : Network) (cut : List ℕ) (start : StartLists) (room : RoomValue) → AreLawful net cut start.steps → IsTrueStart net cut start → IsSnapshot net cut start room →
@@ -121,6 +140,10 @@ snapshot-rows net cut start room from true_start shows = record {
   };
   each = shows.rows;
 }
+
+pub snapshot-stand : (net : Network) (cut : List ℕ) (start : StartLists) (room : RoomValue) → IsNetwork net → AreLawful net cut start.steps → IsTrueStart net cut start → IsSnapshot net cut start room →
+    StandAt net (step_of cut room.steps) room.rows
+snapshot-stand net cut start room sound from true_start shows = stand_at net cut start room.steps room.rows sound (snapshot-rows net cut start room from true_start shows)
 
 -- and no road past its room
 pub snapshot-rooms : (net : Network) (cut : List ℕ) (start : StartLists) (room : RoomValue) → IsNetwork net → Fits net cut start → IsSnapshot net cut start room → KeepsRooms net room.rows

@@ -31,17 +31,25 @@ IsBalanced books = books.inside +ℤ books.flight ≡ books.initial +ℤ books.e
 unfoldable pub flights_crossing : Network → (cut : List ℕ) → List Row → ℤ
 flights_crossing net cut rows = fold (λ sum k. sum +ℤ flight_of net rows k) (pos 0) (crossing net cut)
 
--- steps at which a shot may show the regions between two goals
-pub record IsShotBetween (net : Network) (cut : List ℕ) (from to : ℕ) (steps : List ℕ) : Type 0 where
+-- steps of the regions between two goals
+pub record AreStepsBetween (net : Network) (cut : List ℕ) (from to : ℕ) (steps : List ℕ) : Type 0 where
   -- neighbouring regions stand at most one step apart
   pub lawful : AreLawful net cut steps
   -- none stands before the one goal or past the other
   pub between : (r : ℕ) → r < region_count cut → (from ≤ slice_index steps r) × (slice_index steps r ≤ to)
+
+-- what the books and flights of rows come to where each row is that of the plain recurrences at its own region's step
+pub record KeepsBooks (net : Network) (cut : List ℕ) (rows : List Row) : Type 0 where
   -- the books balance with what is under way
-  pub balanced : IsBalanced (books_of net (rows_at net cut steps))
-  -- nothing is under way inside a region, so that the flights that are shown add up to that of the books
-  pub inside : (k : ℕ) → k < length net.connectors → crosses cut (connector_at net.connectors k) ≡ false → flight_of net (rows_at net cut steps) k ≡ pos 0
-  pub in_flight : flights_crossing net cut (rows_at net cut steps) ≡ (books_of net (rows_at net cut steps)).flight
+  pub balanced : IsBalanced (books_of net rows)
+  -- nothing is under way within a region, so that the flights that are shown add up to that of the books
+  pub none_within : (k : ℕ) → k < length net.connectors → crosses cut (connector_at net.connectors k) ≡ false → flight_of net rows k ≡ pos 0
+  pub in_flight : flights_crossing net cut rows ≡ (books_of net rows).flight
+
+-- a shot between two goals: at which steps it may show the regions, and what follows for its rows
+pub record IsShotBetween (net : Network) (cut : List ℕ) (from to : ℕ) (steps : List ℕ) : Type 0 where
+  pub stand : AreStepsBetween net cut from to steps
+  pub books : KeepsBooks net cut (rows_at net cut steps)
   -- no road holds more than its room
   pub rooms : KeepsRooms net (rows_at net cut steps)
 
@@ -49,10 +57,10 @@ pub record IsShotBetween (net : Network) (cut : List ℕ) (from to : ℕ) (steps
 abbrev pub shot_of : Network → (cut : List ℕ) → (number : ℕ) → (steps : List ℕ) → List ℕ
 shot_of net cut number steps = shot_lines net cut number steps (rows_at net cut steps)
 
--- the first shots, `count` of `shots` that are taken in all
-pub record AreShots (net : Network) (cut : List ℕ) (shots count : ℕ) (text : List ℕ) : Type 0 where
+-- the text of so many shots
+pub record AreShots (net : Network) (cut : List ℕ) (shots : ℕ) (text : List ℕ) : Type 0 where
   -- the steps of the regions in each of them
   pub steps : List (List ℕ)
-  pub one_each : length steps ≡ count
-  pub each : (i : ℕ) → i < count → IsShotBetween net cut (goal_of net.steps shots i) (goal_of net.steps shots (i + 1)) (list_at steps i)
-  pub lines : text ≡ flat_map (λ i. shot_of net cut (i + 1) (list_at steps i)) (range_with_len 0 count)
+  pub one_each : length steps ≡ shots
+  pub each : (i : ℕ) → i < shots → IsShotBetween net cut (goal_of net.steps shots i) (goal_of net.steps shots (i + 1)) (list_at steps i)
+  pub lines : text ≡ flat_map (λ i. shot_of net cut (i + 1) (list_at steps i)) (range_with_len 0 shots)

@@ -41,12 +41,12 @@ impl Deque {
         Ok(deque)
     }
 
-    /// Pushes a number, or drops it where there is no memory for it.
-    pub(crate) fn push(&mut self, region: u32)
+    /// Pushes a number, and gives whether there was memory for it.
+    pub(crate) fn push(&mut self, region: u32) -> bool
         requires { region < self.old }
         ensures { self.new ≡ self.old }
     {
-        let _refused = self.worker.push_as::<Keeps>(region);
+        self.worker.push_as::<Keeps>(region).is_ok()
     }
 
     /// Pops the number that was pushed first.

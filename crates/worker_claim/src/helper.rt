@@ -2,10 +2,10 @@ use crate::driven::Driven;
 use crate::member::Member;
 use crate::nest::Nest;
 use crate::part::sweep_within;
+use crate::pausing::pause_where;
 use crate::sweep::turns;
 use ctm_ports::Gate;
-use region_slots::Field;
-use std::thread::yield_now;
+use region_slots::{Field, Pauses};
 
 /// A member of a crew that hands numbers of regions on: the member, whose `driven` tells what came of its last turns, and
 /// its nest.
@@ -16,7 +16,7 @@ pub struct Helper {
 }
 
 impl Helper {
-    ghost use Rattle.std.specs.Prelude.{◌≡◌, ◌<◌, ◌≤◌};
+    ghost use Rattle.std.specs.Prelude.{◌≡◌, ◌<◌, ◌≤◌, IsTrue};
     ghost use Rattle.region_cut.specs.Cuttings.{region_count};
     ghost use Rattle.worker_claim.specs.Helping.{IsHelped, IsHelperOf, IsKept};
     ghost use Rattle.worker_claim.specs.Turns.{HasWorked, turns_of};
@@ -29,23 +29,44 @@ impl Helper {
         ensures { IsHelped field.now goal sweeps self.old self.new }
     {
         let budget = u64::from(sweeps) * u64::from(field.regions());
+        let mut pauses = Pauses::none();
+        self.member.driven = self.make_turns(field, goal, budget, gate, &mut pauses);
+    }
+
+    // Makes so many turns, or fewer where all of a whole sweep find their region at the goal or past it, and lets others go
+    // on at most once for each.
+    fn make_turns<G: Gate>(
+        &mut self,
+        field: &Field,
+        goal: u64,
+        budget: u64,
+        gate: &G,
+        pauses: &mut Pauses,
+    ) -> Driven
+        requires helper { IsHelperOf field.now self.old }
+        requires in_time { goal ≤ field.now.terms.net.now.steps }
+        requires none { pauses.old ≡ 0 }
+        ensures kept { IsKept field.now self.old self.new }
+        ensures worked { HasWorked field.now.terms self.old.member.pass.knows self.new.member.pass.knows goal budget result }
+        ensures stops { turns_of result < budget → IsTrue result.all }
+        ensures paused { pauses.new ≤ turns_of result }
+    {
         let mut driven = Driven::none();
         let mut waits = false;
         while driven.turns() < budget && !driven.all {
             let left = budget - driven.turns();
             let made = self.work(field, goal, left, waits, gate);
-            // Twice in vain: whoever holds what this one waits for may be waiting for a processor.
-            if waits && made.moved == 0 && !made.all {
-                yield_now();
-            }
+            // Twice in vain.
+            pause_where(pauses, waits && made.moved == 0 && !made.all);
             // Where it was held or behind, another's region may serve better than one of its own.
             waits = made.held + made.behind > 0;
             driven = driven.then(made);
         }
-        self.member.driven = driven;
+        driven
     }
 
-    // A turn on a region whose number comes from the deques, or a sweep where none comes, as far as the turns left go.
+    // A turn on a region whose number comes from the deques, or a sweep where none comes, as far as the turns left go. With a
+    // number that there was no memory for it sweeps once it waits, since it may wait for that number's region.
     fn work<G: Gate>(
         &mut self,
         field: &Field,
@@ -61,6 +82,9 @@ impl Helper {
         ensures worked { HasWorked field.now.terms self.old.member.pass.knows self.new.member.pass.knows goal left result }
         ensures some { 1 ≤ turns_of result }
     {
+        if waits && self.nest.has_refused() {
+            return self.sweep(field, goal, left, gate);
+        }
         match self.nest.next(waits) {
             Some(region) => self.turn(field, region, goal, gate),
             None => self.sweep(field, goal, left, gate),
@@ -84,7 +108,7 @@ impl Helper {
         made
     }
 
-    // A sweep, or as many turns of one as are left.
+    // A sweep, or as many turns of one as are left. The numbers that there was no memory for are pushed again.
     fn sweep<G: Gate>(&mut self, field: &Field, goal: u64, left: u64, gate: &G) -> Driven
         requires helper { IsHelperOf field.now self.old }
         requires in_time { goal ≤ field.now.terms.net.now.steps }
@@ -93,6 +117,7 @@ impl Helper {
         ensures worked { HasWorked field.now.terms self.old.member.pass.knows self.new.member.pass.knows goal left result }
         ensures some { 1 ≤ turns_of result }
     {
+        self.nest.push_refused();
         let first = self.member.first;
         sweep_within(field, &mut self.member.pass, goal, first, left, gate)
     }

@@ -8,7 +8,7 @@ use std::thread::{Threads, for_each_mut};
 
 /// Has each helper make as many turns as so many sweeps have, or fewer where all regions are at the goal: all helpers at
 /// once where the threads can be made, and one after the other where they can't. A push may ask for memory, and where
-/// there is none the number is dropped.
+/// there is none the number is kept, and pushed again with the helper's next sweep.
 pub fn crew_hints<R: Threads + Sync, G: Gate>(
     rt: &R,
     field: &Field,

@@ -20,6 +20,7 @@ mod members;
 mod nest;
 mod nesting;
 mod part;
+mod pausing;
 mod sweep;
 mod thief;
 mod watching;

@@ -9,37 +9,45 @@ use std::marker::Model;
 pub struct Nest {
     own: Deque,
     others: Vec<Thief>,
+    // Numbers that the deque had no memory for, with room for those of all regions.
+    refused: Vec<u32>,
 }
 
 impl Model for Nest {
-    ghost use Rattle.std.specs.Prelude.{◌≡◌, ◌+◌, All, vec_len};
+    ghost use Rattle.std.specs.Prelude.{◌≡◌, ◌+◌, ◌<◌, All, vec_len};
     ghost use Rattle.worker_claim.specs.Nests.{NestValue};
 
     ghost Value = { NestValue };
 
     ghost view = { λ nest. record { members = vec_len nest.others + 1; regions = nest.own } };
 
-    ghost invariant = { λ nest. All (λ regions. regions ≡ nest.own) nest.others.items };
+    ghost invariant = { λ nest. All (λ regions. regions ≡ nest.own) nest.others.items × All (λ region. region < nest.own) nest.refused.items };
 }
 
 impl Nest {
-    ghost use Rattle.std.specs.Prelude.{◌≡◌, ◌+◌, ◌<◌, All, IfSome, vec_len};
+    ghost use Rattle.std.specs.Prelude.{◌≡◌, ◌+◌, ◌<◌, [], All, IfSome, vec_len};
 
-    pub(crate) fn new(own: Deque, others: Vec<Thief>) -> Nest
-        requires { All (λ regions. regions ≡ own) others.items }
+    pub(crate) fn new(own: Deque, others: Vec<Thief>, refused: Vec<u32>) -> Nest
+        requires knows { All (λ regions. regions ≡ own) others.items }
+        requires none { refused.items ≡ [] }
         ensures { result ≡ record { members = vec_len others + 1; regions = own } }
     {
-        Nest { own, others }
+        Nest {
+            own,
+            others,
+            refused,
+        }
     }
 
     /// Takes out what the member's deque holds, with at most so many pops as there are regions, and pushes in order those
-    /// regions r of which `r·members/regions`, rounded down, is `number`. One for which there is no memory is left out.
+    /// regions r of which `r·members/regions`, rounded down, is `number`.
     pub fn fill(&mut self, number: u32, members: u32, regions: u32)
         requires made { self.old ≡ record { members = members; regions = regions } }
         requires one_of { number < members }
         ensures { self.new ≡ self.old }
     {
         self.clear(regions);
+        self.refused.clear();
         for region in 0..regions {
             if keeper(region, members, regions) == number {
                 self.push(region);
@@ -58,12 +66,31 @@ impl Nest {
         }
     }
 
-    /// Pushes a number on the member's deque, or drops it where there is no memory for it.
+    /// Pushes a number on the member's deque, or keeps it for the next sweep where there is no memory for it.
     pub(crate) fn push(&mut self, region: u32)
         requires { region < self.old.regions }
         ensures { self.new ≡ self.old }
     {
-        self.own.push(region);
+        if !self.own.push(region) {
+            let _kept = self.refused.push(region);
+        }
+    }
+
+    /// Whether a number is kept that there was no memory for.
+    pub(crate) fn has_refused(&self) -> bool {
+        !self.refused.is_empty()
+    }
+
+    /// Pushes the numbers that there was no memory for, as far as there is now.
+    pub(crate) fn push_refused(&mut self)
+        ensures { self.new ≡ self.old }
+    {
+        while let Some(region) = self.refused.pop() {
+            if !self.own.push(region) {
+                let _kept = self.refused.push(region);
+                return;
+            }
+        }
     }
 
     /// A number of the member's deque, or else of another's; where `steals` is true the other way round.

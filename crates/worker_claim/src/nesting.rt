@@ -18,14 +18,16 @@ pub fn nests(alloc: Global, members: u32, regions: u32) -> Result<Vec<Nest>, NoM
     for number in 0..owns.len() {
         others.push(thieves(alloc, &mut owns, number)?)?;
     }
-    joined(alloc, owns, others)
+    joined(alloc, owns, others, regions)
 }
 
 // Each deque with the thieves of its member, from the last one on: nests differ in nothing but whom they steal from first.
+// Each has room for the numbers of so many regions that its deque has no memory for.
 fn joined(
     alloc: Global,
     mut owns: Vec<Deque>,
     mut others: Vec<Vec<Thief>>,
+    regions: u32,
 ) -> Result<Vec<Nest>, NoMemory>
     requires one_each { vec_len others ≡ vec_len owns }
     requires knows { (regions : ℕ) × All (λ own. own ≡ regions) owns.items × All (λ thieves. All (λ thief. thief ≡ regions) thieves.items) others.items }
@@ -35,7 +37,8 @@ fn joined(
 {
     let mut nests = Vec::with_capacity(alloc, owns.len())?;
     while let (Some(own), Some(thieves)) = (owns.pop(), others.pop()) {
-        nests.push(Nest::new(own, thieves))?;
+        let refused = Vec::with_capacity(alloc, regions as usize)?;
+        nests.push(Nest::new(own, thieves, refused))?;
     }
     Ok(nests)
 }

@@ -1,5 +1,5 @@
 use crate::deque_rule::{Below, Keeps};
-use crossbeam_deque::{Pass, Stealer};
+use crossbeam_deque::{Pass, Steal, Stealer};
 use std::alloc::Global;
 use std::marker::Model;
 
@@ -34,11 +34,15 @@ impl Thief {
         Thief { stealer, pass }
     }
 
-    /// Steals the number that was pushed first, unless another thread takes it meanwhile.
+    /// Steals the number that was pushed first. Where another thread takes it meanwhile, it tries once more.
     pub(crate) fn steal(&mut self) -> Option<u32>
         ensures same { self.new ≡ self.old }
         ensures below { IfSome result (λ region. region < self.old) }
     {
-        self.stealer.steal_as::<Keeps>(&mut self.pass).success()
+        match self.stealer.steal_as::<Keeps>(&mut self.pass) {
+            Steal::Success(region) => Some(region),
+            Steal::Empty => None,
+            Steal::Retry => self.stealer.steal_as::<Keeps>(&mut self.pass).success(),
+        }
     }
 }

@@ -13,8 +13,8 @@ returns g c =
     let same : c.in_ok-shots.shots.items ≡ c.in_ok-shots.field-0.shots.items = sym (ap (λ shots. shots.items) c.in_ok-shots.shots-is) in
     record {
       shots = c.in_ok-shots.shots.items;
-      are = subst (λ pieces. AreShots net pieces c.args.request.shots c.args.request.shots c.in_ok-shots.shots.items) cut
-          (subst (AreShots net c.in_ok-chart.chart.cut c.args.request.shots c.args.request.shots) (sym same) c.in_ok-shots.ensures.shots);
+      are = subst (λ pieces. AreShots net pieces c.args.request.shots c.in_ok-shots.shots.items) cut
+          (subst (AreShots net c.in_ok-chart.chart.cut c.args.request.shots) (sym same) c.in_ok-shots.ensures.shots);
       text = c.in_ok-extend_from_slice.ensures.items ∙ ap (λ (last : List ℕ). c.in_ok-shots.field-0.shots.items ++ last) report ∙
           ap (λ (first : List ℕ). first ++ report_of net c.args.request.every) (sym same);
     }

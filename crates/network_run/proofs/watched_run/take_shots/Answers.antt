@@ -7,9 +7,9 @@ use Rattle.region_step.specs.Start.{zero_start}
 use Rattle.region_step.proofs.Steps.{zero_start-at}
 use Rattle.snapshot.specs.Rooms.{IsRoomFor, RoomValue}
 use Rattle.snapshot.specs.ShotText.{shot_lines}
-use Rattle.snapshot.specs.Shots.{AreShots, IsShotBetween, goal_of, rows_at}
+use Rattle.snapshot.specs.Shots.{IsShotBetween, goal_of, rows_at}
 use Rattle.snapshot.specs.Snapshots.{IsSnapshot}
-use Rattle.snapshot.proofs.ShotLaws.{shot-between, shots-more, shown-rows}
+use Rattle.snapshot.proofs.ShotLaws.{AreFirstShots, shot-between, shots-more, shown-rows}
 use Rattle.network_run.proofs.watched_run.take_shots.Goals as goal
 
 pub loop-i-preserved : goal.loop-i-preserved
@@ -41,5 +41,5 @@ loop-i-preserved g c =
       fits,
       omega (arith, came.reach, goal),
       (λ r there. omega (arith, came.done r (omega (arith, there, count)), goal)),
-      subst (AreShots net cut c.args.shots (i + 1)) (sym text) (shots-more net cut c.args.shots i c.loop-i.text.items room.steps inv.6 shot),
+      subst (AreFirstShots net cut c.args.shots (i + 1)) (sym text) (shots-more net cut c.args.shots i c.loop-i.text.items room.steps inv.6 shot),
     )

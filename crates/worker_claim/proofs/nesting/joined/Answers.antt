@@ -28,3 +28,11 @@ loop-own-preserved c =
       ),
       many.0,
     )
+
+pub new-requires-clause-knows : goal.new-requires-clause-knows
+new-requires-clause-knows c =
+    let knows = c.loop-own.invariant.2 in
+    let regions : ℕ = knows.0 in
+    let owns = All-pop (λ own. own ≡ regions) c.loop-own.owns.items c.pop.new.self.items (Some c.in-Some-Some.own) c.in-Some-Some.ensures.items knows.1 in
+    let others = All-pop (λ thieves. All (λ thief. thief ≡ regions) thieves.items) c.loop-own.others.items c.pop-in-loop-own.new.self.items (Some c.in-Some-Some.thieves) c.in-Some-Some.ensures'.items knows.3 in
+    λ k d within. others.1 k d within ∙ sym owns.1

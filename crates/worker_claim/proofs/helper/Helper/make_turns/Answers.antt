@@ -1,9 +1,9 @@
-use Rattle.std.proofs.Common.{◌+◌, ◌*◌, ◌-◌, ◌≤◌, ℕ, sym, subst, ap, ◌∙◌, arith}
+use Rattle.std.proofs.Common.{◌+◌, ◌-◌, ◌≤◌, ℕ, sym, subst, ap, ◌∙◌, arith}
 use Rattle.worker_claim.specs.Nests.{NestValue}
 use Rattle.worker_claim.specs.Turns.{HasWorked, turns_of}
 use Rattle.worker_claim.specs.declared.driven.Driven.{Driven}
 use Rattle.worker_claim.proofs.Helped.{worked-more}
-use Rattle.worker_claim.proofs.helper.Helper.help.Goals as goal
+use Rattle.worker_claim.proofs.helper.Helper.make_turns.Goals as goal
 
 pub loop-driven-preserved : goal.loop-driven-preserved
 loop-driven-preserved g c =
@@ -12,7 +12,7 @@ loop-driven-preserved g c =
     let kept = c.work-made.ensures.kept in
     let one : Driven = c.loop-driven.driven in
     let made : Driven = c.work-made.result in
-    let budget : ℕ = c.from.result * c.from-2.result in
+    let budget : ℕ = c.args.budget in
     let fits : turns_of one + (budget - c.turns-in-loop-driven.result) ≤ budget = omega (arith, c.turns-in-loop-driven.ensures, c.loop-driven.invariant.2.within) in (
       record {
         member = record { belongs = kept.belongs; there = omega (arith, kept.first, helper.member.there) };
@@ -21,4 +21,5 @@ loop-driven-preserved g c =
       record { belongs = kept.belongs; id = kept.id ∙ before.id; first = kept.first ∙ before.first; nest = kept.nest ∙ before.nest },
       subst (λ (d : Driven). HasWorked c.args.field.now.terms c.args.self.now.member.pass.knows c.work-made.new.self.member.pass.knows c.args.goal budget d) (sym c.then-driven.ensures)
           (worked-more _ _ _ _ _ budget _ one made c.loop-driven.invariant.2 c.work-made.ensures.worked fits),
+      subst (λ (d : Driven). c.pause_where.new.pauses ≤ turns_of d) (sym c.then-driven.ensures) (omega (arith, c.pause_where.ensures, c.loop-driven.invariant.3, c.work-made.ensures.some)),
     )

@@ -6,7 +6,7 @@ use Rattle.worker_claim.specs.Driving.{HasSwept}
 use Rattle.worker_claim.specs.Turns.{added}
 use Rattle.worker_claim.specs.declared.driven.Driven.{Driven}
 use Rattle.worker_claim.proofs.Sweeping.{swept-more}
-use Rattle.worker_claim.proofs.driving.drive.Goals as goal
+use Rattle.worker_claim.proofs.driving.drive_pausing.Goals as goal
 
 pub then-driven-requires : goal.then-driven-requires
 then-driven-requires g c =
@@ -27,4 +27,5 @@ loop-made-preserved g c =
       subst (λ (d : Driven). HasSwept (region_count c.args.field.now.terms.chart.now.cut) c.args.goal (c.loop-made.made + 1) c.args.pass.now.knows c.sweep-swept.new.pass.knows d) (sym c.then-driven.ensures)
           (swept-more _ _ _ _ _ _ one other (added one other) record { moved = refl; held = refl; behind = refl; ended = refl } (not-true one.all c.if-not-driven.true) refl c.loop-made.invariant.3
           c.sweep-swept.ensures.swept),
+      omega (arith, c.pause_where.ensures, c.loop-made.invariant.4),
     )
