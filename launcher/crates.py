@@ -24,14 +24,17 @@ class Crates:
                 self.lines[head.split()[0]] = line
                 listed[head.split()[0]] = below.split()
         self.uses = {name: [it for it in below if it in listed] for name, below in listed.items()}
-        self.names = self.below(target) + [target]
+        self.known = {}
+        self.names = [*self.below(target), target]
 
     def below(self, name):
         """All crates that this one stands on, each behind those that it uses."""
-        found = []
-        for used in self.uses[name]:
-            found += [it for it in [*self.below(used), used] if it not in found]
-        return found
+        if name not in self.known:
+            found = {}
+            for used in self.uses[name]:
+                found.update(dict.fromkeys([*self.below(used), used]))
+            self.known[name] = list(found)
+        return self.known[name]
 
     def folder(self, name):
         return self.top / "crates" / name

@@ -9,6 +9,7 @@ import contextlib
 import fcntl
 import os
 import shutil
+import sys
 
 from crates import PARTS
 
@@ -50,7 +51,7 @@ class Rooms:
             for path in sorted(made.iterdir()) if made.is_dir() else ():
                 if is_proved or path.name == "incremental":
                     remove(out / path.name)
-                    os.rename(path, out / path.name)
+                    shutil.move(str(path), str(out / path.name))
         shutil.rmtree(self.base / name, ignore_errors=True)
 
     def close(self):
@@ -61,7 +62,11 @@ class Rooms:
         """Keeps others out of a crate's folder, by rt's own lock."""
         held = os.open(self.crates.folder(name), os.O_RDONLY)
         try:
-            fcntl.flock(held, fcntl.LOCK_EX)
+            try:
+                fcntl.flock(held, fcntl.LOCK_EX | fcntl.LOCK_NB)
+            except BlockingIOError:
+                print(f"./ctm: waiting for another rt in crates/{name}", file=sys.stderr, flush=True)
+                fcntl.flock(held, fcntl.LOCK_EX)
             yield
         finally:
             os.close(held)

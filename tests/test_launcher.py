@@ -5,6 +5,7 @@ Builds are tried in a small repository over tests/fake_rt, which sleeps in place
 
 import os
 import re
+import resource
 import shlex
 import shutil
 import signal
@@ -24,6 +25,7 @@ case "$1" in
 esac
 """
 CRATES = "low:\nlong: low\nside: low\nother:\ntop: long side\nctm_program: top other\nunused: low\n"
+JOBS = 4
 SECONDS = {"low": 0.2, "long": 1.2, "side": 0.3, "other": 0.3, "top": 0.2, "ctm_program": 0.2, "unused": 9}
 
 
@@ -54,8 +56,8 @@ class Repository:
 
     @property
     def environment(self):
-        return {"PATH": f"{self.bin}:/usr/bin:/bin", "HOME": str(self.top), "FAKE_RT_LOG": str(self.log),
-                "FAKE_RT_TRY": str(self.trial)}
+        return {"PATH": f"{self.bin}:/usr/bin:/bin", "HOME": str(self.top), "CTM_JOBS": str(JOBS),
+                "FAKE_RT_LOG": str(self.log), "FAKE_RT_TRY": str(self.trial)}
 
     def start(self, *words, **how):
         how = {"stdin": subprocess.DEVNULL, "stdout": subprocess.PIPE, "stderr": subprocess.PIPE, **how}
@@ -160,11 +162,11 @@ def test_words_are_refused_where_the_program_refuses_them(words, run, without_rt
 
 
 @pytest.mark.parametrize("words, told", [
-    (["run", "--regions", "513"], ["--regions 513", "from 1 to 512"]),
-    (["run", "--regions=0"], ["--regions 0", "from 1 to 512"]),
-    (["watch", "--shots", "65"], ["--shots 65", "from 1 to 64"]),
-    (["run", "--every", "100001"], ["--every 100001", "from 0 to 100000"]),
-    (["run", "--workers=2x"], ["--workers 2x", "from 1 to 16"]),
+    (["run", "--regions", "513"], ["--regions takes", "from 1 to 512", "and not 513"]),
+    (["run", "--regions=0"], ["--regions takes", "from 1 to 512", "and not 0"]),
+    (["watch", "--shots", "65"], ["--shots takes", "from 1 to 64", "and not 65"]),
+    (["run", "--every", "100001"], ["--every takes", "from 0 to 100000", "and not 100001"]),
+    (["run", "--workers=2x"], ["--workers takes", "from 1 to 16", "and not 2x"]),
     (["run", "--regions"], ["--regions has no value", "from 1 to 512"]),
     (["run", "--regions", "3", "--regions", "4"], ["--regions stands twice"]),
     (["check", "--every", "60"], ["check has no option --every", "it has none"]),
@@ -180,6 +182,7 @@ def test_words_are_refused_where_the_program_refuses_them(words, run, without_rt
     (["ctm"], ["ctm is no mode", "./ctm run < ctm"]),
     ([b"\xff"], ["$'\\377' is no mode"]),
     (["run", "--x]=$(echo x)"], ["is no option"]),
+    (["run", "--regions=a[$(echo x >&2)]"], ["and not a"]),
 ], ids=str)
 def test_which_word_is_refused_and_why(words, told, without_rt):
     status, out, err = without_rt.call(*words, cwd=without_rt.top)
@@ -317,7 +320,7 @@ def test_an_edit_while_it_builds_is_built_by_the_next_call(repository):
 
 
 def test_a_current_program_starts_within_50_ms(built):
-    """With as many sources as the repository has, in a copy of them; the quickest of 30 calls, since others work too."""
+    """Of processor time, of all that is started, since others may be at work: with as many sources as the repository has."""
     for path in (TOP / "crates").rglob("*"):
         if path.suffix in (".rt", ".antt") and "out" not in path.parts:
             to = built.top / "crates/unused" / path.relative_to(TOP / "crates")
@@ -326,39 +329,38 @@ def test_a_current_program_starts_within_50_ms(built):
     assert built.call("run")[0] == 0
 
     def seconds():
-        began = time.perf_counter()
+        before = resource.getrusage(resource.RUSAGE_CHILDREN)
         assert built.call("run") == (0, "done\n", "")
-        return time.perf_counter() - began
-    assert min(seconds() for _ in range(30)) < 0.05
+        after = resource.getrusage(resource.RUSAGE_CHILDREN)
+        return after.ru_utime + after.ru_stime - before.ru_utime - before.ru_stime
+    assert min(seconds() for _ in range(10)) < 0.05
 
 
 # How it builds
 
 def test_crates_are_proved_side_by_side_the_longest_chain_first(repository):
-    began = time.monotonic()
+    for name in ("long", "side"):
+        (repository.top / "crates" / name / "src/seconds").write_text("6\n")
     err = repository.call("run")[2]
     events = repository.events()
     assert [name for kind, name, _ in events if kind == "began"][:2] in (["low", "other"], ["other", "low"])
     assert not [it for it in events if it[0] == "waited" or it[0].startswith("lacked")]
     order = [(kind, name) for kind, name, _ in events if kind in ("began", "ended")]
-    if len(os.sched_getaffinity(0)) > 1:
-        # `side` is proved while `long` is, though both stand on `low`.
-        assert order.index(("began", "side")) < order.index(("ended", "long"))
-        assert order.index(("began", "long")) < order.index(("ended", "side"))
-        assert ("niced", "side", "1") in events
+    # `side` is proved while `long` is, though both stand on `low`.
+    assert order.index(("began", "side")) < order.index(("ended", "long"))
+    assert order.index(("began", "long")) < order.index(("ended", "side"))
+    assert ("niced", "side", "1") in events
     assert order.index(("ended", "low")) < order.index(("began", "long"))
     assert "unused" not in dict(order).values()
     first = err.splitlines()[0]
     assert "6 crates takes" in first and "./ctm --try WORDS gives a result meanwhile" in first
     assert all(re.search(r"after \d+ min \d+ s; .* left$", line) for line in err.splitlines()[1:-1])
-    assert time.monotonic() - began < 30
 
 
 def test_a_crate_that_is_proved_alone_gets_all_processors(repository):
     repository.call("run")
     jobs = {name: int(jobs) for kind, name, jobs in repository.events("began")}
-    processors = len(os.sched_getaffinity(0))
-    assert jobs["long"] == jobs["top"] == jobs["ctm_program"] == processors
+    assert jobs["long"] == jobs["top"] == jobs["ctm_program"] == JOBS
     assert jobs["other"] == jobs["side"] == 1
 
 
@@ -386,7 +388,7 @@ def test_an_interrupted_build_leaves_nothing_behind(repository, number):
     assert process.returncode == 125
     assert b"interrupted, so nothing was run" in err
     assert not (repository.top / ".ctm-build").exists()
-    sleeping = subprocess.run(["pgrep", "-f", f"^sleep {77 / len(os.sched_getaffinity(0)):g}$"], stdout=subprocess.PIPE)
+    sleeping = subprocess.run(["pgrep", "-f", f"^sleep {77 / JOBS:g}$"], stdout=subprocess.PIPE)
     assert sleeping.stdout == b""
 
 
@@ -407,6 +409,17 @@ def test_the_folder_of_a_build_is_out_of_reach_of_the_gate(repository):
                if path.relative_to(repository.top).parts[0] not in ("crates", ".git")]
     assert process.communicate(timeout=60) and outside == []
     assert not (repository.top / ".git/ctm-build").exists()
+
+
+def test_the_time_that_is_left():
+    """By the costs below on two processors, worked on paper. `a` has two jobs beside `c`, which has one: as long as `c` runs
+    the three share two processors. Then `a` has both, and then `b`."""
+    asks = ("import sys; sys.path.insert(0, 'launcher'); from schedule import Schedule; "
+            "print(Schedule(['a', 'b', 'c'], {'a': [], 'b': ['a'], 'c': []}, {'a': 10, 'b': 20, 'c': 5}, 2, 9)"
+            ".seconds_left((), {}, {}))")
+    told = subprocess.run(["python3", "-B", "-c", asks], cwd=TOP, stdout=subprocess.PIPE, check=True).stdout
+    of_c = 5 / (2 / 3)
+    assert float(told) == pytest.approx(of_c + (10 - of_c * 1.7 * 2 / 3) / 1.7 + 20 / 1.7)
 
 
 def test_each_crate_of_the_program_has_a_check_time():
@@ -497,8 +510,8 @@ def test_a_trial_on_a_full_device_is_told(repository):
 
 # The scripts themselves
 
-SCRIPTS = ["ctm", "ctm-tools", "launcher/words", "launcher/current", "launcher/try", "tests/fake_rt", "tests/program", "tests/launcher",
-           "examples/check", "tools/check", "tools/find-python", "tools/setup", ".ci/run"]
+SCRIPTS = ["ctm", "ctm-tools", "launcher/words", "launcher/current", "launcher/try", "tests/fake_rt", "tests/program",
+           "tests/launcher", "examples/check", "tools/check", "tools/find-python", "tools/pictures", "tools/setup", ".ci/run"]
 
 
 @pytest.mark.parametrize("script", SCRIPTS)
