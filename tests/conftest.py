@@ -1,4 +1,4 @@
-"""What the tests share: the built program, and calls of it within limits of time and memory."""
+"""What the tests share: the built program, calls of it within limits of time and memory, and repositories with ./ctm."""
 
 import os
 import resource
@@ -6,6 +6,7 @@ import subprocess
 from pathlib import Path
 
 import pytest
+from launched import Repository
 
 TOP = Path(__file__).resolve().parents[1]
 BUILT = TOP / "crates/ctm_program/out/ctm_program"
@@ -57,3 +58,21 @@ def hold(wanted, got):
 
 def shown(value):
     return repr(value) if value is None or isinstance(value, int) or len(value) < 200 else repr(value[:200]) + ".."
+
+
+@pytest.fixture
+def repository(tmp_path):
+    return Repository(tmp_path)
+
+
+@pytest.fixture
+def built(repository):
+    assert repository.call("run")[0] == 0
+    repository.events()
+    return repository
+
+
+@pytest.fixture(scope="session")
+def without_rt(tmp_path_factory):
+    """A repository on a machine without the toolchain: words that are taken end in 125, all others in 2."""
+    return Repository(tmp_path_factory.mktemp("without-rt"), has_rt=False)
