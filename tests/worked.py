@@ -1,6 +1,8 @@
 """Files that were worked on paper and what is written of them: a corridor of three cells, its report, and that in which
-every other step is recorded; and a full road, the two shots of it and its report.
+every other step is recorded; a full road, the two shots of it and its report; and a larger network with its totals.
 """
+
+from pathlib import Path
 
 
 def lines(text):
@@ -21,3 +23,8 @@ FULL_SHOT = lines("shot,1,10.000000,0.000000,10.000000,0.000000,0.000000; region
                   "row,g,4.000000,0.000000,0.000000,0.000000; row,a,6.000000,0.000000,0.000000,0.000000")
 FULL_SHOT_AFTER = lines("shot,2,10.000000,0.000000,10.000000,0.000000,0.000000; region,0,1; "
                         "row,g,4.000000,0.000000,0.000000,4.000000; row,a,6.000000,0.000000,0.000000,6.000000")
+
+# A corridor with ramps, signals and an incident: the made network of size 100 and seed 7, and the line of its totals, as a
+# model from docs/FORMAT.md and docs/MODEL.md alone works it out.
+RAMPS = Path(__file__).with_name("ramps.csv").read_bytes()
+RAMPS_TOTALS = lines("total,0.000026,103.403700,103.403674,155.661787")

@@ -5,6 +5,7 @@ from pathlib import Path
 
 TOOLS = Path(__file__).resolve().parents[1]
 sys.path[:0] = [str(TOOLS), str(Path(__file__).parent)]
+sys.path.append(str(TOOLS.parent / "tests"))  # for the plain model, which the program's own tests have
 
 import plain_model
 import pytest

@@ -1,16 +1,23 @@
 #!/usr/bin/env python3
 """The recurrences of docs/MODEL.md once more, plainly and in whole parts, to compare the program's records with.
 
-As a program it takes `run [--every K]` as the proved one does, over a file without faults.
+As a program it takes `run [--every K]` as the proved one does, over a file without faults and without quotes.
 """
 
 import sys
-from pathlib import Path
 
-sys.path.insert(0, str(Path(__file__).resolve().parents[1]))
+PARTS = 1_000_000  # in a vehicle
 
-from ctmtools.amounts import PARTS, parts_of
-from ctmtools.network_file.records import read_records
+
+def records_of(content):
+    """The fields of each record of a network's bytes."""
+    lines = content.decode().splitlines()
+    return [line.split(",") for line in lines if line and not line.startswith("#")]
+
+
+def parts_of(amount):
+    vehicles, _, decimals = amount.partition(".")
+    return int(vehicles) * PARTS + int(decimals.ljust(6, "0"))
 
 
 class Plain:
@@ -20,8 +27,8 @@ class Plain:
         self.names, self.kind, self.room, self.most, self.ratio = [], {}, {}, {}, {}
         self.joints, self.limits, self.demands, self.turns, self.signals = [], {}, {}, {}, {}
         self.n = {}
-        for record in read_records(content)[1:]:
-            self.take(*record.fields)
+        for record in records_of(content)[1:]:
+            self.take(*record)
         self.come = dict.fromkeys(self.names, 0)
         self.gone = dict.fromkeys(self.names, 0)
         self.wait = dict.fromkeys(self.names, 0)
