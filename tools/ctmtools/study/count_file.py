@@ -138,12 +138,12 @@ def _unwound(path, rows):
 
 
 def _rising(path, rows):
+    """The rows, whose times rise from one to the next."""
     for before, row in zip(rows, rows[1:]):
-        if row.seconds == before.seconds:
-            raise Problem(f"{path}: line {row.line} has the same time as line {before.line}")
-        if row.seconds < before.seconds:
-            raise Problem(f"{path}: line {row.line} is of an earlier time than line {before.line}; the times must rise "
-                          "from row to row")
+        if row.seconds <= before.seconds:
+            how = "has the same time as" if row.seconds == before.seconds else "is of an earlier time than"
+            raise Problem(f"{path}: line {row.line} {how} line {before.line}; the times must rise from row to row, and of "
+                          "several stations or days one is chosen, by station and station_column, date and date_column")
     return rows
 
 

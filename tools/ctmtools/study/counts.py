@@ -176,19 +176,23 @@ def _filling(path, before, behind, gap, missing, times):
         slope = (behind.flow - before.flow) / (last - first)
         return [Flow(start, stop, before.flow + slope * (middle - first)) for start, stop, middle in gap]
     where = f"behind line {before.line}" if before else "before the first"
-    if before and behind:
-        raise Problem(f"{path}: no count for {times.clock(gap[0][0])}, {where}; say missing = \"zero\" or "
-                      "\"interpolate\"")
-    why = "the counts end there" if before else "the counts begin later"
-    raise Problem(f"{path}: no count for {times.clock(gap[0][0])}, {where}: {why}; say missing = \"zero\", or model the "
-                  "time that they cover")
+    why, advice = "", 'say missing = "zero" or "interpolate"'
+    if not before or not behind:
+        why = ": the counts end there" if before else ": the counts begin later"
+        advice = 'say missing = "zero", or model the time that they cover'
+    raise Problem(f"{path}: no count for {_clock(gap[0][0], times)}, {where}{why}; {advice}")
 
 
 def _missed(missed, missing, times):
     if not missed:
         return ""
     what = "taken as zero" if missing == "zero" else "interpolated"
-    return f"; {len(missed)} missing, from {times.clock(missed[0])} on, {what}"
+    return f"; {len(missed)} missing, from {_clock(missed[0], times)} on, {what}"
+
+
+def _clock(time, times):
+    """The clock time at which an interval begins: 00:00, where one that ends would end at 24:00."""
+    return times.clock(time - DAY if times.start + time == DAY else time)
 
 
 def _lasting(seconds):
