@@ -2,9 +2,10 @@
 
 import plain_model
 import pytest
-from conftest import corridor
+from conftest import TOOLS, corridor
 
 from ctmtools import Problem
+from ctmtools.report.reading import report_of
 
 STEP = 10  # s, of the corridor; a lane passes 6 vehicles in it and has room for 36 in a cell of 250 m
 WORKS = '[[closures]]\nroad = "m"\nfrom = 0.5\nto = 0.75\nlanes = 1\n'
@@ -139,3 +140,35 @@ def test_plans_of_a_signal_by_time_of_day(tmp_path):
     assert limits(corridor(tmp_path, SIGNAL.format("g") + second)) == [["g", *red] for red in reds]
     with pytest.raises(Problem, match=r"signals\[2\]: at this stop line signals\[1\] runs at the same time"):
         corridor(tmp_path, 2 * SIGNAL.format("g"))
+
+
+RAMP = """[roads.a]
+length = 0.5
+lanes = 1
+[gates.r]
+into = "a"
+demand = 1800
+{}[[on_ramps]]
+road = "m"
+ramp = "a"
+at = 0.5
+priorities = [3, 1]
+"""
+
+
+def passed(made, cell):
+    """The vehicles that leave a cell before 07:00, from then to 09:00, and after that."""
+    gone = report_of(plain_model.report(made.text.encode(), 1)).departed[cell]
+    return gone[360], gone[1080] - gone[360], gone.iloc[-1] - gone[1080]
+
+
+def test_the_meter_of_the_readme(tmp_path):
+    text = (TOOLS / "README.md").read_text().split("is a signal at the end of the ramp")[1]
+    meter, rate = text.split("```")[1], text.split("`limits` of the ramp's gate, `")[1].split("`")[0]
+    made = corridor(tmp_path, RAMP.format("") + meter, end="10:00")
+    before, metered, after = passed(made, "a2")
+    # 5 come in a step. Of 240 greens the first two pass the 5 that stand before the line, the others 6 each.
+    assert before == pytest.approx(5 * (360 - 3)) and metered == pytest.approx(240 * 6 - 2)
+    assert after == pytest.approx(6 * 360)
+    made = corridor(tmp_path, RAMP.format(rate + "\n"), end="10:00")
+    assert passed(made, "r")[1] == pytest.approx(720 * 2)

@@ -14,12 +14,13 @@ class Naming:
         """Whether roads, kilometres and clock times are known."""
         return bool(self.units.known and self.units.cells)
 
-    def cell(self, cell):
-        """A cell with its kind, or with its road and the kilometres that it is."""
+    def cell(self, cell, last=None):
+        """A cell with its kind, or with its road and its kilometres, or those to the end of a later cell."""
         row = self.units.cells.get(cell) if self.of_study else None
         if row is None:
             return f"the {self.network.kinds[cell]} {cell}"
-        return f"road {row['road']} from km {row['from_km']:.6g} to {row['to_km']:.6g} ({cell})"
+        end = self.units.cells[last or cell]["to_km"]
+        return f"road {row['road']} from km {row['from_km']:.6g} to {end:.6g}"
 
     def end(self, cell):
         """The downstream end of a cell, as a kilometre of its road; None where that isn't known."""

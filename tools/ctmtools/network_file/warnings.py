@@ -184,22 +184,20 @@ def _lasting(cells):
 
 
 def _short_of_capacity(network, naming):
-    """Roads whose greatest lasting flow is below Q; of a study's road those cells that are alike and follow each other."""
+    """Roads whose greatest lasting flow is below Q; of a study's road the cells that are alike together."""
     lasting = _lasting(network.cells)
     most = network.cells.Q[lasting.index].astype(float)
-    short = lasting.index[most - lasting > (most / 1_000_000).clip(lower=1 / PARTS)]
-    seen = set()
-    for cell in short:
+    groups = {}
+    for cell in lasting.index[most - lasting > (most / 1_000_000).clip(lower=1 / PARTS)]:
         road = naming.units.cells[cell]["road"] if naming.of_study else cell
-        if (road, lasting[cell], most[cell]) in seen:
-            continue
-        seen.add((road, lasting[cell], most[cell]))
-        text = f"the road {cell} can carry N·A/(A + B) = {naming.flow(lasting[cell])} for long, which is below its Q of " \
-            f"{most[cell]:g}"
+        groups.setdefault((road, lasting[cell], most[cell]), []).append(cell)
+    for (road, flow, capacity), cells in groups.items():
+        text = (f"the road {road} can carry N·A/(A + B) = {naming.flow(flow)} for long, which is below its Q of "
+                f"{capacity:g}")
         if naming.of_study:
-            text = (f"{naming.cell(cell)} can carry {naming.flow(lasting[cell])} for long by its jam density and its "
-                    f"speeds, which is below its saturation flow of {naming.flow(most[cell])}")
-        yield Warning("roads that can't carry Q for long", _line(network, cell), text)
+            text = (f"{naming.cell(cells[0], cells[-1])} can carry {naming.flow(flow)} for long by its jam density and its "
+                    f"speeds, which is below its saturation flow of {naming.flow(capacity)}")
+        yield Warning("roads that can't carry Q for long", _line(network, cells[0]), text)
 
 
 def _high_limits(network, naming):
