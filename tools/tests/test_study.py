@@ -136,6 +136,11 @@ def test_times_after_midnight(tmp_path):
     assert records(built(tmp_path, text), "demand") == ["demand,g,120,240,1"]
 
 
+def test_a_study_that_ends_at_midnight(tmp_path):
+    text = HEAD.replace("06:00", "23:00").replace("07:00", "00:00") + ROAD.replace("1000", '[["23:30", "00:00", 360]]')
+    assert records(built(tmp_path, text), "demand") == ["demand,g,180,360,1"]
+
+
 def test_shares_in_per_cent(tmp_path):
     text = HEAD + ROAD + """[roads.r]
 length = 0.5

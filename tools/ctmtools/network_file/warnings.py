@@ -158,23 +158,23 @@ def _overlapping(network, naming):
     for sort, frame, does in (("demands", network.demands, "their amounts add up"),
                               ("limits", network.limits, "the last one in the file holds there"),
                               ("turns", network.turns, "the last one in the file holds there")):
-        for cell, own in frame.groupby(frame.columns[0], sort=False):
-            for begin, record, other in _overlaps(network, own):
-                where = "" if naming.of_study else f", with line {network.line(other)}"
-                yield Warning(f"{sort} that overlap", network.line(record),
-                              f"the {sort} of {cell} overlap from {naming.time(begin)} on{where}; {does}")
+        for cell, begin, record, other in _overlaps(network, frame):
+            where = "" if naming.of_study else f", with line {network.line(other)}"
+            yield Warning(f"{sort} that overlap", network.line(record),
+                          f"the {sort} of {cell} overlap from {naming.time(begin)} on{where}; {does}")
 
 
-def _overlaps(network, own):
-    """Where the ranges of a cell overlap: from which step, and the numbers of both records."""
-    last = None
-    for row in own.sort_values("from", kind="stable").itertuples():
-        begin, end = row[2], row[3]
-        fields = network.records[row.record - 1].fields
-        if last is not None and begin < last[1] and fields != last[2]:
-            yield begin, max(row.record, last[0]), min(row.record, last[0])
-        if last is None or end > last[1]:
-            last = row.record, end, fields
+def _overlaps(network, frame):
+    """Where ranges of a cell overlap: the cell, from which step, and the numbers of both records, the later first."""
+    last = None  # of the cell's ranges so far the one that reaches farthest: its cell, end, record and fields
+    for row in frame.sort_values([frame.columns[0], "from"], kind="stable").itertuples(index=False):
+        cell, begin, end, record = row[0], row[1], row[2], row[-1]
+        fields = network.records[record - 1].fields
+        same = last is not None and last[0] == cell
+        if same and begin < last[1] and fields != last[3]:
+            yield cell, begin, max(record, last[2]), min(record, last[2])
+        if not same or end > last[1]:
+            last = cell, end, record, fields
 
 
 def _lasting(cells):

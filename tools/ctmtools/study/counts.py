@@ -13,7 +13,6 @@ from .quantities import duration, shown, word
 from .rounding import told
 
 HOUR = 3600
-LONGEST = DAY / 2  # seconds of an interval
 MISSING = ("error", "zero", "interpolate")
 
 
@@ -87,8 +86,8 @@ def _interval(path, rows, said):
         raise Problem(f"{path}: with one row alone, say interval in the study")
     least, line = min(ways, default=(said, None))
     interval = least if said is None else said
-    if not 0 < interval <= LONGEST:
-        raise Problem(f"{path}: an interval is above 0 and at most 12 h, found {_lasting(interval)}")
+    if not 0 < interval <= DAY:
+        raise Problem(f"{path}: an interval is above 0 and at most a day, found {_lasting(interval)}")
     if least < interval:
         raise Problem(f"{path}: from line {line} to the next row are {_lasting(least)}, less than the interval of "
                       f"{_lasting(interval)}")

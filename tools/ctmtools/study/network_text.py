@@ -3,6 +3,7 @@
 from dataclasses import dataclass, field
 from fractions import Fraction
 from functools import cached_property
+from itertools import groupby
 
 from ..amounts import PARTS, amount_text, rounded_parts
 from ..network_file.faults import NAME, first_fault
@@ -103,9 +104,11 @@ class Builder:
                        f"{float(part.length) * 1000:g} m, {float(section.free_flow_speed):g} km/h, waves "
                        f"{float(section.wave_speed):g} km/h; in a lane {float(section.jam_density):g} vehicles/km and "
                        f"{float(section.saturation_flow):g} vehicles/h")
-            for cell in cells:
-                if cell.opened:
-                    yield f"# {cell.name}: with the room of {float(cell.opened):g} more, which opens at times"
+            for opened, row in groupby(cells, lambda cell: cell.opened):
+                row = list(row)
+                if opened:
+                    names = dict.fromkeys([row[0].name, row[-1].name])
+                    yield f"# {' to '.join(names)}: with room for {float(opened):g} more, opened at times"
         yield ""
 
     def _capacity(self, what, flow, cells):

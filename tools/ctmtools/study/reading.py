@@ -110,7 +110,7 @@ class Times:
     def after_start(self, value, key):
         """The seconds from the study's start to a clock time."""
         time = clock(value, key) - self.start
-        if time < 0 and not self.passes_midnight:
+        if time < 0 and time + DAY > self.duration and not self.passes_midnight:
             raise Problem(f"{key}: {self.clock(time)} is before the study's start, {self.clock(0)}")
         return time if time >= 0 else time + DAY
 

@@ -64,9 +64,10 @@ class Signals:
         if cell in self.study.gates:
             return cell
         downs, _ = self.junctions.out_of.get(cell, ([], ""))
-        ups = [up for up, (behind, _) in self.junctions.out_of.items() if set(behind) & set(downs)]
-        if len(downs) == 1 and downs[0] in self.study.exits and ups == [cell]:
-            return downs[0]
+        if len(downs) == 1 and downs[0] in self.study.exits:
+            ups = [up for up, (behind, _) in self.junctions.out_of.items() if downs[0] in behind]
+            if ups == [cell]:
+                return downs[0]
         self.remarks[f"{signal.place} has a start or an end, so in its red nothing comes into the cell before the stop "
                      f"line either; its queue stands from the next cell upstream on"] = None
         return cell
