@@ -73,6 +73,16 @@ def test_a_network_has_its_warnings_before_its_results_too(tool, tmp_path, recor
     assert status == 0 and "road m at km 1 has no way on" in out
 
 
+def test_a_cell_that_was_added_to_a_built_network_is_named_as_in_the_file(tool, tmp_path, program):
+    (tmp_path / "s.toml").write_text(STUDY.replace("jam_density = 144", "jam_density = 120"))
+    tool("build", "s.toml")
+    with open("s.csv", "a") as file:
+        file.write("road,more,20,12,1,5,0\ngate,new,9,0\n")
+    status, out, err = tool("lint", "s.csv")
+    assert status == 0 and "the road more is a dead end" in out and "the gate new is a dead end" in out
+    assert "road m from km 0 to 1 can carry 3,600" in out and "the road more can carry" in out
+
+
 def test_a_great_many_cells_are_told(tool, tmp_path):
     (tmp_path / "s.toml").write_text(STUDY.replace("step = 10", "step = 0.1").replace('end = "07:00"', 'duration = "1 min"')
                                      .replace("length = 1\n", "length = 60\n"))

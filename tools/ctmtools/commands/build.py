@@ -53,5 +53,10 @@ def told(built):
         yield f"rounded: {note}"
     if not built.rounding.differing:
         yield "All lengths, flows, times, places and shares are modelled as asked, to 0.1 %."
+    yield from warned(built)
+
+
+def warned(built):
+    """The warnings of a built study: what in it can hardly be meant."""
     for line in [*built.warnings, *shortened(warnings_of(built.network, built.units), lines=False)]:
         yield f"warning: {line}"

@@ -14,18 +14,16 @@ class Naming:
         """Whether roads, kilometres and clock times are known."""
         return bool(self.units.known and self.units.cells)
 
-    def cell(self, cell, last=None):
-        """A cell with its kind, or with its road and its kilometres, or those to the end of a later cell."""
-        row = self.units.cells.get(cell) if self.of_study else None
-        if row is None:
-            return f"the {self.network.kinds[cell]} {cell}"
-        end = self.units.cells[last or cell]["to_km"]
-        return f"road {row['road']} from km {row['from_km']:.6g} to {end:.6g}"
+    def place(self, cell):
+        """The road and the kilometres of a cell; None where they aren't known, as of one that was added by hand."""
+        return self.units.cells.get(cell) if self.of_study else None
 
-    def end(self, cell):
-        """The downstream end of a cell, as a kilometre of its road; None where that isn't known."""
-        row = self.units.cells.get(cell) if self.of_study else None
-        return row and f"road {row['road']} at km {row['to_km']:.6g}"
+    def cell(self, cell, last=None):
+        """A cell with its kind, or with its road and its kilometres, or those to the end of a later cell of the road."""
+        place = self.place(cell)
+        if place is None:
+            return f"the {self.network.kinds[cell]} {cell}"
+        return f"road {place['road']} from km {place['from_km']:.6g} to {self.place(last or cell)['to_km']:.6g}"
 
     def time(self, step):
         """A step, or its clock time."""

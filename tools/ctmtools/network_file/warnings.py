@@ -56,10 +56,10 @@ def _dead_ends(network, naming):
     for place, (cell, kind) in enumerate(network.kinds.items()):
         if kind == "exit" or network.graph.out_degree(cell):
             continue
-        if naming.of_study:
-            what = f"{naming.end(cell)} has no way on: neither an exit nor a road" if kind == "road" else \
-                f"gate {cell} leads into no road"
-            yield Warning("dead ends", _line(network, cell), f"{what}, so what comes there stays")
+        place = naming.place(cell)
+        if place:
+            yield Warning("dead ends", _line(network, cell), f"road {place['road']} at km {place['to_km']:.6g} has no way "
+                          "on: neither an exit nor a road, so what comes there stays")
             continue
         follower = _follower(network, names, place)
         hint = f" Is a link,{cell},{follower} forgotten?" if follower else ""
@@ -189,12 +189,13 @@ def _short_of_capacity(network, naming):
     most = network.cells.Q[lasting.index].astype(float)
     groups = {}
     for cell in lasting.index[most - lasting > (most / 1_000_000).clip(lower=1 / PARTS)]:
-        road = naming.units.cells[cell]["road"] if naming.of_study else cell
+        place = naming.place(cell)
+        road = place["road"] if place else cell
         groups.setdefault((road, lasting[cell], most[cell]), []).append(cell)
     for (road, flow, capacity), cells in groups.items():
         text = (f"the road {road} can carry N·A/(A + B) = {naming.flow(flow)} for long, which is below its Q of "
                 f"{capacity:g}")
-        if naming.of_study:
+        if naming.place(cells[0]):
             text = (f"{naming.cell(cells[0], cells[-1])} can carry {naming.flow(flow)} for long by its jam density and its "
                     f"speeds, which is below its saturation flow of {naming.flow(capacity)}")
         yield Warning("roads that can't carry Q for long", _line(network, cells[0]), text)
