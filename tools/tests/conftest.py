@@ -30,7 +30,7 @@ saturation_flow = 2160
 
 
 def corridor(folder, parts="", lanes=2, demand=1000, end="07:00", gate="", head=HEAD):
-    """The built network of a road of 1 km, four cells, from a gate to an exit, with other parts of a study behind it."""
+    """The built network of a road of 1 km, four cells, from a gate to an exit, with other parts of a study."""
     path = Path(folder) / "study.toml"
     path.write_text(head.format(end=end) + f"""[roads.m]
 length = 1

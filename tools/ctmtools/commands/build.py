@@ -30,7 +30,8 @@ def command(study, output):
     read_as(study, "a study")
     built = build(read_study(study))
     target = save(built, study, output)
-    click.echo(f"{target} and {units_path(target)}: {built.text.count(chr(10))} lines, a step of {built.units.step:g} s")
+    lines = built.text.count("\n")
+    click.echo(f"{target} and {units_path(target)}: {lines} lines, a step of {built.units.step:g} s")
     for line in told(built):
         click.echo(f"  {line}")
 

@@ -53,24 +53,25 @@ def _line(network, cell):
 def _dead_ends(network, naming):
     """Roads and gates that nothing leads out of."""
     names = list(network.kinds)
-    for place, (cell, kind) in enumerate(network.kinds.items()):
+    for number, (cell, kind) in enumerate(network.kinds.items()):
         if kind == "exit" or network.graph.out_degree(cell):
             continue
         place = naming.place(cell)
         if place:
-            yield Warning("dead ends", _line(network, cell), f"road {place['road']} at km {place['to_km']:.6g} has no way "
-                          "on: neither an exit nor a road, so what comes there stays")
+            yield Warning("dead ends", _line(network, cell),
+                          f"road {place['road']} at km {place['to_km']:.6g} has no way on: neither an exit nor a road, so "
+                          "what comes there stays")
             continue
-        follower = _follower(network, names, place)
+        follower = _follower(network, names, number)
         hint = f" Is a link,{cell},{follower} forgotten?" if follower else ""
         yield Warning("dead ends", _line(network, cell),
                       f"the {kind} {cell} is a dead end: nothing leads out of it, so what comes in stays.{hint}")
 
 
-def _follower(network, names, place):
+def _follower(network, names, number):
     """The next cell in the file, where nothing leads into it: a link to it may be forgotten."""
-    if place + 1 < len(names):
-        following = names[place + 1]
+    if number + 1 < len(names):
+        following = names[number + 1]
         if network.kinds[following] != "gate" and not network.graph.in_degree(following):
             return following
     return None
@@ -123,11 +124,11 @@ def _high_demands(network, naming):
         most[row.cell] = max(most[row.cell], row.Q)
     for row in network.demands[network.demands.amount > FAR_ABOVE * network.demands.gate.map(most)].itertuples():
         if naming.of_study:
-            text = (f"the demand of gate {row.gate} from {naming.time(row[2])} on, {naming.flow(row.amount)}, is far above "
-                    f"its capacity of {naming.flow(most[row.gate])}")
+            text = (f"the demand of gate {row.gate} from {naming.time(row[2])} on, {naming.flow(row.amount)}, is far "
+                    f"above its capacity of {naming.flow(most[row.gate])}")
         else:
-            text = (f"the demand of {row.amount:g} in a step is far above the gate {row.gate}'s Q of {most[row.gate]:g}. "
-                    f"A demand is vehicles in a step; {told}, {row.amount:g} vehicles/h are "
+            text = (f"the demand of {row.amount:g} in a step is far above the gate {row.gate}'s Q of "
+                    f"{most[row.gate]:g}. A demand is vehicles in a step; {told}, {row.amount:g} vehicles/h are "
                     f"{row.amount * seconds / 3600:.6g}.")
         yield Warning("demands far above a gate's capacity", network.line(row.record), text)
 
@@ -147,7 +148,8 @@ def _twice(network, naming):
             does = "their amounts add up" if record.kind == "demand" else "the second does nothing"
             text = f"{','.join(record.fields)} stands in line {network.line(seen[record.fields])} too; {does}."
             if naming.of_study:
-                text = f"{record.kind}s of {record.fields[1]} are the same from {naming.time(int(record.fields[2]))} on; {does}"
+                begin = naming.time(int(record.fields[2]))
+                text = f"two {record.kind}s of {record.fields[1]} are the same from {begin} on; {does}"
             yield Warning("records that stand twice", network.line(record.number), text)
         else:
             seen[record.fields] = record.number
@@ -196,8 +198,8 @@ def _short_of_capacity(network, naming):
         text = (f"the road {road} can carry N·A/(A + B) = {naming.flow(flow)} for long, which is below its Q of "
                 f"{capacity:g}")
         if naming.place(cells[0]):
-            text = (f"{naming.cell(cells[0], cells[-1])} can carry {naming.flow(flow)} for long by its jam density and its "
-                    f"speeds, which is below its saturation flow of {naming.flow(capacity)}")
+            text = (f"{naming.cell(cells[0], cells[-1])} can carry {naming.flow(flow)} for long by its jam density and "
+                    f"its speeds, which is below its saturation flow of {naming.flow(capacity)}")
         yield Warning("roads that can't carry Q for long", _line(network, cells[0]), text)
 
 

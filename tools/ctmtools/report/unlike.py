@@ -17,8 +17,8 @@ def _cells(first, second):
              for one, other in ((first, second), (second, first))]
     if any(alone):
         both = len(first.cells) - len(alone[0])
-        told = " and ".join(f"{len(cells)} of {name} alone ({_named(cells)})" for name, cells in zip("AB", alone) if cells)
-        yield f"A and B have other cells: {told}, {both} of both"
+        told = [f"{len(cells)} of {name} alone ({_named(cells)})" for name, cells in zip("AB", alone) if cells]
+        yield f"A and B have other cells: {' and '.join(told)}, {both} of both"
 
 
 def _places(first, second):

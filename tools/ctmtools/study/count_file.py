@@ -142,8 +142,9 @@ def _rising(path, rows):
     for before, row in zip(rows, rows[1:]):
         if row.seconds <= before.seconds:
             how = "has the same time as" if row.seconds == before.seconds else "is of an earlier time than"
-            raise Problem(f"{path}: line {row.line} {how} line {before.line}; the times must rise from row to row, and of "
-                          "several stations or days one is chosen, by station and station_column, date and date_column")
+            raise Problem(f"{path}: line {row.line} {how} line {before.line}; the times must rise from row to row, and "
+                          "of several stations or days one is chosen, by station and station_column, date and "
+                          "date_column")
     return rows
 
 

@@ -7,8 +7,9 @@ from dataclasses import dataclass
 from ..problem import Problem
 
 DATE = r"(?P<date>[0-9]{1,4}[-/.][0-9]{1,2}[-/.][0-9]{1,4})"
-CLOCK = r"(?P<hour>[0-9]{1,2}):(?P<minute>[0-5][0-9])(?::(?P<second>[0-5][0-9])(?:[.,]0*)?)?\s*(?P<half>[AaPp]\.?[Mm]\.?)?"
-TIME = re.compile(rf"(?:{DATE}(?:[T ]\s*))?{CLOCK}\s*(?P<zone>Z|[+-][0-9]{{2}}:?[0-9]{{2}})?")
+CLOCK = r"(?P<hour>[0-9]{1,2}):(?P<minute>[0-5][0-9])(?::(?P<second>[0-5][0-9])(?:[.,]0*)?)?"
+HALF = r"(?P<half>[AaPp]\.?[Mm]\.?)?"
+TIME = re.compile(rf"(?:{DATE}(?:[T ]\s*))?{CLOCK}\s*{HALF}\s*(?P<zone>Z|[+-][0-9]{{2}}:?[0-9]{{2}})?")
 DAY_ALONE = re.compile(DATE + r"(?:[T ]00:00(?::00)?)?")
 
 

@@ -51,12 +51,13 @@ def flows_of_counts(table, times):
     rows, dated, zoned = rows_of(path, separator, choice, times.passes_midnight)
     interval = _interval(path, rows, reading.interval)
     placed = [(row.seconds - times.start, row) for row in rows] if dated else _on_days(rows, interval, times)
-    counts = _counts(f"{path}: line {{}}, {choice.column}", placed, reading, interval)
+    counts = _counts(path, choice.column, placed, reading, interval)
     flows, missed = _filled(path, counts, interval, reading.missing, times)
     vehicles = sum(flow.flow * (flow.end - flow.start) for flow in flows) / HOUR
-    zone = "; the times are taken as they are written, without their zone" if zoned else ""
+    more = _missed(missed, reading.missing, times)
+    more += "; the times are taken as they are written, without their zone" if zoned else ""
     times.remarks.append(f"{table.place}: counts of {_lasting(interval)} from {path.name}, {choice.column}, "
-                         f"{told(vehicles)} vehicles in the study's time{_missed(missed, reading.missing, times)}{zone}")
+                         f"{told(vehicles)} vehicles in the study's time{more}")
     return flows
 
 
@@ -118,12 +119,12 @@ def _on_days(rows, interval, times):
     return sorted(placed, key=lambda pair: pair[0])
 
 
-def _counts(place, placed, reading, interval):
+def _counts(path, column, placed, reading, interval):
     """The counts in order; a row without a number is missing."""
     found = []
     for start, row in placed:
         if row.text.strip():
-            counted = _number(row.text, reading.decimal, place.format(row.line))
+            counted = _number(row.text, reading.decimal, f"{path}: line {row.line}, {column}")
             found.append(Count(row.line, start, start + interval,
                                counted if reading.per == "hour" else counted * HOUR / interval))
     return found

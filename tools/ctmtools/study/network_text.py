@@ -138,8 +138,8 @@ class Builder:
     def _note_section(self, where, section, cell, part):
         note, lanes = self.rounding.note, section.lanes
         note(f"wave speed {where}", section.wave_speed, cell.ratio * section.free_flow_speed, "km/h")
-        note(f"jam density {where}", section.jam_density * (lanes + cell.opened), Fraction(cell.room, PARTS) / part.length,
-             "vehicles/km")
+        note(f"jam density {where}", section.jam_density * (lanes + cell.opened),
+             Fraction(cell.room, PARTS) / part.length, "vehicles/km")
         note(f"saturation flow {where}", section.saturation_flow * lanes,
              Fraction(cell.capacity, PARTS) * HOUR / self.study.step, "vehicles/h")
 

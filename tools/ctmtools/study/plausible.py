@@ -38,6 +38,6 @@ def _lanes(section):
         if key == "free_flow_speed" and section.lanes > 1:
             least = SLOWEST
         if not least <= value <= most:
-            road = f" on {section.lanes} lanes" if key == "free_flow_speed" else " in a lane"
-            yield (f"{key}: {told(value)} {unit}{road if key != 'wave_speed' else ''} is hardly what a road has, {least} "
-                   f"to {most:,} {unit}; {hint.format(f'{float(value):g}')}")
+            where = {"free_flow_speed": f" on {section.lanes} lane{'s'[:section.lanes != 1]}", "wave_speed": ""}
+            yield (f"{key}: {told(value)} {unit}{where.get(key, ' in a lane')} is hardly what a road has, {least} to "
+                   f"{most:,} {unit}; {hint.format(f'{float(value):g}')}")

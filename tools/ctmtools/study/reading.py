@@ -87,7 +87,7 @@ def _duration_of(entries, start):
 
 
 class Times:
-    """Clock times of a study as seconds after its start. In a study that passes midnight those before are of the next day.
+    """Clock times of a study as seconds after its start; where it passes midnight those before are of the next day.
 
     `remarks` are lines on what was read beside the study file, as counts.
     """

@@ -8,7 +8,7 @@ TOLD = Fraction(1, 1000)  # a difference is told from more than this part of the
 
 @dataclass(frozen=True)
 class Rounded:
-    """A quantity as it was asked for and as it is modelled, in a unit, and the quantity that a difference is small of."""
+    """A quantity as it was asked for and as it is modelled, in a unit; a difference of it is measured by `of`."""
 
     what: str
     asked: Fraction
