@@ -134,6 +134,15 @@ def test_within_a_road_its_cell_takes_nothing_in_while_it_is_red(tmp_path):
     assert made.remarks[0].startswith("signals[1] has a start or an end, so in its red nothing comes into the cell before")
 
 
+def test_within_a_road_who_waits_waits_up_to_a_step_longer(tmp_path):
+    signal = '[[signals]]\nroad = "m"\nat = 0.5\ncycle = 120\ngreen = 60\n'
+    demand = '[["06:10", "07:00", 720]]'
+    exact, made = (delay(corridor(tmp_path, signal + start, demand=demand, end="07:30"))
+                   for start in ("", 'start = "06:05"\n'))
+    # In each of 25 reds of 6 steps 2 vehicles come in a step, and the green clears them.
+    assert 0.9 * 25 * 12 < made - exact <= 25 * 12
+
+
 def test_plans_of_a_signal_by_time_of_day(tmp_path):
     second = SIGNAL.format("g").replace("06:12", "06:14").replace("06:10", "06:12").replace("20", "40")
     reds = [*REDS, ["76", "78", "0"], ["82", "84", "0"]]

@@ -19,7 +19,7 @@ class Naming:
         return self.units.cells.get(cell) if self.of_study else None
 
     def cell(self, cell, last=None):
-        """A cell with its kind, or with its road and its kilometres, up to the end of a later cell where one is given."""
+        """A cell with its kind, or with its road and its kilometres, up to the end of a later cell if one is given."""
         place = self.place(cell)
         if place is None:
             return f"the {self.network.kinds[cell]} {cell}"

@@ -59,8 +59,8 @@ def _dead_ends(network, naming):
         place = naming.place(cell)
         if place:
             yield Warning("dead ends", _line(network, cell),
-                          f"road {place['road']} at km {place['to_km']:.6g} has no way on: neither an exit nor a road, so "
-                          "what comes there stays")
+                          f"road {place['road']} at km {place['to_km']:.6g} has no way on: neither an exit nor a road, "
+                          "so what comes there stays")
             continue
         follower = _follower(network, names, number)
         hint = f" Is a link,{cell},{follower} forgotten?" if follower else ""
