@@ -8,13 +8,14 @@ from .program import ask, recording_step, run_words
 from .report.reading import report_of
 
 
-def run(content, name, units=None, every=None, workers=None, program=None, news=None):
+def run(content, name, units=None, every=None, workers=None, program=None, news=None, network=None):
     """The text of the report of a network's bytes, and the report itself with its units and its network.
 
     `every` is the number of steps from record to record, by default the least that the program's limit allows;
-    `workers` the number of threads, by default that of the processors, where the program takes that option.
+    `workers` the number of threads, by default that of the processors, where the program takes that option. `network`
+    is that of the bytes, where it has been read already.
     """
-    network = network_of(content, name)
+    network = network or network_of(content, name)
     cells = len(network.cells)
     if every is None:
         every = recording_step(network.steps, cells)

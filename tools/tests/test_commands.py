@@ -64,8 +64,10 @@ def test_a_file_of_another_is_not_written_over(tool):
 def test_run_prints_a_page(tool, name, recording_program):
     status, out, err = tool("run", EXAMPLES / f"{name}.toml")
     assert status == 0 and "vehicle-hours" in out and "began at" in out and "with each step recorded" in out
+    told, page = out.split("\n\n", 1)
+    assert "modelled as asked" in told
     status, again, err = tool("run", f"{name}.csv")
-    assert status == 0 and again.split("\n\nReport")[0] == out.split("\n\nReport")[0]
+    assert status == 0 and again.split("\n\nReport")[0] == page.split("\n\nReport")[0]
 
 
 def test_the_page_in_the_readme(tool, recording_program):

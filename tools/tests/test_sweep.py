@@ -108,6 +108,13 @@ def test_a_sweep_over_one_value_and_over_names(tool, plain):
     assert status == 2 and "isn't varied" in err
 
 
+def test_a_sweep_warns_before_its_results(tool, plain, tmp_path):
+    slow = STUDY.read_text().replace("free_flow_speed = 45", "free_flow_speed = 30")
+    (tmp_path / "s.toml").write_text(slow)
+    status, out, err = tool("sweep", "s.toml", "--vary", "signals.offset=0", "-j", "1")
+    assert status == 0 and out.startswith("warning: roads.c.free_flow_speed: 30 km/h on 2 lanes is hardly")
+
+
 def test_an_ended_process_loses_nothing(plain, tmp_path):
     """One of two processes is ended from outside; its run is done again."""
     tasks = [task(plain, **{"signals.offset": i % 12 * 10}) for i in range(8)]

@@ -3,7 +3,7 @@
 import click
 
 from ..files import beside, guard_network, network_target, write
-from ..network_file.network import network_of
+from ..given import read_as
 from ..network_file.warnings import shortened, warnings_of
 from ..study.network_text import build
 from ..study.reading import read_study
@@ -24,12 +24,16 @@ these tools haven't made is written over only where -o names it."""
 def command(study, output):
     """Make the network file of STUDY.toml, and beside it the file of its units, NET.units.json.
 
-    What had to be rounded to whole cells, steps and parts is told: the length or flow asked for against that modelled.
+    What had to be rounded to whole cells, steps and parts by more than 0.1 % is told: the length or flow asked for
+    against that modelled. So is what closures leave where they overlap, and what in the study can hardly be meant.
     """
+    read_as(study, "a study")
     built = build(read_study(study))
     target = save(built, study, output)
-    for line in told(built, target):
-        click.echo(line)
+    lines = built.text.count("\n")
+    click.echo(f"{target} and {units_path(target)}: {lines} lines, a step of {built.units.step:g} s")
+    for line in told(built):
+        click.echo(f"  {line}")
 
 
 def save(built, source, output=None):
@@ -43,21 +47,17 @@ def save(built, source, output=None):
     return target
 
 
-def told(built, target):
-    """What a build tells: the files, the roads, what was rounded, and the warnings."""
-    units = built.units
-    yield f"{target} and {units_path(target)}: {built.text.count(chr(10))} lines, a step of {units.step:g} s"
-    for note in built.rounding.notes:
-        if note.what.startswith("length of road"):
-            yield f"  {note}"
-    differing = [note for note in built.rounding.differing if not note.what.startswith("length of road")]
-    for note in differing:
-        if not note.is_tiny:
-            yield f"  rounded: {note}"
-    tiny = [note for note in differing if note.is_tiny]
-    if tiny:
-        yield f"  rounded by a millionth or less: {tiny[0]}{f', and {len(tiny) - 1} more' if len(tiny) > 1 else ''}"
-    if not differing:
-        yield "  All flows, times, places and shares are modelled as asked."
-    for line in shortened(warnings_of(network_of(built.text.encode()), units.step)):
-        yield f"  warning: {line}"
+def told(built):
+    """What is told of a built study: what it is made of, what was rounded, and the warnings."""
+    yield from built.remarks
+    for note in built.rounding.differing:
+        yield f"rounded: {note}"
+    if not built.rounding.differing:
+        yield "All lengths, flows, times, places and shares are modelled as asked, to 0.1 %."
+    yield from warned(built)
+
+
+def warned(built):
+    """The warnings of a built study: what in it can hardly be meant."""
+    for line in [*built.warnings, *shortened(warnings_of(built.network, built.units), lines=False)]:
+        yield f"warning: {line}"

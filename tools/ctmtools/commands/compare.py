@@ -6,6 +6,7 @@ from ..files import write
 from ..report.comparing import compare, totals
 from ..report.page import table, told
 from ..report.reading import read_report
+from ..report.unlike import unlike
 from .reports import on_reports
 
 EPILOG = """\b
@@ -34,7 +35,10 @@ def command(first, second, rows, output, picture, road, units, network):
     one, two = read_report(first, units, network), read_report(second, units, network)
     frame, sums = compare(one, two), totals(one, two)
     unit = frame.attrs["units"]["delay"]
-    click.echo(f"A  {one.title} ({first})\nB  {two.title} ({second})\n")
+    click.echo(f"A  {one.title} ({first})\nB  {two.title} ({second})")
+    for line in unlike(one, two):
+        click.echo(f"warning: {line}")
+    click.echo()
     lines = [("", "A", "B", "B - A", "")]
     for name, row in sums.iterrows():
         part = row.rise / row["first"] if row["first"] else 0

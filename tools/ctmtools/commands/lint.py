@@ -2,8 +2,8 @@
 
 import click
 
+from ..given import read_as
 from ..network_file.examining import examine
-from ..network_file.network import read_bytes
 from ..network_file.warnings import shortened
 from ..units import read_units, units_path
 
@@ -25,8 +25,8 @@ def command(network, complete, strict):
 
     Of the fault are told the line of the file, the field, its value, what was expected, and what may be meant.
     """
-    findings = examine(read_bytes(network), network, lambda line: click.echo(line, err=True),
-                       read_units(units_path(network)).step)
+    findings = examine(read_as(network, "a network"), network, lambda line: click.echo(line, err=True),
+                       read_units(units_path(network)))
     click.echo(findings.answer)
     if findings.fault:
         click.echo(f"{network}: {findings.fault}")

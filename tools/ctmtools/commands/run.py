@@ -6,7 +6,8 @@ from pathlib import Path
 import click
 
 from ..files import beside, guard_network, guard_report, report_target, write
-from ..network_file.network import read_bytes
+from ..given import read_as
+from ..network_file.network import network_of
 from ..network_file.warnings import shortened, warnings_of
 from ..report.page import page
 from ..running import run
@@ -14,7 +15,7 @@ from ..study.network_text import build
 from ..study.reading import read_study
 from ..units import read_units, units_path, write_units
 from ..working import working
-from .build import save
+from .build import save, told
 
 EPILOG = """\b
 Examples:
@@ -35,34 +36,43 @@ CTM_PROGRAM names another program than ./ctm."""
 def command(source, output, every, workers):
     """Run a study or a network by ./ctm, write its report with records, and print a page.
 
-    The page has the vehicles served, the delay, for each queue where it began, how far it reached and when, and when it
+    Before the page stands what `build` tells of the study, or the warnings of `lint` of the network. The page has the
+    vehicles served, the delay, for each queue where it began, how far it reached and when, and when it
     cleared, and what is still inside at the end.
     """
     target = report_target(source, output)
     if not output:
         guard_report(target)
-    content, units, network = _network(source, target)
+    content, units, path, network, lines = _network(source, target)
+    for line in lines:
+        click.echo(line)
+    if lines:
+        click.echo()
     with working("ctm is running"):
-        text, report = run(content, str(network), units, every, workers, news=lambda line: click.echo(line, err=True))
+        text, report = run(content, str(path), units, every, workers, news=lambda line: click.echo(line, err=True),
+                           network=network)
     write(target, text)
     write_units(units_path(target), units)
     report.name = str(target)
     for line in page(report):
         click.echo(line)
-    for line in shortened(warnings_of(report.network, units.step)):
-        click.echo(f"Warning: {network}: {line}")
-    click.echo(f"\nReport {target}{_recorded(report)}, units {units_path(target)}, network {network}")
+    click.echo(f"\nReport {target}{_recorded(report)}, units {units_path(target)}, network {path}")
 
 
 def _network(source, target):
-    """The bytes of the network, its units as they stand beside the report, and its path. A study is built."""
+    """The bytes of the network, its units as they stand beside the report, its path, itself, and what is told of it.
+
+    A study is built.
+    """
     if Path(source).suffix.lower() == ".toml":
-        network = target.with_suffix(".csv")
-        guard_network(network)
+        path = target.with_suffix(".csv")
+        guard_network(path)
         built = build(read_study(source))
-        return built.text.encode(), built.units, save(built, source, network)
-    units = read_units(units_path(source))
-    return read_bytes(source), dataclasses.replace(units, network=beside(source, target)), Path(source)
+        return built.text.encode(), built.units, save(built, source, path), built.network, list(told(built))
+    content = read_as(source, "a network")
+    units, network = read_units(units_path(source)), network_of(content, source)
+    lines = [f"warning: {source}: {line}" for line in shortened(warnings_of(network, units))]
+    return content, dataclasses.replace(units, network=beside(source, target)), Path(source), network, lines
 
 
 def _recorded(report):

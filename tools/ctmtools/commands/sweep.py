@@ -8,11 +8,13 @@ import click
 from ..problem import Problem
 from ..program import program_path, takes
 from ..report.page import kilometre, table, told
+from ..study.network_text import build
 from ..study.reading import read_values
 from ..sweep.results import Results
 from ..sweep.task import Task, fingerprint, study
 from ..sweep.variations import combinations, shown, variation
 from ..sweep.workers import beside, cluster, here, processors
+from .build import warned
 
 EPILOG = """\b
 Examples:
@@ -52,6 +54,7 @@ def command(source, varied, jobs, address, output, over, every, rows):
     keys = [one.key for one in variations]
     drawn = _drawn(over, variations)
     tasks = _tasks(source, variations, every)
+    _warn(tasks[0])
     folder = Path(output or Path(source).stem + ".sweep")
     marks = [fingerprint(task) for task in tasks]
     results = Results(folder / "results.csv", keys, marks)
@@ -84,6 +87,16 @@ def _tasks(source, variations, every):
     if not takes("--every"):
         raise Problem("this ctm takes no --every, so it records nothing; build the newest")
     return tasks
+
+
+def _warn(task):
+    """Prints the warnings of the first run's study; where it can't be built its row says why."""
+    try:
+        built = build(study(task))
+    except Problem:
+        return
+    for line in warned(built):
+        click.echo(line)
 
 
 def _do(tasks, marks, results, jobs, address):

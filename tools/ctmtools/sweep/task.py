@@ -52,7 +52,7 @@ def failed(why):
 
 def rounded(rounding):
     """What was rounded by more than a thousandth, in one line: the first of it, and how much more there is."""
-    notes = [note for note in rounding.differing if abs(note.modelled - note.asked) > abs(note.asked) / 1000]
+    notes = rounding.differing
     more = f" and {len(notes) - 1} more" if len(notes) > 1 else ""
     return f"{notes[0]}{more}" if notes else ""
 
