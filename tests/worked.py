@@ -1,5 +1,6 @@
 """Files that were worked on paper and what is written of them: a corridor of three cells, its report, and that in which
-every other step is recorded; a full road, the two shots of it and its report; and a larger network with its totals.
+every other step is recorded; a full road, the two shots of it and its report; two roads and their report; a road whose
+vehicles turn; a city; and a larger network with its totals.
 """
 
 from pathlib import Path
@@ -23,6 +24,12 @@ FULL_SHOT = lines("shot,1,10.000000,0.000000,10.000000,0.000000,0.000000; region
                   "row,g,4.000000,0.000000,0.000000,0.000000; row,a,6.000000,0.000000,0.000000,0.000000")
 FULL_SHOT_AFTER = lines("shot,2,10.000000,0.000000,10.000000,0.000000,0.000000; region,0,1; "
                         "row,g,4.000000,0.000000,0.000000,4.000000; row,a,6.000000,0.000000,0.000000,6.000000")
+
+TWO_ROADS = lines("ctm,1; steps,4; gate,g,2,8; road,a,6,2,1,1,0; road,b,6,2,1,1,0; exit,x,2; "
+                  "link,g,a; link,a,b; link,b,x")
+TWO_ROADS_REPORT = lines("report,4,4; cell,g,0.000000,0.000000,8.000000,12.000000; "
+                         "cell,a,2.000000,8.000000,6.000000,0.000000; cell,b,2.000000,6.000000,4.000000,0.000000; "
+                         "cell,x,4.000000,4.000000,0.000000,0.000000; total,4.000000,0.000000,4.000000,12.000000")
 
 # A corridor with ramps, signals and an incident: the made network of size 100 and seed 7, and the line of its totals, as a
 # model from docs/FORMAT.md and docs/MODEL.md alone works it out.
