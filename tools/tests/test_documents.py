@@ -48,8 +48,8 @@ def commands(page):
             found = re.findall(r"`((?:\./)?ctm(?:-tools)? [^`]*|man -l [^`]*|\.ci/run|tools/setup)`", part)
         for command in found:
             command = command.partition(" #")[0].strip()
-            # A mode by itself is a name.
-            if not re.fullmatch(r"\./ctm (run|watch|check|convert)", command):
+            # A mode or a command of the tools by itself is a name.
+            if not re.fullmatch(r"\./ctm(-tools)? \w+", command):
                 yield f"./{command}" if command.startswith("ctm-tools") else command
 
 
