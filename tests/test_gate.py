@@ -143,8 +143,8 @@ def test_tools_that_cannot_be_tested_fail_in_the_gate_alone(tmp_path):
 def test_a_missing_package_is_named_with_what_installs_it():
     ended = subprocess.run([TOP / "tools/find-python", "no_such_package"], stdout=subprocess.PIPE, stderr=subprocess.PIPE)
     assert (ended.returncode, ended.stdout) == (2, b"")
-    assert ended.stderr == (b"ctm-tools: the Python packages are missing: python3-no_such_package; "
-                            b"tools/setup installs them\n")
+    assert ended.stderr == (b"ctm-tools: Python packages are missing: tools/setup installs them, or "
+                            b"apt install python3-no_such_package\n")
 
 
 def setup_with(tmp_path, user, sudo="exit 1", install="exit 0"):

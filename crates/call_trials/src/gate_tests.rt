@@ -26,7 +26,10 @@ fn two_workers_work_at_once(rt: HostRuntime) -> Result<(), Fail> {
     let gate = Meeting::new();
     let file = lines(rt.alloc(), CHAIN)?;
     let ended = call_past(&rt, rt.alloc(), "run --regions 4 --workers 2", file, &gate)?;
-    assert_eq!(rt; ended.out.bytes(), lines(rt.alloc(), CHAIN_REPORT)?.as_slice());
+    assert_eq!(rt;
+        ended.out.bytes(),
+        lines(rt.alloc(), CHAIN_REPORT)?.as_slice()
+    );
     assert_eq!(rt; gate.met(), 2, "each waited for the other");
     assert!(rt;
         gate.notes.are_complete(4, 4),

@@ -81,12 +81,19 @@ fn a_failing_standard_error_changes_no_status(rt: HostRuntime) -> Result<(), Fai
     Ok(())
 }
 
-// To be run with each allocation failing in turn (bench/refuse-memory); by itself it shows the whole report.
+// bench/refuse-memory runs this again and again and refuses each growth of memory in turn; a refusal before the call shows
+// nothing. Run by itself, without a refusal, it shows the whole report.
 #[test]
-fn a_call_without_memory_leaves_a_beginning_of_its_text(rt: HostRuntime) -> Result<(), Fail> {
-    let report = lines(rt.alloc(), CORRIDOR_REPORT)?;
-    let file = lines(rt.alloc(), CORRIDOR)?;
-    let ended = call_past(&rt, rt.alloc(), "run --regions 2", file, &OpenGate)?;
+fn a_call_out_of_memory_leaves_a_beginning_of_its_text(rt: HostRuntime) -> Result<(), Fail> {
+    let (Ok(report), Ok(file)) = (
+        lines(rt.alloc(), CORRIDOR_REPORT),
+        lines(rt.alloc(), CORRIDOR),
+    ) else {
+        return Ok(());
+    };
+    let Ok(ended) = call_past(&rt, rt.alloc(), "run --regions 2", file, &OpenGate) else {
+        return Ok(());
+    };
     let text = ended.out.bytes();
     assert!(rt; report.starts_with(text));
     match ended.status {

@@ -6,8 +6,7 @@
 //! - `answer` has the words read, brings the `input`, and has the mode find the text: `run_mode`, `watch_mode`,
 //!   `sample_mode`, `check_mode`, `convert_mode`, each with its definition of the same name in specs/. The tables by mode are
 //!   `text_of` here, `reads_source` and `most_bytes` in `input`, and those of specs/Answer.antt and specs/Input.antt.
-//! - `network_input` reads a network, or tells its fault; `recording` says how much a run may record; `last_report` is the
-//!   report of regions at the last step.
+//! - `network_input` reads a network, or tells its fault; `recording` says how much a run may record.
 #![tactic(auto)]
 
 mod answer;
@@ -15,7 +14,6 @@ mod call;
 mod check_mode;
 mod convert_mode;
 mod input;
-mod last_report;
 mod network_input;
 mod recording;
 mod run_mode;

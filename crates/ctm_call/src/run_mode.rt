@@ -6,12 +6,12 @@ ghost use Rattle.call_ending.specs.Refusing.{IsRefusalOf};
 ghost use Rattle.ctm_call.specs.RunMode.{IsRunText, run_refused};
 ghost use Rattle.ctm_call.specs.Task.{task_of};
 
-use crate::last_report::last_report;
 use crate::network_input::network_in;
 use crate::recording::{large_record, records_too_much};
 use call_ending::Refusal;
 use command_words::Request;
 use ctm_ports::Gate;
+use delay_report::run_report;
 use network_file::Net;
 use network_run::{charted, last_regions};
 use signal_plan::NoMemory;
@@ -56,5 +56,5 @@ fn report_of_run<R: Threads + Sync, G: Gate>(
     let every = u64::from(request.every);
     let chart = charted(alloc, net, request.regions)?;
     let regions = last_regions(rt, alloc, net, &chart, every, request.workers, gate)?;
-    last_report(alloc, net, &chart, &regions, every)
+    run_report(alloc, net, &chart, &regions, every)
 }

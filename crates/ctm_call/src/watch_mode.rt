@@ -5,12 +5,12 @@ ghost use Rattle.call_ending.specs.Refusing.{IsRefusalOf};
 ghost use Rattle.ctm_call.specs.Task.{task_of};
 ghost use Rattle.ctm_call.specs.WatchMode.{HasShotsAndReport, IsWatchText, large_shots, shown_rows, watch_refused};
 
-use crate::last_report::last_report;
 use crate::network_input::network_in;
 use crate::recording::{large_record, records_too_much};
 use call_ending::{Line, Refusal, Status};
 use command_words::Request;
 use ctm_ports::Gate;
+use delay_report::run_report;
 use network_file::Net;
 use network_run::{Watched, charted, watched_regions};
 use signal_plan::NoMemory;
@@ -84,7 +84,7 @@ fn shots_and_report<R: Threads + Sync, G: Gate>(
         request.shots,
         gate,
     )?;
-    let report = last_report(alloc, net, &chart, &regions, every)?;
+    let report = run_report(alloc, net, &chart, &regions, every)?;
     shots.extend_from_slice(&report)?;
     Ok(shots)
 }

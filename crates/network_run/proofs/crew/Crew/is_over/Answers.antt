@@ -20,6 +20,6 @@ returns-else-is_done-clause-going c = λ is. record {
   none_done = sym c.is_done.ensures ∙ c.if-is_done.false;
   moved = some-moved c.args.self.now.members (λ none. both_ways c.none_moved.result is
       (c.none_moved.ensures.1 (subst (λ (helpers : List Helper). All (λ (helper : Helper). helper.member.driven.moved ≡ 0) helpers) (sym c.deref.ensures.value)
-          (All-from_map (λ (member : Member). member.driven.moved ≡ 0) (λ (helper : Helper). helper.member) c.self.inside.helpers.items
-          (subst (All (λ (member : Member). member.driven.moved ≡ 0)) (sym (ap (λ (crew : CrewValue). crew.members) c.self.view_is)) none)))));
+      (All-from_map (λ (member : Member). member.driven.moved ≡ 0) (λ (helper : Helper). helper.member) c.self.inside.helpers.items
+      (subst (All (λ (member : Member). member.driven.moved ≡ 0)) (sym (ap (λ (crew : CrewValue). crew.members) c.self.view_is)) none)))));
 }

@@ -2,7 +2,7 @@ use Rattle.std.proofs.Common.{subst}
 use Rattle.network_file.specs.Network.{IsNetwork}
 use Rattle.region_step.specs.Start.{zero_start}
 use Rattle.delay_report.proofs.Standing.{end-ended, end-notes, end-zero, stand-rows}
-use Rattle.ctm_call.proofs.last_report.last_report.Goals as goal
+use Rattle.delay_report.proofs.run_end.run_report.Goals as goal
 
 pub report-requires-clause-ended : goal.report-requires-clause-ended
 report-requires-clause-ended c =
