@@ -20,7 +20,7 @@ test result: ok. 3 passed; 0 failed; 0 ignored; 0 filtered out
 rt: ok; handles allowed: none
 4 passed, 0 failed
 """
-CHECKS = ["tests/program", "tests/launcher", "examples/check", "tools/check"]
+CHECKS = ["tests/plays", "tests/program", "tests/launcher", "examples/check", "tools/check"]
 
 
 class Gate:
@@ -70,8 +70,8 @@ def gate(tmp_path):
 def test_a_gate_that_passes_says_how_many_checks_of_each_sort_ran(gate):
     status, told = gate.run()
     assert status == 0
-    assert told[-1] == (".ci/run: passed: 2 crates proved, 2 edits refused, 5 tests of crates passed, 900 of tests/program, "
-                        "900 of tests/launcher, 900 of examples/check, 900 of tools/check")
+    assert told[-1] == (".ci/run: passed: 2 crates proved, 2 edits refused, 5 tests of crates passed, 900 of tests/plays, "
+                        "900 of tests/program, 900 of tests/launcher, 900 of examples/check, 900 of tools/check")
 
 
 def test_the_program_of_the_gate_is_current_for_the_launcher(gate):
