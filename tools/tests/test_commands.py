@@ -5,9 +5,10 @@ import subprocess
 import sys
 
 import pytest
-from conftest import EXAMPLES, TOOLS
 
 from ctmtools.command_line import COMMANDS
+
+from .examples import EXAMPLES, TOOLS
 
 STUDIES = sorted(path.stem for path in EXAMPLES.glob("*.toml"))
 PLOTS = ["time-space", "n-curves", "queue", "delay", "map"]

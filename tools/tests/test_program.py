@@ -2,12 +2,13 @@
 
 import random
 
-import plain_model
 import pytest
-from conftest import EXAMPLES
 
 from ctmtools.problem import Problem
 from ctmtools.program import ask, recording_step, run_words
+
+from . import plain_model
+from .examples import EXAMPLES
 
 
 @pytest.mark.parametrize("name", ["interchange", "event", "arterial-wave", "workzone"])

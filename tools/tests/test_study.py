@@ -1,8 +1,6 @@
 """Studies: the built network against the hand-written one, what is rounded, and mistakes told in one line."""
 
-import plain_model
 import pytest
-from conftest import EXAMPLES
 
 from ctmtools import Problem, build, read_network, read_study
 from ctmtools.network_file.network import network_of
@@ -124,6 +122,9 @@ end = "06:20"
 [[closures]]
 road = "m"
 from = 0.9
+
+from . import plain_model
+from .examples import EXAMPLES
 capacity = 900
 """
     assert records(built(tmp_path, text), "limit") == ["limit,m3,60,120,6", "limit,m4,0,360,2.5"]

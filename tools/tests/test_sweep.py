@@ -8,15 +8,16 @@ import threading
 import time
 from fractions import Fraction
 
-import plain_model
 import pytest
-from conftest import EXAMPLES
 
 from ctmtools.problem import Problem
-from ctmtools.sweep import workers
-from ctmtools.sweep.task import Task, fingerprint, measure
-from ctmtools.sweep.variations import changed, combinations, variation
+from ctmtools.sweeps import workers
+from ctmtools.sweeps.task import Task, fingerprint, measure
+from ctmtools.sweeps.variations import changed, combinations, variation
 from ctmtools.study.reading import read_values
+
+from . import plain_model
+from .examples import EXAMPLES
 
 STUDY = EXAMPLES / "arterial-0.toml"
 

@@ -1,13 +1,18 @@
 """ctm-tools build"""
 
+from __future__ import annotations
+
+from collections.abc import Iterator
+from pathlib import Path
+
 import click
 
-from ..files import beside, guard_network, network_target, write
+from ..files import guard_network, network_target, write_network
 from ..network_file.network import network_of
 from ..network_file.warnings import shortened, warnings_of
-from ..study.network_text import build
+from ..study.network_text import Built, build
 from ..study.reading import read_study
-from ..units import units_path, write_units
+from ..units import units_path
 
 EPILOG = """\b
 Examples:
@@ -21,29 +26,21 @@ these tools haven't made is written over only where -o names it."""
 @click.command(epilog=EPILOG)
 @click.argument("study", type=click.Path())
 @click.option("-o", "--output", metavar="NET.csv", type=click.Path(), help="Where the network goes.")
-def command(study, output):
+def command(study: str, output: str | None) -> None:
     """Make the network file of STUDY.toml, and beside it the file of its units, NET.units.json.
 
     What had to be rounded to whole cells, steps and parts is told: the length or flow asked for against that modelled.
     """
     built = build(read_study(study))
-    target = save(built, study, output)
+    target = network_target(study, output)
+    if not output:
+        guard_network(target)
+    write_network(built, target)
     for line in told(built, target):
         click.echo(line)
 
 
-def save(built, source, output=None):
-    """Writes a built network and its units, and gives the path of the network."""
-    target = network_target(source, output)
-    if not output:
-        guard_network(target)
-    write(target, built.text)
-    built.units.network = beside(target, units_path(target))
-    write_units(units_path(target), built.units)
-    return target
-
-
-def told(built, target):
+def told(built: Built, target: Path) -> Iterator[str]:
     """What a build tells: the files, the roads, what was rounded, and the warnings."""
     units = built.units
     yield f"{target} and {units_path(target)}: {built.text.count(chr(10))} lines, a step of {units.step:g} s"
