@@ -12,7 +12,7 @@ from matplotlib.figure import Figure
 from matplotlib.patheffects import withStroke
 
 from ..report.reading import Report
-from .figure import DENSITY, drawing, figure, head, note
+from .figure import DENSITY, drawing, figure, head
 from .labels import Label, Place, write
 from .layout import Line, lay_out
 
@@ -50,13 +50,13 @@ def draw(report: Report) -> Figure:
     axes.set_aspect("equal", adjustable="datalim")
     axes.axis("off")
     bar = drawn.colorbar(body, ax=axes, orientation="horizontal", shrink=0.6, aspect=40, pad=0.03)
-    bar.set_label(f"Delay ({units.delay_unit} for each km)" if units.known else "Delay (vehicle-steps in a cell)")
+    scale = f"Delay ({units.delay_unit} for each km)" if units.known else "Delay (vehicle-steps in a cell)"
+    bar.set_label(f"{scale}\n ")  # with a line more, since names are placed in the layout as it stays
     bar.outline.set_visible(False)
     head(axes, f"{report.title}: {delay.sum():,.1f} {units.delay_unit} of delay" +
          ("" if units.points else ", schematic"))
     nameless = _names(axes, report, lines, delay)
-    if nameless:
-        note(bar.ax, f"{nameless} names are left out")
+    bar.set_label(f"{scale}\n{f'{nameless} names are left out' if nameless else ' '}")
     return drawn
 
 
