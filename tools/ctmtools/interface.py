@@ -34,7 +34,7 @@ def run(source: str | Path | Study, output: str | Path | None = None, every: int
     `workers` the number of threads. With `output` the report is written there, and its units and the network of a study
     beside it.
     """
-    if output is not None and not isinstance(source, Study):
+    if output is not None:
         return run_into(source, Path(output), every, workers)[0]
     if isinstance(source, Study) or is_study(source):
         built = build(source)

@@ -12,6 +12,7 @@ from .problem import Problem
 from .program import News, ask, recording_step, run_words
 from .report.reading import Report, report_of
 from .study.network_text import build
+from .study.plan import Study
 from .study.reading import read_study
 from .units import Units, read_units, units_path, write_units
 
@@ -38,7 +39,7 @@ def run(content: bytes, name: str, units: Units | None = None, every: int | None
     return answer.out, report
 
 
-def run_into(source: str | Path, target: Path, every: int | None = None, workers: int | None = None,
+def run_into(source: str | Path | Study, target: Path, every: int | None = None, workers: int | None = None,
              news: News | None = None) -> tuple[Report, Path]:
     """Runs a study or a network and writes its report and units; gives the report and the path of the network.
 
@@ -57,16 +58,17 @@ def is_study(source: str | Path) -> bool:
     return Path(source).suffix.lower() == ".toml"
 
 
-def _network(source: str | Path, target: Path) -> tuple[bytes, Units, Path]:
+def _network(source: str | Path | Study, target: Path) -> tuple[bytes, Units, Path]:
     """The bytes of the network, its units as they stand beside the report, and its path. A study is built."""
-    if is_study(source):
+    if isinstance(source, Study) or is_study(source):
         network = target.with_suffix(".csv")
         guard_network(network)
-        built = build(read_study(source))
+        built = build(source if isinstance(source, Study) else read_study(source))
         write_network(built, network)
         return built.text.encode(), built.units, network
-    units = read_units(units_path(source))
-    return read_bytes(source), dataclasses.replace(units, network=beside(source, target)), Path(source)
+    path = Path(source)
+    units = read_units(units_path(path))
+    return read_bytes(path), dataclasses.replace(units, network=beside(path, target)), path
 
 
 def processors() -> int:

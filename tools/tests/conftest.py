@@ -1,12 +1,15 @@
 """What the tests share: the program, a call of the tools in a folder of its own, and reports of the examples."""
 
+import sys
+
 import pytest
 
 from ctmtools import read_report
 from ctmtools.command_line import main
 from ctmtools.program import program_path, takes
 
-from .examples import save_report
+from . import plain_model
+from .examples import TOOLS, save_report
 
 
 @pytest.fixture(scope="session")
@@ -52,3 +55,19 @@ def reports(tmp_path_factory):
 def report(reports):
     """An example's report with records, read."""
     return lambda name: read_report(reports(name))
+
+
+@pytest.fixture(scope="session")
+def plain_program(tmp_path_factory):
+    """A program that records, for as long as the built one may not: the plain recurrences, called as it is."""
+    path = tmp_path_factory.mktemp("plain") / "ctm"
+    path.write_text(f"#!/bin/bash\nPYTHONPATH={TOOLS} exec {sys.executable} -m {plain_model.__name__} \"$@\"\n")
+    path.chmod(0o755)
+    return str(path)
+
+
+@pytest.fixture
+def plain(plain_program, monkeypatch):
+    """Has the tools call the plain recurrences."""
+    monkeypatch.setenv("CTM_PROGRAM", plain_program)
+    return plain_program

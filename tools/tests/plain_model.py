@@ -1,13 +1,10 @@
-#!/usr/bin/env python3
 """The recurrences of docs/MODEL.md once more, plainly and in whole parts, to compare the program's records with.
 
-As a program it takes `run [--every K]` as the proved one does, over a file without faults.
+As a program, `python3 -m tests.plain_model`, it takes `run [--every K]` as the proved one does, over a file without
+faults.
 """
 
 import sys
-from pathlib import Path
-
-sys.path.insert(0, str(Path(__file__).resolve().parents[1]))
 
 from ctmtools.amounts import PARTS, parts_of
 from ctmtools.network_file.records import read_records

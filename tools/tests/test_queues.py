@@ -50,10 +50,10 @@ def test_the_approaches_of_a_grid_are_one_queue_each(report):
 def test_a_ramp_meter_is_one_queue(report):
     read = report("meter")
     queue = queues_in(read)[0]
-    # 900 vehicles/h come from 06:45 to 08:00, and two in each 10 s, 720 vehicles/h, are let on; then 300 vehicles/h come.
+    # 900 vehicles/h come from 06:45 to 08:00, and two in each 10 s, 720 vehicles/h, are let on; then 270 vehicles/h come.
     assert (queue.origin, read.units.clock(queue.most_at, True)) == ("town", "07:59:55")
     assert queue.most == pytest.approx(1.25 * (900 - 720), abs=2)
-    assert read.units.hours(queue.delay) == pytest.approx(225 * (1.25 + 225 / 420) / 2, rel=0.01)
+    assert read.units.hours(queue.delay) == pytest.approx(225 * (1.25 + 225 / 450) / 2, rel=0.01)
     assert len(queues_in(read)) == 2  # and the vehicles that the meter lets on two by two, at the motorway
 
 
@@ -87,8 +87,7 @@ def test_short_queues_are_counted_in_one_line():
             "".join(f"demand,h,{step},{step + 1},6\n" for step in (0, 40, 80, 120)))
     lines = list(page(reported(text)))
     assert [line for line in lines if "short" in line] == [
-        "  and 4 short queues, the longest of 1 cell from b at 2, 24 vehicle-steps in all; each had cleared in less than "
-        "12 steps"]
+        "  and 4 short queues, the longest of 1 cell from b at 2, 24 vehicle-steps in all, cleared in less than 12 steps each"]
     assert sum(line.startswith("  a ") for line in lines) == 1 and not any(line.startswith("  b ") for line in lines)
 
 

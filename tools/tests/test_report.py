@@ -3,7 +3,6 @@
 import pandas
 import pytest
 
-import ctmtools
 from ctmtools import Problem, queues_of, read_report, states, totals
 from ctmtools.report.comparing import compare
 from ctmtools.report.queues import queues_in
@@ -115,8 +114,3 @@ def test_totals_of_a_report_without_records():
 def test_no_report(content):
     with pytest.raises(Problem):
         report_of(content)
-
-
-def test_every_public_function_says_what_it_does():
-    for name in ctmtools.__all__:
-        assert getattr(ctmtools, name).__doc__

@@ -5,6 +5,9 @@ import pytest
 from ctmtools import Problem, build, read_network, read_study
 from ctmtools.network_file.network import network_of
 
+from . import plain_model
+from .examples import EXAMPLES
+
 STUDIES = sorted(path.stem for path in EXAMPLES.glob("*.toml") if path.with_suffix(".csv").exists())
 
 
@@ -122,9 +125,6 @@ end = "06:20"
 [[closures]]
 road = "m"
 from = 0.9
-
-from . import plain_model
-from .examples import EXAMPLES
 capacity = 900
 """
     assert records(built(tmp_path, text), "limit") == ["limit,m3,60,120,6", "limit,m4,0,360,2.5"]

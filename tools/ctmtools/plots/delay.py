@@ -31,7 +31,7 @@ def draw(report: Report) -> Figure:
     for name, cells in groups:
         places = start + numpy.arange(len(cells))
         axes.bar(places, delay[cells], width=0.85, color="#4a4a4a")
-        bars += [(place, f"{GATE} {cell}" if name == GATE else cell) for place, cell in zip(places, cells)]
+        bars += [(place, f"{GATE} {cell}" if name == GATE else cell, delay[cell]) for place, cell in zip(places, cells)]
         if name != GATE:
             middles.append((float(places.mean()), name))
         start = places[-1] + 1 + ROOM
@@ -48,17 +48,16 @@ def draw(report: Report) -> Figure:
     return drawn
 
 
-def _name_bars(axes: Axes, bars: list[tuple[float, str]]) -> None:
-    """Names the bars, or as many of them as find room, below the axis."""
+def _name_bars(axes: Axes, bars: list[tuple[float, str, float]]) -> None:
+    """Names the bars below the axis, or as many of them as find room, the highest first."""
     axes.figure.draw_without_rendering()
     first, last = axes.get_xlim()
     apart = (last - first) * NAMES_APART / (axes.bbox.width * 72 / axes.figure.dpi)
-    named: list[tuple[float, str]] = []
-    for place, name in bars:
-        if not named or place - named[-1][0] >= apart:
-            named.append((place, name))
-    axes.set_xticks([place for place, _ in named], [name for _, name in named], fontsize=8,
-                    rotation=90 if len(named) > UPRIGHT_NAMES else 0)
+    named: dict[float, str] = {}
+    for place, name, _ in sorted(bars, key=lambda bar: -bar[2]):
+        if all(abs(place - other) >= apart for other in named):
+            named[place] = name
+    axes.set_xticks(list(named), list(named.values()), fontsize=8, rotation=90 if len(named) > UPRIGHT_NAMES else 0)
 
 
 def _name_roads(axes: Axes, middles: list[tuple[float, str]]) -> None:

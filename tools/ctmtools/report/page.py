@@ -56,7 +56,7 @@ def _queues(report: Report, queues: list[Queue]) -> Iterator[str]:
         yield f"  and {_counted(report, long[MOST_QUEUES:], 'more queue')}"
     if short:
         least = f"{SHORT // 60} min" if report.units.known else f"{SHORT_STEPS} steps"
-        yield f"  and {_counted(report, short, 'short queue')}; each had cleared in less than {least}"
+        yield f"  and {_counted(report, short, 'short queue')}, cleared in less than {least}{' each'[:5 * (len(short) > 1)]}"
     if any(queue.spells > 1 for queue in rows):
         yield ""
         yield (f"  A queue that comes back within {CYCLES} cycles of its signal is told as one: from its first beginning "
@@ -98,7 +98,7 @@ def _joined(report: Report, queue: Queue) -> Iterator[str]:
 
 
 def _row(report: Report, queue: Queue) -> tuple[str, ...]:
-    most = f"{queue.most:,.0f}" if queue.most >= 10 else f"{queue.most:.1f}"
+    most = f"{queue.most:,.0f}" if queue.most >= 1 else f"{queue.most:.1f}"
     return (where(report, queue.origin), clock(report, queue.start), length(report, queue.reach),
             where(report, queue.farthest, True) if queue.reach else "", clock(report, queue.reached), most,
             clock(report, queue.most_at), "not by the end" if queue.end is None else clock(report, queue.end),
