@@ -102,8 +102,16 @@ def test_more_queues_than_rows_are_counted():
         f"gate,g{i},9,0\nroad,r{i},300,9,1,5,0\nexit,x{i},2\nlink,g{i},r{i}\nlink,r{i},x{i}\ndemand,g{i},0,{30 - i},3\n"
         for i in range(15))
     lines = [line for line in page(reported(text)) if "more queues" in line]
-    # Where k vehicles wait k leave no sooner than after k / 2 steps: k + k / 2 * k in all, for k = 18, 17 and 16.
-    assert len(lines) == 1 and lines[0].startswith("  and 3 more queues, the longest of 1 cell from r12")
+    # In k steps 1, 2, .. k vehicles wait, and then two fewer in each: 243 vehicle-steps for k = 18, 217 for 17, 192 for 16.
+    assert lines == ["  and 3 more queues, the longest of 1 cell from r12 at 2, 652 vehicle-steps in all"]
+
+
+def test_queues_in_gates_alone_are_counted_by_their_vehicles():
+    text = "ctm,1\nsteps,60\n" + "".join(
+        f"gate,g{i},2,0\nroad,r{i},300,9,1,5,0\nexit,x{i},9\nlink,g{i},r{i}\nlink,r{i},x{i}\ndemand,g{i},0,{30 - i},3\n"
+        for i in range(15))
+    lines = [line for line in page(reported(text)) if "more queues" in line]
+    assert lines == ["  and 3 more queues, the greatest of 18 vehicles in the gate g12 at 18, 652 vehicle-steps in all"]
 
 
 @pytest.mark.parametrize("name", ["bottleneck", "interchange", "event", "arterial-0", "grid", "meter", "street"])

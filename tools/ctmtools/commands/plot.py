@@ -38,7 +38,7 @@ def on_picture(command: Command) -> Command:
     return click.argument("report", metavar="REPORT", type=click.Path())(command)
 
 
-def put(kind: str, report: str, output: str | None, units: str | None, network: str | None, **options: Any) -> None:
+def draw(kind: str, report: str, output: str | None, units: str | None, network: str | None, **options: Any) -> None:
     """Draws the picture of a kind into its file, and tells that file."""
     from ..plots.figure import save, target
     from ..plots.pictures import picture
@@ -69,7 +69,7 @@ Examples:
               "`LABEL: TIME KM, TIME KM, ..`; may be given again.")
 def time_space(**named: Any) -> None:
     """Density over time and place along a chain of cells, in vehicles per km, with queues outlined."""
-    put("time-space", **named)
+    draw("time-space", **named)
 
 
 @command.command("n-curves", epilog="""\b
@@ -83,7 +83,7 @@ Examples:
 @click.option("--shifted", is_flag=True, help="Move each curve on by the free-flow time to the last cell.")
 def n_curves(**named: Any) -> None:
     """Cumulative curves: all vehicles that have gone out of chosen cells, over time."""
-    put("n-curves", **named)
+    draw("n-curves", **named)
 
 
 @command.command("queue", epilog="""\b
@@ -96,7 +96,7 @@ Examples:
               help="Draw the queues that stand on this road alone; may be given again.")
 def queue(**named: Any) -> None:
     """How far the most costly queues reach back and how many vehicles wait in each, over time."""
-    put("queue", **named)
+    draw("queue", **named)
 
 
 @command.command("delay", epilog="""\b
@@ -105,7 +105,7 @@ Example:
 @on_picture
 def delay(**named: Any) -> None:
     """The delay of each cell, as bars along the roads. It needs no records."""
-    put("delay", **named)
+    draw("delay", **named)
 
 
 @command.command("map", epilog="""\b
@@ -114,4 +114,4 @@ Example:
 @on_picture
 def network_map(**named: Any) -> None:
     """The network drawn with its delays. It needs no records."""
-    put("map", **named)
+    draw("map", **named)

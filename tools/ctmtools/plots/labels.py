@@ -38,19 +38,18 @@ class Label:
     most_crossed: int | None = None
 
 
-def write(axes: Axes, labels: Sequence[Label], taken: Sequence[Bbox] = (), shunned: numpy.ndarray | None = None,
-          within: Bbox | None = None) -> list[Label]:
-    """Writes each label where it overlaps none before it nor a taken box, and gives those that were left out.
+def write(axes: Axes, labels: Sequence[Label], shunned: numpy.ndarray | None = None) -> list[Label]:
+    """Writes each label where it overlaps none before it, within the figure, and gives those that were left out.
 
-    Of the places that are free the first with the fewest of the shunned points (in dots) is taken. A label stands
-    `within` a box in dots, by default the figure's. The axes' limits must not change any more.
+    Of the places that are free the first with the fewest of the shunned points (in dots) is taken. The layout and the
+    axes' limits must not change any more.
     """
     axes.figure.draw_without_rendering()
-    boxes, bounds = list(taken), within or axes.figure.bbox
+    boxes: list[Bbox] = []
     left_out = []
     for label in labels:
         tried = [_written(axes, label, place) for place in label.places]
-        free = [(_crossed(box, shunned), i) for i, (_, box) in enumerate(tried) if _is_free(box, boxes, bounds)]
+        free = [(_crossed(box, shunned), i) for i, (_, box) in enumerate(tried) if _is_free(box, boxes, axes.figure.bbox)]
         crossed, best = min(free, default=(0, None))
         if label.most_crossed is not None and crossed > label.most_crossed:
             best = None

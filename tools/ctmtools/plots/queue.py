@@ -3,7 +3,6 @@
 from __future__ import annotations
 
 from collections.abc import Iterator, Sequence
-from itertools import count
 from typing import Any
 
 import numpy
@@ -28,9 +27,8 @@ def draw(report: Report, roads: Sequence[str] = (), begin: str | None = None, un
     first, last = span_of(report, begin, until)
     queues, rest = _chosen(report, roads)
     drawn, (upper, lower) = figure(2, size=(8, 5.4), sharex=True)
-    looks = map(style, count())
-    for queue, look in zip(queues, looks):
-        run = _by_cycle(report, queue)
+    for i, queue in enumerate(queues):
+        run, look = _by_cycle(report, queue), style(i)
         if queue.reach:
             _stairs(report, upper, run.reach, look)
         _stairs(report, lower, run.waiting, {**look, "label": f"from {where(report, queue.origin)}"})

@@ -56,7 +56,7 @@ def _queues(report: Report, queues: list[Queue]) -> Iterator[str]:
         yield f"  and {_counted(report, long[MOST_QUEUES:], 'more queue')}"
     if short:
         least = f"{SHORT // 60} min" if report.units.known else f"{SHORT_STEPS} steps"
-        yield f"  and {_counted(report, short, 'short queue')}, cleared in less than {least}{' each'[:5 * (len(short) > 1)]}"
+        yield f"  and {_counted(report, short, 'short queue')}, cleared in less than {least}{' each' * (len(short) > 1)}"
     if any(queue.spells > 1 for queue in rows):
         yield ""
         yield (f"  A queue that comes back within {CYCLES} cycles of its signal is told as one: from its first beginning "
@@ -77,14 +77,16 @@ def _seen(report: Report) -> str:
 
 def _counted(report: Report, queues: list[Queue], what: str) -> str:
     """Some queues in one line: how many, the longest of them, and the delay of all."""
-    longest = max(queues, key=lambda queue: (queue.longest_reach, queue.most))
+    longest = max(queues, key=lambda queue: (queue.reach, queue.most))
     cost = report.units.hours(sum(queue.delay for queue in queues))
-    which = f"the longest of {length(report, longest.longest_reach)}" if len(queues) > 1 else \
-        f"of {length(report, longest.longest_reach)}"
-    if longest.longest_reach == 0:
-        which = "in gates" if len(queues) > 1 else "in the gate"
-    return (f"{len(queues)} {what}{'s'[:len(queues) > 1]}, {which} from {where(report, longest.origin)} at "
-            f"{clock(report, longest.reached)}, {told(cost)} {report.units.delay_unit} in all")
+    many = len(queues) > 1
+    if longest.reach:
+        which = f"{'the longest ' * many}of {length(report, longest.reach)} from {where(report, longest.origin)} at " \
+            f"{clock(report, longest.reached)}"
+    else:
+        which = f"{'the greatest ' * many}of {told(longest.most)} vehicles in the gate {longest.origin} at " \
+            f"{clock(report, longest.most_at)}"
+    return f"{len(queues)} {what}{'s' * many}, {which}, {told(cost)} {report.units.delay_unit} in all"
 
 
 def _joined(report: Report, queue: Queue) -> Iterator[str]:

@@ -15,13 +15,13 @@ from ..study.reading import read_values
 from .results import Results
 from .task import Task, fingerprint, study
 from .variations import Variation, combinations
-from .workers import beside, cluster, here
+from .workers import Done, beside, cluster, here
 
 
 class Sweep:
     """The runs of a study over varied values; those that stand in the folder already aren't made again.
 
-    The study is read and built as it stands, so that a mistake in it ends the sweep at once.
+    The study is read as it stands, so that a mistake in it ends the sweep at once.
     """
 
     def __init__(self, source: str | Path, variations: Sequence[Variation], every: int | None = None,
@@ -42,16 +42,23 @@ class Sweep:
         return [i for i, mark in enumerate(self.marks) if mark not in self.results.rows]
 
     def run(self, jobs: int | None = None, address: str | None = None) -> Iterator[int]:
-        """Does what is missing, so many runs side by side or on a cluster, and gives the number of each as it is done."""
-        missing = self.missing
-        if not missing:
-            return
+        """Does what is missing, so many runs side by side or on a cluster, and gives the number of each as it is done.
+
+        A cluster is asked for at once, the runs are begun when the first number is.
+        """
+        missing, count = self.missing, self.side_by_side(jobs)
         tasks = [self.tasks[i] for i in missing]
-        count = self.side_by_side(jobs)
-        with closing(cluster(tasks, address) if address else here(tasks) if count == 1 else beside(tasks, count)) as done:
+        if not tasks:
+            return iter(())
+        return self._kept(missing, cluster(tasks, address) if address else here(tasks) if count == 1 else
+                          beside(tasks, count))
+
+    def _kept(self, numbers: Sequence[int], done: Done) -> Iterator[int]:
+        """Puts what was measured of the tasks of these numbers among the results, as it comes."""
+        with closing(done):
             for i, measured in done:
-                self.results.put(tasks[i].changes, measured, self.marks[missing[i]])
-                yield missing[i]
+                self.results.put(self.tasks[numbers[i]].changes, measured, self.marks[numbers[i]])
+                yield numbers[i]
 
     def side_by_side(self, jobs: int | None = None) -> int:
         """How many runs are made at once on this machine."""
