@@ -21,8 +21,8 @@ Examples:
   ctm-tools table bottleneck.report --separator ";" --decimal ","
 
 Columns: time, cell, occupancy (vehicles), flow (vehicles/h), density (vehicles/km), speed (km/h), step, road, from_km,
-to_km, lanes. Flow, density and speed are those from the time to the next one, and empty at the last. Where the units aren't
-known, flow is in vehicles a step, density in vehicles a cell, speed in cells a step, and time is the step.
+to_km, lanes. Flow, density and speed are those from the time to the next one, and empty at the last. Where the units
+aren't known, flow is in vehicles a step, density in vehicles a cell, speed in cells a step, and time is the step.
 With --totals: cell, occupancy, come, gone (vehicles), delay (vehicle-hours), road, from_km, to_km, lanes at the end."""
 
 

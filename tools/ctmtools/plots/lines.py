@@ -13,8 +13,9 @@ from ..problem import Problem
 from ..report.reading import Report
 from .figure import moment, moments
 
-LOOKS: tuple[dict[str, Any], ...] = ({"linestyle": (0, (4, 2)), "color": "#0b6e8f"}, {"linestyle": (0, (1.5, 1.5)), "color": "#0b6e8f"},
-         {"linestyle": "-", "color": "#0b6e8f"})
+LOOKS: tuple[dict[str, Any], ...] = ({"linestyle": (0, (4, 2)), "color": "#0b6e8f"},
+                                     {"linestyle": (0, (1.5, 1.5)), "color": "#0b6e8f"},
+                                     {"linestyle": "-", "color": "#0b6e8f"})
 
 
 def draw_lines(axes: Axes, report: Report, texts: Sequence[str]) -> list[Line2D]:
