@@ -87,7 +87,7 @@ def test_each_check_gets_the_program_that_was_built_and_knows_that_it_is_in_the_
         gate.script(check, 'echo "$CI $CTM_PROGRAM $*"; echo 900 passed')
     told = gate.run()[1]
     program = f"{gate.top}/crates/ctm_program/out/ctm_program"
-    assert [line for line in told if line.startswith("true")] == [f"true {program} {program}"] * 3 + [f"true {program} "]
+    assert [line for line in told if line.startswith("true")] == [f"true {program} "] + [f"true {program} {program}"] * 3 + [f"true {program} "]
 
 
 def broken(change, told):

@@ -1,5 +1,7 @@
 """What a file is that a command was given: a study, a network, a report or a file of units."""
 
+from __future__ import annotations
+
 import re
 from pathlib import Path
 
@@ -15,7 +17,7 @@ ADVICE = {"a study": "`ctm-tools build` makes its network and tells what is wron
           "a file of units": "it is read with the network or the report that it stands beside"}
 
 
-def kind_of(path, content):
+def kind_of(path: str | Path, content: bytes) -> str | None:
     """What the bytes of a file are, as far as they say it; None where they don't."""
     if content.startswith(b"report,"):
         return "a report"
@@ -26,10 +28,10 @@ def kind_of(path, content):
     return "a study" if Path(path).suffix.lower() == ".toml" or STUDY_KEY.search(content) else None
 
 
-def read_as(path, wanted):
+def read_as(path: str | Path, wanted: str) -> bytes:
     """The bytes of a file, or the problem that it is something else than what a command wants."""
     content = read_bytes(path)
     kind = kind_of(path, content)
-    if kind not in (None, wanted):
+    if kind is not None and kind != wanted:
         raise Problem(f"{path}: this is {kind}, and {wanted} is wanted; {ADVICE[kind]}")
     return content

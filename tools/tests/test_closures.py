@@ -2,10 +2,12 @@
 
 import plain_model
 import pytest
-from conftest import TOOLS, corridor
 
 from ctmtools import Problem
 from ctmtools.report.reading import report_of
+
+from .corridor import corridor
+from .examples import TOOLS
 
 STEP = 10  # s, of the corridor; a lane passes 6 vehicles in it and has room for 36 in a cell of 250 m
 WORKS = '[[closures]]\nroad = "m"\nfrom = 0.5\nto = 0.75\nlanes = 1\n'

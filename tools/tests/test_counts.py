@@ -1,9 +1,10 @@
 """Demand from files of counts: gaps, intervals, times as exports of detectors write them, stations and days."""
 
 import pytest
-from conftest import HEAD, corridor
 
 from ctmtools import Problem
+
+from .corridor import HEAD, corridor
 
 QUARTERS = "time,n\n06:00,90\n06:15,180\n06:30,270\n06:45,360\n"
 FLOWS = [["0", "90", "1"], ["90", "180", "2"], ["180", "270", "3"], ["270", "360", "4"]]

@@ -2,10 +2,12 @@
 
 import plain_model
 import pytest
-from conftest import EXAMPLES, HEAD as OPEN_HEAD
 
 from ctmtools import Problem, build, read_network, read_study
 from ctmtools.network_file.network import network_of
+
+from .corridor import HEAD as OPEN_HEAD
+from .examples import EXAMPLES
 
 STUDIES = sorted(path.stem for path in EXAMPLES.glob("*.toml") if path.with_suffix(".csv").exists())
 

@@ -8,35 +8,17 @@ import threading
 import time
 from fractions import Fraction
 
-import plain_model
 import pytest
-from conftest import EXAMPLES
 
 from ctmtools.problem import Problem
-from ctmtools.sweep import workers
-from ctmtools.sweep.task import Task, fingerprint, measure
-from ctmtools.sweep.variations import changed, combinations, variation
+from ctmtools.sweeps import workers
+from ctmtools.sweeps.task import Task, fingerprint, measure
+from ctmtools.sweeps.variations import changed, combinations, variation
 from ctmtools.study.reading import read_values
 
+from .examples import EXAMPLES
+
 STUDY = EXAMPLES / "arterial-0.toml"
-
-
-@pytest.fixture(scope="session")
-def plain_program(tmp_path_factory):
-    """A program that records, for as long as the built one may not: the plain recurrences, called as it is."""
-    import sys
-
-    path = tmp_path_factory.mktemp("plain") / "ctm"
-    path.write_text(f"#!/bin/bash\nexec {sys.executable} {plain_model.__file__} \"$@\"\n")
-    path.chmod(0o755)
-    return str(path)
-
-
-@pytest.fixture
-def plain(plain_program, monkeypatch):
-    """Has the tools call the plain recurrences."""
-    monkeypatch.setenv("CTM_PROGRAM", plain_program)
-    return plain_program
 
 
 def task(program, **changes):

@@ -3,10 +3,12 @@
 import subprocess
 
 import pytest
-from conftest import EXAMPLES, HEAD, TOOLS
 
 from ctmtools.files import network_target, report_target
 from ctmtools.units import units_path
+
+from .corridor import HEAD
+from .examples import EXAMPLES, TOOLS
 
 ROAD = """[roads.m]
 length = 1

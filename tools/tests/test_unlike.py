@@ -2,9 +2,10 @@
 
 import plain_model
 import pytest
-from conftest import HEAD, corridor
 
 from ctmtools.units import units_path, write_units
+
+from .corridor import HEAD, corridor
 
 
 @pytest.fixture

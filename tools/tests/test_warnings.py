@@ -1,11 +1,12 @@
 """What lint warns of, though the program accepts it."""
 
 import pytest
-from conftest import EXAMPLES
 
 from ctmtools.network_file.network import network_of, read_network
 from ctmtools.network_file.warnings import shortened, warnings_of
 from ctmtools.units import Units
+
+from .examples import EXAMPLES
 
 HEAD = "ctm,1\nsteps,9\ngate,on,18,0\nroad,m01,108,18,1,5,0\nroad,m02,108,18,1,5,0\nexit,off,12\n"
 LINKS = "link,on,m01\nlink,m01,m02\nlink,m02,off\n"

@@ -1,21 +1,15 @@
 """ctm-tools run"""
 
-import dataclasses
-from pathlib import Path
+from __future__ import annotations
 
 import click
 
-from ..files import beside, guard_network, guard_report, report_target, write
-from ..given import read_as
-from ..network_file.network import network_of
-from ..network_file.warnings import shortened, warnings_of
+from ..files import guard_report, report_target
 from ..report.page import page
-from ..running import run
-from ..study.network_text import build
-from ..study.reading import read_study
-from ..units import read_units, units_path, write_units
+from ..report.reading import Report
+from ..running import prepare, run_into
+from ..units import units_path
 from ..working import working
-from .build import save, told
 
 EPILOG = """\b
 Examples:
@@ -33,7 +27,7 @@ CTM_PROGRAM names another program than ./ctm."""
 @click.option("-o", "--output", metavar="FILE.report", type=click.Path(), help="Where the report goes.")
 @click.option("--every", metavar="K", type=click.IntRange(0, 100_000), help="Record each K-th step; 0 records none.")
 @click.option("--workers", metavar="N", type=click.IntRange(1, 16), help="Threads; by default as many as processors.")
-def command(source, output, every, workers):
+def command(source: str, output: str | None, every: int | None, workers: int | None) -> None:
     """Run a study or a network by ./ctm, write its report with records, and print a page.
 
     Before the page stands what `build` tells of the study, or the warnings of `lint` of the network. The page has the
@@ -43,39 +37,19 @@ def command(source, output, every, workers):
     target = report_target(source, output)
     if not output:
         guard_report(target)
-    content, units, path, network, lines = _network(source, target)
-    for line in lines:
+    prepared = prepare(source, target)
+    for line in prepared.told:
         click.echo(line)
-    if lines:
+    if prepared.told:
         click.echo()
     with working("ctm is running"):
-        text, report = run(content, str(path), units, every, workers, news=lambda line: click.echo(line, err=True),
-                           network=network)
-    write(target, text)
-    write_units(units_path(target), units)
-    report.name = str(target)
+        report = run_into(target, prepared, every, workers, lambda line: click.echo(line, err=True))
     for line in page(report):
         click.echo(line)
-    click.echo(f"\nReport {target}{_recorded(report)}, units {units_path(target)}, network {path}")
+    click.echo(f"\nReport {target}{_recorded(report)}, units {units_path(target)}, network {prepared.path}")
 
 
-def _network(source, target):
-    """The bytes of the network, its units as they stand beside the report, its path, itself, and what is told of it.
-
-    A study is built.
-    """
-    if Path(source).suffix.lower() == ".toml":
-        path = target.with_suffix(".csv")
-        guard_network(path)
-        built = build(read_study(source))
-        return built.text.encode(), built.units, save(built, source, path), built.network, list(told(built))
-    content = read_as(source, "a network")
-    units, network = read_units(units_path(source)), network_of(content, source)
-    lines = [f"warning: {source}: {line}" for line in shortened(warnings_of(network, units))]
-    return content, dataclasses.replace(units, network=beside(source, target)), Path(source), network, lines
-
-
-def _recorded(report):
+def _recorded(report: Report) -> str:
     if not report.recorded:
         return " without records"
     every = report.times[1] - report.times[0]

@@ -4,7 +4,7 @@ import tomllib
 from fractions import Fraction
 from pathlib import Path
 
-from ..network_file.network import read_bytes
+from ..given import read_as
 from ..problem import Problem, one_line
 from ..units import DAY, clock_text
 from .counts import flows_of_counts
@@ -19,7 +19,7 @@ LANE_READERS = {"free_flow_speed": speed, "wave_speed": speed, "jam_density": de
 
 def read_values(path):
     """The values of a study file as TOML has them, with each decimal number as an exact fraction."""
-    content = read_bytes(path)
+    content = read_as(path, "a study")
     try:
         return tomllib.loads(content.decode("utf-8-sig"), parse_float=_decimal)
     except UnicodeDecodeError:

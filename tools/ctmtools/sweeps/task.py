@@ -1,15 +1,21 @@
 """One run of a sweep: the study built with some keys changed, run, and measured."""
 
+from __future__ import annotations
+
 import hashlib
 from dataclasses import dataclass
 from fractions import Fraction
 from pathlib import Path
+from typing import Any
 
 from ..problem import Problem, one_line
-from ..report.queues import queues_of
+from ..report.queues import queues_in
+from ..report.reading import Report
 from ..running import run
 from ..study.network_text import build
+from ..study.plan import Study
 from ..study.reading import study_of
+from ..study.rounding import Rounding
 from .variations import changed
 
 MEASURES = ("delay_vehicle_hours", "longest_queue_km", "most_waiting_vehicles", "served_vehicles", "inside_vehicles")
@@ -19,14 +25,14 @@ MEASURES = ("delay_vehicle_hours", "longest_queue_km", "most_waiting_vehicles", 
 class Task:
     """A run to be made: the study's values and path, what is changed, the program, and the steps between records."""
 
-    values: dict
+    values: dict[str, Any]
     path: str
-    changes: dict
+    changes: dict[str, Any]
     program: str
-    every: int = None
+    every: int | None = None
 
 
-def measure(task):
+def measure(task: Task) -> dict[str, Any]:
     """The measures of a task's run, by name, and what went wrong, which is an empty text where nothing did.
 
     Delay is in vehicle-hours, the longest queue in km of whole cells, most waiting are the vehicles that waited at once
@@ -45,26 +51,26 @@ def measure(task):
         return failed(f"{type(error).__name__}: {error}")
 
 
-def failed(why):
+def failed(why: object) -> dict[str, Any]:
     """What is measured of a run that failed."""
     return {**dict.fromkeys(MEASURES, float("nan")), "rounded": "", "error": one_line(why)}
 
 
-def rounded(rounding):
+def rounded(rounding: Rounding) -> str:
     """What was rounded by more than a thousandth, in one line: the first of it, and how much more there is."""
     notes = rounding.differing
     more = f" and {len(notes) - 1} more" if len(notes) > 1 else ""
     return f"{notes[0]}{more}" if notes else ""
 
 
-def _greatest(report):
+def _greatest(report: Report) -> tuple[float, float]:
     """The way that the longest queue reached back, in km, and the most vehicles that waited in one queue."""
-    queues = queues_of(report)
+    queues = queues_in(report)
     return (max((queue.longest_reach for queue in queues), default=0.0),
             max((queue.most for queue in queues), default=0.0))
 
 
-def study(task):
+def study(task: Task) -> Study:
     """The study of a task, its keys changed and its demands multiplied."""
     values, factors = changed(task.values, task.changes)
     made = study_of(values, Path(task.path))
@@ -80,7 +86,7 @@ def study(task):
     return made
 
 
-def fingerprint(task):
+def fingerprint(task: Task) -> str:
     """A short text that another study, other counts or another change would change."""
     digest = hashlib.sha256(repr((task.values, sorted(task.changes.items()), task.every)).encode())
     for name in _counts(task.values):
@@ -89,7 +95,7 @@ def fingerprint(task):
     return digest.hexdigest()[:16]
 
 
-def _counts(values):
+def _counts(values: dict[str, Any]) -> list[str]:
     """The files of counts that a study names."""
     demands = [gate.get("demand") for gate in values.get("gates", {}).values() if isinstance(gate, dict)]
     return [str(demand["counts"]) for demand in demands if isinstance(demand, dict) and "counts" in demand]

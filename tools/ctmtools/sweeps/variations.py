@@ -1,13 +1,18 @@
 """What a sweep varies: keys of the study with their values, and every combination of them."""
 
+from __future__ import annotations
+
 import copy
 import itertools
+from collections.abc import Iterable, Iterator, Mapping, Sequence
 from dataclasses import dataclass
 from fractions import Fraction
+from typing import Any
 
 from ..problem import Problem
 
 MOST_VALUES = 1000
+MOST_DENOMINATOR = 10**9  # 0.1 + 0.2 of Python is 3/10
 FACTOR = "demand"  # of all gates; `demand.GATE` is that of one
 
 
@@ -16,29 +21,40 @@ class Variation:
     """A key of the study and the values that it takes: numbers, in the key's unit, or texts."""
 
     key: str
-    values: tuple
+    values: tuple[Any, ...]
 
 
-def variation(text):
+def variation(text: str) -> Variation:
     """The variation that KEY=FROM:TO:STEP or KEY=VALUE,VALUE,.. spells."""
     key, sign, values = text.partition("=")
     if not sign or not key or not values:
         raise Problem(f"--vary {text}: expected KEY=FROM:TO:STEP or KEY=VALUE,VALUE,..")
     parts = values.split(":")
-    numbers = [_number(part) for part in parts]
-    if len(parts) == 3 and all(isinstance(number, Fraction) for number in numbers):
+    numbers = [number for number in map(_number, parts) if isinstance(number, Fraction)]
+    if len(parts) == len(numbers) == 3:
         return Variation(key, tuple(_range(text, *numbers)))
     return Variation(key, tuple(_number(part) for part in values.split(",")))
 
 
-def _number(text):
+def variation_of(key: str, values: str | Iterable[object]) -> Variation:
+    """The variation of a key over values as Python has them: numbers and texts, or a text as `variation` reads it."""
+    if isinstance(values, str):
+        return variation(f"{key}={values}")
+    found = [_number(str(value)) for value in values]
+    if not found:
+        raise Problem(f"vary {key}: has no values")
+    return Variation(key, tuple(value.limit_denominator(MOST_DENOMINATOR) if isinstance(value, Fraction) else value
+                                for value in found))
+
+
+def _number(text: str) -> Fraction | str:
     try:
         return Fraction(text.strip())
     except (ValueError, ZeroDivisionError):
         return text.strip()
 
 
-def _range(text, first, last, step):
+def _range(text: str, first: Fraction, last: Fraction, step: Fraction) -> Iterator[Fraction]:
     """The numbers from the first to the last, both included where they fall on a step."""
     if step <= 0 or last < first:
         raise Problem(f"--vary {text}: the step must be above 0 and the last value at least the first")
@@ -48,7 +64,7 @@ def _range(text, first, last, step):
     return (first + i * step for i in range(count))
 
 
-def combinations(variations):
+def combinations(variations: Sequence[Variation]) -> list[dict[str, Any]]:
     """Every combination, as tables of key to value, the last key's values changing first."""
     keys = [one.key for one in variations]
     if len(set(keys)) < len(keys):
@@ -56,9 +72,10 @@ def combinations(variations):
     return [dict(zip(keys, values)) for values in itertools.product(*(one.values for one in variations))]
 
 
-def changed(values, changes):
+def changed(values: dict[str, Any], changes: Mapping[str, Any]) -> tuple[dict[str, Any], dict[str, Any]]:
     """A study's values with some keys set, and the factors of demand by gate (by "" for all of them)."""
-    values, factors = copy.deepcopy(values), {}
+    values = copy.deepcopy(values)
+    factors: dict[str, Any] = {}
     for key, value in changes.items():
         parts = key.split(".")
         if parts[0] == FACTOR and len(parts) <= 2:
@@ -68,7 +85,7 @@ def changed(values, changes):
     return values, factors
 
 
-def _set(values, parts, value, key):
+def _set(values: Any, parts: Sequence[str], value: object, key: str) -> None:
     """Sets a key, in each table of a list where the list's place isn't named by its number from 1."""
     name, rest = parts[0], parts[1:]
     if isinstance(values, list):
@@ -90,6 +107,6 @@ def _set(values, parts, value, key):
         values[name] = value
 
 
-def shown(value):
+def shown(value: object) -> str:
     """A varied value as tables show it."""
     return f"{float(value):.10g}" if isinstance(value, Fraction) else str(value)
