@@ -6,7 +6,8 @@ import subprocess
 import sys
 
 import pytest
-from conftest import TOOLS
+
+from .examples import TOOLS
 
 TOP = TOOLS.parent
 COMMANDS_IN = {"README.md": 17, "tools/README.md": 7, "examples/README.md": 10}  # and how many there are at least
@@ -94,7 +95,7 @@ def test_each_command_that_is_left_out_is_in_a_document():
 def test_the_lines_of_python_run(top, recording_program):
     lines = read("tools/README.md").split("```\nimport ctmtools\n")[1].split("```")[0]
     assert ended(top, recording_program, "./ctm-tools", "run", "examples/bottleneck.toml")[0] == 0
-    status, told = ended(top, recording_program, sys.executable, "-c", f"import ctmtools\n{lines}\nprint(queues[0].origin)")
+    status, told = ended(top, recording_program, sys.executable, "-c", f"import ctmtools\n{lines}\nprint(queues.cell[0])")
     assert (status, told) == (0, "m20\n")
 
 
