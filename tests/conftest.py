@@ -2,6 +2,7 @@
 
 import os
 import resource
+import signal
 import subprocess
 from pathlib import Path
 
@@ -10,8 +11,9 @@ from launched import Repository
 
 TOP = Path(__file__).resolve().parents[1]
 BUILT = TOP / "crates/ctm_program/out/ctm_program"
-SECONDS = 120
-BYTES = 4 << 30
+SECONDS = int(os.environ.get("CTM_TEST_SECONDS", "120"))  # of processor time, for each run
+# Of memory, for each run; None for no limit, since a program that is built with checks takes addresses without end.
+BYTES = None if os.environ.get("CTM_TEST_BYTES") == "none" else 4 << 30
 
 
 def pytest_addoption(parser):
@@ -27,25 +29,39 @@ def program(request):
     return os.path.realpath(path)
 
 
-def limit_memory():
-    """Limits the memory of this process, which is to become the program. CTM_TEST_BYTES=none lifts that for a program
-    that is built with checks, since these take addresses without end."""
-    if os.environ.get("CTM_TEST_BYTES") != "none":
-        resource.setrlimit(resource.RLIMIT_AS, (BYTES, BYTES))
+def limit(seconds, most_bytes):
+    """Limits the processor time and the memory of this process, which is to become a program."""
+    resource.setrlimit(resource.RLIMIT_CPU, (seconds, seconds + 1))
+    if most_bytes:
+        resource.setrlimit(resource.RLIMIT_AS, (most_bytes, most_bytes))
+
+
+def ended(command, seconds=SECONDS, most_bytes=BYTES, **streams):
+    """Runs a command; gives its status and what is piped of out and err. Fails where it doesn't end within the limits: a
+    program that takes no processor time is given ten times as long by the clock, since the machine may have other work.
+    """
+    streams = {"stdout": subprocess.PIPE, "stderr": subprocess.PIPE, **streams}
+    try:
+        done = subprocess.run(command, timeout=10 * seconds, preexec_fn=lambda: limit(seconds, most_bytes), **streams)
+    except subprocess.TimeoutExpired:
+        pytest.fail(f"no end within {10 * seconds} s", pytrace=False)
+    if done.returncode == -signal.SIGXCPU:
+        pytest.fail(f"no end within {seconds} s of processor time", pytrace=False)
+    return done.returncode, done.stdout, done.stderr
 
 
 @pytest.fixture(scope="session")
 def run(program):
-    """Runs the program on these words; gives its status and what is piped of out and err. All three are None where it
-    doesn't end in time."""
-    def ended(words, seconds=SECONDS, **streams):
-        streams = {"stdout": subprocess.PIPE, "stderr": subprocess.PIPE, **streams}
-        try:
-            done = subprocess.run([program, *words], timeout=seconds, preexec_fn=limit_memory, **streams)
-        except subprocess.TimeoutExpired:
-            return None, None, None
-        return done.returncode, done.stdout, done.stderr
-    return ended
+    """Runs the program on these words."""
+    return lambda words, **streams: ended([program, *words], **streams)
+
+
+@pytest.fixture
+def directory():
+    """A stream of which each read fails."""
+    opened = os.open(TOP, os.O_RDONLY)
+    yield opened
+    os.close(opened)
 
 
 def hold(wanted, got):

@@ -20,7 +20,7 @@ test result: ok. 3 passed; 0 failed; 0 ignored; 0 filtered out
 rt: ok; handles allowed: none
 4 passed, 0 failed
 """
-CHECKS = ["tests/program", "tests/launcher", "examples/check", "tools/check"]
+CHECKS = ["tests/plays", "tests/program", "tests/launcher", "examples/check", "tools/check"]
 
 
 class Gate:
@@ -70,8 +70,8 @@ def gate(tmp_path):
 def test_a_gate_that_passes_says_how_many_checks_of_each_sort_ran(gate):
     status, told = gate.run()
     assert status == 0
-    assert told[-1] == (".ci/run: passed: 2 crates proved, 2 edits refused, 5 tests of crates passed, 900 of tests/program, "
-                        "900 of tests/launcher, 900 of examples/check, 900 of tools/check")
+    assert told[-1] == (".ci/run: passed: 2 crates proved, 2 edits refused, 5 tests of crates passed, 900 of tests/plays, "
+                        "900 of tests/program, 900 of tests/launcher, 900 of examples/check, 900 of tools/check")
 
 
 def test_the_program_of_the_gate_is_current_for_the_launcher(gate):
@@ -87,7 +87,7 @@ def test_each_check_gets_the_program_that_was_built_and_knows_that_it_is_in_the_
         gate.script(check, 'echo "$CI $CTM_PROGRAM $*"; echo 900 passed')
     told = gate.run()[1]
     program = f"{gate.top}/crates/ctm_program/out/ctm_program"
-    assert [line for line in told if line.startswith("true")] == [f"true {program} {program}"] * 3 + [f"true {program} "]
+    assert [line for line in told if line.startswith("true")] == [f"true {program} "] + [f"true {program} {program}"] * 3 + [f"true {program} "]
 
 
 def broken(change, told):

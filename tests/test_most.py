@@ -59,17 +59,21 @@ def test_a_run_of_the_most_values(count, steps, run):
     hold((0, exits_report(count, steps), b""), run(["run", "--every", "1"], input=exits(count, steps)))
 
 
-@pytest.mark.parametrize("count, steps", [(40, 100_000), (4_001, 999), (100_000, 100_000)])
+@pytest.mark.parametrize("count, steps", [(40, 100_000), (4_001, 999), (97_561, 40), (100_000, 100_000)])
 def test_a_run_of_more_values(count, steps, run):
-    """The last of these would take hours and 160 GB if it ran."""
+    """The third would record one value more than it may. The last would take hours and 160 GB if it ran."""
     hold((4, b"", TOO_LARGE_RECORD), run(["run", "--every", "1"], input=exits(count, steps)))
 
 
-@pytest.mark.parametrize("count, steps, words, status, told", [
-    (62_500, 1, [], 0, b""),
-    (62_501, 1, [], 4, TOO_LARGE_SHOTS),
-    (62_501, 62, ["--every", "1"], 4, TOO_LARGE_SHOTS),
-    (62_501, 63, ["--every", "1"], 4, TOO_LARGE_RECORD),
+@pytest.mark.parametrize("count, shots, steps, every, status, told", [
+    (62_500, 64, 1, 0, 0, b""),
+    (62_501, 64, 1, 0, 4, TOO_LARGE_SHOTS),
+    (97_561, 41, 1, 0, 4, TOO_LARGE_SHOTS),
+    (62_501, 64, 62, 1, 4, TOO_LARGE_SHOTS),
+    (62_501, 64, 63, 1, 4, TOO_LARGE_RECORD),
+    (97_561, 1, 40, 1, 4, TOO_LARGE_RECORD),
 ])
-def test_a_watch_of_the_most_rows_and_of_more(count, steps, words, status, told, run):
-    hold((status, None, told), run(["watch", "--shots", "64", *words], input=exits(count, steps), stdout=subprocess.DEVNULL))
+def test_a_watch_of_the_most_rows_and_of_more(count, shots, steps, every, status, told, run):
+    """The third would show one row more than it may, and the last would record one value more."""
+    words = ["watch", "--shots", str(shots), "--every", str(every)]
+    hold((status, None, told), run(words, input=exits(count, steps), stdout=subprocess.DEVNULL))

@@ -4,18 +4,11 @@ import os
 import subprocess
 
 import pytest
-from conftest import SECONDS, TOP, hold
+from conftest import BYTES, SECONDS, hold, limit
 from messages import READ_FAULT, TOO_LARGE, WORDS, WRITE_FAULT
 from worked import CORRIDOR, REPORT, lines
 
 READING = pytest.mark.parametrize("mode", ["run", "watch", "check", "convert"])
-
-
-@pytest.fixture
-def directory():
-    opened = os.open(TOP, os.O_RDONLY)
-    yield opened
-    os.close(opened)
 
 
 @pytest.fixture
@@ -75,10 +68,6 @@ def test_a_full_standard_error_changes_no_fault_of_a_stream(run, directory, endl
     hold((6, None, None), run(["run"], input=CORRIDOR, stdout=full, stderr=full))
 
 
-def test_refused_words_over_a_directory(run, directory):
-    hold((2, b"", WORDS), run(["drive"], stdin=directory))
-
-
 def test_refused_words_leave_a_file_unread(run, corridor_file):
     hold((2, b"", WORDS), run(["drive"], stdin=corridor_file))
     assert corridor_file.tell() == 0
@@ -91,12 +80,13 @@ def test_a_run_reads_a_file_to_its_end(run, corridor_file):
 
 def test_an_input_byte_by_byte(program):
     pipe = subprocess.PIPE
-    with subprocess.Popen([program, "run"], stdin=pipe, stdout=pipe, stderr=pipe) as process:
+    with subprocess.Popen([program, "run"], stdin=pipe, stdout=pipe, stderr=pipe,
+                          preexec_fn=lambda: limit(SECONDS, BYTES)) as process:
         try:
             for byte in CORRIDOR:
                 process.stdin.write(bytes([byte]))
                 process.stdin.flush()
-            out, err = process.communicate(timeout=SECONDS)
+            out, err = process.communicate(timeout=10 * SECONDS)
         except subprocess.TimeoutExpired:
             process.kill()
             raise

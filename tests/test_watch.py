@@ -4,16 +4,13 @@ import functools
 
 import pytest
 from conftest import hold
+from made_networks import made_network
 from plain_model import report as plain_report
 from shots import Network, faults_of_watch
+from test_cuttings import CHAIN, NETWORKS, cut
 from test_regions_and_workers import JUNCTIONS, PARTS, dealt_out
-from worked import FULL_REPORT, FULL_ROAD, FULL_SHOT, FULL_SHOT_AFTER, RAMPS, lines
+from worked import FULL_REPORT, FULL_ROAD, FULL_SHOT, FULL_SHOT_AFTER, RAMPS, TWO_ROADS, TWO_ROADS_REPORT, lines
 
-TWO_ROADS = lines("ctm,1; steps,4; gate,g,2,8; road,a,6,2,1,1,0; road,b,6,2,1,1,0; exit,x,2; "
-                  "link,g,a; link,a,b; link,b,x")
-TWO_ROADS_REPORT = lines("report,4,4; cell,g,0.000000,0.000000,8.000000,12.000000; "
-                         "cell,a,2.000000,8.000000,6.000000,0.000000; cell,b,2.000000,6.000000,4.000000,0.000000; "
-                         "cell,x,4.000000,4.000000,0.000000,0.000000; total,4.000000,0.000000,4.000000,12.000000")
 # A shot of the two roads, cut into four regions, of which the gate is a step ahead of the others.
 GATE_AHEAD = lines("shot,1,6.000000,2.000000,8.000000,0.000000,0.000000; "
                    "region,0,1; region,1,0; region,2,0; region,3,0; "
@@ -98,6 +95,13 @@ def test_shots_of_junctions_by_other_numbers(workers, regions, check_watch):
 @pytest.mark.parametrize("content, options", [
     pytest.param(dealt_out(JUNCTIONS, 9), {"workers": 4, "regions": 2, "shots": 64}, id="regions dealt out by the file"),
     pytest.param(PARTS, {"workers": 4, "regions": 512, "shots": 64}, id="parts that nothing joins"),
+    pytest.param(CHAIN, {"workers": 4, "regions": 8, "shots": 64}, id="a chain, each cell a region"),
+    pytest.param(NETWORKS["a ring"], {"workers": 2, "regions": 4, "shots": 9, "every": 2}, id="a ring, each cell a region"),
+    pytest.param(cut(NETWORKS["a merge into too little room"], "3120"), {"workers": 4, "shots": 8},
+                 id="a merge, dealt out by the file"),
+    pytest.param(cut(NETWORKS["a diverge whose shares change"], "0101"), {"workers": 3, "shots": 5},
+                 id="a diverge, dealt out by the file"),
+    pytest.param(made_network(8, 600, 40), {"workers": 16, "regions": 512, "shots": 7}, id="the most regions and workers"),
     pytest.param(TWO_ROADS, {"workers": 2, "regions": 4, "shots": 64, "every": 1}, id="more shots than steps"),
     pytest.param(TWO_ROADS, {}, id="not said how many"),
     pytest.param(RAMPS, {"workers": 4, "regions": 127, "shots": 30}, id="ramps, signals and an incident"),
