@@ -1,3 +1,5 @@
 pub mod AnswerFacts
 pub mod Called
+pub mod OldAnswer
+pub mod OldForm
 pub mod UsedCutting

@@ -1,3 +1,4 @@
+use Rattle.ctm_call.proofs.OldForm.{old-clauses}
 use Rattle.ctm_call.proofs.Called.{called}
 use Rattle.ctm_call.proofs.call.ctm.Goals as goal
 
