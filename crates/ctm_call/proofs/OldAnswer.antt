@@ -33,7 +33,7 @@ use Rattle.ctm_call.specs.Words.{requested}
 pub record WasShotBetween (net : Network) (cut : List ℕ) (from to : ℕ) (steps : List ℕ) : Type 0 where
   pub lawful : AreLawful net cut steps
   pub between : (r : ℕ) → r < region_count cut → (from ≤ slice_index steps r) × (slice_index steps r ≤ to)
-  -- with `balanced`, `inside` and `in_flight` as fields here, which are `balanced`, `none_within` and `in_flight` of KeepsBooks
+  -- the old record had the three fields of KeepsBooks here
   pub books : KeepsBooks net cut (rows_at net cut steps)
   pub rooms : KeepsRooms net (rows_at net cut steps)
 

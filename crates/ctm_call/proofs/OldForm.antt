@@ -442,12 +442,12 @@ pub old-clauses : {Source Out Errs : Type 0} (left : Source → Option (List ℕ
     (taken : Out → Option (List ℕ)) (out_faults out_wants : Out → ℕ) (told : Errs → Option (List ℕ)) (err_faults err_wants : Errs → ℕ)
     (said : List (String Global)) (source new_source : Source) (out new_out : Out) (err new_err : Errs) (result : Status) →
     ((input : List ℕ) × IsInputOf (requested said) (left source) input
-        × HasEnded (IsTextOf (answer_of said input)) (why_in (answer_of said input))
-        (IsReadWhole (requested said) (left new_source))
-        (Reads (requested said) × Rose (read_faults source) (read_faults new_source))
-        result
-        (sink_use (taken out) (taken new_out) (new_out ≡ out) (Rose (out_faults out) (out_faults new_out)) (Rose (out_wants out) (out_wants new_out)))
-        (sink_use (told err) (told new_err) (new_err ≡ err) (Rose (err_faults err) (err_faults new_err)) (Rose (err_wants err) (err_wants new_err)))) →
+    × HasEnded (IsTextOf (answer_of said input)) (why_in (answer_of said input))
+    (IsReadWhole (requested said) (left new_source))
+    (Reads (requested said) × Rose (read_faults source) (read_faults new_source))
+    result
+    (sink_use (taken out) (taken new_out) (new_out ≡ out) (Rose (out_faults out) (out_faults new_out)) (Rose (out_wants out) (out_wants new_out)))
+    (sink_use (told err) (told new_err) (new_err ≡ err) (Rose (err_faults err) (err_faults new_err)) (Rose (err_wants err) (err_wants new_err)))) →
     (IsUnread (requested said) → new_source ≡ source) →
     LosesAtMost (left source) (left new_source) (most_read (requested said)) →
     OldClauses left read_faults taken out_faults out_wants told err_faults err_wants said source new_source out new_out err new_err result
