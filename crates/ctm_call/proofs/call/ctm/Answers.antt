@@ -1,4 +1,3 @@
-use Rattle.ctm_call.proofs.OldForm.{old-clauses}
 use Rattle.ctm_call.proofs.Called.{called}
 use Rattle.ctm_call.proofs.call.ctm.Goals as goal
 
