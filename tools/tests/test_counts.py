@@ -64,6 +64,16 @@ def test_counts_that_begin_after_the_study_are_refused(tmp_path):
     assert "no count for 06:00, before the first" in problem(tmp_path, QUARTERS.replace("06:00,90\n", ""))
 
 
+def test_two_columns_of_one_name_are_refused(tmp_path):
+    rows = "time,n,n\n06:00,90,7\n06:15,180,7\n06:30,270,7\n06:45,360,7\n"
+    assert "line 1 has 2 columns named n" in problem(tmp_path, rows)
+
+
+def test_commas_of_thousands_are_told(tmp_path):
+    rows = QUARTERS.replace("360", '"1,000"')
+    assert 'expected a count, found "1,000"; write it without the comma of thousands' in problem(tmp_path, rows)
+
+
 def test_rows_that_dont_agree_on_the_interval_are_refused(tmp_path):
     rows = "time,n\n06:00,1\n06:15,1\n06:35,1\n06:45,1\n"
     assert "don't agree on the interval: 10 min from line 4 on, 15 min from line 2 on; say interval" in problem(tmp_path, rows)

@@ -78,6 +78,8 @@ def _need_column(path: Path, names: Sequence[str], column: str) -> None:
     if column not in names:
         hint = "; is the separator another?" if len(names) == 1 else ""
         raise Problem(f"{path}: line 1 has no column {column}, it has {', '.join(names) or 'nothing'}{hint}")
+    if names.count(column) > 1:
+        raise Problem(f"{path}: line 1 has {names.count(column)} columns named {column}")
 
 
 def _of_station(path: Path, names: Sequence[str], table: Table, choice: Choice) -> Table:

@@ -3,6 +3,7 @@
 from __future__ import annotations
 
 import datetime
+import re
 from collections.abc import Iterator, Sequence
 from dataclasses import dataclass
 from fractions import Fraction
@@ -145,7 +146,9 @@ def _number(text: str, decimal: str, key: str) -> Fraction:
     try:
         counted = Fraction(text.strip().replace(decimal, "."))
     except (ValueError, ZeroDivisionError):
+        thousands = re.fullmatch(r"\d{1,3}(,\d{3})+", text.strip())
         hint = "; say decimal = \",\" in the study" if "," in text and decimal != "," else ""
+        hint = "; write it without the comma of thousands" if thousands else hint
         raise Problem(f"{key}: expected a count, found \"{text}\"{hint}") from None
     if counted < 0:
         raise Problem(f"{key}: a count isn't negative, found \"{text}\"")
