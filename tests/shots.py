@@ -3,13 +3,9 @@ docs/MODEL.md taken one step of the whole network at a time, and tells what is w
 parts, so nothing is rounded.
 """
 
-import os
-import sys
 from typing import NamedTuple
 
-sys.path.append(os.path.join(os.path.dirname(os.path.realpath(__file__)), "..", "tools", "tests"))
-from plain_model import Plain, printed, report as plain_report  # which brings ctmtools within reach
-from ctmtools.network_file.records import read_records
+from plain_model import Plain, printed, records_of
 
 
 class Row(NamedTuple):
@@ -49,8 +45,7 @@ class Network:
             cells = [number[name] for name in fields[:2 if kind == "link" else 3]]
             ups = 2 if kind == "merge" else 1
             self.connectors.append((cells[:ups], cells[ups:]))
-        regions = {number[record.fields[1]]: int(record.fields[2])
-                   for record in read_records(content) if record.kind == "region"}
+        regions = {number[record[1]]: int(record[2]) for record in records_of(content) if record[0] == "region"}
         self.regions_in_file = [regions[i] for i in range(len(self.names))] if regions else None
         self.states = [self.rows_of(plain)]
         while plain.time < plain.steps:

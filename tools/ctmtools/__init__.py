@@ -1,27 +1,48 @@
 """Companion of `ctm` for engineers: studies in physical units, faults explained, tables, plots, comparisons, sweeps.
 
-`read_network(path)` gives a network file as data frames, in vehicles and steps. `read_report(path)` gives a report
-with its records, in vehicles and steps, and the units that stand beside it; `states(report)` is its tidy table of
-occupancy (vehicles), flow (vehicles/h), density (vehicles/km) and speed (km/h) over time, `totals(report)` its delays
-(vehicle-hours) by cell, `queues_of(report)` its queues. `read_study(path)` and `build(study)` make a network of a
-study.
+`read_study(path)` reads a study, `build(study)` gives its network, `run(study)` its report, `sweep(study, vary)` a row
+for each combination of varied values. `read_report(path)` gives a report that stands in a file, and
+`read_network(path)` a network file as data frames, in vehicles and steps.
+
+Of a report, `states(report)` is the tidy table of occupancy (vehicles), flow (vehicles/h), density (vehicles/km) and
+speed (km/h) over time, `totals(report)` its delays (vehicle-hours) by cell, `queues_of(report)` its queues,
+`compare(first, second)` what two of them differ by, and `plot(report, kind)` a picture.
 """
 
+from __future__ import annotations
+
 from importlib import import_module
+from typing import TYPE_CHECKING, Any
+
+if TYPE_CHECKING:
+    from .interface import build as build
+    from .interface import plot as plot
+    from .interface import run as run
+    from .interface import sweep as sweep
+    from .network_file.network import Network as Network
+    from .network_file.network import read_network as read_network
+    from .problem import Problem as Problem
+    from .report.comparing import compare as compare
+    from .report.reading import Report as Report
+    from .report.reading import read_report as read_report
+    from .report.states import queues_of as queues_of
+    from .report.states import states as states
+    from .report.states import totals as totals
+    from .study.reading import read_study as read_study
 
 # Where each public name is at home; it is loaded when it is first asked for.
-HOMES = {"Network": "network_file.network", "Problem": "problem", "Report": "report.reading",
-         "build": "study.network_text", "compare": "report.comparing", "queues_of": "report.queues",
+HOMES = {"Network": "network_file.network", "Problem": "problem", "Report": "report.reading", "build": "interface",
+         "compare": "report.comparing", "plot": "interface", "queues_of": "report.states",
          "read_network": "network_file.network", "read_report": "report.reading", "read_study": "study.reading",
-         "states": "report.states", "totals": "report.states"}
+         "run": "interface", "states": "report.states", "sweep": "interface", "totals": "report.states"}
 __all__ = sorted(HOMES)
 
 
-def __getattr__(name):
+def __getattr__(name: str) -> Any:
     if name not in HOMES:
         raise AttributeError(f"module {__name__} has no attribute {name}")
     return getattr(import_module(f".{HOMES[name]}", __name__), name)
 
 
-def __dir__():
+def __dir__() -> list[str]:
     return __all__

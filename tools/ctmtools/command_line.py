@@ -1,7 +1,11 @@
 """The words of ./ctm-tools: one command for each file of `commands`, help everywhere, errors in one line."""
 
+from __future__ import annotations
+
 import importlib
 import sys
+from collections.abc import Sequence
+from typing import NoReturn
 
 import click
 
@@ -27,17 +31,18 @@ proofs: the traffic is ./ctm's, and what they say around it is checked by tests 
 class Commands(click.Group):
     """The group of the commands, each loaded when it is called."""
 
-    def list_commands(self, context):
+    def list_commands(self, context: click.Context) -> list[str]:
         """The names of the commands, in the order of a study."""
         return list(COMMANDS)
 
-    def get_command(self, context, name):
+    def get_command(self, context: click.Context, name: str) -> click.Command | None:
         """The command of a name, or None."""
         if name not in COMMANDS:
             return None
-        return importlib.import_module(f".commands.{name}", __package__).command
+        command: click.Command = importlib.import_module(f".commands.{name}", __package__).command
+        return command
 
-    def format_commands(self, context, formatter):
+    def format_commands(self, context: click.Context, formatter: click.HelpFormatter) -> None:
         """The commands with a line for each, without loading them."""
         with formatter.section("Commands"):
             formatter.write_dl(list(COMMANDS.items()))
@@ -45,11 +50,11 @@ class Commands(click.Group):
 
 @click.group(cls=Commands, epilog=EPILOG, context_settings={"help_option_names": ["-h", "--help"],
                                                             "max_content_width": 110})
-def tools():
+def tools() -> None:
     """Studies of road traffic in an engineer's own units, over the proved program ./ctm."""
 
 
-def main(words=None):
+def main(words: Sequence[str] | None = None) -> NoReturn:
     """Runs a command on the words, and ends with status 2 and one line where they or a file have a fault."""
     try:
         status = tools.main(words, prog_name=PROGRAM, standalone_mode=False)
@@ -57,7 +62,8 @@ def main(words=None):
     except click.exceptions.Abort:
         fail("interrupted", 130)
     except click.ClickException as error:
-        where = error.ctx.command_path if getattr(error, "ctx", None) else PROGRAM
+        context = getattr(error, "ctx", None)
+        where = context.command_path if context else PROGRAM
         fail(f"{one_line(error.format_message())} ({where} --help tells more)")
     except Problem as problem:
         fail(one_line(problem))
@@ -72,7 +78,7 @@ def main(words=None):
     sys.exit(status if isinstance(status, int) else 0)
 
 
-def fail(line, status=2):
+def fail(line: str, status: int = 2) -> NoReturn:
     """Ends with a line on standard error and a status."""
     print(f"{PROGRAM}: {line}", file=sys.stderr)
     sys.exit(status)

@@ -1,36 +1,45 @@
 """Where the files that the commands make stand: beside each other, by default in the folder one is in."""
 
+from __future__ import annotations
+
 import os
 from pathlib import Path
 
 from .problem import Problem
-from .study.network_text import MADE
-from .units import units_path
+from .study.network_text import MADE, Built
+from .units import units_path, write_units
 
 
-def network_target(source, output=None):
+def network_target(source: str | Path, output: str | Path | None = None) -> Path:
     """Where the network of a study goes: where it is asked for, else the study's name with .csv in this folder."""
     return Path(output) if output else Path(Path(source).stem + ".csv")
 
 
-def report_target(source, output=None):
+def report_target(source: str | Path, output: str | Path | None = None) -> Path:
     """Where a report goes: where it is asked for, else the study's or network's name with .report in this folder."""
     return Path(output) if output else Path(Path(source).stem + ".report")
 
 
-def guard_network(path):
+def guard_network(path: Path) -> None:
     """Refuses to write over a network file that these tools haven't made."""
     if path.exists() and not path.read_bytes()[:len(MADE)] == MADE.encode():
         raise Problem(f"{path}: stands there and wasn't made by ctm-tools; name another file with -o")
 
 
-def guard_report(path):
+def guard_report(path: Path) -> None:
     """Refuses to write over a report beside which no units stand, as one that these tools haven't made."""
     if path.exists() and not units_path(path).exists():
         raise Problem(f"{path}: stands there and wasn't made by ctm-tools; name another file with -o")
 
 
-def write(path, content):
+def write_network(built: Built, target: Path) -> None:
+    """Writes a built network, and its units beside it."""
+    write(target, built.text)
+    built.units.network = beside(target, units_path(target))
+    write_units(units_path(target), built.units)
+
+
+def write(path: str | Path, content: str | bytes) -> None:
     """Writes text or bytes to a file."""
     try:
         if isinstance(content, bytes):
@@ -38,9 +47,14 @@ def write(path, content):
         else:
             Path(path).write_text(content, encoding="utf-8")
     except OSError as error:
-        raise Problem(f"{path}: {error.strerror.lower()}") from None
+        raise Problem(f"{path}: {reason(error)}") from None
 
 
-def beside(path, other):
+def reason(error: OSError) -> str:
+    """What the system says of a fault, in lower case."""
+    return (error.strerror or str(error)).lower()
+
+
+def beside(path: str | Path, other: str | Path) -> str:
     """The path of a file as another file's folder sees it."""
     return os.path.relpath(path, Path(other).parent)

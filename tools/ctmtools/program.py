@@ -1,11 +1,15 @@
 """The proved program: where it is, which options it takes, and a call of it over bytes."""
 
+from __future__ import annotations
+
 import os
 import subprocess
 import threading
+from collections.abc import Callable, Sequence
 from dataclasses import dataclass
 from functools import lru_cache
 from pathlib import Path
+from typing import IO
 
 from .problem import Problem, one_line
 
@@ -14,6 +18,8 @@ MOST_RECORDED = 4_000_000  # cells times recorded steps, docs/FORMAT.md
 SMALLEST = b"ctm,1\nsteps,1\nexit,x,0\n"
 NOT_BUILT = 125
 BUILD_NEWS = b"./ctm: "
+
+News = Callable[[str], object]  # takes the lines that ./ctm says while it builds
 
 
 @dataclass(frozen=True)
@@ -25,12 +31,12 @@ class Answer:
     err: bytes
 
     @property
-    def line(self):
+    def line(self) -> str:
         """The line that the program wrote on why there is no text."""
         return one_line(self.err.decode("utf-8", "replace"))
 
 
-def program_path():
+def program_path() -> Path:
     """The path of the program: that of the variable CTM_PROGRAM, else `ctm` at the top of the repository."""
     path = Path(os.environ.get("CTM_PROGRAM") or TOP / "ctm").resolve()
     if not path.exists():
@@ -38,18 +44,19 @@ def program_path():
     return path
 
 
-def ask(words, content, program=None, news=None):
+def ask(words: Sequence[str], content: bytes, program: str | Path | None = None, news: News | None = None) -> Answer:
     """The program's answer to words and bytes. What `./ctm` says while it builds goes to `news`, line by line."""
     program = str(program or program_path())
     try:
         process = subprocess.Popen([program, *words], stdin=subprocess.PIPE, stdout=subprocess.PIPE,
                                    stderr=subprocess.PIPE)
     except OSError as error:
-        raise Problem(f"{program}: {error.strerror.lower()}") from None
-    kept, told = [], []
+        raise Problem(f"{program}: {(error.strerror or str(error)).lower()}") from None
+    told: list[str] = []
+    kept: list[bytes] = []
 
-    def read_errors():
-        for line in process.stderr:
+    def read_errors(stream: IO[bytes]) -> None:
+        for line in stream:
             if line.startswith(BUILD_NEWS):
                 told.append(line.decode("utf-8", "replace").rstrip())
                 if news:
@@ -57,7 +64,8 @@ def ask(words, content, program=None, news=None):
             else:
                 kept.append(line)
 
-    reader = threading.Thread(target=read_errors)
+    assert process.stdin and process.stdout and process.stderr  # they are pipes
+    reader = threading.Thread(target=read_errors, args=(process.stderr,))
     writer = threading.Thread(target=_write, args=(process.stdin, content))
     reader.start()
     writer.start()
@@ -72,7 +80,7 @@ def ask(words, content, program=None, news=None):
     return Answer(status, out, b"".join(kept))
 
 
-def _write(stream, content):
+def _write(stream: IO[bytes], content: bytes) -> None:
     try:
         stream.write(content)
         stream.close()
@@ -80,17 +88,17 @@ def _write(stream, content):
         pass
 
 
-def takes(option, program=None):
+def takes(option: str, program: str | Path | None = None) -> bool:
     """Whether `run` takes an option with the value 1, asked of the program itself over the smallest network."""
     return _takes(option, str(program or program_path()))
 
 
 @lru_cache(maxsize=None)
-def _takes(option, program):
+def _takes(option: str, program: str) -> bool:
     return ask(("run", option, "1"), SMALLEST, program).status == 0
 
 
-def run_words(every, workers=1, program=None):
+def run_words(every: int, workers: int = 1, program: str | Path | None = None) -> list[str]:
     """The words of a run that is recorded each `every` steps (0 for never), on `workers` threads where it takes any."""
     words = ["run"]
     if every:
@@ -102,7 +110,7 @@ def run_words(every, workers=1, program=None):
     return words
 
 
-def recording_step(steps, cells):
+def recording_step(steps: int, cells: int) -> int:
     """The least K with which a run of so many steps and cells is recorded within the program's limit."""
     every = max(1, -(-steps * cells // MOST_RECORDED))
     while (steps // every + 1 + (steps % every > 0)) * cells > MOST_RECORDED:

@@ -1,24 +1,38 @@
-"""A run of the program over a network, recorded as finely as the program allows."""
+"""Runs of the program over studies and networks, recorded as finely as the program allows."""
 
+from __future__ import annotations
+
+import dataclasses
 import os
+from pathlib import Path
 
-from .network_file.network import network_of
+from .files import beside, guard_network, write, write_network
+from .given import read_as
+from .network_file.network import Network, network_of
+from .network_file.warnings import shortened, warnings_of
 from .problem import Problem
-from .program import ask, recording_step, run_words
-from .report.reading import report_of
+from .program import News, ask, recording_step, run_words
+from .report.reading import Report, report_of
+from .study.network_text import build
+from .study.plan import Study
+from .study.reading import read_study
+from .study.telling import told
+from .units import Units, read_units, units_path, write_units
 
 
-def run(content, name, units=None, every=None, workers=None, program=None, news=None):
+def run(content: bytes, name: str, units: Units | None = None, every: int | None = None, workers: int | None = None,
+        program: str | None = None, news: News | None = None, network: Network | None = None) -> tuple[bytes, Report]:
     """The text of the report of a network's bytes, and the report itself with its units and its network.
 
     `every` is the number of steps from record to record, by default the least that the program's limit allows;
-    `workers` the number of threads, by default that of the processors, where the program takes that option.
+    `workers` the number of threads, by default that of the processors, where the program takes that option. `network`
+    is that of the bytes, where it has been read already.
     """
-    network = network_of(content, name)
+    network = network or network_of(content, name)
     cells = len(network.cells)
     if every is None:
         every = recording_step(network.steps, cells)
-    workers = workers or _processors()
+    workers = workers or processors()
     answer = ask(run_words(every, workers if cells >= 1000 else 1, program), content, program, news)
     if answer.status:
         raise Problem(f"{name}: {answer.line or f'ctm ended with status {answer.status}'}")
@@ -29,5 +43,51 @@ def run(content, name, units=None, every=None, workers=None, program=None, news=
     return answer.out, report
 
 
-def _processors():
+@dataclasses.dataclass
+class Prepared:
+    """A network file that is to be run: its path, its bytes, the network in them, and its units as the report has them.
+
+    `told` are the lines that are told before the results: what `build` tells of a study, or the warnings of a network.
+    """
+
+    path: Path
+    content: bytes
+    network: Network
+    units: Units
+    told: list[str]
+
+
+def prepare(source: str | Path | Study, target: Path) -> Prepared:
+    """The network of a study, which is built and written beside the report that is to come, or that of a file."""
+    if isinstance(source, Study) or is_study(source):
+        path = target.with_suffix(".csv")
+        guard_network(path)
+        built = build(source if isinstance(source, Study) else read_study(source))
+        write_network(built, path)
+        return Prepared(path, built.text.encode(), built.network, built.units, list(told(built)))
+    path = Path(source)
+    content, units = read_as(path, "a network"), read_units(units_path(path))
+    network = network_of(content, str(path))
+    warnings = [f"warning: {path}: {line}" for line in shortened(warnings_of(network, units))]
+    return Prepared(path, content, network, dataclasses.replace(units, network=beside(path, target)), warnings)
+
+
+def run_into(target: Path, prepared: Prepared, every: int | None = None, workers: int | None = None,
+             news: News | None = None) -> Report:
+    """Runs a prepared network, writes its report and units, and gives the report."""
+    text, report = run(prepared.content, str(prepared.path), prepared.units, every, workers, news=news,
+                       network=prepared.network)
+    write(target, text)
+    write_units(units_path(target), prepared.units)
+    report.name = str(target)
+    return report
+
+
+def is_study(source: str | Path) -> bool:
+    """Whether a file is a study, by its ending, and not a network."""
+    return Path(source).suffix.lower() == ".toml"
+
+
+def processors() -> int:
+    """How many processors this process may use."""
     return len(os.sched_getaffinity(0)) if hasattr(os, "sched_getaffinity") else os.cpu_count() or 1

@@ -1,13 +1,17 @@
 """The units of a network: seconds of a step, clock time of step 0, and for each cell its road, kilometres and speed."""
 
+from __future__ import annotations
+
 import json
 from dataclasses import dataclass, field
 from pathlib import Path
+from typing import Any, TypeVar
 
 from .problem import Problem
 
 SUFFIX = ".units.json"
 DAY = 24 * 3600
+Amount = TypeVar("Amount")  # a number, or a series of numbers
 
 
 @dataclass
@@ -20,40 +24,41 @@ class Units:
     """
 
     title: str = ""
-    step: float = None
-    start: float = None
-    network: str = None
-    cells: dict = field(default_factory=dict)
-    roads: dict = field(default_factory=dict)
-    points: dict = field(default_factory=dict)
+    step: float | None = None
+    start: float | None = None
+    network: str | None = None
+    cells: dict[str, dict[str, Any]] = field(default_factory=dict)
+    roads: dict[str, list[str]] = field(default_factory=dict)
+    points: dict[str, list[Any]] = field(default_factory=dict)
 
     @property
-    def known(self):
+    def known(self) -> bool:
         """Whether the seconds of a step are known, and with them clock times, hours and kilometres."""
         return self.step is not None
 
-    def length(self, cell):
+    def length(self, cell: str) -> float | None:
         """The length of a cell in km, or None where it isn't known: gates and exits have none."""
         row = self.cells.get(cell)
         return row["to_km"] - row["from_km"] if row else None
 
-    def hours(self, vehicle_steps):
+    def hours(self, vehicle_steps: Amount) -> Amount:
         """Vehicle-steps as vehicle-hours, or as they are where the step isn't known."""
-        return vehicle_steps * self.step / 3600 if self.known else vehicle_steps
+        amount: Any = vehicle_steps
+        return amount if self.step is None else amount * self.step / 3600
 
     @property
-    def delay_unit(self):
+    def delay_unit(self) -> str:
         """The unit of `hours`."""
         return "vehicle-hours" if self.known else "vehicle-steps"
 
-    def clock(self, step, seconds=False):
+    def clock(self, step: float, seconds: bool = False) -> str:
         """The clock time of a step as `hh:mm` or `hh:mm:ss`, or `step N` where it isn't known."""
-        if not self.known:
+        if self.step is None:
             return f"step {step:g}"
         return clock_text((self.start or 0) + step * self.step, seconds)
 
 
-def clock_text(seconds, always=False):
+def clock_text(seconds: float, always: bool = False) -> str:
     """Seconds after midnight as `hh:mm`, with `:ss` where they aren't whole minutes or where `always` asks for it."""
     whole = round(seconds)
     if whole > DAY:
@@ -63,13 +68,13 @@ def clock_text(seconds, always=False):
     return f"{hours:02d}:{minutes:02d}" + (f":{rest:02d}" if rest or always else "")
 
 
-def units_path(path):
+def units_path(path: str | Path) -> Path:
     """Where the units of a network file or a report stand: beside it, under its name without the ending."""
     path = Path(path)
     return path.with_name(path.stem + SUFFIX)
 
 
-def read_units(path):
+def read_units(path: str | Path) -> Units:
     """The units in a file; units that say nothing where there is no such file."""
     path = Path(path)
     if not path.exists():
@@ -82,7 +87,7 @@ def read_units(path):
         raise Problem(f"{path}: no units file: {error}") from None
 
 
-def write_units(path, units):
+def write_units(path: str | Path, units: Units) -> None:
     """Writes the units to a file, with a line for each cell."""
     cells = ",\n".join(f"    {json.dumps(name)}: {json.dumps(row)}" for name, row in units.cells.items())
     head = {"title": units.title, "step_seconds": units.step, "start_seconds": units.start, "network": units.network,

@@ -1,20 +1,15 @@
-"""What the tests share: the tools on the path, the examples, the program, and reports by the plain recurrences."""
+"""What the tests share: the program, a call of the tools in a folder of its own, and reports of the examples."""
 
 import sys
-from pathlib import Path
-
-TOOLS = Path(__file__).resolve().parents[1]
-sys.path[:0] = [str(TOOLS), str(Path(__file__).parent)]
 
 import plain_model
 import pytest
 
-from ctmtools import build, read_report, read_study
+from ctmtools import read_report
 from ctmtools.command_line import main
 from ctmtools.program import program_path, takes
-from ctmtools.units import units_path, write_units
 
-EXAMPLES = TOOLS.parent / "examples"
+from .examples import save_report
 
 
 @pytest.fixture(scope="session")
@@ -44,20 +39,9 @@ def tool(capsys, tmp_path, monkeypatch):
     return call
 
 
-def save_report(folder, name, every=1):
-    """Builds the study of an example into a folder and runs it by the plain recurrences; gives the report's path."""
-    built = build(read_study(EXAMPLES / f"{name}.toml"))
-    path = Path(folder) / f"{name}.report"
-    path.with_suffix(".csv").write_text(built.text)
-    path.write_bytes(plain_model.report(built.text.encode(), every))
-    built.units.network = f"{name}.csv"
-    write_units(units_path(path), built.units)
-    return path
-
-
 @pytest.fixture(scope="session")
 def reports(tmp_path_factory):
-    """The path of an example's report with records, each made once."""
+    """The path of a study's report with records, each made once."""
     folder, made = tmp_path_factory.mktemp("reports"), {}
 
     def path_of(name):
@@ -71,3 +55,19 @@ def reports(tmp_path_factory):
 def report(reports):
     """An example's report with records, read."""
     return lambda name: read_report(reports(name))
+
+
+@pytest.fixture(scope="session")
+def plain_program(tmp_path_factory):
+    """A program that records, for as long as the built one may not: the plain recurrences, called as it is."""
+    path = tmp_path_factory.mktemp("plain") / "ctm"
+    path.write_text(f"#!/bin/bash\nexec {sys.executable} {plain_model.__file__} \"$@\"\n")
+    path.chmod(0o755)
+    return str(path)
+
+
+@pytest.fixture
+def plain(plain_program, monkeypatch):
+    """Has the tools call the plain recurrences."""
+    monkeypatch.setenv("CTM_PROGRAM", plain_program)
+    return plain_program

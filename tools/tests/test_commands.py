@@ -5,9 +5,10 @@ import subprocess
 import sys
 
 import pytest
-from conftest import EXAMPLES, TOOLS
 
 from ctmtools.command_line import COMMANDS
+
+from .examples import EXAMPLES, TOOLS
 
 STUDIES = sorted(path.stem for path in EXAMPLES.glob("*.toml"))
 PLOTS = ["time-space", "n-curves", "queue", "delay", "map"]
@@ -64,8 +65,10 @@ def test_a_file_of_another_is_not_written_over(tool):
 def test_run_prints_a_page(tool, name, recording_program):
     status, out, err = tool("run", EXAMPLES / f"{name}.toml")
     assert status == 0 and "vehicle-hours" in out and "began at" in out and "with each step recorded" in out
+    told, page = out.split("\n\n", 1)
+    assert "modelled as asked" in told
     status, again, err = tool("run", f"{name}.csv")
-    assert status == 0 and again.split("\n\nReport")[0] == out.split("\n\nReport")[0]
+    assert status == 0 and again.split("\n\nReport")[0] == page.split("\n\nReport")[0]
 
 
 def test_the_page_in_the_readme(tool, recording_program):
@@ -130,9 +133,12 @@ def test_table(tool, reports):
     status, out, err = tool("table", reports("arterial-0"), "--cell", "c04", "-o", "t.csv")
     lines = open("t.csv").read().splitlines()
     assert status == 0 and len(lines) == 422 and lines[0].startswith("time,cell,occupancy,flow,density,speed")
-    assert lines[61] == "07:10:00,c04,21,3240,168,19.2857143,60,c,0.375,0.5"
+    assert lines[61] == "07:10:00,c04,21,3240,168,19.2857143,60,c,0.375,0.5,2"
     status, out, err = tool("table", EXAMPLES / "event.report", "--totals", "--separator", ";", "--decimal", ",")
     assert status == 0 and out.splitlines()[1] == "stadium;8,4e-05;8000;7999,99992;2319858,04"
+    status, out, err = tool("table", reports("arterial-0"), "--totals", "--cell", "c04")
+    assert out.splitlines() == ["cell,occupancy,come,gone,delay,road,from_km,to_km,lanes",
+                                "c04,0,1080,1080,6.75,c,0.375,0.5,2"]
 
 
 def test_lint_tells_a_fault(tool, program):

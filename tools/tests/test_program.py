@@ -4,10 +4,11 @@ import random
 
 import plain_model
 import pytest
-from conftest import EXAMPLES
 
 from ctmtools.problem import Problem
 from ctmtools.program import ask, recording_step, run_words
+
+from .examples import EXAMPLES
 
 
 @pytest.mark.parametrize("name", ["interchange", "event", "arterial-wave", "workzone"])

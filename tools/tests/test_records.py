@@ -3,12 +3,13 @@
 import random
 
 import pytest
-from conftest import EXAMPLES
 
 from ctmtools.network_file.faults import first_fault
 from ctmtools.network_file.kinds import NUMBERS
 from ctmtools.network_file.records import ends_of_lines, line_of, read_records
 from ctmtools.program import ask
+
+from .examples import EXAMPLES
 
 ENDS = ["\n", "\r\n", "\r"]
 SOUND = ["steps,9", "gate,g,1,0", "gate,h,2.5,1", "road,a,6,2,1,2,0", "road,b,6,2,1,2,0.5", "exit,x,2", "link,g,a",

@@ -1,29 +1,67 @@
 """What is read from a report: its records, states, queues, routes and comparisons, against figures on paper."""
 
+import pandas
 import pytest
-from conftest import EXAMPLES
 
-import ctmtools
 from ctmtools import Problem, queues_of, read_report, states, totals
 from ctmtools.report.comparing import compare
-from ctmtools.report.page import page
-from ctmtools.report.queues import lengths, places_of, waiting
+from ctmtools.report.queues import queues_in
 from ctmtools.report.reading import report_of
 from ctmtools.report.routes import kilometres, route_of
+
+from .examples import EXAMPLES, save_report
 
 
 def test_the_states_are_in_the_units_of_the_road(report):
     frame = states(report("bottleneck"))
     assert list(frame.columns)[:6] == ["time", "cell", "occupancy", "flow", "density", "speed"]
-    assert frame.attrs["units"] == {"time": "clock time", "occupancy": "vehicles", "flow": "vehicles/h",
+    assert frame.attrs["units"] == {"time": "time of day", "occupancy": "vehicles", "flow": "vehicles/h",
                                     "density": "vehicles/km", "speed": "km/h"}
-    row = frame[(frame.cell == "m19") & (frame.time == "07:45:00")].iloc[0]
+    quarter_to_eight = frame[frame.time == "1900-01-01 07:45"]
+    row = quarter_to_eight[quarter_to_eight.cell == "m19"].iloc[0]
     # In the queue a cell of 250 m holds 48 vehicles, of which 12 leave in a step of 10 s: a quarter of 90 km/h.
     assert (row.occupancy, row.flow, row.density, row.speed) == pytest.approx((48, 4320, 192, 22.5), abs=1e-3)
-    free = frame[(frame.cell == "m25") & (frame.time == "07:45:00")].iloc[0]
+    free = quarter_to_eight[quarter_to_eight.cell == "m25"].iloc[0]
     assert (free.flow, free.density, free.speed) == pytest.approx((4320, 48, 90))
-    gate = frame[(frame.cell == "on") & (frame.time == "07:45:00")].iloc[0]
+    gate = quarter_to_eight[quarter_to_eight.cell == "on"].iloc[0]
     assert gate.flow == pytest.approx(4500) and gate.density != gate.density and gate.speed != gate.speed
+
+
+def test_times_are_datetimes_and_kilometres_numbers(report):
+    frame, ends = states(report("bottleneck")), totals(report("bottleneck"))
+    assert frame.dtypes["time"] == "datetime64[ns]" and frame.time.iloc[-1] == pandas.Timestamp("1900-01-01 10:00")
+    for made in (frame, ends):
+        assert made.dtypes["from_km"] == made.dtypes["to_km"] == float and made.dtypes["lanes"] == "Int64"
+        row = made[made.cell == "m20"].iloc[0]
+        assert (row.road, row.from_km, row.to_km, row.lanes) == ("m", 4.75, 5.0, 3)
+        assert made[(made.road == "m") & (made.lanes == 2)].cell.unique().tolist() == [f"m{i}" for i in range(21, 31)]
+        assert made[made.cell == "on"].iloc[0][["from_km", "lanes"]].isna().all()
+
+
+def test_times_go_on_behind_midnight(tmp_path):
+    text = (EXAMPLES / "bottleneck.toml").read_text().replace('start = "06:00"\nend = "10:00"',
+                                                              'start = "23:50"\nduration = "20 min"')
+    (tmp_path / "night.toml").write_text(text.split("[gates.on]")[0] + '[gates.on]\ninto = "m"\ndemand = 3600\n'
+                                         '[exits.off]\nfrom = "m"\n')
+    read = read_report(save_report(tmp_path, tmp_path / "night"))
+    frame = states(read)
+    assert frame.time.is_monotonic_increasing and frame.time.iloc[-1] == pandas.Timestamp("1900-01-02 00:10")
+
+
+def test_queues_as_a_frame(report):
+    frame = queues_of(report("bottleneck"))
+    row = frame.iloc[0]
+    assert len(frame) == 1 and (row.cell, row.road, row.km, row.farthest, row.spells) == ("m20", "m", 5.0, "m08", 1)
+    # 14 vehicles come to m20 at 07:03:30, of which 12 leave. With the next 14 it holds 16, of which 12 are less than 80 %.
+    assert row.began == pandas.Timestamp("1900-01-01 07:03:40")
+    assert row.cleared == pandas.Timestamp("1900-01-01 08:40:50")
+    assert (row.reach, row.most_waiting, row.delay) == (3.25, pytest.approx(450, abs=1), pytest.approx(461.25, abs=0.3))
+    assert frame.attrs["units"]["delay"] == "vehicle-hours" and frame.attrs["units"]["reach"] == "km"
+
+
+def test_no_queues_as_a_frame(report):
+    frame = queues_of(report("workzone-none"))
+    assert len(frame) == 0 and {"cell", "began", "cleared", "delay"} <= set(frame.columns)
 
 
 def test_the_states_where_no_units_are_known(reports, tmp_path):
@@ -37,73 +75,11 @@ def test_the_states_where_no_units_are_known(reports, tmp_path):
 
 
 def test_states_of_sparse_records_keep_the_flow(reports, tmp_path):
-    from conftest import save_report
-
     dense, sparse = read_report(reports("interchange")), read_report(save_report(tmp_path, "interchange", every=7))
     assert list(sparse.times[:2]) == [0, 7] and sparse.times[-1] == sparse.steps
     gone = (sparse.flow.mul([b - a for a, b in zip(sparse.times, sparse.times[1:])], axis=0)).sum()
     assert gone.to_numpy() == pytest.approx(dense.cells.gone.to_numpy())
-    assert places_of(queues_of(sparse))[0].origin == "r2"
-
-
-def test_platoons_in_free_flow_are_no_queue():
-    import plain_model
-    from ctmtools.network_file.network import network_of
-
-    roads = [f"c{i:02d}" for i in range(40)]
-    links = zip(["g", *roads], [*roads, "x"])
-    text = ("ctm,1\nsteps,200\ngate,g,9,0\nexit,x,9\n" + "".join(f"road,{name},60,9,1,5,0\n" for name in roads) +
-            "".join(f"link,{up},{down}\n" for up, down in links) +
-            "".join(f"demand,g,{step},{step + 3},6\n" for step in range(0, 200, 10))).encode()
-    made = report_of(plain_model.report(text, 10))
-    made.network = network_of(text)
-    assert made.total.delay == 0 and queues_of(made) == []
-
-
-def test_the_queue_of_a_lane_drop(report):
-    queue, = queues_of(report("bottleneck"))
-    units = report("bottleneck").units
-    assert (queue.origin, queue.farthest, queue.reach) == ("m20", "m08", pytest.approx(3.25))
-    assert units.clock(queue.end, True) == "08:40:50"  # 45 steps after 08:30 at the gate, 200 s down the road
-    assert queue.most == pytest.approx(450, abs=1)
-    assert units.hours(queue.delay) == pytest.approx(461.25, abs=0.3)
-
-
-def test_a_queue_at_each_red(report):
-    places = places_of(queues_of(report("arterial-0")))
-    assert sorted(place.origin for place in places) == ["c04", "c08", "c12", "c16", "c20"]
-    assert all(len(place.queues) == 30 for place in places)
-    hours = {place.origin: report("arterial-0").units.hours(place.delay) for place in places}
-    assert hours == pytest.approx({"c04": 6.75, "c08": 8.25, "c12": 6, "c16": 6, "c20": 6})
-
-
-def test_queues_that_meet_are_one(report):
-    first, second = queues_of(report("interchange"))
-    assert (first.origin, first.farthest, first.reach) == ("r2", "m10", pytest.approx(4.25))
-    assert (second.origin, second.delay) == ("a2", pytest.approx(64_800, abs=3))
-    queue, = queues_of(report("event"))
-    assert queue.origin == "stadium"
-    assert [(other.cell, other.reach) for other in queue.others] == [("n20", pytest.approx(1.5))]
-    assert queue.reach == 0 and queue.longest_reach == pytest.approx(1.5)
-
-
-def test_a_queue_that_still_stands():
-    text = b"ctm,1\nsteps,9\ngate,g,1,0\nroad,a,6,2,1,2,0\nroad,b,6,2,1,2,0\nlink,g,a\nlink,a,b\ndemand,g,0,9,1\n"
-    import plain_model
-    from ctmtools.network_file.network import network_of
-
-    made = report_of(plain_model.report(text, 1))
-    made.network = network_of(text)
-    queue, = queues_of(made)
-    assert queue.end is None and queue.origin == "b"
-    lines = "\n".join(page(made))
-    assert "not by the end" in lines and "Still inside at the end" in lines
-
-
-def test_lengths_and_waiting(report):
-    read = report("interchange")
-    assert lengths(read, read.units.roads["m"]).max() == pytest.approx(3.75)
-    assert waiting(read, ["ramp", "a1", "a2"]).max() == pytest.approx(360, abs=1e-3)
+    assert queues_in(sparse)[0].origin == "r2"
 
 
 def test_routes(report):
@@ -138,8 +114,3 @@ def test_totals_of_a_report_without_records():
 def test_no_report(content):
     with pytest.raises(Problem):
         report_of(content)
-
-
-def test_every_public_function_says_what_it_does():
-    for name in ctmtools.__all__:
-        assert getattr(ctmtools, name).__doc__

@@ -2,10 +2,12 @@
 
 import plain_model
 import pytest
-from conftest import EXAMPLES
 
 from ctmtools import Problem, build, read_network, read_study
 from ctmtools.network_file.network import network_of
+
+from .corridor import HEAD as OPEN_HEAD
+from .examples import EXAMPLES
 
 STUDIES = sorted(path.stem for path in EXAMPLES.glob("*.toml") if path.with_suffix(".csv").exists())
 
@@ -35,16 +37,7 @@ def test_each_hand_written_example_has_its_study():
     assert STUDIES == sorted(path.stem for path in EXAMPLES.glob("*.csv"))
 
 
-HEAD = """
-step = 10
-start = "06:00"
-end = "07:00"
-[lane]
-free_flow_speed = 90
-wave_speed = 18
-jam_density = 144
-saturation_flow = 2160
-"""
+HEAD = OPEN_HEAD.format(end="07:00")
 ROAD = "[roads.m]\nlength = 1\nlanes = 2\n[gates.g]\ninto = \"m\"\ndemand = 1000\n[exits.x]\nfrom = \"m\"\n"
 
 
@@ -66,16 +59,68 @@ def records(made, kind):
     return [line for line in made.text.splitlines() if line.startswith(kind + ",")]
 
 
-def test_what_is_rounded_is_told(tmp_path):
+def test_what_is_rounded_by_more_than_a_thousandth_is_told(tmp_path):
     made = built(tmp_path, HEAD + ROAD.replace("length = 1", "length = 1.1"))
-    assert roundings(made) == {"length of road m": (1.1, 1.0), "gates.g.demand[1]": (1000, 1000.00008),
-                               "vehicles that come to gate g": (1000, 1000.00008)}
-    assert records(made, "demand") == ["demand,g,0,360,2.777778"]
+    assert roundings(made) == {"length of road m": (1.1, 1.0)}
+    assert records(made, "demand") == ["demand,g,0,360,2.777778"]  # 1,000/360, to a millionth
+
+
+@pytest.mark.parametrize("length, told", [("1.0009", False), ("1.0011", True)])
+def test_a_thousandth_is_the_bound(tmp_path, length, told):
+    made = built(tmp_path, HEAD + ROAD.replace("length = 1", f"length = {length}"))
+    assert ("length of road m" in roundings(made)) == told
+
+
+def test_each_rounding_is_told_once(tmp_path):
+    made = built(tmp_path, HEAD + ROAD + '[[closures]]\nroad = "m"\ncapacity = 0.001\n')
+    assert [note.what for note in made.rounding.differing] == ["closures[1]: what is left"]
+
+
+def test_an_end_is_measured_by_what_it_ends(tmp_path):
+    wide = OPEN_HEAD.format(end="24:00") + ROAD + """[[closures]]
+road = "m"
+lanes = 1
+start = "20:00:04"
+end = "20:00:24"
+[[signals]]
+road = "m"
+cycle = 90
+green = 40
+first_green = 28804
+"""
+    # 4 s are little of a day and much of a closure of 20 s or a cycle of 90 s.
+    assert set(roundings(built(tmp_path, wide))) == {"start of closures[1]", "end of closures[1]",
+                                                     "first green of signals[1]"}
+
+
+def test_a_small_share_is_told_though_the_other_hardly_changes(tmp_path):
+    text = HEAD + ROAD.replace("[exits.x]\nfrom = \"m\"\n", "[exits.x]\n[exits.y]\n[[diverges]]\nfrom = \"m\"\n"
+                               "into = [\"x\", \"y\"]\nshares = [1999, 1]\n")
+    assert roundings(built(tmp_path, text)) == {"diverges[1]: share of the first": (99.95, pytest.approx(100 - 100 / 1001))}
+
+
+@pytest.mark.parametrize("road, cells, wanted", [
+    ("a7", "", ["a7.1", "a7.2", "a7.3", "a7.4"]), ("m", 'cells = "z2"\n', ["z2.1", "z2.2", "z2.3", "z2.4"]),
+    ("a7-north", "", ["a7-north1", "a7-north2", "a7-north3", "a7-north4"])])
+def test_names_of_cells_arent_read_as_another_number(tmp_path, road, cells, wanted):
+    made = built(tmp_path, HEAD + ROAD.replace("lanes = 2\n", "lanes = 2\n" + cells).replace("roads.m", f"roads.{road}")
+                 .replace('"m"', f'"{road}"'))
+    assert made.units.roads == {road: wanted}
 
 
 def test_units_may_be_written(tmp_path):
     text = HEAD.replace("90", '"25 m/s"').replace("step = 10", 'step = "10 s"') + ROAD.replace("= 1\n", '= "1000 m"\n')
     assert built(tmp_path, text).text.split("\n\n", 1)[1] == built(tmp_path, HEAD + ROAD).text.split("\n\n", 1)[1]
+
+
+def test_miles_are_read(tmp_path):
+    text = HEAD.replace("90", '"90 mph"').replace("18\n", '"18 mph"\n').replace("144", '"144 vehicles/mi"') \
+        + ROAD.replace("= 1\n", '= "1 mi"\n')
+    made = built(tmp_path, text)
+    # A cell is the way of 10 s at 90 mph, a quarter of a mile, with room for a quarter of 144 vehicles in a lane.
+    assert records(made, "road") == [f"road,m{i},72,12,1,5,0" for i in range(1, 5)]
+    assert made.units.cells["m4"]["to_km"] == pytest.approx(1.609344)
+    assert made.units.cells["m4"]["free_flow_kmh"] == pytest.approx(144.84096)
 
 
 def test_a_byte_order_mark_is_dropped(tmp_path):
@@ -91,6 +136,11 @@ def test_a_time_between_steps_is_rounded(tmp_path):
 def test_times_after_midnight(tmp_path):
     text = HEAD.replace("06:00", "23:30").replace("07:00", "00:30") + ROAD.replace("1000", '[["23:50", "00:10", 360]]')
     assert records(built(tmp_path, text), "demand") == ["demand,g,120,240,1"]
+
+
+def test_a_study_that_ends_at_midnight(tmp_path):
+    text = HEAD.replace("06:00", "23:00").replace("07:00", "00:00") + ROAD.replace("1000", '[["23:30", "00:00", 360]]')
+    assert records(built(tmp_path, text), "demand") == ["demand,g,180,360,1"]
 
 
 def test_shares_in_per_cent(tmp_path):
@@ -149,21 +199,18 @@ offset = 10
 
 
 def test_counts_from_a_file(tmp_path):
-    (tmp_path / "counts.csv").write_text("time;north;south\n06:00;100;7,5\n06:15;50;0\n06:30;30;3\n07:30;1;1\n")
+    (tmp_path / "counts.csv").write_text("time;north;south\n06:00;100;7,5\n06:15;50;0\n06:30;30;3\n06:45;3;1\n"
+                                         "07:00;1;1\n")
     text = HEAD + ROAD.replace("1000", '{ counts = "counts.csv", column = "south", separator = ";", decimal = "," }')
-    assert records(built(tmp_path, text), "demand") == ["demand,g,0,90,0.083333", "demand,g,180,360,0.008333"]
+    assert records(built(tmp_path, text), "demand") == ["demand,g,0,90,0.083333", "demand,g,180,270,0.033333",
+                                                        "demand,g,270,360,0.011111"]
 
 
 def test_counts_of_a_whole_day(tmp_path):
-    (tmp_path / "counts.csv").write_text("time,n\n00:00,1\n05:50,20\n06:10,60\n06:30,30\n23:40,4\n")
+    (tmp_path / "counts.csv").write_text("time,n\n00:10,1\n05:50,20\n06:10,60\n06:30,30\n06:50,6\n23:50,4\n")
     text = HEAD + ROAD.replace("1000", '{ counts = "counts.csv", column = "n", interval = "20 min" }')
     assert records(built(tmp_path, text), "demand") == ["demand,g,0,60,0.166667", "demand,g,60,180,0.5",
-                                                        "demand,g,180,300,0.25"]
-    (tmp_path / "counts.csv").write_text("time,n\n23:30,9\n00:00,9\n06:00,180\n12:00,9\n")
-    assert records(built(tmp_path, text.replace(', interval = "20 min"', "")), "demand") == ["demand,g,0,360,0.083333"]
-    (tmp_path / "counts.csv").write_text("time,n\n06:30,9\n06:00,180\n")
-    with pytest.raises(Problem, match="line 2, time: the times must rise"):
-        built(tmp_path, text.replace(', interval = "20 min"', ""))
+                                                        "demand,g,180,300,0.25", "demand,g,300,360,0.05"]
 
 
 def test_points_and_places_are_kept(tmp_path):
@@ -193,7 +240,7 @@ MISTAKES = {
     "a clock time without a colon": (HEAD + ROAD.replace("1000", '[["6.00", "07:00", 5]]'), "clock time"),
     "a range backwards": (HEAD + ROAD.replace("1000", '[["06:30", "06:10", 5]]'), "isn't after the start"),
     "a time before the start": (HEAD + ROAD.replace("1000", '[["05:30", "06:30", 5]]'),
-                                "the end isn't after the start"),
+                                "gates.g.demand[1]: 05:30 is before the study's start, 06:00"),
     "a time behind the end": (HEAD + ROAD.replace("1000", '[["08:30", "09:30", 5]]'),
                               "outside the study's time, 06:00 to 07:00"),
     "a signal too short": (HEAD + ROAD + '[[signals]]\nroad = "m"\ncycle = 60\ngreen = 4\n', "never green"),

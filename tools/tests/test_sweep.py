@@ -8,35 +8,17 @@ import threading
 import time
 from fractions import Fraction
 
-import plain_model
 import pytest
-from conftest import EXAMPLES
 
 from ctmtools.problem import Problem
-from ctmtools.sweep import workers
-from ctmtools.sweep.task import Task, fingerprint, measure
-from ctmtools.sweep.variations import changed, combinations, variation
+from ctmtools.sweeps import workers
+from ctmtools.sweeps.task import Task, fingerprint, measure
+from ctmtools.sweeps.variations import changed, combinations, variation
 from ctmtools.study.reading import read_values
 
+from .examples import EXAMPLES
+
 STUDY = EXAMPLES / "arterial-0.toml"
-
-
-@pytest.fixture(scope="session")
-def plain_program(tmp_path_factory):
-    """A program that records, for as long as the built one may not: the plain recurrences, called as it is."""
-    import sys
-
-    path = tmp_path_factory.mktemp("plain") / "ctm"
-    path.write_text(f"#!/bin/bash\nexec {sys.executable} {plain_model.__file__} \"$@\"\n")
-    path.chmod(0o755)
-    return str(path)
-
-
-@pytest.fixture
-def plain(plain_program, monkeypatch):
-    """Has the tools call the plain recurrences."""
-    monkeypatch.setenv("CTM_PROGRAM", plain_program)
-    return plain_program
 
 
 def task(program, **changes):
@@ -106,6 +88,13 @@ def test_a_sweep_over_one_value_and_over_names(tool, plain):
     assert tool("sweep", STUDY, "--vary", "signals.offset=0,40", "-j", "1", "--over", "signals.offset")[0] == 0
     status, out, err = tool("sweep", STUDY, "--vary", "signals.offset=0,40", "--over", "demand")
     assert status == 2 and "isn't varied" in err
+
+
+def test_a_sweep_warns_before_its_results(tool, plain, tmp_path):
+    slow = STUDY.read_text().replace("free_flow_speed = 45", "free_flow_speed = 30")
+    (tmp_path / "s.toml").write_text(slow)
+    status, out, err = tool("sweep", "s.toml", "--vary", "signals.offset=0", "-j", "1")
+    assert status == 0 and out.startswith("warning: roads.c.free_flow_speed: 30 km/h on 2 lanes is hardly")
 
 
 def test_an_ended_process_loses_nothing(plain, tmp_path):

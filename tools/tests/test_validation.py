@@ -5,14 +5,16 @@ from fractions import Fraction
 import numpy
 import plain_model
 import pytest
-from conftest import EXAMPLES
-from kinematic_waves import LaneDrop
 
-from ctmtools import build, queues_of
+from ctmtools import build
 from ctmtools.network_file.network import network_of
 from ctmtools.program import ask, program_path, takes
+from ctmtools.report.queues import queues_in
 from ctmtools.report.reading import report_of
 from ctmtools.study.reading import read_values, study_of
+
+from .examples import EXAMPLES
+from .kinematic_waves import LaneDrop
 
 DEMAND = [(0, 0.5, 2160), (0.5, 1, 3600), (1, 1.5, 5040), (1.5, 2, 4500), (2, 2.5, 3780), (2.5, 3, 2880),
           (3, 3 + 8 / 9, 2160)]
@@ -40,7 +42,7 @@ def hours(report, cells):
 
 def test_red_light():
     report = run("validation/red-light")
-    queue, = queues_of(report)
+    queue, = queues_in(report)
     assert hours(report, report.cells.index) == pytest.approx(0.9)
     assert (queue.reach, clocks(report, queue)) == (pytest.approx(0.175), ("08:08:00", "08:10:08", "08:10:48"))
 
@@ -51,7 +53,7 @@ def test_red_light():
     (Fraction(5, 2), 62.5, 3.125, "08:40:50", 0.09, 0.85)])
 def test_lane_drop_over_the_length_of_cells(step, cell, reach, cleared, mean, most):
     report = run("bottleneck", step=Fraction(step))
-    queue = queues_of(report)[0]
+    queue = queues_in(report)[0]
     assert hours(report, report.cells.index) == pytest.approx(461.25, abs=0.01)
     assert queue.reach == pytest.approx(reach) and clocks(report, queue)[2] == cleared
     cells = [name for name in report.units.roads["m"] if report.units.cells[name]["to_km"] <= 5.001]
@@ -77,7 +79,7 @@ def test_theory_of_the_lane_drop():
 
 def test_road_works():
     report = run("workzone")
-    queue, = queues_of(report)
+    queue, = queues_in(report)
     assert hours(report, report.cells.index) == pytest.approx(2328, abs=0.01)
     assert (queue.reach, clocks(report, queue)) == (pytest.approx(4), ("10:00:20", "13:57:30", "14:14:00"))
     # Five minutes after the end the wave has run 1.5 km back by theory; behind it cells still hold more than Q = 18.
@@ -111,7 +113,7 @@ def test_merge():
     flow = {road: [round(report.flow.loc[minute * 12, roads[road][-1]] * 720) for minute in (35, 50, 57)]
             for road in "ab"}
     assert flow == {"a": [3240, 3240, 1800], "b": [1080, 1080, 2160]}
-    ramp, main = queues_of(report)
+    ramp, main = queues_in(report)
     assert (main.reach, clocks(report, main)) == (pytest.approx(2.5), ("07:03:35", "07:30:20", "07:40:50"))
     assert (ramp.reach, clocks(report, ramp)) == (pytest.approx(2.625), ("07:03:25", "07:31:35", "07:45:45"))
 
@@ -122,7 +124,7 @@ def test_off_ramp():
     assert report.cells.wait[["r1", "r2"]].sum() + report.cells.wait[motorway].sum() / 4 == pytest.approx(48_600)
     assert hours(report, motorway) == pytest.approx(345.38, abs=0.01)
     assert hours(report, ["r1", "r2"]) == pytest.approx(48.66, abs=0.01)
-    assert queues_of(report)[0].reach == pytest.approx(4.25)
+    assert queues_in(report)[0].reach == pytest.approx(4.25)
 
 
 def test_staggered_hours():

@@ -1,3 +1,4 @@
 pub mod CommandLemmas
 pub mod RefusalLemmas
 pub mod RequestLemmas
+pub mod WordLemmas

@@ -3,4 +3,5 @@ pub mod Modes
 pub mod Refusing
 pub mod Sequence
 pub mod Settings
+pub mod Values
 pub mod Words

@@ -1,36 +1,31 @@
--- The options: the word of each, its range, and its default.
-use Rattle.std.specs.Prelude.{ℕ, ◌≤◌, ◌&&◌, nat_le, List, Option, Some, codes}
-use Rattle.fixed_flow.specs.Spelling.{whole_of}
-use Rattle.command_words.specs.Sequence.{◌>>=◌, ◌>>◌, must}
+-- The options: the word of each, its values, and its default.
+use Rattle.std.specs.Prelude.{ℕ, List, Option, codes}
+use Rattle.command_words.specs.Values.{IsAmong, OptionValues, numbers, value_among}
 use Rattle.command_words.specs.declared.setting.Setting.{Setting}
 use Rattle.command_words.specs.declared.setting.Setting.TheVariants.{Regions, Workers, Every, Shots, Size, Seed}
 
 pub record SettingTerms : Type 0 where
   -- the word behind `--`
   pub word : List ℕ
-  pub least : ℕ
-  pub most : ℕ
+  pub values : OptionValues
   -- the value where the words don't give the option
   pub default : ℕ
 
-abbrev pub terms : List ℕ → (least most default : ℕ) → SettingTerms
-terms word least most default = record { word = word; least = least; most = most; default = default }
+abbrev pub terms : List ℕ → OptionValues → (default : ℕ) → SettingTerms
+terms word values default = record { word = word; values = values; default = default }
 
 abbrev pub terms_of : Setting → SettingTerms
-terms_of Regions = terms (codes "regions") 1 512 1
-terms_of Workers = terms (codes "workers") 1 16 1
-terms_of Every = terms (codes "every") 0 100_000 0
-terms_of Shots = terms (codes "shots") 1 64 4
-terms_of Size = terms (codes "size") 1 10_000 100
-terms_of Seed = terms (codes "seed") 0 999_999_999 1
+terms_of Regions = terms (codes "regions") (numbers 1 512) 1
+terms_of Workers = terms (codes "workers") (numbers 1 16) 1
+terms_of Every = terms (codes "every") (numbers 0 100_000) 0
+terms_of Shots = terms (codes "shots") (numbers 1 64) 4
+terms_of Size = terms (codes "size") (numbers 1 10_000) 100
+terms_of Seed = terms (codes "seed") (numbers 0 999_999_999) 1
 
--- the value is within the option's range
+-- the value is one that the option may have
 abbrev pub IsAllowed : Setting → ℕ → Type 0
-IsAllowed option value = ((terms_of option).least ≤ value) × (value ≤ (terms_of option).most)
+IsAllowed option value = IsAmong (terms_of option).values value
 
--- the whole number that a text spells, where the option has it
+-- the value that a text stands for, where the option has it
 unfoldable pub value_spelled : Setting → List ℕ → Option ℕ
-value_spelled option text = do
-  value ← whole_of text
-  must (nat_le (terms_of option).least value && nat_le value (terms_of option).most)
-  Some value
+value_spelled option text = value_among (terms_of option).values text

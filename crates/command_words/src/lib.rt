@@ -11,9 +11,10 @@
 //! `clap` reads the words as one simple command: the mode stands alone, and each option is a word behind `--` with one
 //! value. It knows every option in every mode, so that a missing value or a repeated option is refused alike in each.
 //! Then the table `Mode::takes` says which options a mode has, and the table `Setting::terms` which values an option
-//! has. To give a mode one more option takes a line in the first table and one in its definition (specs/Modes.antt).
-//! An option that is wholly new has besides its line in the second table and in its definition (specs/Settings.antt),
-//! its field in `Request`, and its line where `clap` learns it and where its value is read.
+//! has: whole numbers of a range, or words. To give a mode one more option takes a line in the first table and one in
+//! its definition (specs/Modes.antt). An option that is wholly new has besides its line in the second table and in its
+//! definition (specs/Settings.antt), its field in `Request`, and its line where `clap` learns it and where its value is
+//! read. What reads a value knows no option: a word is read as its place among the option's words.
 //! No other crate of the repository stands on `clap`.
 #![tactic(auto)]
 
@@ -25,9 +26,11 @@ mod request;
 mod setting;
 #[cfg(test)]
 mod tests;
+mod values;
 
 pub use mode::Mode;
 pub use reading::read_words;
 pub use refusal::WordsRefusal;
 pub use request::Request;
 pub use setting::{Setting, Terms};
+pub use values::Values;

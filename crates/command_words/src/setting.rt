@@ -1,7 +1,8 @@
 ghost use Rattle.std.specs.Prelude.{◌≡◌, IfSome};
 ghost use Rattle.command_words.specs.Settings.{IsAllowed, terms_of, value_spelled};
+ghost use Rattle.command_words.specs.Values.{AreFew, values_kept};
 
-use fixed_flow::whole;
+use crate::values::Values;
 
 /// An option of the command line.
 #[derive(Clone, Copy, Debug, PartialEq, Eq)]
@@ -21,29 +22,25 @@ pub enum Setting {
 }
 
 /// The word of an option, and its values.
-#[derive(Clone, Copy, Debug, PartialEq, Eq)]
+#[derive(Clone, Copy)]
 pub struct Terms {
     /// The word that stands behind `--`.
     pub word: &'static str,
-    /// The least value.
-    pub least: u32,
-    /// The greatest value, itself allowed.
-    pub most: u32,
+    /// The values that it may have.
+    pub values: Values,
     /// The value where the words don't give the option.
     pub default: u32,
 }
 
 impl Terms {
-    fn new(word: &'static str, least: u32, most: u32, default: u32) -> Terms
+    fn new(word: &'static str, values: Values, default: u32) -> Terms
         ensures word { result.word ≡ word.entry }
-        ensures least { result.least ≡ least }
-        ensures most { result.most ≡ most }
+        ensures values { result.values ≡ values }
         ensures default { result.default ≡ default }
     {
         Terms {
             word,
-            least,
-            most,
+            values,
             default,
         }
     }
@@ -53,30 +50,30 @@ impl Setting {
     /// The table of options, the same in every mode.
     pub fn terms(self) -> Terms
         ensures word { result.word.now ≡ (terms_of self).word }
-        ensures least { result.least ≡ (terms_of self).least }
-        ensures most { result.most ≡ (terms_of self).most }
+        ensures values { values_kept result.values ≡ (terms_of self).values }
+        ensures few { AreFew (terms_of self).values }
         ensures default { result.default ≡ (terms_of self).default }
     {
+        // Each line has its line in `terms_of` (specs/Settings.antt). Of an option whose value is a word, here red where
+        // it isn't given, they would be
+        //     Setting::Colour => Terms::new("colour", Values::Words(&["red", "green"]), 0),
+        //     terms_of Colour = terms (codes "colour") (words (codes "red" ∷ codes "green" ∷ [])) 0
         match self {
-            Setting::Regions => Terms::new("regions", 1, 512, 1),
-            Setting::Workers => Terms::new("workers", 1, 16, 1),
-            Setting::Every => Terms::new("every", 0, 100_000, 0),
-            Setting::Shots => Terms::new("shots", 1, 64, 4),
-            Setting::Size => Terms::new("size", 1, 10_000, 100),
-            Setting::Seed => Terms::new("seed", 0, 999_999_999, 1),
+            Setting::Regions => Terms::new("regions", Values::Numbers(1, 512), 1),
+            Setting::Workers => Terms::new("workers", Values::Numbers(1, 16), 1),
+            Setting::Every => Terms::new("every", Values::Numbers(0, 100_000), 0),
+            Setting::Shots => Terms::new("shots", Values::Numbers(1, 64), 4),
+            Setting::Size => Terms::new("size", Values::Numbers(1, 10_000), 100),
+            Setting::Seed => Terms::new("seed", Values::Numbers(0, 999_999_999), 1),
         }
     }
 
-    /// The value that a text spells as a whole number, where it is within the option's range.
+    /// The value that a text stands for, where the option has it.
     #[tactic(auto, unfolding(crate::specs::Settings::value_spelled))]
     pub fn value(self, text: &str) -> Option<u32>
         ensures value { result ≡ value_spelled self text.now }
         ensures in_range { IfSome result (IsAllowed self) }
     {
-        let terms = self.terms();
-        match whole(text.as_bytes()) {
-            Some(value) if terms.least <= value && value <= terms.most => Some(value),
-            _ => None,
-        }
+        self.terms().values.value(text)
     }
 }

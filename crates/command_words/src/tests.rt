@@ -1,4 +1,4 @@
-use crate::{Mode, Request, Setting, WordsRefusal, read_words};
+use crate::{Mode, Request, Setting, Values, WordsRefusal, read_words};
 use std::alloc::{AllocError, Global};
 use std::test::Fail;
 
@@ -237,6 +237,27 @@ fn a_value_is_a_whole_number_in_its_range(rt: HostRuntime) {
     ] {
         assert!(rt; setting.value(text) == want, "{setting:?} {text:?}");
     }
+}
+
+#[test]
+fn a_value_is_one_of_the_words(rt: HostRuntime) {
+    let words = Values::Words(&["even", "grown", "as", "a"]);
+    for (text, want) in [
+        ("even", Some(0)),
+        ("grown", Some(1)),
+        ("as", Some(2)),
+        ("a", Some(3)),
+        ("eve", None),
+        ("evens", None),
+        ("Even", None),
+        (" even", None),
+        ("odd", None),
+        ("1", None),
+        ("", None),
+    ] {
+        assert!(rt; words.value(text) == want, "{text:?}");
+    }
+    assert!(rt; Values::Words(&[]).value("").is_none(), "of no words");
 }
 
 #[test]

@@ -1,4 +1,16 @@
 //! The report of a run (docs/MODEL.md, docs/FORMAT.md): what was recorded, the rows at the last step and the totals.
+//!
+//! A whole use of these crates, from the bytes of a network file to its report by four workers in sixteen regions:
+//!
+//! ```text
+//! let net = Net::read(alloc, &bytes)?;                                        // network_file: the first fault has its place
+//! let chart = charted(alloc, &net, 16)?;                                      // network_run: the file's regions, or even ones
+//! let regions = last_regions(rt, alloc, &net, &chart, 0, 4, &OpenGate)?;      // recorded at no step
+//! let report = run_report(alloc, &net, &chart, &regions, 0)?;                 // that of the plain recurrences
+//! let rows = run_rows(alloc, &net, &chart, &regions)?;                        // or the rows of all cells
+//! ```
+//!
+//! The program `worst_cells` does so. `report` and `put_last_totals` are of regions of any true start.
 #![tactic(auto)]
 
 mod by_cell;
@@ -7,10 +19,12 @@ mod cell_places;
 mod delay;
 mod last_totals;
 mod note_lines;
+mod run_end;
 mod step_count;
 mod total_line;
 mod whole_report;
 
 pub use last_totals::put_last_totals;
+pub use run_end::{run_report, run_rows};
 pub use step_count::recorded_steps;
 pub use whole_report::report;

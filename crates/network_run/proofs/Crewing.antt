@@ -1,8 +1,12 @@
 -- The members of a crew, and their nests.
-use Rattle.std.specs.Prelude.{All, map}
-use Rattle.std.proofs.Common.{◌≡◌, ℕ, ◌<◌, List, [], ◌∷◌, ◌++◌, length, refl, sym, ap, subst, ◌∙◌, arith}
-use Rattle.std.proofs.lemmas.List.{get_or-map, get_or_append_left, length-append, length-map}
+use Rattle.std.specs.Prelude.{All, map, max, slice_index}
+use Rattle.std.proofs.Common.{◌≡◌, ℕ, ◌<◌, ◌≤◌, inl, inr, List, [], ◌∷◌, ◌++◌, length, refl, sym, ap, subst, ◌∙◌, arith}
+use Rattle.std.proofs.lemmas.Bool.{cases_lt}
+use Rattle.std.proofs.lemmas.List.{get_or-map, get_or_append_left, get_or_past, length-append, length-map}
 use Rattle.std.proofs.lemmas.List.Elements.{All-append, All-cons, All-map, All-nil}
+use Rattle.std.proofs.lemmas.List.FromFn.{get_or-map-range_with_len}
+use Rattle.border_rows.specs.Kinds.{united}
+use Rattle.border_rows.specs.declared.view.View.{View}
 use Rattle.region_cut.specs.Cuttings.{region_count}
 use Rattle.region_slots.specs.FieldView.{FieldValue}
 use Rattle.region_step.proofs.Lists.{pushed-at}
@@ -65,3 +69,10 @@ pub last-enlisted : (field : FieldValue) (goal : ℕ) (members : List Member) (h
 last-enlisted field goal members helpers left helper are split all =
     All-last (λ (h : Helper). IsEnlisted field goal h.member) left helper (subst (λ (hs : List Helper). All (λ (h : Helper). IsEnlisted field goal h.member) hs) split
     (All-from_map (IsEnlisted field goal) (λ (h : Helper). h.member) helpers (subst (AreEnlisted field goal) (sym are) all)))
+
+-- two passes that become one have seen no less
+pub united-later : (view other : View) (r : ℕ) → slice_index view.seen r ≤ slice_index (united view other).seen r
+united-later view other r = elim (cases_lt r (length view.seen)) [
+  | inl within ↦ omega (arith, get_or-map-range_with_len (λ q. max (slice_index view.seen q) (slice_index other.seen q)) 0 (length view.seen) r r 0 within (omega arith))
+  | inr past ↦ omega (arith, get_or_past view.seen r 0 past)
+]

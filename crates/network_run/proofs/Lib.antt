@@ -1,3 +1,3 @@
 pub mod Crewing
 pub mod Ending
-pub mod Enlisting
+pub mod RoundCounts

@@ -1,6 +1,6 @@
 -- The members of a run.
-use Rattle.std.specs.Prelude.{◌≡◌, ◌⊎◌, ℕ, ◌≤◌, List, All, IsTrue}
-use Rattle.std.specs.List.{Contains}
+use Rattle.std.specs.Prelude.{◌≡◌, ◌⊎◌, ℕ, ◌≤◌, Bool, List, All, IsTrue}
+use Rattle.std.specs.List.{list_any}
 use Rattle.region_slots.specs.FieldView.{FieldValue}
 use Rattle.worker_claim.specs.Members.{IsMemberOf}
 use Rattle.worker_claim.specs.declared.member.Member.{Member}
@@ -15,10 +15,10 @@ pub record IsEnlisted (field : FieldValue) (goal : ℕ) (member : Member) : Type
 abbrev pub AreEnlisted : FieldValue → (goal : ℕ) → List Member → Type 0
 AreEnlisted field goal members = All (IsEnlisted field goal) members
 
--- one has found all regions at the goal
-abbrev pub IsSomeDone : List Member → Type 0
-IsSomeDone members = (member : Member) × Contains members member × IsTrue member.driven.all
+-- whether one has found all regions at the goal
+abbrev pub is_some_done : List Member → Bool
+is_some_done members = list_any (λ member. member.driven.all) members
 
--- or none has moved one
+-- one has, or none has moved a region
 abbrev pub IsOver : List Member → Type 0
-IsOver members = IsSomeDone members ⊎ All (λ member. member.driven.moved ≡ 0) members
+IsOver members = IsTrue (is_some_done members) ⊎ All (λ member. member.driven.moved ≡ 0) members

@@ -4,16 +4,8 @@
 
 mod charting;
 mod crew;
-#[cfg(test)]
-mod members;
-#[cfg(test)]
-mod mixed_calls;
-#[cfg(test)]
-mod order_tests;
 mod rounds;
 mod run;
-#[cfg(test)]
-mod tests;
 mod watch;
 mod watched_run;
 

@@ -1,4 +1,5 @@
-ghost use Rattle.std.specs.Prelude.{◌≡◌, All, IsTrue};
+ghost use Rattle.std.specs.Prelude.{◌≡◌, ◌↔◌, All, IsTrue};
+ghost use Rattle.std.specs.List.{list_any};
 
 use crate::crew::Crew;
 use ctm_ports::Gate;
@@ -7,22 +8,23 @@ use snapshot::ShotRoom;
 use std::thread::Threads;
 use worker_claim::{Helper, crew_hints, crew_watch_hints};
 
-/// How many sweeps' worth of turns a member makes in a round, at most.
+/// A member makes as many turns in a round as so many sweeps have, at most.
 const SWEEPS: u32 = 4096;
 
 /// How many tries the watcher has at each region beside the crew.
 const TRIES: u32 = 64;
 
 impl Crew {
-    ghost use Rattle.std.specs.Prelude.{◌≡◌, ◌⊎◌, ◌-◌, ◌*◌, ◌^◌, ◌≤◌, ℕ, IsTrue, length, min};
+    ghost use Rattle.std.specs.Prelude.{◌≡◌, ◌⊎◌, ◌+◌, ◌-◌, ◌*◌, ◌^◌, ◌≤◌, ℕ, IsTrue, false, length, min};
     ghost use Rattle.region_cut.specs.Cuttings.{region_count};
     ghost use Rattle.snapshot.specs.Rooms.{IsRoomFor};
     ghost use Rattle.region_slots.specs.FieldView.{IsPassOf};
     ghost use Rattle.worker_claim.specs.Watching.{IsWatched};
-    ghost use Rattle.network_run.specs.Enlisted.{AreEnlisted, IsOver, IsSomeDone};
+    ghost use Rattle.network_run.specs.Enlisted.{AreEnlisted, IsOver, is_some_done};
+    ghost use Rattle.network_run.specs.Rounds.{AreGoing, AreRounds, last_moves, moves_of, watcher_tries};
 
     /// Has the members make turns in rounds, until one has found all regions at the goal, or none has moved one, or there
-    /// were as many rounds as there are steps to take. It gives their number.
+    /// were as many rounds as there are steps to take. Each round but the last has moved a region. It gives their number.
     pub(crate) fn drive<R: Threads + Sync, G: Gate>(
         &mut self,
         rt: &R,
@@ -36,6 +38,8 @@ impl Crew {
         ensures same { (self.new.workers ≡ self.old.workers) × (self.new.regions ≡ self.old.regions) }
         ensures many { length self.new.members ≡ length self.old.members }
         ensures enlisted { AreEnlisted field.now goal self.new.members }
+        ensures rounds { AreRounds field.now result 1 self.old.members self.new.members }
+        ensures few { result ≤ region_count field.now.terms.chart.now.cut * goal }
         ensures over { IsOver self.new.members ⊎ (result ≡ min (region_count field.now.terms.chart.now.cut * goal) (2 ^ 64 - 1)) }
     {
         let most = u64::from(field.regions()).saturating_mul(goal);
@@ -62,6 +66,8 @@ impl Crew {
         ensures same { (self.new.workers ≡ self.old.workers) × (self.new.regions ≡ self.old.regions) }
         ensures many { length self.new.members ≡ length self.old.members }
         ensures enlisted { AreEnlisted field.now goal self.new.members }
+        ensures round { AreRounds field.now 1 1 self.old.members self.new.members }
+        ensures moves { moves_of self.new.members ≡ moves_of self.old.members + last_moves self.new.members }
     {
         crew_hints(rt, field, &mut self.helpers, goal, SWEEPS, gate);
     }
@@ -82,9 +88,10 @@ impl Crew {
         requires enlisted { AreEnlisted field.now goal self.old.members }
         requires in_time { goal ≤ field.now.terms.net.now.steps }
         ensures same { (self.new.workers ≡ self.old.workers) × (self.new.regions ≡ self.old.regions) }
-        ensures watched { (tries : ℕ) × IsWatched field.now tries watcher.old watcher.new room.old room.new result }
+        ensures watched { IsWatched field.now watcher_tries watcher.old watcher.new room.old room.new result }
         ensures many { length self.new.members ≡ length self.old.members }
         ensures enlisted { AreEnlisted field.now goal self.new.members }
+        ensures rounds { (rounds : ℕ) × AreRounds field.now rounds 2 self.old.members self.new.members }
     {
         let shot = self.watch_round(rt, field, watcher, room, goal, gate);
         // A member that moved nothing may have met the watcher alone.
@@ -110,9 +117,10 @@ impl Crew {
         requires enlisted { AreEnlisted field.now goal self.old.members }
         requires in_time { goal ≤ field.now.terms.net.now.steps }
         ensures same { (self.new.workers ≡ self.old.workers) × (self.new.regions ≡ self.old.regions) }
-        ensures watched { IsWatched field.now TRIES watcher.old watcher.new room.old room.new result }
+        ensures watched { IsWatched field.now watcher_tries watcher.old watcher.new room.old room.new result }
         ensures many { length self.new.members ≡ length self.old.members }
         ensures enlisted { AreEnlisted field.now goal self.new.members }
+        ensures round { AreRounds field.now 1 1 self.old.members self.new.members }
     {
         crew_watch_hints(
             rt,
@@ -129,22 +137,30 @@ impl Crew {
 
     // Whether a member has found all regions at the goal, or none has moved one.
     fn is_over(&self) -> bool
-        ensures { IsTrue result → IsOver self.now.members }
+        ensures over { IsTrue result → IsOver self.now.members }
+        ensures going { result ≡ false → AreGoing self.now.members }
     {
         self.is_done() || none_moved(&self.helpers)
     }
 
     // Whether a member has found all regions at the goal.
     fn is_done(&self) -> bool
-        ensures { IsTrue result → IsSomeDone self.now.members }
+        ensures { result ≡ is_some_done self.now.members }
     {
-        self.helpers.iter().any(|helper| helper.member.driven.all)
+        some_done(&self.helpers)
     }
+}
+
+// Whether one of the helpers has found all regions at the goal.
+fn some_done(helpers: &[Helper]) -> bool
+    ensures { result ≡ list_any (λ helper. helper.member.driven.all) helpers.now }
+{
+    helpers.iter().any(|helper| helper.member.driven.all)
 }
 
 // Whether none of the helpers has moved a region.
 fn none_moved(helpers: &[Helper]) -> bool
-    ensures { IsTrue result → All (λ helper. helper.member.driven.moved ≡ 0) helpers.now }
+    ensures { IsTrue result ↔ All (λ helper. helper.member.driven.moved ≡ 0) helpers.now }
 {
     helpers.iter().all(|helper| helper.member.driven.moved == 0)
 }

@@ -1,11 +1,14 @@
 """ctm-tools compare"""
 
+from __future__ import annotations
+
 import click
 
 from ..files import write
 from ..report.comparing import compare, totals
 from ..report.page import table, told
 from ..report.reading import read_report
+from ..report.unlike import unlike
 from .reports import on_reports
 
 EPILOG = """\b
@@ -26,7 +29,8 @@ With --plot both reports need records, and the cells of the route are those that
               help="Draw the difference of the densities, B less A, as a time-space diagram.")
 @click.option("--road", metavar="ROAD", help="The road to draw; else the longest route.")
 @on_reports
-def command(first, second, rows, output, picture, road, units, network):
+def command(first: str, second: str, rows: int, output: str | None, picture: str | None, road: str | None,
+            units: str | None, network: str | None) -> None:
     """Compare two reports: delay and served vehicles in all and cell by cell, the greatest changes first.
 
     A cell's delay counts where vehicles waited, so a shorter queue shows at the cells that it no longer reaches.
@@ -34,7 +38,10 @@ def command(first, second, rows, output, picture, road, units, network):
     one, two = read_report(first, units, network), read_report(second, units, network)
     frame, sums = compare(one, two), totals(one, two)
     unit = frame.attrs["units"]["delay"]
-    click.echo(f"A  {one.title} ({first})\nB  {two.title} ({second})\n")
+    click.echo(f"A  {one.title} ({first})\nB  {two.title} ({second})")
+    for line in unlike(one, two):
+        click.echo(f"warning: {line}")
+    click.echo()
     lines = [("", "A", "B", "B - A", "")]
     for name, row in sums.iterrows():
         part = row.rise / row["first"] if row["first"] else 0
@@ -48,25 +55,26 @@ def command(first, second, rows, output, picture, road, units, network):
     else:
         click.echo(f"\nThe greatest changes of delay, {min(rows, len(changed))} of {len(changed)} cells that differ, "
                    f"in {unit}; gone in vehicles:\n")
-        lines = [("cell", "A", "B", "B - A", "gone A", "gone B", "B - A")]
-        lines += [(cell, *map(_told, (row.delay_first, row.delay_second)), signed(row.delay_rise),
-                   *map(_told, (row.gone_first, row.gone_second)), signed(row.gone_rise))
-                  for cell, row in changed[:rows].iterrows()]
-        click.echo("\n".join(table(lines, right=range(1, 7))))
+        heads = ("cell", "A", "B", "B - A", "gone A", "gone B", "B - A")
+        cells = [(cell, *map(_told, (row.delay_first, row.delay_second)), signed(row.delay_rise),
+                  *map(_told, (row.gone_first, row.gone_second)), signed(row.gone_rise))
+                 for cell, row in changed[:rows].iterrows()]
+        click.echo("\n".join(table([heads, *cells], right=range(1, 7))))
     if output:
         write(output, frame.to_csv(float_format="%.6f"))
     if picture:
         from ..plots.difference import draw
+        from ..plots.figure import save, target
 
-        draw(one, two, picture, road)
+        save(draw(one, two, road), target(two, "difference", picture))
         click.echo(f"\n{picture}")
 
 
-def _told(value):
+def _told(value: float) -> str:
     return "none" if value != value else told(value)
 
 
-def signed(value):
+def signed(value: float) -> str:
     """A difference with its sign."""
     text = told(abs(value))
     return "0" if text == "0" else ("+" if value > 0 else "-") + text

@@ -1,9 +1,11 @@
 """ctm-tools lint"""
 
+from __future__ import annotations
+
 import click
 
+from ..given import read_as
 from ..network_file.examining import examine
-from ..network_file.network import read_bytes
 from ..network_file.warnings import shortened
 from ..units import read_units, units_path
 
@@ -20,13 +22,13 @@ it couldn't be looked at."""
 @click.argument("network", metavar="NET.csv", type=click.Path())
 @click.option("--all", "complete", is_flag=True, help="Tell every warning, and not only the first few of each kind.")
 @click.option("--strict", is_flag=True, help="End with status 1 for a warning too.")
-def command(network, complete, strict):
+def command(network: str, complete: bool, strict: bool) -> int:
     """Say what `ctm check` says of a network file, explain its first fault, and warn of what no refusal covers.
 
     Of the fault are told the line of the file, the field, its value, what was expected, and what may be meant.
     """
-    findings = examine(read_bytes(network), network, lambda line: click.echo(line, err=True),
-                       read_units(units_path(network)).step)
+    findings = examine(read_as(network, "a network"), network, lambda line: click.echo(line, err=True),
+                       read_units(units_path(network)))
     click.echo(findings.answer)
     if findings.fault:
         click.echo(f"{network}: {findings.fault}")

@@ -1,9 +1,13 @@
 """ctm-tools plot"""
 
+from __future__ import annotations
+
+from typing import Any
+
 import click
 
 from ..report.reading import read_report
-from .reports import on_reports
+from .reports import Command, on_reports
 
 EPILOG = """\b
 Examples:
@@ -19,14 +23,14 @@ steps and cells. time-space, n-curves and queue need records."""
 
 
 @click.group(epilog=EPILOG)
-def command():
+def command() -> None:
     """Draw a report: time-space, n-curves, queue, delay or map.
 
     The picture goes where -o says, else into this folder under the report's name; its ending says the format.
     """
 
 
-def on_picture(command):
+def on_picture(command: Command) -> Command:
     """The argument and the options of each plot."""
     command = on_reports(command)
     command = click.option("-o", "--output", metavar="FILE.png|svg|pdf", type=click.Path(),
@@ -34,7 +38,18 @@ def on_picture(command):
     return click.argument("report", metavar="REPORT", type=click.Path())(command)
 
 
-def on_time(command):
+def draw(kind: str, report: str, output: str | None, units: str | None, network: str | None, **options: Any) -> None:
+    """Draws the picture of a kind into its file, and tells that file."""
+    from ..plots.figure import save, target
+    from ..plots.pictures import picture
+
+    read = read_report(report, units, network)
+    path = target(read, kind, output)
+    save(picture(read, kind, **options), path)
+    click.echo(path)
+
+
+def on_time(command: Command) -> Command:
     """The options of a part of the time."""
     command = click.option("--until", metavar="TIME", help="Draw to this time of day (or step).")(command)
     return click.option("--from", "begin", metavar="TIME", help="Draw from this time of day (or step) on.")(command)
@@ -52,12 +67,9 @@ Examples:
 @click.option("--last", metavar="CELL", help="The last cell of the chain.")
 @click.option("--line", "lines", metavar="TEXT", multiple=True, help="Draw a line as theory or observation has it, "
               "`LABEL: TIME KM, TIME KM, ..`; may be given again.")
-def time_space(report, output, units, network, begin, until, road, first, last, lines):
+def time_space(**named: Any) -> None:
     """Density over time and place along a chain of cells, in vehicles per km, with queues outlined."""
-    from ..plots import time_space as plot
-
-    click.echo(plot.draw(read_report(report, units, network), output, road, first, last, begin, until,
-                         lines))
+    draw("time-space", **named)
 
 
 @command.command("n-curves", epilog="""\b
@@ -69,11 +81,9 @@ Examples:
 @click.option("--cell", "cells", metavar="CELL", multiple=True, help="A cell; may be given again.")
 @click.option("--background", metavar="FLOW", type=float, help="Take off this flow, in vehicles/h.")
 @click.option("--shifted", is_flag=True, help="Move each curve on by the free-flow time to the last cell.")
-def n_curves(report, output, units, network, begin, until, cells, background, shifted):
+def n_curves(**named: Any) -> None:
     """Cumulative curves: all vehicles that have gone out of chosen cells, over time."""
-    from ..plots import curves as plot
-
-    click.echo(plot.draw(read_report(report, units, network), output, cells, background, shifted, begin, until))
+    draw("n-curves", **named)
 
 
 @command.command("queue", epilog="""\b
@@ -83,31 +93,25 @@ Examples:
 @on_picture
 @on_time
 @click.option("--road", "roads", metavar="ROAD", multiple=True,
-              help="A road; may be given again. Else all with queues.")
-def queue(report, output, units, network, begin, until, roads):
-    """The length of the queues and the vehicles that wait, over time."""
-    from ..plots import queue as plot
-
-    click.echo(plot.draw(read_report(report, units, network), output, roads, begin, until))
+              help="Draw the queues that stand on this road alone; may be given again.")
+def queue(**named: Any) -> None:
+    """How far the most costly queues reach back and how many vehicles wait in each, over time."""
+    draw("queue", **named)
 
 
 @command.command("delay", epilog="""\b
 Example:
   ctm-tools plot delay bottleneck.report""")
 @on_picture
-def delay(report, output, units, network):
+def delay(**named: Any) -> None:
     """The delay of each cell, as bars along the roads. It needs no records."""
-    from ..plots import delay as plot
-
-    click.echo(plot.draw(read_report(report, units, network), output))
+    draw("delay", **named)
 
 
 @command.command("map", epilog="""\b
 Example:
   ctm-tools plot map interchange.report""")
 @on_picture
-def network_map(report, output, units, network):
+def network_map(**named: Any) -> None:
     """The network drawn with its delays. It needs no records."""
-    from ..plots import network_map as plot
-
-    click.echo(plot.draw(read_report(report, units, network), output))
+    draw("map", **named)

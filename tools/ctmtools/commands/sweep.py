@@ -1,18 +1,17 @@
 """ctm-tools sweep"""
 
-from contextlib import closing
+from __future__ import annotations
+
+from collections.abc import Sequence
 from pathlib import Path
 
 import click
+import pandas
 
 from ..problem import Problem
-from ..program import program_path, takes
 from ..report.page import kilometre, table, told
-from ..study.reading import read_values
-from ..sweep.results import Results
-from ..sweep.task import Task, fingerprint, study
-from ..sweep.variations import combinations, shown, variation
-from ..sweep.workers import beside, cluster, here, processors
+from ..sweeps.sweeping import Sweep
+from ..sweeps.variations import Variation, shown, variation
 
 EPILOG = """\b
 Examples:
@@ -43,27 +42,26 @@ path that it has here."""
               help="Draw over this key, or over two; else the first two varied.")
 @click.option("--every", metavar="K", type=click.IntRange(1, 100_000), help="Record each K-th step.")
 @click.option("--rows", default=20, show_default=True, type=click.IntRange(1), help="How many rows are told.")
-def command(source, varied, jobs, address, output, over, every, rows):
+def command(source: str, varied: tuple[str, ...], jobs: int | None, address: str | None, output: str | None,
+            over: tuple[str, ...], every: int | None, rows: int) -> None:
     """Build and run a study with every combination of varied values, and tell them, the least delay first.
 
     Each row has the total delay, the longest queue and the vehicles served; a run that failed says why.
     """
     variations = [variation(text) for text in varied]
-    keys = [one.key for one in variations]
     drawn = _drawn(over, variations)
-    tasks = _tasks(source, variations, every)
     folder = Path(output or Path(source).stem + ".sweep")
-    marks = [fingerprint(task) for task in tasks]
-    results = Results(folder / "results.csv", keys, marks)
-    missing = [i for i, mark in enumerate(marks) if mark not in results.rows]
-    if len(missing) < len(tasks):
-        click.echo(f"{len(tasks) - len(missing)} of {len(tasks)} runs stand in {results.path} already")
-    _do([tasks[i] for i in missing], [marks[i] for i in missing], results, jobs, address)
-    frame = results.frame()
-    _tell(frame, keys, rows, folder, drawn, tasks[0])
+    sweep = Sweep(source, variations, every, folder)
+    done = len(sweep.tasks) - len(sweep.missing)
+    if done:
+        click.echo(f"{done} of {len(sweep.tasks)} runs stand in {sweep.results.path} already")
+    for line in sweep.warnings():
+        click.echo(line)
+    _do(sweep, jobs, address)
+    _tell(sweep, rows, folder, drawn)
 
 
-def _drawn(over, variations):
+def _drawn(over: Sequence[str], variations: Sequence[Variation]) -> list[str]:
     """The keys that the plot is over."""
     keys = [one.key for one in variations]
     for key in over:
@@ -74,40 +72,25 @@ def _drawn(over, variations):
     return list(over) or [one.key for one in variations if len(one.values) > 1][:2] or keys[:1]
 
 
-def _tasks(source, variations, every):
-    """The runs of a sweep; the study is read as it stands, so that a mistake in it ends the sweep at once."""
-    values = read_values(source)
-    program = str(program_path())
-    tasks = [Task(values, str(Path(source).resolve()), changes, program, every)
-             for changes in combinations(variations)]
-    study(Task(values, str(source), {}, program))
-    if not takes("--every"):
-        raise Problem("this ctm takes no --every, so it records nothing; build the newest")
-    return tasks
-
-
-def _do(tasks, marks, results, jobs, address):
-    """Does the tasks, and shows how many are done and how many are left."""
-    if not tasks:
+def _do(sweep: Sweep, jobs: int | None, address: str | None) -> None:
+    """Does the runs that are missing, and shows how many are done and how many are left."""
+    missing = len(sweep.missing)
+    if not missing:
         return
-    count = min(jobs or processors(), len(tasks))
-    doing = cluster(tasks, address) if address else here(tasks) if count == 1 else beside(tasks, count)
+    count = sweep.side_by_side(jobs)
     where = f"at {address}" if address else f"on {count} process{'es'[:2 * (count > 1)]}"
-    done = 0
     try:
-        with closing(doing), click.progressbar(length=len(tasks), label=f"{len(tasks)} runs {where}", show_pos=True,
-                                               show_eta=True, file=click.get_text_stream("stderr")) as bar:
-            for i, measured in doing:
-                results.put(tasks[i].changes, measured, marks[i])
-                done += 1
-                bar.update(1)
+        with click.progressbar(sweep.run(jobs, address), length=missing, label=f"{missing} runs {where}", show_pos=True,
+                               show_eta=True, file=click.get_text_stream("stderr")) as bar:
+            for _ in bar:
+                pass
     except KeyboardInterrupt:
-        raise Problem(f"stopped with {len(tasks) - done} runs left; the same call goes on with them") from None
+        raise Problem(f"stopped with {len(sweep.missing)} runs left; the same call goes on with them") from None
 
 
-def _tell(frame, keys, rows, folder, drawn, task):
+def _tell(sweep: Sweep, rows: int, folder: Path, drawn: Sequence[str]) -> None:
     """Prints the best rows, and writes the table and the plot."""
-    title = study(Task(task.values, task.path, {}, task.program)).title
+    frame, keys = sweep.results.frame(), sweep.keys
     same = frame.rounded.iloc[0] if len(frame) > 1 and frame.rounded.nunique() == 1 else ""
     lines = [(*keys, "delay (vehicle-hours)", "longest queue (km)", "most waiting", "served", "inside", "")]
     for _, row in frame.head(rows).iterrows():
@@ -128,12 +111,13 @@ def _tell(frame, keys, rows, folder, drawn, task):
         click.echo(f"{failures} of {len(frame)} runs failed; the same call tries them again")
     if failures == len(frame):
         raise Problem(f"no run of the sweep succeeded; the first: {frame.error.iloc[0]}")
+    from ..plots.figure import save
     from ..plots.sweep import draw
 
-    draw(frame, drawn, title, picture)
+    save(draw(frame, drawn, sweep.title), picture)
     click.echo(f"\n{path}, {picture}")
 
 
-def _remark(row, same):
+def _remark(row: pandas.Series, same: str) -> str:
     """What stands behind the figures of a row: why it failed, or what was rounded, where that isn't so in all rows."""
     return f"failed: {row.error}" if row.error else f"rounded: {row.rounded}" if row.rounded not in ("", same) else ""

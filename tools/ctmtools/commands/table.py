@@ -1,9 +1,14 @@
 """ctm-tools table"""
 
+from __future__ import annotations
+
 import sys
 from contextlib import nullcontext
+from typing import Any
 
 import click
+
+from ..files import reason
 
 from ..report.reading import read_report
 from ..report.states import states, totals
@@ -16,9 +21,9 @@ Examples:
   ctm-tools table bottleneck.report --separator ";" --decimal ","
 
 Columns: time, cell, occupancy (vehicles), flow (vehicles/h), density (vehicles/km), speed (km/h), step, road, from_km,
-to_km. Flow, density and speed are those from the time to the next one, and empty at the last. Where the units aren't
-known, flow is in vehicles a step, density in vehicles a cell, speed in cells a step, and time is the step.
-With --totals: cell, occupancy, come, gone (vehicles) and delay (vehicle-hours) at the end."""
+to_km, lanes. Flow, density and speed are those from the time to the next one, and empty at the last. Where the units
+aren't known, flow is in vehicles a step, density in vehicles a cell, speed in cells a step, and time is the step.
+With --totals: cell, occupancy, come, gone (vehicles), delay (vehicle-hours), road, from_km, to_km, lanes at the end."""
 
 
 @click.command(epilog=EPILOG)
@@ -29,7 +34,8 @@ With --totals: cell, occupancy, come, gone (vehicles) and delay (vehicle-hours) 
 @click.option("--separator", default=",", show_default=True, help="What stands between fields.")
 @click.option("--decimal", default=".", show_default=True, help="The decimal sign.")
 @on_reports
-def command(report, output, ends, cells, separator, decimal, units, network):
+def command(report: str, output: str | None, ends: bool, cells: tuple[str, ...], separator: str, decimal: str,
+            units: str | None, network: str | None) -> None:
     """Write a report as a tidy table with a header, for pandas, R and Excel."""
     read = read_report(report, units, network)
     frame = totals(read) if ends else states(read)
@@ -40,13 +46,19 @@ def command(report, output, ends, cells, separator, decimal, units, network):
         frame = frame[frame.cell.isin(cells)]
     if len(separator) != 1 or len(decimal) != 1 or separator == decimal:
         raise click.UsageError("the separator and the decimal sign are one character each, and differ")
+    if not ends and read.units.known:
+        frame["time"] = frame.step.map({step: read.units.clock(step, True) for step in read.times})
+    named = ", ".join(f"{column} in {unit}" for column, unit in frame.attrs["units"].items() if column != "time")
     try:
-        with open(output, "w", newline="", encoding="utf-8") if output else nullcontext(sys.stdout) as file:
+        with _file(output) as file:
             frame.to_csv(file, sep=separator, decimal=decimal, index=False, float_format="%.9g", lineterminator="\n")
     except BrokenPipeError:
         raise
     except OSError as error:
-        raise click.UsageError(f"{output}: {error.strerror.lower()}") from None
+        raise click.UsageError(f"{output}: {reason(error)}") from None
     if output:
-        named = ", ".join(f"{column} in {unit}" for column, unit in frame.attrs["units"].items() if column != "time")
         click.echo(f"{output}: {len(frame)} rows; {named}")
+
+
+def _file(output: str | None) -> Any:
+    return open(output, "w", newline="", encoding="utf-8") if output else nullcontext(sys.stdout)

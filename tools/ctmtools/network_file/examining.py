@@ -23,11 +23,11 @@ class Findings:
     warnings: list = None
 
 
-def examine(content, name, news=None, step=None):
-    """The findings on the bytes of a network file; `step` is the length of a step in seconds, where it is known."""
+def examine(content, name, news=None, units=None):
+    """The findings on the bytes of a network file; `units` are those of the network, where they are known."""
     answer = ask(("check",), content, news=news)
     if answer.status == 0:
-        return Findings(answer.out.decode().strip(), warnings=warnings_of(network_of(content, name), step))
+        return Findings(answer.out.decode().strip(), warnings=warnings_of(network_of(content, name), units))
     if answer.status != 3:
         raise Problem(f"{name}: {answer.line or f'ctm ended with status {answer.status}'}")
     records = read_records(content)

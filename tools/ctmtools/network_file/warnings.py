@@ -1,9 +1,9 @@
 """What no refusal covers, and what an engineer would still want to know of a network."""
 
 from dataclasses import dataclass
-from functools import partial
 
-from ..amounts import PARTS, parts_of
+from ..amounts import PARTS
+from .naming import Naming
 
 FAR_ABOVE = 2  # a demand is far above a gate's capacity from this many times it on
 SUPPOSED_STEP = 10  # seconds, in a warning's example where the step isn't known
@@ -19,55 +19,65 @@ class Warning:
     text: str
 
 
-def warnings_of(network, step=None):
+def warnings_of(network, units=None):
     """The warnings of a network without a fault, in the order of the file's lines within each kind.
 
-    `step` is the length of a step in seconds, where it is known.
+    They are in roads, kilometres, clock times and vehicles/h where the units of the network know these.
     """
+    naming = Naming(network, units)
     found = []
-    for check in (_dead_ends, _unreached, _gates_without_demand, partial(_high_demands, step=step), _late_demands,
-                  _twice, _overlapping, _short_of_capacity, _never_green):
-        found += sorted(check(network), key=lambda warning: warning.line)
+    for check in (_dead_ends, _unreached, _gates_without_demand, _high_demands, _late, _twice, _overlapping,
+                  _short_of_capacity, _high_limits, _never_green):
+        found += sorted(check(network, naming), key=lambda warning: warning.line)
     return found
 
 
-def shortened(warnings):
-    """The warnings as lines of text, the first few of each kind and the number of the others."""
-    lines = []
+def shortened(warnings, lines=True):
+    """The warnings as lines of text, the first few of each kind and the number of the others.
+
+    Without `lines` they don't say where in the network file they are of, as for a study.
+    """
+    told = []
     for kind in dict.fromkeys(warning.kind for warning in warnings):
         own = [warning for warning in warnings if warning.kind == kind]
-        lines += [f"line {warning.line}: {warning.text}" for warning in own[:MOST_OF_A_KIND]]
+        told += [f"line {warning.line}: {warning.text}" if lines else warning.text for warning in own[:MOST_OF_A_KIND]]
         if len(own) > MOST_OF_A_KIND:
-            lines.append(f"and {len(own) - MOST_OF_A_KIND} more: {kind}")
-    return lines
+            told.append(f"and {len(own) - MOST_OF_A_KIND} more: {kind}")
+    return told
 
 
 def _line(network, cell):
     return network.line(int(network.cells.record[cell]))
 
 
-def _dead_ends(network):
+def _dead_ends(network, naming):
     """Roads and gates that nothing leads out of."""
     names = list(network.kinds)
-    for place, (cell, kind) in enumerate(network.kinds.items()):
+    for number, (cell, kind) in enumerate(network.kinds.items()):
         if kind == "exit" or network.graph.out_degree(cell):
             continue
-        follower = _follower(network, names, place)
+        place = naming.place(cell)
+        if place:
+            yield Warning("dead ends", _line(network, cell),
+                          f"road {place['road']} at km {place['to_km']:.6g} has no way on: neither an exit nor a road, "
+                          "so what comes there stays")
+            continue
+        follower = _follower(network, names, number)
         hint = f" Is a link,{cell},{follower} forgotten?" if follower else ""
         yield Warning("dead ends", _line(network, cell),
                       f"the {kind} {cell} is a dead end: nothing leads out of it, so what comes in stays.{hint}")
 
 
-def _follower(network, names, place):
+def _follower(network, names, number):
     """The next cell in the file, where nothing leads into it: a link to it may be forgotten."""
-    if place + 1 < len(names):
-        following = names[place + 1]
+    if number + 1 < len(names):
+        following = names[number + 1]
         if network.kinds[following] != "gate" and not network.graph.in_degree(following):
             return following
     return None
 
 
-def _unreached(network):
+def _unreached(network, naming):
     """Roads and exits that no vehicle comes to; of cells that lead to each other the first alone is told."""
     demands, cells = network.demands, network.cells
     reached = set(demands.gate[(demands["amount"] > 0) & (demands["from"] < network.steps)])
@@ -84,7 +94,7 @@ def _unreached(network):
         told |= behind
         more = f", nor {len(behind) - 1} more behind it" if len(behind) > 1 else ""
         yield Warning("cells that nothing reaches", _line(network, cell),
-                      f"no vehicle ever reaches the {network.kinds[cell]} {cell}{more}: no gate leads to it")
+                      f"no vehicle ever reaches {naming.cell(cell)}{more}: no gate leads to it")
 
 
 def _spread(graph, cells, barred=frozenset()):
@@ -97,83 +107,120 @@ def _spread(graph, cells, barred=frozenset()):
                 waiting.append(down)
 
 
-def _gates_without_demand(network):
+def _gates_without_demand(network, naming):
     fed = set(network.demands.gate) | set(network.cells.index[network.cells["first"] > 0])
     for cell, kind in network.kinds.items():
         if kind == "gate" and cell not in fed:
             yield Warning("gates without demand", _line(network, cell), f"the gate {cell} has no demand: nobody comes")
 
 
-def _high_demands(network, step):
+def _high_demands(network, naming):
     """Demands far above the greatest capacity that their gates ever have."""
+    step = naming.units.step
     seconds = step or SUPPOSED_STEP
     told = f"with {'the' if step else 'a'} step of {seconds:g} s"
     most = network.cells.Q.astype(float).to_dict()
     for row in network.limits.itertuples():
         most[row.cell] = max(most[row.cell], row.Q)
-    for row in network.demands.itertuples():
-        if row.amount > FAR_ABOVE * most[row.gate]:
-            yield Warning("demands far above a gate's capacity", network.line(row.record),
-                          f"the demand of {row.amount:g} in a step is far above the gate {row.gate}'s Q of "
-                          f"{most[row.gate]:g}. A demand is vehicles in a step; {told}, {row.amount:g} vehicles/h "
-                          f"are {row.amount * seconds / 3600:.6g}.")
+    for row in network.demands[network.demands.amount > FAR_ABOVE * network.demands.gate.map(most)].itertuples():
+        if naming.of_study:
+            text = (f"the demand of gate {row.gate} from {naming.time(row[2])} on, {naming.flow(row.amount)}, is far "
+                    f"above its capacity of {naming.flow(most[row.gate])}")
+        else:
+            text = (f"the demand of {row.amount:g} in a step is far above the gate {row.gate}'s Q of "
+                    f"{most[row.gate]:g}. A demand is vehicles in a step; {told}, {row.amount:g} vehicles/h are "
+                    f"{row.amount * seconds / 3600:.6g}.")
+        yield Warning("demands far above a gate's capacity", network.line(row.record), text)
 
 
-def _late_demands(network):
+def _late(network, naming):
     for sort, frame in (("demand", network.demands), ("limit", network.limits), ("turn", network.turns)):
         for row in frame[frame["from"] >= network.steps].itertuples():
             yield Warning("ranges behind the last step", network.line(row.record),
                           f"this {sort} begins behind the last step, {network.steps - 1}, so it does nothing")
 
 
-def _twice(network):
+def _twice(network, naming):
     """Records that stand twice; only those that the program accepts twice are left: demands, limits and turns."""
     seen = {}
     for record in network.records[1:]:
         if record.fields in seen:
             does = "their amounts add up" if record.kind == "demand" else "the second does nothing"
-            yield Warning("records that stand twice", network.line(record.number),
-                          f"{','.join(record.fields)} stands in line {network.line(seen[record.fields])} too; {does}.")
+            text = f"{','.join(record.fields)} stands in line {network.line(seen[record.fields])} too; {does}."
+            if naming.of_study:
+                begin = naming.time(int(record.fields[2]))
+                text = f"two {record.kind}s of {record.fields[1]} are the same from {begin} on; {does}"
+            yield Warning("records that stand twice", network.line(record.number), text)
         else:
             seen[record.fields] = record.number
 
 
-def _overlapping(network):
-    """Demands of one gate whose ranges overlap, but for those that stand twice."""
-    for gate, own in network.demands.groupby("gate", sort=False):
-        own = own.sort_values("from", kind="stable")
-        last = None
-        for row in own.itertuples():
-            begin, end = row[2], row[3]
-            if last is not None and begin < last[1] and network.records[row.record - 1].fields != last[2]:
-                yield Warning("demands that overlap", network.line(row.record),
-                              f"the demands of {gate} overlap from step {begin} on, with line {network.line(last[0])}; "
-                              "their amounts add up")
-            if last is None or end > last[1]:
-                last = row.record, end, network.records[row.record - 1].fields
+def _overlapping(network, naming):
+    """Demands, limits and turns of one cell whose ranges overlap, but for those that stand twice."""
+    for sort, frame, does in (("demands", network.demands, "their amounts add up"),
+                              ("limits", network.limits, "the last one in the file holds there"),
+                              ("turns", network.turns, "the last one in the file holds there")):
+        for cell, begin, record, other in _overlaps(network, frame):
+            where = "" if naming.of_study else f", with line {network.line(other)}"
+            yield Warning(f"{sort} that overlap", network.line(record),
+                          f"the {sort} of {cell} overlap from {naming.time(begin)} on{where}; {does}")
 
 
-def _short_of_capacity(network):
-    """Roads whose greatest lasting flow, N·A/(A + B), is below Q."""
-    for record in network.records[1:]:
-        if record.kind != "road":
-            continue
-        cell = record.fields[1]
-        room, most = map(parts_of, record.fields[2:4])
-        a, b = map(int, record.fields[4:6])
-        lasting = room * a / (a + b)
-        if most - lasting > max(1, most // 1_000_000):
-            yield Warning("roads that can't carry Q for long", _line(network, cell),
-                          f"the road {cell} can carry N·A/(A + B) = {lasting / PARTS:.6g} vehicles a step for long, "
-                          f"which is below its Q of {most / PARTS:g}")
+def _overlaps(network, frame):
+    """Where ranges of a cell overlap: the cell, from which step, and the numbers of both records, the later first."""
+    last = None  # of the cell's ranges so far the one that reaches farthest: its cell, end, record and fields
+    for row in frame.sort_values([frame.columns[0], "from"], kind="stable").itertuples(index=False):
+        cell, begin, end, record = row[0], row[1], row[2], row[-1]
+        fields = network.records[record - 1].fields
+        same = last is not None and last[0] == cell
+        if same and begin < last[1] and fields != last[3]:
+            yield cell, begin, max(record, last[2]), min(record, last[2])
+        if not same or end > last[1]:
+            last = cell, end, record, fields
 
 
-def _never_green(network):
+def _lasting(cells):
+    """The greatest lasting flow of each road, N·A/(A + B), in vehicles a step."""
+    roads = cells[cells.kind == "road"]
+    return roads.N.astype(float) * roads.A.astype(float) / (roads.A + roads.B).astype(float)
+
+
+def _short_of_capacity(network, naming):
+    """Roads whose greatest lasting flow is below Q; of a study's road the cells that are alike together."""
+    lasting = _lasting(network.cells)
+    most = network.cells.Q[lasting.index].astype(float)
+    groups = {}
+    for cell in lasting.index[most - lasting > (most / 1_000_000).clip(lower=1 / PARTS)]:
+        place = naming.place(cell)
+        road = place["road"] if place else cell
+        groups.setdefault((road, lasting[cell], most[cell]), []).append(cell)
+    for (road, flow, capacity), cells in groups.items():
+        text = (f"the road {road} can carry N·A/(A + B) = {naming.flow(flow)} for long, which is below its Q of "
+                f"{capacity:g}")
+        if naming.place(cells[0]):
+            text = (f"{naming.cell(cells[0], cells[-1])} can carry {naming.flow(flow)} for long by its jam density and "
+                    f"its speeds, which is below its saturation flow of {naming.flow(capacity)}")
+        yield Warning("roads that can't carry Q for long", _line(network, cells[0]), text)
+
+
+def _high_limits(network, naming):
+    """Limits above what their road can carry for long."""
+    lasting = _lasting(network.cells)
+    for row in network.limits[network.limits.cell.isin(lasting.index)].itertuples():
+        if row.Q > max(lasting[row.cell] * (1 + 1e-6), network.cells.Q[row.cell]):
+            yield Warning("limits above what a road can carry for long", network.line(row.record),
+                          f"the limit of {row.cell} from {naming.time(row[2])} on, {naming.flow(row.Q)}, is above the "
+                          f"{naming.flow(lasting[row.cell])} that it can carry for long, N·A/(A + B)")
+
+
+def _never_green(network, naming):
     """Signals that are green in no step of the run."""
     for row in network.signals.itertuples(index=False):
         cell, cycle, offset, begin, end, record = row
         steps = range(min(network.steps, cycle))
         if not any(begin <= (step + offset) % cycle < end for step in steps):
+            lasts = f"{cycle} steps is longer than the run of {network.steps}"
+            if naming.of_study:
+                lasts = f"{cycle * naming.units.step:g} s is longer than the study"
             yield Warning("signals that are never green", network.line(record),
-                          f"the signal of {cell} is green in no step of the run: its cycle of {cycle} steps is longer "
-                          f"than the run of {network.steps}")
+                          f"the signal of {cell} is green in no step of the run: its cycle of {lasts}")

@@ -1,27 +1,32 @@
 """The difference of two reports as a time-space diagram: density of the second less that of the first."""
 
+from __future__ import annotations
+
+from collections.abc import Sequence
 from pathlib import Path
 
 import numpy
+from matplotlib.axes import Axes
+from matplotlib.figure import Figure
 from matplotlib.lines import Line2D
 
 from ..problem import Problem
-from ..report.queues import queues_of, standing
+from ..report.queues import queues_in, standing
+from ..report.reading import Report
 from ..report.routes import kilometres, route_of
-from .figure import RISE, drawing, figure, head, legend_below, moments, save, target, time_axis
+from .figure import RISE, beside, drawing, figure, head, legend_below, moments, time_axis
 from .roadside import draw_junctions
 from .time_space import outline
 
-MOST_OUTLINED = 12  # queues; more of them are no longer told apart
+MOST_OUTLINED = 12  # queues, each time that one comes; more of them are no longer told apart
 LOOKS = (((0, (2, 1.5)), "#555555"), ("-", "#111111"))
 
 
 @drawing
-def draw(first, second, output, road=None):
+def draw(first: Report, second: Report, road: str | None = None) -> Figure:
     """Draws the difference of densities, in vehicles per km, over the cells and steps that both have."""
     for report in (first, second):
         report.need_records()
-    path = target(second, "difference", output)
     cells = [cell for cell in route_of(second, road=road) if cell in first.cells.index]
     if not cells:
         raise Problem(f"{first.name} and {second.name} have no cell of the route in common")
@@ -42,28 +47,28 @@ def draw(first, second, output, road=None):
     axes.grid(False)
     axes.set_ylim(bounds[0], bounds[-1])
     time_axis(axes, second, 0, ends[-1])
-    axes.set_ylabel("Place, direction of travel upward (km)" if known else "Cell, direction of travel upward")
+    beside(axes, "Place, direction of travel upward (km)" if known else "Cell, direction of travel upward")
     head(axes, "Density: “{1}” less “{0}”".format(*_names(first, second)))
     bar = drawn.colorbar(mesh, ax=axes, pad=0.02)
     bar.set_label("Rise of density (vehicles/km)" if known else "Rise of density (vehicles in a cell)")
     bar.outline.set_visible(False)
     if handles:
         legend_below(drawn, handles)
-    save(drawn, path)
-    return path
+    return drawn
 
 
-def _names(first, second):
+def _names(first: Report, second: Report) -> tuple[str, str]:
     """What two reports are called: their titles, or where these are the same their files' names."""
     titles = first.title, second.title
     return titles if titles[0] != titles[1] else (Path(first.name).stem, Path(second.name).stem)
 
 
-def _outlines(axes, first, second, cells, bounds):
+def _outlines(axes: Axes, first: Report, second: Report, cells: Sequence[str],
+              bounds: Sequence[float]) -> list[Line2D]:
     """Outlines the queues of both reports, where they are few, and gives what the legend says of them."""
     handles = []
     for report, name, (dashes, shade) in zip((first, second), _names(first, second), LOOKS):
-        if report.network is None or len(queues_of(report)) > MOST_OUTLINED:
+        if report.network is None or sum(queue.spells for queue in queues_in(report)) > MOST_OUTLINED:
             continue
         if not standing(report)[cells].to_numpy().any():
             continue

@@ -1,15 +1,23 @@
 """What all pictures share: their look, readable in grey, the axis of time, and the file they go to."""
 
+from __future__ import annotations
+
+from collections.abc import Callable, Iterable, Sequence
 from functools import wraps
 from pathlib import Path
 from textwrap import wrap
+from typing import Any, ParamSpec
 
 from matplotlib import rc_context
+from matplotlib.artist import Artist
+from matplotlib.axes import Axes
+from matplotlib.backends.backend_agg import FigureCanvasAgg
 from matplotlib.colors import LinearSegmentedColormap
 from matplotlib.figure import Figure
 from matplotlib.ticker import FuncFormatter, MultipleLocator
 
 from ..problem import Problem
+from ..report.reading import Report
 from ..study.quantities import clock
 from ..units import DAY, clock_text
 
@@ -25,32 +33,47 @@ RISE = LinearSegmentedColormap.from_list("rise", ["#3f8fc9", "#9cc9e8", "#ffffff
 DOTS = 120  # an inch
 LETTERS = 115  # of a legend in a row
 LETTERS_IN_TITLE = 85  # in a line
+LETTERS_BELOW = 105  # in a line below axes
+LETTERS_BESIDE = 48  # in a line beside an axis
 SPANS = (10, 20, 30, 60, 120, 300, 600, 900, 1200, 1800, 3600, 7200, 10800, 14400, 21600, 43200, 86400)  # seconds
 ENDINGS = (".png", ".svg", ".pdf")
 
+Terms = ParamSpec("Terms")
 
-def drawing(draw):
+
+def drawing(draw: Callable[Terms, Figure]) -> Callable[Terms, Figure]:
     """Gives a function that draws the look of these pictures while it draws, and no other."""
     @wraps(draw)
-    def drawn(*terms, **named):
+    def drawn(*terms: Terms.args, **named: Terms.kwargs) -> Figure:
         with rc_context(LOOK):
             return draw(*terms, **named)
     return drawn
 
 
-def figure(rows=1, size=(8, 4.3), **named):
+def figure(rows: int = 1, size: tuple[float, float] = (8, 4.3), **named: Any) -> tuple[Figure, Any]:
     """A figure with its axes, one above the other."""
     drawn = Figure(figsize=size, dpi=DOTS)
+    FigureCanvasAgg(drawn)
     axes = drawn.subplots(rows, 1, squeeze=False, **named)[:, 0]
     return drawn, axes[0] if rows == 1 else axes
 
 
-def head(axes, text):
+def head(axes: Axes, text: str) -> None:
     """Puts a title over axes, in as many lines as it needs."""
     axes.set_title("\n".join(wrap(text, LETTERS_IN_TITLE)))
 
 
-def target(report, kind, output):
+def beside(axes: Axes, text: str) -> None:
+    """Names the upright axis, in as many lines as it needs."""
+    axes.set_ylabel("\n".join(wrap(text, LETTERS_BESIDE)))
+
+
+def note(axes: Axes, text: str) -> None:
+    """Adds to what stands below axes."""
+    axes.set_xlabel("\n".join(filter(None, [axes.get_xlabel(), *wrap(text, LETTERS_BELOW)])))
+
+
+def target(report: Report, kind: str, output: str | Path | None) -> Path:
     """Where a picture goes: where it is asked for, else the report's name with the kind of plot, in this folder."""
     path = Path(output) if output else Path(f"{Path(report.name).stem}-{kind}.png")
     if path.suffix.lower() not in ENDINGS:
@@ -58,21 +81,22 @@ def target(report, kind, output):
     return path
 
 
-def save(drawn, path):
+def save(drawn: Figure, path: Path) -> None:
     """Writes a figure to its file."""
     try:
-        drawn.savefig(path)
+        with rc_context(LOOK):
+            drawn.savefig(path)
     except OSError as error:
-        raise Problem(f"{path}: {error.strerror.lower()}") from None
+        raise Problem(f"{path}: {(error.strerror or str(error)).lower()}") from None
 
 
-def moments(report, steps):
+def moments(report: Report, steps: Iterable[float]) -> list[float]:
     """Steps as places on the axis of time: seconds after midnight where the units are known, else steps."""
     units = report.units
-    return [(units.start or 0) + step * units.step for step in steps] if units.known else list(steps)
+    return [(units.start or 0) + step * units.step for step in steps] if units.step is not None else list(steps)
 
 
-def time_axis(axes, report, begin=None, end=None):
+def time_axis(axes: Axes, report: Report, begin: float | None = None, end: float | None = None) -> None:
     """Gives axes the time from a step to another, in clock time where the units are known."""
     first, last = moments(report, [begin or 0, report.steps if end is None else end])
     axes.set_xlim(first, last)
@@ -85,20 +109,19 @@ def time_axis(axes, report, begin=None, end=None):
     axes.set_xlabel("Time of day (h:min)" if width >= 60 else "Time of day (h:min:s)")
 
 
-def span_of(report, begin, end):
+def span_of(report: Report, begin: str | None, end: str | None) -> tuple[float, float]:
     """The steps of a part of the time that is asked for by clock times, or by steps where the units aren't known."""
     first = 0 if begin is None else moment(report, begin)
     last = report.steps if end is None else moment(report, end)
     if not 0 <= first < last <= report.steps:
-        shown = report.units.clock if report.units.known else str
-        raise Problem(f"--from and --until: expected times from {shown(0)} to {shown(report.steps)}, the first before "
-                      "the last")
+        ends = [report.units.clock(step) if report.units.known else str(step) for step in (0, report.steps)]
+        raise Problem(f"--from and --until: expected times from {ends[0]} to {ends[1]}, the first before the last")
     return first, last
 
 
-def moment(report, text):
+def moment(report: Report, text: str) -> float:
     """The step of a clock time, or of a number of steps where the units aren't known."""
-    if not report.units.known:
+    if report.units.step is None:
         if not text.isdigit():
             raise Problem(f"{text}: the units aren't known, so a time is a number of steps")
         return int(text)
@@ -106,7 +129,7 @@ def moment(report, text):
     return (seconds if seconds >= 0 else seconds + DAY) / report.units.step
 
 
-def legend_below(drawn, handles):
+def legend_below(drawn: Figure, handles: Sequence[Artist]) -> None:
     """Puts a legend below the axes, in as many rows as its texts need."""
     letters = sum(len(handle.get_label()) + 8 for handle in handles)
     rows = -(-letters // LETTERS)
@@ -116,6 +139,6 @@ def legend_below(drawn, handles):
     legend.set_in_layout(False)
 
 
-def style(i):
+def style(i: int) -> dict[str, Any]:
     """The look of the i-th line: each differs from the others in shade and in dashes."""
     return {"color": SHADES[i % len(SHADES)], "linestyle": DASHES[i % len(DASHES)], "linewidth": 1.6}

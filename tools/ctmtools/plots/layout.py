@@ -1,16 +1,24 @@
 """Where the cells of a network lie on its map: by the points of the study, else drawn out from the main route."""
 
+from __future__ import annotations
+
 import math
 from collections import deque
+from collections.abc import Iterator, Sequence
 
+from ..report.reading import Report
 from ..report.routes import main_route
+
+Point = tuple[float, float]
+Line = list[Point]
+Joint = tuple[str, str]  # a sort of joint, and the cell that names it
 
 TURN = math.radians(32)  # by which a branch leaves the road that it leaves or joins
 BEND = 0.25  # of the way between two placed ends by which a road bends aside
 STUB = 0.6  # of a mean road cell: how long a gate or an exit is
 
 
-def lay_out(report):
+def lay_out(report: Report) -> dict[str, Line]:
     """For each cell the line that it is drawn as, two or more points in km (or cells), in the direction of travel."""
     return Map(report).lines
 
@@ -18,36 +26,42 @@ def lay_out(report):
 class Map:
     """The map in the making: the places of joints, which are connectors and loose ends, and the lines of cells."""
 
-    def __init__(self, report):
+    def __init__(self, report: Report) -> None:
         self.report, self.network = report, report.need_network()
         self.kinds = self.network.kinds
         lengths = [report.units.length(cell) or 1.0 for cell in self.network.cells.index if self.kinds[cell] == "road"]
         self.stub = STUB * (sum(lengths) / len(lengths) if lengths else 1.0)
-        self.places, self.lines, self.side = {}, {}, 1
+        self.places: dict[Joint, Point] = {}
+        self.lines: dict[str, Line] = {}
+        self.side = 1
         self.chains = self._chains()
         self._place_points()
+        self.given = set(self.places)  # the joints that the points of the study place
+        self._place_ends()
         self._place_chain(main_route(self.network), (0.0, 0.0), 0.0)
         self._grow()
 
-    def _length(self, cell):
+    def _length(self, cell: str) -> float:
         if self.kinds[cell] != "road":
             return self.stub
         return (self.report.units.length(cell) if self.report.units.known else None) or 1.0
 
-    def _head(self, cell):
+    def _head(self, cell: str) -> Joint:
         """The joint at a cell's upstream end: the first cell of those that its connector leads into."""
         ups = list(self.network.graph.predecessors(cell))
         return ("joint", min(self.network.graph.successors(ups[0]))) if ups else ("source", cell)
 
-    def _tail(self, cell):
+    def _tail(self, cell: str) -> Joint:
         downs = list(self.network.graph.successors(cell))
         return self._head(downs[0]) if downs else ("sink", cell)
 
-    def _chains(self):
+    def _chains(self) -> list[list[str]]:
         """The cells as chains that are joined by plain links alone."""
-        graph, chains, seen = self.network.graph, [], set()
+        graph = self.network.graph
+        chains: list[list[str]] = []
+        seen: set[str] = set()
 
-        def follows(up, down):
+        def follows(up: str, down: str) -> bool:
             return graph.out_degree(up) == 1 and graph.in_degree(down) == 1
 
         starts = [cell for cell in graph if not any(follows(up, cell) for up in graph.predecessors(cell))]
@@ -65,13 +79,25 @@ class Map:
             chains.append(chain)
         return chains
 
-    def _place_points(self):
+    def _place_points(self) -> None:
         """Roads whose points the study gives."""
         for road, points in self.report.units.points.items():
             if len(points) > 1:
-                self._along(self.report.units.roads[road], [tuple(point) for point in points])
+                self._along(self.report.units.roads[road], [(x, y) for x, y in points])
 
-    def _along(self, cells, points):
+    def _place_ends(self) -> None:
+        """Gates and exits at roads whose points are given: each in line with its road."""
+        for cell, kind in self.kinds.items():
+            beside = [*self.network.graph.successors(cell), *self.network.graph.predecessors(cell)]
+            if kind == "road" or len(beside) != 1 or beside[0] not in self.lines:
+                continue
+            line = self.lines[beside[0]]
+            if kind == "gate":
+                self._along([cell], [_beyond(line[1], line[0], self.stub), line[0]])
+            else:
+                self._along([cell], [line[-1], _beyond(line[-2], line[-1], self.stub)])
+
+    def _along(self, cells: Sequence[str], points: Sequence[Point]) -> None:
         """Lays cells along a line of points, each with its part of the length."""
         reach = [0.0]
         for one, two in zip(points, points[1:]):
@@ -86,7 +112,7 @@ class Map:
             self.places.setdefault(self._head(cell), ends[0])
             self.places.setdefault(self._tail(cell), ends[1])
 
-    def _place_chain(self, chain, start, angle):
+    def _place_chain(self, chain: Sequence[str], start: Point, angle: float) -> None:
         """Lays a chain that isn't placed yet as a straight line from a point, or from its end back."""
         chain = [cell for cell in chain if cell not in self.lines]
         x, y = start
@@ -96,14 +122,16 @@ class Map:
             x, y = self.places.setdefault(self._tail(cell), (x, y))
             self.lines[cell] = [head, (x, y)]
 
-    def _grow(self):
+    def _grow(self) -> None:
         """Places the other chains, from those that touch what is placed on."""
         waiting = deque(run for chain in self.chains for run in self._bare(chain))
         stuck = 0
         while waiting:
             chain = waiting.popleft()
             head, tail = self._head(chain[0]), self._tail(chain[-1])
-            if head in self.places and tail in self.places:
+            if head in self.given and tail in self.given and self.places[head] != self.places[tail]:
+                self._along(chain, [self.places[head], self.places[tail]])
+            elif head in self.places and tail in self.places:
                 self._bend(chain, self.places[head], self.places[tail])
             elif head in self.places:
                 self.side = -self.side
@@ -120,9 +148,9 @@ class Map:
                 continue
             stuck = 0
 
-    def _bare(self, chain):
+    def _bare(self, chain: Sequence[str]) -> Iterator[list[str]]:
         """The stretches of a chain that aren't placed yet."""
-        run = []
+        run: list[str] = []
         for cell in [*chain, None]:
             if cell is None or cell in self.lines:
                 if run:
@@ -131,27 +159,27 @@ class Map:
             else:
                 run.append(cell)
 
-    def _place_back(self, chain, end, angle):
+    def _place_back(self, chain: Sequence[str], end: Point, angle: float) -> None:
         """Lays a chain so that it ends in a point, coming from aside."""
         total = sum(map(self._length, chain))
         start = end[0] - total * math.cos(angle), end[1] + total * math.sin(angle)
         self._along(chain, [start, end])
 
-    def _bend(self, chain, start, end):
+    def _bend(self, chain: Sequence[str], start: Point, end: Point) -> None:
         """Lays a chain between two placed points, aside from the straight way between them."""
         self.side = -self.side
         width, height = end[0] - start[0], end[1] - start[1]
         way = math.hypot(width, height) or sum(map(self._length, chain)) / 2
         bend = self.side * max(BEND * way, 0.5 * math.sqrt(max(0.0, sum(map(self._length, chain)) ** 2 - way ** 2)))
         across = (-height / way, width / way) if math.hypot(width, height) else (0.0, 1.0)
-        points = [start]
+        points: Line = [start]
         for part in (0.15, 0.3, 0.5, 0.7, 0.85):
             rise = bend * math.sin(math.pi * part)
             points.append((start[0] + part * width + rise * across[0], start[1] + part * height + rise * across[1]))
         self._along(chain, [*points, end])
 
 
-def _at(points, reach, way):
+def _at(points: Sequence[Point], reach: Sequence[float], way: float) -> Point:
     """The point of a line at a way from its beginning."""
     for i in range(1, len(points)):
         if way <= reach[i] or i == len(points) - 1:
@@ -161,6 +189,12 @@ def _at(points, reach, way):
     return points[0]
 
 
-def _between(points, reach, begin, end):
+def _between(points: Sequence[Point], reach: Sequence[float], begin: float, end: float) -> Line:
     """The points of a line that lie between two ways."""
     return [point for point, way in zip(points, reach) if begin < way < end]
+
+
+def _beyond(one: Point, two: Point, way: float) -> Point:
+    """The point that lies so far beyond the second of two points, in line with them."""
+    length = math.dist(one, two) or 1.0
+    return two[0] + way * (two[0] - one[0]) / length, two[1] + way * (two[1] - one[1]) / length

@@ -1,18 +1,26 @@
 """Lines over a time-space diagram, as theory or observation has them: points of clock time and kilometre."""
 
+from __future__ import annotations
+
+from collections.abc import Sequence
+from typing import Any
+
+from matplotlib.axes import Axes
 from matplotlib.lines import Line2D
 from matplotlib.patheffects import withStroke
 
 from ..problem import Problem
+from ..report.reading import Report
 from .figure import moment, moments
 
-LOOKS = ({"linestyle": (0, (4, 2)), "color": "#0b6e8f"}, {"linestyle": (0, (1.5, 1.5)), "color": "#0b6e8f"},
-         {"linestyle": "-", "color": "#0b6e8f"})
+LOOKS: tuple[dict[str, Any], ...] = ({"linestyle": (0, (4, 2)), "color": "#0b6e8f"},
+                                     {"linestyle": (0, (1.5, 1.5)), "color": "#0b6e8f"},
+                                     {"linestyle": "-", "color": "#0b6e8f"})
 
 
-def draw_lines(axes, report, texts):
+def draw_lines(axes: Axes, report: Report, texts: Sequence[str]) -> list[Line2D]:
     """Draws each line that a text spells as `LABEL: TIME KM, TIME KM, ..`, and gives what the legend says of them."""
-    handles = []
+    handles: list[Line2D] = []
     for i, text in enumerate(texts):
         label, points = _points(report, text)
         edge = [withStroke(linewidth=3.4, foreground="white")]
@@ -23,7 +31,7 @@ def draw_lines(axes, report, texts):
     return handles
 
 
-def _points(report, text):
+def _points(report: Report, text: str) -> tuple[str, list[tuple[float, float]]]:
     """The label of a line and its points, each a step and a kilometre (or a number of cells)."""
     label, sign, rest = text.partition(": ")
     points = []

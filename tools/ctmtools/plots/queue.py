@@ -1,79 +1,81 @@
-"""The length of the queues over time, and the vehicles that wait."""
+"""How far queues reach back over time, and the vehicles that wait in them: the figures of the page."""
+
+from __future__ import annotations
+
+from collections.abc import Iterator, Sequence
+from typing import Any
 
 import numpy
+import pandas
+from matplotlib.axes import Axes
+from matplotlib.figure import Figure
 
-from ..problem import Problem
-from ..report.queues import SLOW, lengths, standing, waiting
-from ..report.routes import main_route
-from .figure import drawing, figure, head, moments, save, span_of, style, target, time_axis
+from ..report.page import length, told, where
+from ..report.queues import SLOW, Queue, course, cycle_of, is_short, queues_in
+from ..report.reading import Report
+from ..report.routes import road_of
+from .figure import drawing, figure, head, moments, note, span_of, style, time_axis
 
 MOST_LINES = 5
 
 
 @drawing
-def draw(report, output=None, roads=(), begin=None, until=None):
-    """Draws for each road the km that stand in queues and the vehicles that wait; gives the path of the picture."""
+def draw(report: Report, roads: Sequence[str] = (), begin: str | None = None, until: str | None = None) -> Figure:
+    """Draws for each of the most costly queues how far it reaches back from where it began, and who wait in it."""
     report.need_records()
     report.need_network()
-    path = target(report, "queue", output)
     first, last = span_of(report, begin, until)
-    groups = _groups(report, roads)
-    drawn, axes = figure(2, size=(8, 5.2), sharex=True)
-    upper, lower = axes
-    times = moments(report, report.times)
-    line = 0
-    for name, cells, has_length in groups:
-        look = style(line)
-        line += 1
-        if has_length:
-            _stairs(upper, times, lengths(report, cells), look)
-        _stairs(lower, times, waiting(report, cells), {**look, "label": name})
-    upper.set_ylabel("Length of queues (km)" if report.units.known else "Length of queues (cells)")
+    queues, rest = _chosen(report, roads)
+    drawn, (upper, lower) = figure(2, size=(8, 5.4), sharex=True)
+    for i, queue in enumerate(queues):
+        run, look = _by_cycle(report, queue), style(i)
+        if queue.reach:
+            _stairs(report, upper, run.reach, look)
+        _stairs(report, lower, run.waiting, {**look, "label": f"from {where(report, queue.origin)}"})
+    upper.set_ylabel(f"Reach back ({'km' if report.units.known else 'cells'})")
     lower.set_ylabel("Vehicles that wait")
     head(upper, f"{report.title}: queues")
-    for one in (upper, lower):
-        one.set_ylim(bottom=0)
-    if line > 1:
+    for axes in (upper, lower):
+        axes.set_ylim(bottom=0)
+    if queues:
         lower.legend(loc="best")
-    upper.annotate(f"in whole cells, slower than {SLOW:.0%} of free flow", (1, 1.01), xycoords="axes fraction",
-                   ha="right", va="bottom", fontsize=8)
     time_axis(lower, report, first, last)
-    save(drawn, path)
-    return path
+    for line in _notes(report, queues, rest):
+        note(lower, line)
+    return drawn
 
 
-def _stairs(axes, times, values, look):
-    """Draws values that hold from each time to the next, but not where they stay at zero."""
-    values = numpy.asarray(values, dtype=float)
-    values = numpy.append(values, values[-1])
-    here = values > 1e-6
+def _chosen(report: Report, roads: Sequence[str]) -> tuple[list[Queue], list[Queue]]:
+    """The queues to draw, the most costly of all or of those that stand on some roads, and the others.
+
+    Short ones are drawn only where there are no longer ones.
+    """
+    cells = {cell for road in roads for cell in road_of(report, road)}
+    found = [queue for queue in queues_in(report) if not roads or cells & queue.spans.keys()]
+    long = [queue for queue in found if not is_short(report, queue)]
+    drawn = (long or found)[:MOST_LINES]
+    return drawn, [queue for queue in found if all(queue is not other for other in drawn)]
+
+
+def _by_cycle(report: Report, queue: Queue) -> pandas.DataFrame:
+    """The course of a queue; of one that comes with the cycles of a signal the most in each of them."""
+    run = course(report, queue)
+    return run if queue.spells == 1 else run.groupby(run.index // cycle_of(report, queue.origin)).transform("max")
+
+
+def _stairs(report: Report, axes: Axes, values: pandas.Series, look: dict[str, Any]) -> None:
+    """Draws values that hold from each recorded step to the next, but not where they stay at zero."""
+    known = numpy.append(values.to_numpy(), values.iloc[-1])
+    here = known > 1e-6
     near = here | numpy.append(here[1:], False) | numpy.insert(here[:-1], 0, False)
-    axes.plot(times, numpy.where(near, values, numpy.nan), drawstyle="steps-post", **look)
+    axes.plot(moments(report, report.times), numpy.where(near, known, numpy.nan), drawstyle="steps-post", **look)
 
 
-def _groups(report, roads):
-    """What gets a line: a name, its cells, and whether they have a length. Gates where vehicles wait come last."""
-    units, kinds = report.units, report.network.kinds
-    for road in roads:
-        if road not in units.roads:
-            raise Problem(f"{report.name}: the units name no road {road}; they name {', '.join(units.roads) or 'none'}")
-    stands = standing(report).any()
-    if units.roads:
-        chosen = list(roads) or [road for road, cells in units.roads.items() if stands[cells].any()]
-        groups = [(f"road {road}", units.roads[road], True) for road in chosen]
-    else:
-        route = [cell for cell in main_route(report.network) if kinds[cell] == "road"]
-        groups = [(f"{route[0]} to {route[-1]}", route, True)]
-        own = set(route)
-        rest = [cell for cell in report.cells.index if kinds[cell] == "road" and cell not in own]
-        if stands[rest].any():
-            groups.append(("all other roads", rest, True))
-    if not roads:
-        gates = [cell for cell in report.cells.index if kinds[cell] == "gate" and stands[cell]]
-        groups += [(f"gate {gate}", [gate], False) for gate in gates]
-    groups = groups or [(f"road {road}", cells, True) for road, cells in list(units.roads.items())[:1]]
-    if len(groups) > MOST_LINES:
-        groups = sorted(groups, key=lambda group: -waiting(report, group[1]).sum())
-        rest = [cell for _, cells, _ in groups[MOST_LINES - 1:] for cell in cells if kinds[cell] == "road"]
-        groups = groups[:MOST_LINES - 1] + [(f"{len(groups) - MOST_LINES + 1} others", rest, True)]
-    return groups
+def _notes(report: Report, queues: list[Queue], rest: list[Queue]) -> Iterator[str]:
+    """What stands below the axes: how queues are seen, and what isn't drawn."""
+    cycles = ", the most in each cycle of a signal" if any(queue.spells > 1 for queue in queues) else ""
+    yield f"Reach in whole cells, slower than {SLOW:.0%} of free flow{cycles}"
+    if rest:
+        far = max(rest, key=lambda queue: queue.reach)
+        yield (f"Not drawn: {len(rest)} more, the longest {length(report, far.reach)} from {where(report, far.origin)}; "
+               f"{told(report.units.hours(sum(queue.delay for queue in rest)))} {report.units.delay_unit} in all")

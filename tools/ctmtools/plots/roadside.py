@@ -1,17 +1,26 @@
 """What stands beside a route and along it: junctions, signals and limits, as marks on a time-space diagram."""
 
+from __future__ import annotations
+
+from collections.abc import Iterator, Sequence
+
+import pandas
+from matplotlib.axes import Axes
+from matplotlib.collections import LineCollection
 from matplotlib.patches import Rectangle
 
-from .figure import moments
+from ..report.reading import Report
+from .figure import moments, note
 
-MOST_RED = 400  # red phases are drawn up to so many
+LEAST_APART = 0.035  # of the height of a diagram between two names beside it
+RED = "#c00000"
 
 
-def junctions(report, cells):
+def junctions(report: Report, cells: Sequence[str]) -> list[tuple[int, str]]:
     """The places of a route where another road joins or leaves: the index of the cell behind it, and what it says."""
-    network = report.network
+    network = report.need_network()
     own = set(cells)
-    marks = []
+    marks: list[tuple[int, str]] = []
     for i in range(1, len(cells)):
         up, down = cells[i - 1], cells[i]
         for other in network.graph.predecessors(down):
@@ -26,58 +35,59 @@ def junctions(report, cells):
     return marks
 
 
-def _road(report, cell):
+def _road(report: Report, cell: str) -> str:
     return report.units.cells.get(cell, {}).get("road", cell)
 
 
-def draw_junctions(axes, report, cells, bounds):
-    """Writes the junctions beside the right edge of a diagram."""
-    named = {}
+def draw_junctions(axes: Axes, report: Report, cells: Sequence[str], bounds: Sequence[float]) -> None:
+    """Marks the junctions of a diagram, and writes what they are beside its right edge where there is room."""
+    named: dict[float, list[str]] = {}
     for i, text in junctions(report, cells):
         named.setdefault(bounds[i], []).append(text)
     height = bounds[-1] - bounds[0]
-    last = None
+    last, left_out = -height, 0
     for place, texts in sorted(named.items()):
         axes.axhline(place, color="#555555", linewidth=0.6, linestyle=(0, (4, 3)))
-        if last is None or place - last > 0.035 * height:
-            axes.annotate(", ".join(texts), (1, place), xycoords=("axes fraction", "data"), xytext=(4, 0),
-                          textcoords="offset points", va="center", fontsize=8, annotation_clip=False)
-            last = place
+        if place - last < LEAST_APART * height:
+            left_out += 1
+            continue
+        axes.annotate(", ".join(texts), (1, place), xycoords=("axes fraction", "data"), xytext=(4, 0),
+                      textcoords="offset points", va="center", fontsize=8, annotation_clip=False)
+        last = place
+    if left_out:
+        note(axes, f"{left_out} {'junctions' if left_out > 1 else 'junction'} beside others not named")
 
 
-def draw_signals(axes, report, cells, bounds, begin, end):
+def draw_signals(axes: Axes, report: Report, cells: Sequence[str], bounds: Sequence[float], begin: float,
+                 end: float) -> bool:
     """Draws the red phases of the signals of a route at their stop lines. Returns whether there are any."""
-    signals = report.network.signals.set_index("cell")
-    places = [i for i, cell in enumerate(cells) if cell in signals.index]
-    drawn = 0
-    for i in places:
-        row = signals.loc[cells[i]]
-        for first, last in _reds(row, begin, end):
-            drawn += 1
-            if drawn > MOST_RED:
-                return True
-            axes.plot(moments(report, [first, last]), [bounds[i + 1]] * 2, color="#c00000", linewidth=2.2,
-                      solid_capstyle="butt")
-    return bool(drawn)
+    signals = report.need_network().signals.set_index("cell")
+    lines = []
+    for i, cell in enumerate(cells):
+        if cell in signals.index:
+            lines += [[(moment, bounds[i + 1]) for moment in moments(report, span)]
+                      for span in _reds(signals.loc[cell], begin, end)]
+    axes.add_collection(LineCollection(lines, colors=RED, linewidths=2.2, capstyle="butt"))
+    return bool(lines)
 
 
-def _reds(row, begin, end):
+def _reds(row: pandas.Series, begin: float, end: float) -> Iterator[tuple[float, float]]:
     """The spans of steps within a range in which a signal is red."""
     cycle, offset, green_from, green_to = (int(row[name]) for name in ("cycle", "offset", "from", "to"))
     start = (int(begin) // cycle - 1) * cycle - offset
     while start < end:
-        for first, last in ((start, start + green_from), (start + green_to, start + cycle)):
-            first, last = max(first, begin), min(last, end)
+        for red_from, red_to in ((start, start + green_from), (start + green_to, start + cycle)):
+            first, last = max(red_from, begin), min(red_to, end)
             if first < last:
                 yield first, last
         start += cycle
 
 
-def draw_limits(axes, report, cells, bounds):
+def draw_limits(axes: Axes, report: Report, cells: Sequence[str], bounds: Sequence[float]) -> bool:
     """Outlines where and when limits take capacity from a route's cells. Returns whether there are any."""
-    limits = report.network.limits
-    capacity = report.network.cells.Q
-    spans = {}
+    limits = report.need_network().limits
+    capacity = report.need_network().cells.Q
+    spans: dict[tuple[int, int], list[int]] = {}
     for row in limits[limits.cell.isin(cells)].itertuples(index=False):
         cell, begin, end, most, _ = row
         if most < capacity[cell] and begin < report.steps:
@@ -90,15 +100,8 @@ def draw_limits(axes, report, cells, bounds):
     return bool(spans)
 
 
-def _stretches(places):
+def _stretches(places: Sequence[int]) -> Iterator[tuple[int, int]]:
     """Rising numbers as stretches without gaps."""
-    first = last = None
-    for place in places:
-        if last is not None and place == last + 1:
-            last = place
-            continue
-        if last is not None:
-            yield first, last
-        first = last = place
-    if last is not None:
-        yield first, last
+    begins = [place for i, place in enumerate(places) if i == 0 or place > places[i - 1] + 1]
+    ends = [place for i, place in enumerate(places) if i == len(places) - 1 or place < places[i + 1] - 1]
+    yield from zip(begins, ends)

@@ -1,9 +1,14 @@
 """The results of a sweep over one or two of the varied values."""
 
+from __future__ import annotations
+
+from collections.abc import Sequence
+
 import numpy
 import pandas
+from matplotlib.figure import Figure
 
-from .figure import DENSITY, drawing, figure, head, save, style
+from .figure import DENSITY, beside, drawing, figure, head, style
 
 UNITS = {"offset": "s", "first_green": "s", "cycle": "s", "green": "s", "step": "s", "length": "km", "from": "km",
          "to": "km", "at": "km",
@@ -13,7 +18,7 @@ NAMES = {"delay_vehicle_hours": "Delay (vehicle-hours)", "longest_queue_km": "Lo
 
 
 @drawing
-def draw(frame, keys, title, path):
+def draw(frame: pandas.DataFrame, keys: Sequence[str], title: str) -> Figure:
     """Draws a frame of results over one or two keys; of the others the value with the least delay is taken."""
     frame = frame[frame.error == ""].copy()
     for key in keys:
@@ -21,14 +26,13 @@ def draw(frame, keys, title, path):
         if numbers.notna().all():
             frame[key] = numbers
     frame = frame.sort_values("delay_vehicle_hours").drop_duplicates(keys)
-    drawn = _lines(frame, keys[0], title) if len(keys) == 1 else _shades(frame, keys, title)
-    save(drawn, path)
+    return _lines(frame, keys[0], title) if len(keys) == 1 else _shades(frame, keys, title)
 
 
-def _lines(frame, key, title):
+def _lines(frame: pandas.DataFrame, key: str, title: str) -> Figure:
     frame = frame.sort_values(key)
     drawn, axes = figure(2, size=(8, 5), sharex=True)
-    for i, (one, name) in enumerate(zip(axes, NAMES)):
+    for one, name in zip(axes, NAMES):
         one.plot(frame[key].astype(str) if frame[key].dtype == object else frame[key], frame[name], marker="o",
                  markersize=4, **style(0))
         one.set_ylabel(NAMES[name])
@@ -38,7 +42,7 @@ def _lines(frame, key, title):
     return drawn
 
 
-def _shades(frame, keys, title):
+def _shades(frame: pandas.DataFrame, keys: Sequence[str], title: str) -> Figure:
     down, across = keys
     table = frame.pivot(index=down, columns=across, values="delay_vehicle_hours")
     drawn, axes = figure(size=(8, max(3.0, 1.8 + 0.36 * len(table))))
@@ -54,7 +58,7 @@ def _shades(frame, keys, title):
     axes.set_yticks(range(len(table.index)), [_short(value) for value in table.index])
     axes.grid(False)
     axes.set_xlabel(_axis(across))
-    axes.set_ylabel(_axis(down))
+    beside(axes, _axis(down))
     head(axes, f"{title}: delay over {down} and {across}")
     bar = drawn.colorbar(mesh, ax=axes, pad=0.02)
     bar.set_label(NAMES["delay_vehicle_hours"])
@@ -62,11 +66,11 @@ def _shades(frame, keys, title):
     return drawn
 
 
-def _short(value):
+def _short(value: object) -> str:
     return f"{value:g}" if isinstance(value, (int, float)) else str(value)
 
 
-def _axis(key):
+def _axis(key: str) -> str:
     """A key as its axis says it."""
     unit = "factor" if key.split(".")[0] == "demand" else UNITS.get(key.split(".")[-1])
     return f"{key} ({unit})" if unit else key

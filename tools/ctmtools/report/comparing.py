@@ -1,9 +1,13 @@
 """Two reports side by side: delay and served vehicles, in all and cell by cell."""
 
+from __future__ import annotations
+
 import pandas
 
+from .reading import Report
 
-def compare(first, second):
+
+def compare(first: Report, second: Report) -> pandas.DataFrame:
     """A row for each cell of both reports: delay and gone of each and their rise, the greatest changes of delay first.
 
     Delay is in vehicle-hours where both steps are known, else in vehicle-steps; gone is in vehicles, for an exit what
@@ -24,12 +28,12 @@ def compare(first, second):
     return frame
 
 
-def _served(report):
+def _served(report: Report) -> pandas.Series:
     """The vehicles that have gone out of each cell; of one that nothing leaves, as an exit, those that came."""
     return report.cells.gone.where(report.cells.gone > 0, report.cells.come)
 
 
-def totals(first, second):
+def totals(first: Report, second: Report) -> pandas.DataFrame:
     """Vehicles that came, were served and are still inside, and the delay, of both reports, and the rise."""
     known = first.units.known and second.units.known
     rows = {}

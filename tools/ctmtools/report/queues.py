@@ -1,12 +1,26 @@
 """The queues of a report: where each began, how far it reached and when, when it cleared, what it cost."""
 
+from __future__ import annotations
+
+from collections.abc import Iterator, Mapping
 from dataclasses import dataclass, field
+from itertools import pairwise
 
 import networkx
 import numpy
+import pandas
+
+from .reading import Report
 
 SLOW = 0.8  # a cell is in a queue where its traffic moves slower than this part of the free-flow speed
 LEAST = 0.1  # vehicles; a cell that holds less is empty
+CYCLES = 2  # of a signal; a queue that comes back within so many of them is the same queue
+SHORT = 120  # seconds; a queue that has cleared within them is a short one
+SHORT_STEPS = 12  # the same where the length of a step isn't known
+
+Span = tuple[int, int]  # the numbers of recorded steps [from, to)
+Spans = Mapping[str, list[Span]]  # when each cell of a queue stood in it
+Node = tuple[str, int]  # a cell and the number of one of its spans
 
 
 @dataclass(frozen=True)
@@ -24,50 +38,29 @@ class Queue:
 
     `start`, `end` and `reached` are steps; `end` is None where the queue still stands at the last step. `reach` is in
     km where lengths are known, else in cells; gates count nothing. `delay` is in vehicle-steps, `most` in vehicles.
+    `spells` tells how often it came, as at a signal in each cycle.
     """
 
     origin: str
     start: int
-    end: int
+    end: int | None
     farthest: str
     reach: float
     reached: int
     delay: float
     most: float
     most_at: int
-    others: list = field(default_factory=list)
+    spells: int
+    spans: Spans = field(repr=False)
+    others: list[Origin] = field(default_factory=list)
 
     @property
-    def longest_reach(self):
+    def longest_reach(self) -> float:
         """The farthest that it, or a part that began elsewhere and joined it, reached back, in the unit of `reach`."""
         return max([self.reach, *(other.reach for other in self.others)])
 
 
-@dataclass
-class Place:
-    """The queues that began at one cell, as at a signal in each cycle."""
-
-    origin: str
-    queues: list
-
-    @property
-    def longest(self):
-        """The queue that reached farthest."""
-        return max(self.queues, key=lambda queue: (queue.reach, queue.most))
-
-    @property
-    def delay(self):
-        """The delay of all of them in vehicle-steps."""
-        return sum(queue.delay for queue in self.queues)
-
-    @property
-    def end(self):
-        """The step at which the last of them cleared, or None where one still stands."""
-        ends = [queue.end for queue in self.queues]
-        return None if None in ends else max(ends)
-
-
-def standing(report):
+def standing(report: Report) -> pandas.DataFrame:
     """Whether each cell stands in a queue, from each recorded step to the next: a frame of truth values.
 
     A cell that has waited for less than one such step makes it never did, though means over several steps may look so
@@ -81,40 +74,73 @@ def standing(report):
     return frame
 
 
-def queues_of(report):
+def queues_in(report: Report) -> list[Queue]:
     """The queues of a report, the most costly first."""
     stands = standing(report)
-    times = report.times
     runs = {cell: _runs(stands[cell].to_numpy()) for cell in stands.columns[stands.any().to_numpy()]}
-    graph = report.network.graph
+    graph = report.need_network().graph
     joined = networkx.Graph()
     joined.add_nodes_from((cell, i) for cell, spans in runs.items() for i in range(len(spans)))
     for up, down in graph.edges:
         if up in runs and down in runs:
             joined.add_edges_from(((up, i), (down, j)) for i, j in _touching(runs[up], runs[down]))
-    waits = (report.held - report.flow).to_numpy().clip(0) * numpy.diff(times)[:, None]
+    spells = _join_returning(report, joined, runs)
+    waits = _waits(report)
     places = {cell: i for i, cell in enumerate(stands.columns)}
-    found = [_queue(report, sorted(nodes, key=lambda node: (places[node[0]], node[1])), runs, waits, places)
-             for nodes in networkx.connected_components(joined)]
+    found = []
+    for nodes in networkx.connected_components(joined):
+        spans = _spans(sorted(nodes, key=lambda node: (places[node[0]], node[1])), runs)
+        found.append(_queue(report, spans, waits, sum(spells[node] for node in nodes)))
     return sorted(found, key=lambda queue: -queue.delay)
 
 
-def places_of(queues):
-    """The queues gathered by the cells where they began, the most costly place first."""
-    gathered = {}
-    for queue in queues:
-        gathered.setdefault(queue.origin, []).append(queue)
-    places = [Place(origin, sorted(found, key=lambda queue: queue.start)) for origin, found in gathered.items()]
-    return sorted(places, key=lambda place: -place.delay)
+def is_short(report: Report, queue: Queue) -> bool:
+    """Whether a queue has cleared so soon that it is one of many at junctions and of little account."""
+    if queue.end is None:
+        return False
+    lasting = queue.end - queue.start
+    return lasting * report.units.step < SHORT if report.units.step is not None else lasting < SHORT_STEPS
 
 
-def _runs(flags):
-    """The spans [from, to) over which the flags are true."""
+def cycle_of(report: Report, cell: str) -> int:
+    """The cycle of a cell's signal in steps, 0 in a network without signals.
+
+    Where the cell has no signal, traffic comes to it as others let it go, so the longest cycle of them is given.
+    """
+    signals = report.need_network().signals
+    own = signals.cycle[signals.cell == cell]
+    return int((own if len(own) else signals.cycle).max()) if len(signals) else 0
+
+
+def course(report: Report, queue: Queue) -> pandas.DataFrame:
+    """How far a queue reaches back from its origin and how many vehicles wait in it, from each recorded step on.
+
+    `reach` is in the unit of the queue's, `waiting` in vehicles.
+    """
+    times = report.times[:-1]
+    reach, waiting = numpy.zeros(len(times)), numpy.zeros(len(times))
+    ways, waits = _ways(report, queue.origin, queue.spans), _waits(report)
+    for cell, spans in queue.spans.items():
+        waits_here = waits[cell].to_numpy()
+        for begin, end in spans:
+            waiting[begin:end] += waits_here[begin:end]
+            if cell in ways and report.need_network().kinds[cell] == "road":
+                reach[begin:end] = numpy.maximum(reach[begin:end], ways[cell])
+    return pandas.DataFrame({"reach": reach, "waiting": waiting}, index=times)
+
+
+def _waits(report: Report) -> pandas.DataFrame:
+    """The vehicles of each cell that wait from each recorded step to the next."""
+    return (report.held - report.flow).clip(lower=0)
+
+
+def _runs(flags: numpy.ndarray) -> list[Span]:
+    """The spans over which the flags are true."""
     edges = numpy.diff(numpy.concatenate([[0], flags.astype(int), [0]]))
-    return list(zip(numpy.flatnonzero(edges == 1), numpy.flatnonzero(edges == -1)))
+    return [(int(begin), int(end)) for begin, end in zip(numpy.flatnonzero(edges == 1), numpy.flatnonzero(edges == -1))]
 
 
-def _touching(one, two):
+def _touching(one: list[Span], two: list[Span]) -> Iterator[tuple[int, int]]:
     """The pairs of spans of two lists that overlap or meet."""
     j = 0
     for i, (begin, end) in enumerate(one):
@@ -126,32 +152,60 @@ def _touching(one, two):
             k += 1
 
 
-def _queue(report, nodes, runs, waits, places):
-    """The queue of the spans of cells that hang together."""
-    graph, times, units = report.network.graph, report.times, report.units
-    spans = {}
+def _spans(nodes: list[Node], runs: Spans) -> dict[str, list[Span]]:
+    spans: dict[str, list[Span]] = {}
     for cell, i in nodes:
         spans.setdefault(cell, []).append(runs[cell][i])
-    origins = _origins(spans, graph)
-    begin, origin = origins[0]
+    return spans
+
+
+def _join_returning(report: Report, joined: networkx.Graph, runs: Spans) -> dict[Node, int]:
+    """Joins the queues that began at one cell and came back within two cycles.
+
+    Gives for each node 1 where it stands for a queue as it was before, and else 0.
+    """
+    graph, times = report.need_network().graph, report.times
+    spells = dict.fromkeys(joined, 0)
+    came: dict[str, list[tuple[int, int, Node]]] = {}
+    for nodes in list(networkx.connected_components(joined)):
+        spans = _spans(sorted(nodes), runs)
+        begin, origin = _origins(spans, graph)[0]
+        first = min(nodes)
+        spells[first] = 1
+        came.setdefault(origin, []).append((begin, _end(spans), first))
+    for origin, own in came.items():
+        pause = CYCLES * cycle_of(report, origin)
+        for (_, end, one), (begin, _, two) in pairwise(sorted(own)):
+            if pause and times[begin] - times[end] <= pause:
+                joined.add_edge(one, two)
+    return spells
+
+
+def _end(spans: Spans) -> int:
+    return max(span[1] for own in spans.values() for span in own)
+
+
+def _queue(report: Report, spans: Spans, waits: pandas.DataFrame, spells: int) -> Queue:
+    """The queue of the spans of cells that hang together."""
+    times = report.times
+    origins = _origins(spans, report.need_network().graph)
+    (begin, origin), end = origins[0], _end(spans)
     farthest, reach = _reach(report, origin, spans)
-    end = max(span[1] for cell in spans.values() for span in cell)
-    span = waits[begin:end, [places[cell] for cell in spans]].copy()
-    for column, cell in enumerate(spans):
-        outside = numpy.ones(end - begin, dtype=bool)
-        for first, last in spans[cell]:
-            outside[first - begin:last - begin] = False
-        span[outside, column] = 0
-    sums = span.sum(axis=1) / numpy.diff(times)[begin:end]
+    sums = numpy.zeros(end - begin)
+    for cell, own in spans.items():
+        waits_here = waits[cell].to_numpy()
+        for first, last in own:
+            sums[first - begin:last - begin] += waits_here[first:last]
     most = int(sums.argmax())
     return Queue(origin, int(times[begin]), None if end == len(times) - 1 else int(times[end]), farthest, reach,
-                 int(times[spans[farthest][0][0]]), float(span.sum()), float(sums[most]), int(times[begin + most]),
+                 int(times[spans[farthest][0][0]]), float((sums * numpy.diff(times)[begin:end]).sum()),
+                 float(sums[most]), int(times[begin + most]), spells, spans,
                  [Origin(cell, int(times[first]), _reach(report, cell, spans)[1]) for first, cell in origins[1:]])
 
 
-def _origins(spans, graph):
+def _origins(spans: Spans, graph: networkx.DiGraph) -> list[tuple[int, str]]:
     """The cells where a part of the queue began by itself, and when: no cell behind it stood in the queue then."""
-    firsts = {}
+    firsts: dict[str, int] = {}
     for cell, own in spans.items():
         for begin, _ in own:
             behind = any(first <= begin <= last
@@ -164,16 +218,15 @@ def _origins(spans, graph):
     return sorted((begin, cell) for cell, begin in firsts.items())
 
 
-def _reach(report, origin, spans):
-    """The cell of the queue that lies farthest upstream of its origin, and the way to that cell's upstream end."""
-    units, graph = report.units, report.network.graph
-    kinds = report.network.kinds
+def _ways(report: Report, origin: str, spans: Spans) -> dict[str, float]:
+    """For each cell of the queue upstream of its origin the way from there to the cell's upstream end."""
+    units, graph = report.units, report.need_network().graph
+    kinds = report.need_network().kinds
 
-    def length(cell):
+    def length(cell: str) -> float:
         if kinds[cell] != "road":
             return 0.0
-        known = units.length(cell) if units.known else 1.0
-        return known or 0.0
+        return (units.length(cell) if units.known else 1.0) or 0.0
 
     ways, waiting = {origin: length(origin)}, [origin]
     while waiting:
@@ -182,20 +235,11 @@ def _reach(report, origin, spans):
             if up in spans and up not in ways:
                 ways[up] = ways[cell] + length(up)
                 waiting.append(up)
-    farthest = max((cell for cell in ways if kinds[cell] == "road"), key=ways.get, default=origin)
+    return ways
+
+
+def _reach(report: Report, origin: str, spans: Spans) -> tuple[str, float]:
+    """The cell of the queue that lies farthest upstream of its origin, and the way to that cell's upstream end."""
+    ways, kinds = _ways(report, origin, spans), report.need_network().kinds
+    farthest = max((cell for cell in ways if kinds[cell] == "road"), key=lambda cell: ways[cell], default=origin)
     return farthest, ways[farthest]
-
-
-def lengths(report, cells):
-    """How much of a chain of cells stands in queues from each recorded step to the next.
-
-    A series in km where the lengths are known, else in cells.
-    """
-    units = report.units
-    weights = [units.length(cell) if units.known else 1.0 for cell in cells]
-    return standing(report)[cells].mul([weight or 0.0 for weight in weights], axis=1).sum(axis=1)
-
-
-def waiting(report, cells):
-    """The vehicles that wait in some cells from each recorded step to the next: a series."""
-    return (report.held[cells] - report.flow[cells]).clip(lower=0).sum(axis=1)

@@ -1,6 +1,9 @@
 """The text of a report, as data frames in the program's own units: vehicles and steps."""
 
+from __future__ import annotations
+
 import io
+from collections.abc import Sequence
 from dataclasses import dataclass, field
 from functools import cached_property
 from pathlib import Path
@@ -30,28 +33,28 @@ class Report:
     occupancy: pandas.DataFrame
     departed: pandas.DataFrame
     units: Units = field(default_factory=Units)
-    network: Network = None
+    network: Network | None = None
     name: str = ""
 
     @property
-    def recorded(self):
+    def recorded(self) -> bool:
         """Whether the report has records, which a run with --every gives."""
         return len(self.times) > 1
 
     @property
-    def title(self):
+    def title(self) -> str:
         """The title of the study, or the name of the file."""
         return self.units.title or Path(self.name).stem
 
     @cached_property
-    def flow(self):
+    def flow(self) -> pandas.DataFrame:
         """Vehicles a step that leave each cell between a recorded step and the next, indexed by the first of both."""
         gone = self.departed.to_numpy()
         return pandas.DataFrame(numpy.diff(gone, axis=0) / numpy.diff(self.times)[:, None],
                                 index=self.times[:-1], columns=self.departed.columns)
 
     @cached_property
-    def held(self):
+    def held(self) -> pandas.DataFrame:
         """Vehicles that each cell holds between a recorded step and the next, indexed as `flow`.
 
         Where each step is recorded this is what the cell holds at the step; else the mean of both ends.
@@ -61,19 +64,19 @@ class Report:
         mean = numpy.where(each[:, None], n[:-1], (n[:-1] + n[1:]) / 2)
         return pandas.DataFrame(mean, index=self.times[:-1], columns=self.occupancy.columns)
 
-    def need_records(self):
+    def need_records(self) -> None:
         """The problem of a report without records, where there are none."""
         if not self.recorded:
             raise Problem(f"{self.name}: the report has no records; `ctm-tools run` and `ctm run --every K` write them")
 
-    def need_network(self):
+    def need_network(self) -> Network:
         """The network, or the problem that it isn't known."""
         if self.network is None:
             raise Problem(f"{self.name}: the network of this report isn't known; name its file with --network")
         return self.network
 
 
-def read_report(path, units=None, network=None):
+def read_report(path: str | Path, units: str | Path | None = None, network: str | Path | None = None) -> Report:
     """The report in a file, in vehicles and steps, with the units that stand beside it and the network they name.
 
     `units` and `network` are paths that are taken in place of these. A network is also found beside the report, under
@@ -87,16 +90,16 @@ def read_report(path, units=None, network=None):
     report.units = read_units(units_file)
     report.network = _network_beside(path, units_file, report, network)
     if report.network is not None and not report.units.known and not units:
-        report.units = _units_of_network(report, units_file, network)
+        report.units = _units_of_network(report, network)
     return report
 
 
-def _units_of_network(report, units_file, network):
+def _units_of_network(report: Report, network: str | Path | None) -> Units:
     """The units that stand beside the network's file, where the report has none of its own."""
     return read_units(units_path(network)) if network else report.units
 
 
-def _network_beside(path, units_file, report, network):
+def _network_beside(path: Path, units_file: Path, report: Report, network: str | Path | None) -> Network | None:
     if network:
         return _fitting(read_network(network), report, network, True)
     names = [units_file.parent / report.units.network] if report.units.network else []
@@ -106,7 +109,7 @@ def _network_beside(path, units_file, report, network):
     return None
 
 
-def _fitting(network, report, name, asked):
+def _fitting(network: Network, report: Report, name: str | Path, asked: bool) -> Network | None:
     """The network where it has the report's cells; where it hasn't, none, or the problem where it was asked for."""
     if list(network.cells.index) == list(report.cells.index):
         return network
@@ -115,7 +118,7 @@ def _fitting(network, report, name, asked):
     return None
 
 
-def report_of(content, name="the report"):
+def report_of(content: bytes, name: str = "the report") -> Report:
     """The report that the bytes spell, in vehicles and steps."""
     head, _, rest = content.partition(b"\n")
     terms = head.split(b",")
@@ -124,8 +127,8 @@ def report_of(content, name="the report"):
     try:
         steps, count = int(terms[1]), int(terms[2])
         first_cell = 0 if rest.startswith(b"cell,") else rest.index(b"\ncell,") + 1
-        *rows, last = rest[first_cell:].decode("ascii").splitlines()
-        rows = [row.split(",") for row in rows]
+        *lines, last = rest[first_cell:].decode("ascii").splitlines()
+        rows = [line.split(",") for line in lines]
         if len(rows) != count or any(row[0] != "cell" for row in rows) or not last.startswith("total,"):
             raise ValueError
         names = [row[1] for row in rows]
@@ -138,7 +141,7 @@ def report_of(content, name="the report"):
     return Report(steps, cells, total, times, occupancy, departed, name=name)
 
 
-def _records(content, names):
+def _records(content: bytes, names: Sequence[str]) -> tuple[numpy.ndarray, pandas.DataFrame, pandas.DataFrame]:
     """The recorded steps, and the frames of occupancies and of departed vehicles, of the lines of records."""
     count = len(names)
     first = content[:100 * count].split(b"\n", count)[:count]

@@ -1,18 +1,25 @@
 """Chains of cells: from a cell on in the direction of travel, and the roads that units name."""
 
+from __future__ import annotations
+
+from collections.abc import Sequence
+
 import networkx
 
+from ..network_file.network import Network
 from ..problem import Problem
+from .reading import Report
 
 
-def route_of(report, start=None, end=None, road=None):
+def route_of(report: Report, start: str | None = None, end: str | None = None,
+             road: str | None = None) -> list[str]:
     """The cells of a route: those of a named road, else from a cell to another, else the longest chain from a gate.
 
     Gates and exits at its ends are left out, since they have no length. At a diverge the greater share is followed
     where no end is given.
     """
     if road:
-        return _road(report, road)
+        return road_of(report, road)
     network = report.need_network()
     for cell in (start, end):
         if cell is not None and cell not in network.cells.index:
@@ -34,27 +41,29 @@ def route_of(report, start=None, end=None, road=None):
     return cells
 
 
-def _road(report, road):
+def road_of(report: Report, road: str) -> list[str]:
+    """The cells of a named road, or the problem that the units name no such road."""
     if road not in report.units.roads:
         known = ", ".join(report.units.roads) or "none"
         raise Problem(f"{report.name}: the units name no road {road}; they name {known}")
     return report.units.roads[road]
 
 
-def _follow(network, cell, back=False):
+def _follow(network: Network, start: str, back: bool = False) -> list[str]:
     """The chain from a cell on, or back from it, by the greater weight at each junction, to its end or once round."""
-    chain, seen = [cell], {cell}
+    chain, seen = [start], {start}
     while True:
+        cell = chain[-1]
         steps = network.graph.in_edges(cell, data="weight") if back else network.graph.out_edges(cell, data="weight")
         ways = [(weight, up if back else down) for up, down, weight in steps]
-        cell = max(ways, key=lambda way: way[0])[1] if ways else None
-        if cell is None or cell in seen:
+        following = max(ways, key=lambda way: way[0])[1] if ways else None
+        if following is None or following in seen:
             return chain
-        chain.append(cell)
-        seen.add(cell)
+        chain.append(following)
+        seen.add(following)
 
 
-def main_route(network):
+def main_route(network: Network) -> list[str]:
     """The longest of the chains that begin at gates, or at cells that nothing leads into, or anywhere."""
     starts = [cell for cell in network.cells.index if network.kinds[cell] == "gate"]
     starts = starts or [cell for cell in network.cells.index if network.graph.in_degree(cell) == 0]
@@ -62,7 +71,7 @@ def main_route(network):
     return max(chains, key=len)
 
 
-def kilometres(report, cells):
+def kilometres(report: Report, cells: Sequence[str]) -> tuple[list[float], bool]:
     """The kilometres at the boundaries of a chain's cells, from 0, or the cells' numbers where no length is known.
 
     The kilometres of one road go on from where the road's first cell of the chain lies.
@@ -70,8 +79,7 @@ def kilometres(report, cells):
     units = report.units
     lengths = [units.length(cell) for cell in cells]
     known = units.known and all(lengths)
-    start = units.cells[cells[0]]["from_km"] if known else 0
-    bounds = [start]
+    bounds = [float(units.cells[cells[0]]["from_km"]) if known else 0.0]
     for length in lengths:
-        bounds.append(bounds[-1] + (length if known else 1))
+        bounds.append(bounds[-1] + (length if known and length else 1))
     return bounds, known

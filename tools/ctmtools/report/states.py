@@ -1,49 +1,121 @@
-"""A report's records as a tidy table: occupancy, flow, density and speed of each cell over time."""
+"""A report as tidy tables in the engineer's units: its cells over time, its cells at the end, and its queues."""
+
+from __future__ import annotations
+
+from collections.abc import Sequence
 
 import numpy
 import pandas
 
-COLUMNS = ("time", "cell", "occupancy", "flow", "density", "speed")
-KNOWN = {"time": "clock time", "occupancy": "vehicles", "flow": "vehicles/h", "density": "vehicles/km", "speed": "km/h"}
+from ..units import Units
+from .queues import queues_in
+from .reading import Report
+
+KNOWN = {"time": "time of day", "occupancy": "vehicles", "flow": "vehicles/h", "density": "vehicles/km",
+         "speed": "km/h"}
 UNKNOWN = {"time": "step", "occupancy": "vehicles", "flow": "vehicles in a step", "density": "vehicles in a cell",
            "speed": "cells in a step"}
+DAY_ZERO = pandas.Timestamp("1900-01-01")  # of a time without a date, as Python's own strptime has it
 
 
-def states(report):
-    """A row for each recorded step and cell: time, cell, occupancy, flow, density, speed, step, road and km.
+def states(report: Report) -> pandas.DataFrame:
+    """A row for each recorded step and cell: time, cell, occupancy, flow, density, speed, step, road, km and lanes.
 
     Occupancy is in vehicles, at the step. Flow, density and speed are those from the step to the next recorded one and
     lacking at the last: what leaves the cell, in vehicles/h, what it holds, in vehicles/km, and the mean speed, in
-    km/h. Where the units aren't known, time is the step, flow is in vehicles a step, density in vehicles a cell and
-    speed in cells a step. Gates and exits have no density and no speed. `frame.attrs["units"]` names the units.
+    km/h. The time is a datetime of 1 January 1900, on which a study begins. Where the units aren't known, time is the
+    step, flow is in vehicles a step, density in vehicles a cell and speed in cells a step, and no road, from_km, to_km
+    and lanes are given. Gates and exits have no density and no speed. `frame.attrs["units"]` names the units.
     """
     report.need_records()
     units, cells = report.units, list(report.cells.index)
-    last = len(report.times) - 1
-    scale = numpy.array([_scales(units, cell, report) for cell in cells])
+    scale = numpy.array([_scales(report, cell) for cell in cells])
     flow, held = report.flow.to_numpy(), report.held.to_numpy()
     with numpy.errstate(invalid="ignore", divide="ignore"):
         speed = numpy.where(held > 0, numpy.minimum(flow / held, 1), numpy.nan) * scale[:, 2]
     frame = pandas.DataFrame({
-        "time": numpy.repeat([units.clock(step, True) if units.known else step for step in report.times], len(cells)),
-        "cell": numpy.tile(cells, last + 1),
+        "time": numpy.repeat(times(units, report.times).to_numpy(), len(cells)),
+        "cell": numpy.tile(cells, len(report.times)),
         "occupancy": report.occupancy.to_numpy().ravel(),
         "flow": _padded(flow * scale[:, 0]).ravel(),
         "density": _padded(held * scale[:, 1]).ravel(),
         "speed": _padded(speed).ravel(),
         "step": numpy.repeat(report.times, len(cells)),
     })
-    if units.cells:
-        rows = [units.cells.get(cell, {}) for cell in cells]
-        for column in ("road", "from_km", "to_km"):
-            frame[column] = numpy.tile([row.get(column) for row in rows], last + 1)
+    places = numpy.tile(numpy.arange(len(cells)), len(report.times))
+    frame = frame.join(_places(units, cells).take(places).reset_index(drop=True))
     frame.attrs["units"] = dict(KNOWN if units.known else UNKNOWN)
     return frame
 
 
-def _scales(units, cell, report):
+def totals(report: Report) -> pandas.DataFrame:
+    """A row for each cell at the last step: vehicles that it holds, that came and that went, the delay, and the place.
+
+    Delay is in vehicle-hours where the step is known, else in vehicle-steps; road, from_km, to_km and lanes are given
+    where the units are known; the rest is in vehicles.
+    """
+    frame = report.cells.rename(columns={"n": "occupancy", "wait": "delay"}).reset_index()
+    frame["delay"] = report.units.hours(frame["delay"])
+    frame = frame.join(_places(report.units, list(report.cells.index)))
+    frame.attrs["units"] = {"occupancy": "vehicles", "come": "vehicles", "gone": "vehicles",
+                            "delay": report.units.delay_unit}
+    return frame
+
+
+def queues_of(report: Report) -> pandas.DataFrame:
+    """A row for each queue, the most costly first: where and when it began, how far it reached, when it cleared.
+
+    `cell`, `road` and `km` say where it `began`; `reach` is the way from there back to the upstream end of the cell
+    `farthest`, which first queued at `reached`; `most_waiting` are the vehicles that waited in it at `most_at`;
+    `cleared` is lacking where it still stands at the end; `spells` tells how often it came, as at a signal in each
+    cycle; `longest_reach` is that of all parts that joined it. Reach is in km, delay in vehicle-hours and times are
+    datetimes, or in cells, vehicle-steps and steps where the units aren't known (`frame.attrs["units"]`).
+    """
+    report.need_records()
+    units, queues = report.units, queues_in(report)
+    origins = _places(units, [queue.origin for queue in queues])
+    frame = pandas.DataFrame({
+        "cell": [queue.origin for queue in queues],
+        **({"road": origins.road, "km": origins.to_km} if units.cells else {}),
+        "began": times(units, [queue.start for queue in queues]),
+        "reach": [queue.reach for queue in queues],
+        "farthest": [queue.farthest for queue in queues],
+        "reached": times(units, [queue.reached for queue in queues]),
+        "most_waiting": [queue.most for queue in queues],
+        "most_at": times(units, [queue.most_at for queue in queues]),
+        "cleared": times(units, [numpy.nan if queue.end is None else queue.end for queue in queues]),
+        "delay": [units.hours(queue.delay) for queue in queues],
+        "spells": [queue.spells for queue in queues],
+        "longest_reach": [queue.longest_reach for queue in queues],
+    })
+    reach = "km" if units.known else "cells"
+    frame.attrs["units"] = {"reach": reach, "longest_reach": reach, "most_waiting": "vehicles",
+                            "delay": units.delay_unit}
+    return frame
+
+
+def times(units: Units, steps: Sequence[float] | numpy.ndarray) -> pandas.Series:
+    """Steps as datetimes where the units are known, else as they are; what is lacking stays so."""
+    if units.step is None:
+        return pandas.Series(steps).astype("Int64" if pandas.isna(steps).any() else int)
+    seconds = (units.start or 0) + numpy.asarray(steps, dtype=float) * units.step
+    return pandas.Series(DAY_ZERO + pandas.to_timedelta(seconds, unit="s").round("ms"))
+
+
+def _places(units: Units, cells: Sequence[str]) -> pandas.DataFrame:
+    """Road, kilometres and lanes of cells, a row for each; no columns where no units are known."""
+    if not units.cells:
+        return pandas.DataFrame(index=range(len(cells)))
+    rows = [units.cells.get(cell, {}) for cell in cells]
+    kilometres = {name: [row.get(name, numpy.nan) for row in rows] for name in ("from_km", "to_km")}
+    return pandas.DataFrame({"road": [row.get("road") for row in rows], **kilometres,
+                             "lanes": pandas.array([row.get("lanes") for row in rows], dtype="Int64")})
+
+
+def _scales(report: Report, cell: str) -> tuple[float, float, float]:
     """What a vehicle a step, a vehicle in the cell and a cell a step are, in the units of the table."""
-    if not units.known:
+    units = report.units
+    if units.step is None:
         road = report.network is None or report.network.kinds[cell] == "road"
         return 1.0, 1.0 if road else numpy.nan, 1.0 if road else numpy.nan
     length = units.length(cell)
@@ -51,18 +123,6 @@ def _scales(units, cell, report):
     return (hour, 1 / length, hour * length) if length else (hour, numpy.nan, numpy.nan)
 
 
-def _padded(values):
+def _padded(values: numpy.ndarray) -> numpy.ndarray:
     """The rows, with one more of no values for the last recorded step."""
     return numpy.vstack([values, numpy.full(values.shape[1], numpy.nan)])
-
-
-def totals(report):
-    """A row for each cell at the last step: vehicles that it holds, that came and that went, and the delay.
-
-    Delay is in vehicle-hours where the step is known, else in vehicle-steps; the rest is in vehicles.
-    """
-    frame = report.cells.rename(columns={"n": "occupancy", "wait": "delay"}).copy()
-    frame["delay"] = report.units.hours(frame["delay"])
-    frame.attrs["units"] = {"occupancy": "vehicles", "come": "vehicles", "gone": "vehicles",
-                            "delay": report.units.delay_unit}
-    return frame.reset_index()

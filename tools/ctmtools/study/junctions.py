@@ -26,12 +26,50 @@ class Junctions:
 
     def boundary(self, road, kilometre, what):
         """The number of cells before the boundary that lies nearest to a kilometre of a road, noted where it moves."""
+        self._within(road, kilometre, what)
+        boundary = self.layout.boundary(road, kilometre)
+        self.note_place(road, kilometre, boundary, what)
+        return boundary
+
+    def _within(self, road, kilometre, what):
         length = self.study.roads[road].length
         if kilometre > length:
             raise Problem(f"{what}: km {float(kilometre):g} is beyond road {road}, which has {float(length):g} km")
-        boundary = self.layout.boundary(road, kilometre)
-        self.scale.rounding.note(f"place of {what}", kilometre, self.layout.kilometre(road, boundary), "km")
-        return boundary
+
+    def note_place(self, road, kilometre, boundary, what):
+        """Notes that a kilometre of a road is modelled as a boundary between cells."""
+        cells = self.layout.cells[road]
+        cell = cells[max(0, boundary - 1)]
+        self.scale.rounding.note(f"place of {what}", kilometre, self.layout.kilometre(road, boundary), "km",
+                                 cell.end - cell.start)
+
+    def cells_of(self, part):
+        """The cells of a part of a road, at least one, from the boundary nearest to its start to that of its end."""
+        cells = self.road_cells(part.road, part.place)
+        end = self.study.roads[part.road].length if part.end_km is None else part.end_km
+        self._within(part.road, part.start_km, f"{part.place}, from")
+        self._within(part.road, end, f"{part.place}, to")
+        if end <= part.start_km:
+            raise Problem(f"{part.place}.to: must be behind from")
+        first = min(self.layout.boundary(part.road, part.start_km), len(cells) - 1)
+        last = max(self.layout.boundary(part.road, end), first + 1)
+        self.note_place(part.road, part.start_km, first, f"{part.place}, from")
+        if part.end_km is not None:
+            self.note_place(part.road, end, last, f"{part.place}, to")
+        return cells[first:last]
+
+    def stop_line(self, signal):
+        """The cell before a signal's stop line, or its gate."""
+        if signal.road in self.study.gates:
+            return signal.road
+        cells = self.road_cells(signal.road, signal.place)
+        if signal.at is None:
+            return cells[-1].name
+        what = f"{signal.place} at km {float(signal.at):g}"
+        self._within(signal.road, signal.at, what)
+        boundary = max(1, self.layout.boundary(signal.road, signal.at))
+        self.note_place(signal.road, signal.at, boundary, what)
+        return cells[boundary - 1].name
 
     def _source(self, name, place):
         """The cell that a road or a gate ends in."""

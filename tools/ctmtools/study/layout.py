@@ -13,7 +13,11 @@ HOUR = 3600
 
 @dataclass
 class RoadCell:
-    """A cell of a road: its place in km as modelled, its section, and its fields in parts and ratio."""
+    """A cell of a road: its place in km as modelled, its section, and its fields in parts and ratio.
+
+    `opened` are the most lanes that are opened beside those of the section at one time, and `most` is the greatest
+    capacity that this gives it.
+    """
 
     name: str
     road: str
@@ -24,6 +28,8 @@ class RoadCell:
     capacity: int
     ratio: Fraction
     first: int
+    most: int
+    opened: Fraction = Fraction(0)
 
 
 @dataclass
@@ -66,7 +72,10 @@ class Layout:
         return stretches
 
     def _names(self, study):
-        """The names of all cells by road: those of one name before the number are counted through the study."""
+        """The names of all cells by road: those of one name before the number are counted through the study.
+
+        A name that ends with a digit has a point behind it, so that it isn't read as one number with the cell's.
+        """
         counts = {}
         for road in study.roads.values():
             for section, part in zip(road.sections, self.stretches[road.name]):
@@ -76,9 +85,10 @@ class Layout:
             names[road.name] = []
             for section, part in zip(road.sections, self.stretches[road.name]):
                 width = len(str(counts[section.cells]))
+                before = section.cells + "." * section.cells[-1].isdigit()
                 for _ in range(part.count):
                     numbers[section.cells] += 1
-                    name = f"{section.cells}{numbers[section.cells]:0{width}d}"
+                    name = f"{before}{numbers[section.cells]:0{width}d}"
                     if name in taken:
                         raise Problem(f"roads.{road.name}: a second cell would be named {name}; name the road "
                                       "otherwise, or its cells by the key cells")
@@ -100,7 +110,7 @@ class Layout:
             for _ in range(part.count):
                 name = names[road.name][len(cells)]
                 cells.append(RoadCell(name, road.name, place, place + part.length, section, room, capacity, ratio,
-                                      first))
+                                      first, capacity))
                 place += part.length
         return cells
 

@@ -2,30 +2,45 @@
 
 from dataclasses import dataclass, field
 from fractions import Fraction
+from functools import cached_property
+from itertools import groupby
 
 from ..amounts import PARTS, amount_text, rounded_parts
 from ..network_file.faults import NAME, first_fault
 from ..network_file.kinds import CELLS, CONNECTORS, MOST_RECORDS, NAME_RULE
-from ..network_file.network import told as fault_told
+from ..network_file.network import network_of, told as fault_told
 from ..network_file.records import read_records
 from ..problem import Problem
 from ..units import Units, clock_text
-from .by_time import ByTime
+from .demands import demands
 from .junctions import Junctions
 from .layout import HOUR, Layout
-from .rounding import Rounding
+from .limits import Limits
+from .plausible import implausible
+from .rounding import Rounding, told
 from .scale import Scale
+from .signals import Signals
 
 MADE = "# Made by ctm-tools build"
 
 
 @dataclass
 class Built:
-    """A network made of a study: the text of its file, its units, and what was rounded."""
+    """A network made of a study: the text of its file, its units, what was rounded, and remarks on what it is made of.
+
+    `warnings` are lines on what in the study can hardly be meant.
+    """
 
     text: str
     units: Units
     rounding: Rounding = field(repr=False)
+    remarks: list = field(repr=False, default_factory=list)
+    warnings: list = field(repr=False, default_factory=list)
+
+    @cached_property
+    def network(self):
+        """The built network, read from its text."""
+        return network_of(self.text.encode())
 
 
 def build(study):
@@ -46,24 +61,33 @@ class Builder:
         self.layout = Layout(study, self.rounding)
         self.scale = Scale(study, self.rounding)
         self.junctions = Junctions(study, self.layout, self.scale)
+        self.limits = Limits(study, self.junctions, self.scale)
+        self.signals = Signals(study, self.junctions, self.scale, self.limits)
 
     def build(self):
         """The built network."""
-        by_time = ByTime(self.study, self.junctions, self.scale)
         sections = [
             ("gate,name,Q,first", self._gates()), ("road,name,N,Q,A,B,first", self._roads()),
             ("exit,name,Q", self._exits()),
             ("link,up,down; merge,first up,second up,down,P1,P2; diverge,up,first down,second down,B1,B2; "
              "turn,cell,from,to,B1,B2", [*self.junctions.connectors, *self.junctions.turns]),
-            ("signal,cell,cycle,offset,from,to", by_time.signals()), ("limit,cell,from,to,Q", by_time.limits()),
-            ("demand,gate,from,to,vehicles in a step", by_time.demands())]
+            ("signal,cell,cycle,offset,from,to", self.signals.records), ("limit,cell,from,to,Q", self.limits.records()),
+            ("demand,gate,from,to,vehicles in a step", demands(self.study, self.scale))]
         sections = [(comment, list(records)) for comment, records in sections]
         large = _is_large([record for _, records in sections for record in records])
         form = 2 if self.junctions.turns or large else 1
         text = "\n".join([*self._head(), f"ctm,{form}", f"steps,{self.scale.steps}"]) + "\n"
         text += "".join("\n".join(["", f"# {comment}", *records]) + "\n" for comment, records in sections if records)
         _check(text)
-        return Built(text, self._units(), self.rounding)
+        remarks = [*self.study.remarks, *self._opened(), *self.limits.overlaps(), *self.signals.remarks]
+        return Built(text, self._units(), self.rounding, remarks, list(implausible(self.study, self.layout)))
+
+    def _opened(self):
+        """What an opening makes of the room of its cells, which a closed lane has too."""
+        for opening in self.study.openings:
+            cells = self.junctions.cells_of(opening.part)
+            yield (f"{opening.part.place}: road {opening.part.road} from km {told(cells[0].start)} to "
+                   f"{told(cells[-1].end)} has the room of the opened lanes at all times")
 
     def _head(self):
         """The comment that says the units."""
@@ -80,13 +104,18 @@ class Builder:
                        f"{float(part.length) * 1000:g} m, {float(section.free_flow_speed):g} km/h, waves "
                        f"{float(section.wave_speed):g} km/h; in a lane {float(section.jam_density):g} vehicles/km and "
                        f"{float(section.saturation_flow):g} vehicles/h")
+            for opened, row in groupby(cells, lambda cell: cell.opened):
+                row = list(row)
+                if opened:
+                    names = dict.fromkeys([row[0].name, row[-1].name])
+                    yield f"# {' to '.join(names)}: with room for {float(opened):g} more, opened at times"
         yield ""
 
     def _capacity(self, what, flow, cells):
         """The parts that pass in a step: of a flow where it is said, else as much as the cells beside it."""
         if flow is not None:
             return self.scale.flow(what, flow)
-        known = {cell.name: cell.capacity for row in self.layout.cells.values() for cell in row}
+        known = {cell.name: cell.most for row in self.layout.cells.values() for cell in row}
         found = [known[name] for name in cells if name in known]
         if not found:
             raise Problem(f"{what}: is missing, and no road stands beside it")
@@ -109,8 +138,8 @@ class Builder:
     def _note_section(self, where, section, cell, part):
         note, lanes = self.rounding.note, section.lanes
         note(f"wave speed {where}", section.wave_speed, cell.ratio * section.free_flow_speed, "km/h")
-        note(f"jam density {where}", section.jam_density * lanes, Fraction(cell.room, PARTS) / part.length,
-             "vehicles/km")
+        note(f"jam density {where}", section.jam_density * (lanes + cell.opened),
+             Fraction(cell.room, PARTS) / part.length, "vehicles/km")
         note(f"saturation flow {where}", section.saturation_flow * lanes,
              Fraction(cell.capacity, PARTS) * HOUR / self.study.step, "vehicles/h")
 

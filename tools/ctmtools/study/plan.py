@@ -97,34 +97,58 @@ class Diverge:
 
 @dataclass
 class Signal:
-    """A signal: the road and km of its stop line or the gate, cycle and green in s, and when it first turns green."""
+    """A signal: the road and km of its stop line or the gate, from when to when it runs, its cycle and green in s.
+
+    `first_green` is the time after its start at which it turns green.
+    """
 
     road: str
     at: Fraction
+    start: Fraction
+    end: Fraction
     cycle: Fraction
     green: Fraction
     first_green: Fraction
-    place: str = ""
+    place: str
 
 
 @dataclass
-class Closure:
-    """Lanes closed on a road between two km and two times, or the capacity in vehicles/h that is left there."""
+class RoadPart:
+    """A part of a road between two km and two times, and where the study says it."""
 
     road: str
     start_km: Fraction
     end_km: Fraction
     start: Fraction
     end: Fraction
+    place: str
+
+
+@dataclass
+class Closure:
+    """Lanes closed on a part of a road, or the capacity in vehicles/h that is left there."""
+
+    part: RoadPart
     lanes: Fraction = None
     capacity: Fraction = None
     saturation_flow: Fraction = None
-    place: str = ""
+
+
+@dataclass
+class Opening:
+    """Lanes opened on a part of a road beside its own, as a hard shoulder."""
+
+    part: RoadPart
+    lanes: Fraction
+    saturation_flow: Fraction = None
 
 
 @dataclass
 class Study:
-    """A study: its step in s, the clock time of its start in s after midnight, its duration in s, and its parts."""
+    """A study: its step in s, the clock time of its start in s after midnight, its duration in s, and its parts.
+
+    `remarks` are lines on what was read beside its file.
+    """
 
     title: str
     step: Fraction
@@ -138,4 +162,6 @@ class Study:
     diverges: list
     signals: list
     closures: list
+    openings: list
     path: Path = None
+    remarks: list = field(default_factory=list)

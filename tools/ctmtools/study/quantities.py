@@ -7,11 +7,14 @@ from fractions import Fraction
 
 from ..problem import Problem
 
+MILE = Fraction("1.609344")  # km
+
 # For each sort of quantity the unit of a bare number, and what each unit is of it.
 UNITS = {
-    "length": ("km", {"km": Fraction(1), "m": Fraction(1, 1000)}),
-    "speed": ("km/h", {"km/h": Fraction(1), "m/s": Fraction(18, 5)}),
-    "density": ("vehicles/km", {"vehicles/km": Fraction(1), "veh/km": Fraction(1)}),
+    "length": ("km", {"km": Fraction(1), "m": Fraction(1, 1000), "mi": MILE}),
+    "speed": ("km/h", {"km/h": Fraction(1), "m/s": Fraction(18, 5), "mph": MILE}),
+    "density": ("vehicles/km", {"vehicles/km": Fraction(1), "veh/km": Fraction(1), "vehicles/mi": 1 / MILE,
+                                "veh/mi": 1 / MILE}),
     "flow": ("vehicles/h", {"vehicles/h": Fraction(1), "veh/h": Fraction(1), "vehicles/s": Fraction(3600)}),
     "duration": ("s", {"s": Fraction(1), "min": Fraction(60), "h": Fraction(3600)}),
 }

@@ -4,12 +4,12 @@ import tomllib
 from fractions import Fraction
 from pathlib import Path
 
-from ..network_file.network import read_bytes
+from ..given import read_as
 from ..problem import Problem, one_line
 from ..units import DAY, clock_text
 from .counts import flows_of_counts
 from .entries import Entries, list_of
-from .plan import Closure, Diverge, Exit, Flow, Gate, Merge, Road, Section, Signal, Study, Turn
+from .plan import Closure, Diverge, Exit, Flow, Gate, Merge, Opening, Road, RoadPart, Section, Signal, Study, Turn
 from .quantities import clock, density, duration, flow, length, number, shown, speed, title, whole, word
 from .slips import slip_hint
 
@@ -19,7 +19,7 @@ LANE_READERS = {"free_flow_speed": speed, "wave_speed": speed, "jam_density": de
 
 def read_values(path):
     """The values of a study file as TOML has them, with each decimal number as an exact fraction."""
-    content = read_bytes(path)
+    content = read_as(path, "a study")
     try:
         return tomllib.loads(content.decode("utf-8-sig"), parse_float=_decimal)
     except UnicodeDecodeError:
@@ -49,7 +49,7 @@ def study_of(values, path):
 def _study(entries, path):
     start = entries.take("start", clock, Fraction(0))
     study = Study(entries.take("title", title, path.stem), entries.take("step", duration), start,
-                  _duration_of(entries, start), {}, {}, {}, [], [], [], [], [], path)
+                  _duration_of(entries, start), {}, {}, {}, [], [], [], [], [], [], path)
     if study.step == 0:
         raise Problem("step: must be above 0")
     times = Times(study)
@@ -65,8 +65,9 @@ def _study(entries, path):
     study.merges += [_on_ramp(table) for table in entries.list("on_ramps")]
     study.diverges = [_diverge(table, times) for table in entries.list("diverges")]
     study.diverges += [_off_ramp(table, times) for table in entries.list("off_ramps")]
-    study.signals = [signal for table in entries.list("signals") for signal in _signals(table)]
+    study.signals = [signal for table in entries.list("signals") for signal in _signals(table, times)]
     study.closures = [_closure(table, times) for table in entries.list("closures")]
+    study.openings = [_opening(table, times) for table in entries.list("openings")]
     entries.done()
     if not study.roads and not study.gates:
         raise Problem("roads: is missing")
@@ -86,31 +87,46 @@ def _duration_of(entries, start):
 
 
 class Times:
-    """Clock times of a study as seconds after its start; times before the start are of the next day."""
+    """Clock times of a study as seconds after its start; where it passes midnight those before are of the next day.
+
+    `remarks` are lines on what was read beside the study file, as counts.
+    """
 
     def __init__(self, study):
         self.start = study.start
         self.duration = study.duration
         self.folder = study.path.parent
+        self.remarks = study.remarks
+
+    @property
+    def passes_midnight(self):
+        """Whether the study ends on the day after its start."""
+        return self.start + self.duration > DAY
+
+    def clock(self, time):
+        """The clock time of seconds after the study's start."""
+        return clock_text(float(self.start + time))
 
     def after_start(self, value, key):
         """The seconds from the study's start to a clock time."""
-        time = clock(value, key)
-        return time - self.start if time >= self.start else time + DAY - self.start
+        time = clock(value, key) - self.start
+        if time < 0 and time + DAY > self.duration and not self.passes_midnight:
+            raise Problem(f"{key}: {self.clock(time)} is before the study's start, {self.clock(0)}")
+        return time if time >= 0 else time + DAY
 
     def span(self, table):
         """The start and the end that a table gives, by default those of the whole study."""
         begin = table.take("start", self.after_start, Fraction(0))
         end = table.take("end", self.after_start, self.duration)
-        return self.checked(begin, end, table.key("end"))
+        return self.checked(begin, end, table.key("start"), table.key("end"))
 
-    def checked(self, begin, end, key):
+    def checked(self, begin, end, begin_key, end_key):
         """A start and an end, where the one lies in the study's time and the other after it."""
-        if end <= begin:
-            raise Problem(f"{key}: the end isn't after the start")
         if begin >= self.duration:
-            span = " to ".join(clock_text(float(time)) for time in (self.start, self.start + self.duration))
-            raise Problem(f"{key}: begins outside the study's time, {span}")
+            raise Problem(f"{begin_key}: {self.clock(begin)} is outside the study's time, {self.clock(0)} to "
+                          f"{self.clock(self.duration)}")
+        if end <= begin:
+            raise Problem(f"{end_key}: the end isn't after the start")
         return begin, end
 
 
@@ -186,7 +202,7 @@ def _flow_row(row, key, times):
         return Flow(begin, end, amount)
     if not isinstance(row, list) or len(row) != 3:
         raise Problem(f"{key}: expected [start, end, flow], found {shown(row)}")
-    begin, end = times.checked(times.after_start(row[0], key), times.after_start(row[1], key), key)
+    begin, end = times.checked(times.after_start(row[0], key), times.after_start(row[1], key), key, key)
     return Flow(begin, end, flow(row[2], key))
 
 
@@ -257,11 +273,12 @@ def _off_ramp(table, times):
     return diverge
 
 
-def _signals(table):
+def _signals(table, times):
     """The signals of an entry: one stop line or several, each `offset` after the one before."""
     road = table.take("road", word)
     several = isinstance(table.values.get("at"), list)
     lines = table.take("at", list_of(length) if several else length, None)
+    span = times.span(table)
     cycle, green = table.take("cycle", duration), table.take("green", duration)
     first = table.take("first_green", duration, Fraction(0))
     if isinstance(table.values.get("offset"), list):
@@ -272,17 +289,35 @@ def _signals(table):
     table.done()
     if not 0 < green <= cycle:
         raise Problem(f"{table.key('green')}: must be above 0 s and at most the cycle, {float(cycle):g} s")
-    return [Signal(road, line, cycle, green, begin, table.place)
+    return [Signal(road, line, *span, cycle, green, begin, table.place)
             for line, begin in zip(lines if several else [lines], greens)]
 
 
+def _part(table, times):
+    """The part of a road and the time that a closure or an opening is of."""
+    return RoadPart(table.take("road", word), table.take("from", length, Fraction(0)), table.take("to", length, None),
+                    *times.span(table), table.place)
+
+
+def _lanes(value, key):
+    lanes = number(value, key)
+    if lanes < 0:
+        raise Problem(f"{key}: a number of lanes isn't negative, found {shown(value)}")
+    return lanes
+
+
 def _closure(table, times):
-    road = table.take("road", word)
-    begin, end = times.span(table)
-    closure = Closure(road, table.take("from", length, Fraction(0)), table.take("to", length, None), begin, end,
-                      table.take("lanes", number, None), table.take("capacity", flow, None),
-                      table.take("saturation_flow", flow, None), table.place)
+    closure = Closure(_part(table, times), table.take("lanes", _lanes, None), table.take("capacity", flow, None),
+                      table.take("saturation_flow", flow, None))
     table.done()
     if (closure.lanes is None) == (closure.capacity is None):
         raise Problem(f"{table.key('lanes')}: say either lanes, those that are closed, or capacity, what is left")
     return closure
+
+
+def _opening(table, times):
+    opening = Opening(_part(table, times), table.take("lanes", _lanes), table.take("saturation_flow", flow, None))
+    table.done()
+    if opening.lanes == 0:
+        raise Problem(f"{table.key('lanes')}: must be above 0")
+    return opening

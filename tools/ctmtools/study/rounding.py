@@ -3,25 +3,23 @@
 from dataclasses import dataclass
 from fractions import Fraction
 
+TOLD = Fraction(1, 1000)  # a difference is told from more than this part of the quantity on
+
 
 @dataclass(frozen=True)
 class Rounded:
-    """A quantity as it was asked for and as it is modelled, in a unit."""
+    """A quantity as it was asked for and as it is modelled, in a unit; a difference of it is measured by `of`."""
 
     what: str
     asked: Fraction
     modelled: Fraction
     unit: str
+    of: Fraction
 
     @property
     def differs(self):
-        """Whether the network has another value than the study asks for."""
-        return self.asked != self.modelled
-
-    @property
-    def is_tiny(self):
-        """Whether the values differ by no more than a millionth of what was asked."""
-        return abs(self.modelled - self.asked) <= abs(self.asked) / 1_000_000
+        """Whether the network has another value than the study asks for, by more than a thousandth."""
+        return abs(self.modelled - self.asked) > TOLD * abs(self.of)
 
     def __str__(self):
         modelled = told(self.modelled, self.asked)
@@ -38,17 +36,17 @@ def told(value, beside=None):
 
 
 class Rounding:
-    """The roundings of a study, noted one by one."""
+    """The roundings of a study, noted one by one, each once."""
 
     def __init__(self):
-        self.notes = []
+        self.notes = {}
 
-    def note(self, what, asked, modelled, unit):
-        """Notes a quantity, and gives the modelled value back."""
-        self.notes.append(Rounded(what, Fraction(asked), Fraction(modelled), unit))
-        return modelled
+    def note(self, what, asked, modelled, unit, of=None):
+        """Notes a quantity: a time or a place is measured against the length `of` which it is an end."""
+        asked = Fraction(asked)
+        self.notes[Rounded(what, asked, Fraction(modelled), unit, asked if of is None else Fraction(of))] = None
 
     @property
     def differing(self):
-        """The notes whose values differ."""
+        """The notes whose values differ by more than a thousandth."""
         return [note for note in self.notes if note.differs]

@@ -15,16 +15,16 @@ class Scale:
         self.rounding = rounding
         self.steps = self.whole_steps("duration of the study", study.duration, least=1)
 
-    def whole_steps(self, what, seconds, least=0):
-        """The steps nearest to a time in seconds."""
+    def whole_steps(self, what, seconds, least=0, of=None):
+        """The steps nearest to a time in seconds; the time may be one in a span or a cycle of so many seconds."""
         steps = max(least, round(seconds / self.step))
-        self.rounding.note(what, seconds, steps * self.step, "s")
+        self.rounding.note(what, seconds, steps * self.step, "s", of)
         return steps
 
     def span(self, what, start, end):
         """The steps from a time to another, in seconds after the study's start; at least one."""
-        begin = self.whole_steps(f"start of {what}", start)
-        stop = self.whole_steps(f"end of {what}", end)
+        begin = self.whole_steps(f"start of {what}", start, of=end - start)
+        stop = self.whole_steps(f"end of {what}", end, of=end - start)
         if stop <= begin:
             raise Problem(f"{what}: is shorter than a step of {float(self.step):g} s")
         return begin, stop
@@ -41,5 +41,6 @@ class Scale:
         ratio = (less / more).limit_denominator(1000)
         low, high = (ratio.numerator, ratio.denominator) if ratio else (1, 1000)
         first, second = (low, high) if pair[0] <= pair[1] else (high, low)
-        self.rounding.note(what, 100 * pair[0] / sum(pair), Fraction(100 * first, first + second), "%")
+        self.rounding.note(what, 100 * pair[0] / sum(pair), Fraction(100 * first, first + second), "%",
+                           100 * less / sum(pair))
         return first, second

@@ -7,7 +7,7 @@ use Rattle.network_run.proofs.watch.watch_to.Goals as goal
 
 pub returns-in_default-clause-reach : goal.returns-in_default-clause-reach
 returns-in_default-clause-reach g c =
-    let shot = c.drive_watched-shot.ensures.watched.1.shot in
+    let shot = c.drive_watched-shot.ensures.watched.shot in
     let low : c.drive_watched-shot.new.watcher.knows.reach ≤ c.args.goal = omega (arith, shot.unmoved.reach, c.enlist.ensures.knows.1, c.requires.reach) in
     omega (arith, c.finish.ensures.keeps.reach, c.dismiss.ensures.reach c.args.goal low c.drive_watched-shot.ensures.enlisted)
 
@@ -18,7 +18,7 @@ not-busy (Busy r) other = absurd (other r refl)
 
 pub returns-in_default-clause-between : goal.returns-in_default-clause-between
 returns-in_default-clause-between g c = λ r there.
-    let shot = c.drive_watched-shot.ensures.watched.1.shot in
+    let shot = c.drive_watched-shot.ensures.watched.shot in
     let low : c.drive_watched-shot.new.watcher.knows.reach ≤ c.args.goal = omega (arith, shot.unmoved.reach, c.enlist.ensures.knows.1, c.requires.reach) in
     let reach = c.dismiss.ensures.reach c.args.goal low c.drive_watched-shot.ensures.enlisted in
     let seats : c.dismiss.new.pass.knows.share ≡ c.args.field.now.terms.seats = omega (arith, c.dismiss.ensures.seats, c.drive_watched-shot.ensures.many, c.enlist.ensures.many, shot.unmoved.share, c.enlist.ensures.seat, c.requires.whole, c.requires.seats) in
@@ -31,7 +31,7 @@ returns-in_default-clause-between g c = λ r there.
 
 pub returns-in-Busy-clause-between : goal.returns-in-Busy-clause-between
 returns-in-Busy-clause-between g c = λ r there.
-    let shot = c.drive_watched-shot.ensures.watched.1.shot in
+    let shot = c.drive_watched-shot.ensures.watched.shot in
     let low : c.drive_watched-shot.new.watcher.knows.reach ≤ c.args.goal = omega (arith, shot.unmoved.reach, c.enlist.ensures.knows.1, c.requires.reach) in
     let reach = c.dismiss.ensures.reach c.args.goal low c.drive_watched-shot.ensures.enlisted in
     let seats : c.finish.new.pass.knows.share ≡ c.args.field.now.terms.seats =

@@ -6,7 +6,7 @@ use Rattle.worker_claim.specs.declared.helper.Helper.{Helper}
 use Rattle.worker_claim.specs.declared.member.Member.{Member}
 use Rattle.network_run.specs.Crews.{AreHelpersFor, AreNestsFor, CrewValue}
 use Rattle.network_run.proofs.Crewing.{All-fewer, All-last, All-one_more, last-enlisted, members_of}
-use Rattle.network_run.proofs.Enlisting.{united-later}
+use Rattle.network_run.proofs.Crewing.{united-later}
 use Rattle.network_run.proofs.crew.Crew.dismiss_one.Goals as goal
 
 pub unite-requires-clause-also : goal.unite-requires-clause-also

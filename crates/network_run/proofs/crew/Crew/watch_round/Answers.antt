@@ -5,6 +5,7 @@ use Rattle.worker_claim.specs.declared.helper.Helper.{Helper}
 use Rattle.network_run.specs.Crews.{CrewValue}
 use Rattle.network_run.specs.Enlisted.{AreEnlisted}
 use Rattle.network_run.proofs.Crewing.{enlisted-helped, helpers-of}
+use Rattle.network_run.proofs.RoundCounts.{round-helped}
 use Rattle.network_run.proofs.crew.Crew.watch_round.Goals as goal
 
 pub crew_watch_hints-requires-clause-helpers : goal.crew_watch_hints-requires-clause-helpers
@@ -22,3 +23,12 @@ returns-clause-enlisted g c =
     let long : length new ≡ c.self.inside.helpers.len = c.crew_watch_hints.ensures.helped.one_each ∙ c.deref_mut.ensures.len in
     rw (with_items_is c.self.inside.helpers new long) (enlisted-helped field c.args.goal 4096 old new
     (subst (AreEnlisted field c.args.goal) (sym (ap (λ (crew : CrewValue). crew.members) c.self.view_is)) c.requires.enlisted) helped)
+
+pub returns-clause-round : goal.returns-clause-round
+returns-clause-round g c =
+    let field = c.args.field.now in
+    let old : List Helper = c.self.inside.helpers.items in
+    let new : List Helper = c.crew_watch_hints.new.helpers in
+    let helped : AreHelped field c.args.goal 4096 old new = subst (λ (hs : List Helper). AreHelped field c.args.goal 4096 hs new) c.deref_mut.ensures.value c.crew_watch_hints.ensures.helped in
+    let long : length new ≡ c.self.inside.helpers.len = c.crew_watch_hints.ensures.helped.one_each ∙ c.deref_mut.ensures.len in
+    rw (with_items_is c.self.inside.helpers new long, sym (ap (λ (crew : CrewValue). crew.members) c.self.view_is)) (round-helped field c.args.goal old new helped)

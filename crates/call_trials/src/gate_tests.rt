@@ -1,0 +1,83 @@
+use crate::calling::{call_past, lines};
+use crate::gates::{Glance, Meeting, Notes};
+use std::sync::atomic::Ordering;
+use std::test::Fail;
+
+// A gate, two roads and an exit, each a region of its own where there are four.
+const CHAIN: &str =
+    "ctm,1; steps,4; gate,g,2,8; road,a,6,2,1,1,0; road,b,6,2,1,1,0; exit,x,2; link,g,a; link,a,b; link,b,x";
+
+const CHAIN_REPORT: &str = "report,4,4; cell,g,0.000000,0.000000,8.000000,12.000000; \
+cell,a,2.000000,8.000000,6.000000,0.000000; cell,b,2.000000,6.000000,4.000000,0.000000; \
+cell,x,4.000000,4.000000,0.000000,0.000000; total,4.000000,0.000000,4.000000,12.000000";
+
+// What `sample --size 1 --seed 0` gives.
+const SAMPLED: &str = "sample,1,0,3,2,42; total,0.000000,58.068940,58.068940,262.344330";
+
+// The gate of the chain is a step ahead of the rest.
+const CHAIN_SHOT: &str =
+    "shot,1,6.000000,2.000000,8.000000,0.000000,0.000000; region,0,1; region,1,0; region,2,0; \
+region,3,0; flight,0,2.000000; flight,1,0.000000; flight,2,0.000000; row,g,6.000000,0.000000,2.000000,6.000000; \
+row,a,0.000000,0.000000,0.000000,0.000000; row,b,0.000000,0.000000,0.000000,0.000000; \
+row,x,0.000000,0.000000,0.000000,0.000000";
+
+#[test]
+fn two_workers_work_at_once(rt: HostRuntime) -> Result<(), Fail> {
+    let gate = Meeting::new();
+    let file = lines(rt.alloc(), CHAIN)?;
+    let ended = call_past(&rt, rt.alloc(), "run --regions 4 --workers 2", file, &gate)?;
+    assert_eq!(rt;
+        ended.out.bytes(),
+        lines(rt.alloc(), CHAIN_REPORT)?.as_slice()
+    );
+    assert_eq!(rt; gate.met(), 2, "each waited for the other");
+    assert!(rt;
+        gate.notes.are_complete(4, 4),
+        "each region was held at each step"
+    );
+    Ok(())
+}
+
+#[test]
+fn a_made_network_is_run_in_its_regions(rt: HostRuntime) -> Result<(), Fail> {
+    let gate = Notes::new();
+    let words = "sample --size 1 --seed 0 --regions 3 --workers 2";
+    let ended = call_past(&rt, rt.alloc(), words, Vec::new(rt.alloc()), &gate)?;
+    assert!(rt; gate.are_complete(3, 42));
+    assert_eq!(rt; ended.out.bytes(), lines(rt.alloc(), SAMPLED)?.as_slice());
+    Ok(())
+}
+
+#[test]
+fn a_shot_is_taken_while_a_worker_is_on_its_way(rt: HostRuntime) -> Result<(), Fail> {
+    let gate = Glance::new();
+    let file = lines(rt.alloc(), CHAIN)?;
+    let words = "watch --shots 1 --regions 4 --workers 1";
+    let ended = call_past(&rt, rt.alloc(), words, file, &gate)?;
+    assert_eq!(rt;
+        gate.seen.load(Ordering::SeqCst),
+        2,
+        "each waited for the other"
+    );
+    let text = format!(in rt.alloc(); "{CHAIN_SHOT}; {CHAIN_REPORT}")?;
+    assert_eq!(rt; ended.out.bytes(), lines(rt.alloc(), &text)?.as_slice());
+    Ok(())
+}
+
+#[test]
+fn workers_that_are_watched_take_every_region_through_every_step(
+    rt: HostRuntime,
+) -> Result<(), Fail> {
+    let gate = Notes::new();
+    let file = lines(rt.alloc(), CHAIN)?;
+    let words = "watch --shots 1 --regions 4 --workers 2";
+    let ended = call_past(&rt, rt.alloc(), words, file, &gate)?;
+    assert!(rt; gate.are_complete(4, 4));
+    assert!(rt;
+        ended
+            .out
+            .bytes()
+            .ends_with(&lines(rt.alloc(), CHAIN_REPORT)?)
+    );
+    Ok(())
+}

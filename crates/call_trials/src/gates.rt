@@ -1,0 +1,152 @@
+use ctm_ports::Gate;
+use std::sync::atomic::{AtomicU64, Ordering};
+
+// A gate that notes which of four regions was held at which of 64 steps.
+#[derive(Drop)]
+pub(crate) struct Notes {
+    // For each region a bit for each step, set by whoever holds it.
+    noted: [AtomicU64; 4],
+}
+
+impl Notes {
+    pub(crate) fn new() -> Notes {
+        Notes {
+            noted: [
+                AtomicU64::new(0),
+                AtomicU64::new(0),
+                AtomicU64::new(0),
+                AtomicU64::new(0),
+            ],
+        }
+    }
+
+    // Whether each of so many regions was held at each of so many steps.
+    pub(crate) fn are_complete(&self, regions: usize, steps: u32) -> bool {
+        for noted in self.noted.iter().take(regions) {
+            if noted.load(Ordering::SeqCst).trailing_ones() != steps {
+                return false;
+            }
+        }
+        true
+    }
+}
+
+impl Gate for Notes {
+    fn held(&self, region: u32, step: u64) {
+        if region < 4 && step < 64 {
+            let noted = &self.noted[region as usize];
+            noted.store(noted.load(Ordering::SeqCst) | 1 << step, Ordering::SeqCst);
+        }
+    }
+
+    fn freed(&self, region: u32, step: u64) {}
+
+    fn watched(&self, done: bool) {}
+}
+
+// A gate at which the worker that holds region 0 at step 0 and the one that holds region 2 at step 1 wait for each other, so
+// that one worker alone waits in vain. It notes which region was held at which step.
+#[derive(Drop)]
+pub(crate) struct Meeting {
+    first: AtomicU64,
+    second: AtomicU64,
+    first_met: AtomicU64,
+    second_met: AtomicU64,
+    pub(crate) notes: Notes,
+}
+
+impl Meeting {
+    pub(crate) fn new() -> Meeting {
+        Meeting {
+            first: AtomicU64::new(0),
+            second: AtomicU64::new(0),
+            first_met: AtomicU64::new(0),
+            second_met: AtomicU64::new(0),
+            notes: Notes::new(),
+        }
+    }
+
+    // How many of the two have met the other.
+    pub(crate) fn met(&self) -> u64 {
+        let first = self.first_met.load(Ordering::SeqCst);
+        first.wrapping_add(self.second_met.load(Ordering::SeqCst))
+    }
+}
+
+// Comes to the meeting, and waits for the other for a while.
+fn meet(own: &AtomicU64, other: &AtomicU64, met: &AtomicU64) {
+    own.store(1, Ordering::SeqCst);
+    if is_set_in_time(other) {
+        met.store(1, Ordering::SeqCst);
+    }
+}
+
+// Whether the flag is set within a while.
+fn is_set_in_time(flag: &AtomicU64) -> bool {
+    for _ in 0..1_000_000_000 {
+        if flag.load(Ordering::SeqCst) != 0 {
+            return true;
+        }
+    }
+    false
+}
+
+impl Gate for Meeting {
+    fn held(&self, region: u32, step: u64) {
+        self.notes.held(region, step);
+        match (region, step) {
+            (0, 0) => meet(&self.first, &self.second, &self.first_met),
+            (2, 1) => meet(&self.second, &self.first, &self.second_met),
+            _ => {}
+        }
+    }
+
+    fn freed(&self, region: u32, step: u64) {}
+
+    fn watched(&self, done: bool) {}
+}
+
+// A gate at which the watcher waits until region 0 was taken to step 1, and the worker who took it until the watcher has
+// shot, so that one thread alone waits in vain.
+#[derive(Drop)]
+pub(crate) struct Glance {
+    moved: AtomicU64,
+    shown: AtomicU64,
+    pub(crate) seen: AtomicU64,
+}
+
+impl Glance {
+    pub(crate) fn new() -> Glance {
+        Glance {
+            moved: AtomicU64::new(0),
+            shown: AtomicU64::new(0),
+            seen: AtomicU64::new(0),
+        }
+    }
+
+    // Waits for a while until the flag is set, and counts whether it was.
+    fn wait_for(&self, flag: &AtomicU64) {
+        if is_set_in_time(flag) {
+            self.seen.fetch_add(1, Ordering::SeqCst);
+        }
+    }
+}
+
+impl Gate for Glance {
+    fn held(&self, region: u32, step: u64) {}
+
+    fn freed(&self, region: u32, step: u64) {
+        if region == 0 && step == 1 {
+            self.moved.store(1, Ordering::SeqCst);
+            self.wait_for(&self.shown);
+        }
+    }
+
+    fn watched(&self, done: bool) {
+        if done {
+            self.shown.store(1, Ordering::SeqCst);
+        } else {
+            self.wait_for(&self.moved);
+        }
+    }
+}

@@ -1,0 +1,12 @@
+//! Trials of the call `ctm` with what no process can show: ports in memory that fail, and gates at which its workers meet.
+//! There is nothing here but tests; `tests/program` has all other runs, through the built program.
+#![tactic(auto)]
+
+#[cfg(test)]
+mod calling;
+#[cfg(test)]
+mod gate_tests;
+#[cfg(test)]
+mod gates;
+#[cfg(test)]
+mod port_tests;

@@ -1,0 +1,35 @@
+-- The values of an option: which texts it takes, and which number each of them stands for.
+use Rattle.std.specs.Prelude.{ℕ, ◌≤◌, ◌<◌, ◌^◌, ◌&&◌, ⊤, nat_le, List, Option, Some, bytes_eq, length, map, position}
+use Rattle.fixed_flow.specs.Spelling.{whole_of}
+use Rattle.command_words.specs.Sequence.{◌>>=◌, ◌>>◌, must}
+use Rattle.command_words.specs.declared.values.Values.{Values}
+use Rattle.command_words.specs.declared.values.Values.TheVariants.{Numbers, Words}
+
+pub data OptionValues : Type 0 where
+  -- whole numbers from the least to the most
+  numbers : (least most : ℕ) → OptionValues
+  -- words: each stands for its place among them, counted from 0
+  words : List (List ℕ) → OptionValues
+
+-- the number is one of these values
+abbrev pub IsAmong : OptionValues → ℕ → Type 0
+IsAmong (numbers least most) value = (least ≤ value) × (value ≤ most)
+IsAmong (words list) value = value < length list
+
+-- the value that a text stands for, where it is one of these
+unfoldable pub value_among : OptionValues → List ℕ → Option ℕ
+value_among (numbers least most) text = do
+  value ← whole_of text
+  must (nat_le least value && nat_le value most)
+  Some value
+value_among (words list) text = position (bytes_eq text) list
+
+-- they can be counted in 32 bits
+abbrev pub AreFew : OptionValues → Type 0
+AreFew (numbers least most) = ⊤
+AreFew (words list) = length list ≤ 2 ^ 32
+
+-- what the code keeps
+abbrev pub values_kept : Values → OptionValues
+values_kept (Numbers least most) = numbers least most
+values_kept (Words list) = words (map (λ word. word.now) list.now)

@@ -1,0 +1,56 @@
+-- The input of a request: where it comes from, how long it may be, and how much of the source is read.
+use Rattle.std.specs.Prelude.{◌≡◌, ℕ, ◌+◌, Bool, true, false, List, Option, Some, None, IfSome, if◌then◌else◌, ⊤, codes}
+use Rattle.std.specs.Io.KnownBytes.{IsAtEnd}
+use Rattle.command_words.specs.declared.mode.Mode.{Mode}
+use Rattle.command_words.specs.declared.mode.Mode.TheVariants.{Run, Watch, Sample, Check, Convert}
+use Rattle.command_words.specs.declared.request.Request.{Request}
+use Rattle.net_make.specs.Made.{made}
+use Rattle.call_ending.specs.Refusing.{Why}
+use Rattle.call_ending.specs.declared.status.Status.TheVariants as status
+
+-- whether a mode reads the source: each but `sample`, which makes its network itself
+abbrev pub reads_source : Mode → Bool
+reads_source Run = true
+reads_source Watch = true
+reads_source Sample = false
+reads_source Check = true
+reads_source Convert = true
+
+-- the most bytes that the input of a mode may have
+abbrev pub most_bytes : Mode → ℕ
+most_bytes Run = 16_777_216
+most_bytes Watch = 16_777_216
+most_bytes Sample = 16_777_216
+most_bytes Check = 16_777_216
+most_bytes Convert = 16_777_216
+
+abbrev pub large_input : Why
+large_input = record { status = status.TooLarge; line = codes "ctm: too large: input\n" }
+
+-- the input of a request: what the source has left, where it tells it, and of `sample` the made network
+pub record IsInput (request : Request) (left : Option (List ℕ)) (input : List ℕ) : Type 0 where
+  pub read : reads_source request.mode ≡ true → IfSome left (λ bytes. input ≡ bytes)
+  pub own : reads_source request.mode ≡ false → input ≡ made request.size request.seed
+
+abbrev pub IsInputOf : Option Request → (left : Option (List ℕ)) → (input : List ℕ) → Type 0
+IsInputOf None left input = IfSome left (λ bytes. input ≡ bytes)
+IsInputOf (Some request) left input = IsInput request left input
+
+-- there is a request that reads the source
+abbrev pub Reads : Option Request → Type 0
+Reads None = ⊥
+Reads (Some request) = reads_source request.mode ≡ true
+
+-- there is none
+abbrev pub IsUnread : Option Request → Type 0
+IsUnread None = ⊤
+IsUnread (Some request) = reads_source request.mode ≡ false
+
+-- the source is at its end where the request reads it
+abbrev pub IsReadWhole : Option Request → (left : Option (List ℕ)) → Type 0
+IsReadWhole request left = Reads request → IsAtEnd left
+
+-- the most bytes of the source that are read: one more than the input may have
+abbrev pub most_read : Option Request → ℕ
+most_read None = 0
+most_read (Some request) = if reads_source request.mode then most_bytes request.mode + 1 else 0

@@ -1,0 +1,11 @@
+pub mod Answer
+pub mod CheckMode
+pub mod ConvertMode
+pub mod Input
+pub mod NetworkInput
+pub mod Recording
+pub mod RunMode
+pub mod SampleMode
+pub mod Task
+pub mod WatchMode
+pub mod Words

@@ -1,0 +1,36 @@
+-- Inputs that are to be networks.
+use Rattle.std.specs.Prelude.{◌≡◌, ℕ, List, Option, Some, Result, Ok, Err, ◌++◌, codes, decimal}
+use Rattle.network_file.specs.FaultCode.{code_name, code_number}
+use Rattle.network_file.specs.Network.{Network}
+use Rattle.network_file.specs.declared.fault.NetFault.{NetFault}
+use Rattle.network_file.specs.declared.fault.NetRefusal.{NetRefusal}
+use Rattle.network_file.specs.declared.fault.NetRefusal.TheVariants as of_net
+use Rattle.call_ending.specs.Refusing.{IsRefusalOf, Why}
+use Rattle.call_ending.specs.declared.refusal.Refusal.{Refusal}
+use Rattle.call_ending.specs.declared.refusal.Refusal.TheVariants as refusal
+use Rattle.call_ending.specs.declared.status.Status.TheVariants as status
+
+-- where a network's first fault stands and what it is
+unfoldable pub network_line : NetFault → List ℕ
+network_line fault =
+    codes "ctm: network: record " ++ decimal fault.place
+    ++ codes " code " ++ decimal (code_number fault.code)
+    ++ codes " " ++ code_name fault.code ++ codes "\n"
+
+abbrev pub network_refused : NetFault → Why
+network_refused fault = record { status = status.Network; line = network_line fault }
+
+-- why there is no text: the file's first fault, or what stands against a text of its network
+abbrev pub why_of_network : Result Network NetFault → (Network → Option Why) → Option Why
+why_of_network (Ok net) why = why net
+why_of_network (Err fault) why = Some (network_refused fault)
+
+-- the file is a network of which this holds
+abbrev pub IsNetworkWith : Result Network NetFault → (Network → Type 0) → Type 0
+IsNetworkWith (Ok net) P = P net
+IsNetworkWith (Err fault) P = ⊥
+
+-- the refusal tells the fault with which a file was refused, or that memory was refused
+abbrev pub IsToldOf : NetRefusal → Refusal → Type 0
+IsToldOf (of_net.Fault fault) told = IsRefusalOf (Some (network_refused fault)) ⊥ told
+IsToldOf of_net.NoMemory told = told ≡ refusal.NoMemory

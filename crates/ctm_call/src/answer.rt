@@ -1,0 +1,72 @@
+ghost use Rattle.std.specs.Prelude.{◌≡◌, ◌≤◌, ℕ, List, None, IfErr, IfOk, OnOk, length};
+ghost use Rattle.ctm_ports.specs.Count.{Rose};
+ghost use Rattle.ctm_ports.specs.ReadEnd.{LosesAtMost};
+ghost use Rattle.command_words.specs.Words.{IsInRange};
+ghost use Rattle.network_file.specs.declared.limits.TheConstants.{MOST_BYTES};
+ghost use Rattle.call_ending.specs.Refusing.{IsRefusalOf};
+ghost use Rattle.ctm_call.specs.Answer.{IsTextBy, IsTextOf, answer_of, why_by, why_in};
+ghost use Rattle.ctm_call.specs.Input.{IsInputOf, IsReadWhole, IsUnread, Reads, most_read};
+ghost use Rattle.ctm_call.specs.Task.{task_of};
+ghost use Rattle.ctm_call.specs.Words.{requested};
+
+use crate::check_mode::check_text;
+use crate::convert_mode::convert_text;
+use crate::input::input_of;
+use crate::run_mode::run_text;
+use crate::sample_mode::sample_text;
+use crate::watch_mode::watch_text;
+use crate::words::request_of;
+use call_ending::Refusal;
+use command_words::{Mode, Request};
+use ctm_ports::{Gate, Source};
+use std::alloc::Global;
+use std::thread::Threads;
+
+/// The text that answers the words over the input that the source gives, or why there is none.
+pub(crate) fn answer<R: Threads + Sync, S: Source, G: Gate>(
+    rt: &R,
+    alloc: Global,
+    words: &[String],
+    source: &mut S,
+    gate: &G,
+) -> Result<Vec<u8>, Refusal>
+    ensures text { IfOk result (λ text. (input : List ℕ) × IsInputOf (requested words.now) (S.left source.old) input
+        × IsTextOf (answer_of words.now input) text.items) }
+    ensures refusal { IfErr result (λ refusal. (input : List ℕ) × IsInputOf (requested words.now) (S.left source.old) input
+        × IsRefusalOf (why_in (answer_of words.now input)) (Reads (requested words.now) × Rose (S.faults source.old) (S.faults source.new)) refusal) }
+    ensures unread { IsUnread (requested words.now) → source.new ≡ source.old }
+    ensures at_end { OnOk result (IsReadWhole (requested words.now) (S.left source.new)) }
+    ensures bounded { LosesAtMost (S.left source.old) (S.left source.new) (most_read (requested words.now)) }
+{
+    let request = match request_of(alloc, words) {
+        Ok(request) => request,
+        Err(refusal) => return Err(refusal),
+    };
+    let input = match input_of(alloc, request, source) {
+        Ok(input) => input,
+        Err(refusal) => return Err(refusal),
+    };
+    text_of(rt, alloc, request, &input, gate)
+}
+
+// The text that answers a request with an input, by its mode.
+fn text_of<R: Threads + Sync, G: Gate>(
+    rt: &R,
+    alloc: Global,
+    request: Request,
+    input: &[u8],
+    gate: &G,
+) -> Result<Vec<u8>, Refusal>
+    requires in_range { IsInRange request }
+    requires few_bytes { length input.now ≤ MOST_BYTES }
+    ensures text { IfOk result (λ text. (why_by request.mode (task_of request input.now) ≡ None) × IsTextBy request.mode (task_of request input.now) text.items) }
+    ensures refusal { IfErr result (IsRefusalOf (why_by request.mode (task_of request input.now)) ⊥) }
+{
+    match request.mode {
+        Mode::Run => run_text(rt, alloc, request, input, gate),
+        Mode::Watch => watch_text(rt, alloc, request, input, gate),
+        Mode::Sample => sample_text(rt, alloc, request, input, gate),
+        Mode::Check => check_text(alloc, input),
+        Mode::Convert => convert_text(alloc, input),
+    }
+}

@@ -1,0 +1,45 @@
+ghost use Rattle.std.specs.Prelude.{◌≡◌, ℕ, List};
+ghost use Rattle.ctm_ports.specs.Count.{Rose};
+ghost use Rattle.ctm_ports.specs.ReadEnd.{LosesAtMost};
+ghost use Rattle.call_ending.specs.Ending.{HasEnded, sink_use};
+ghost use Rattle.ctm_call.specs.Answer.{IsTextOf, answer_of, why_in};
+ghost use Rattle.ctm_call.specs.Input.{IsInputOf, IsReadWhole, IsUnread, Reads, most_read};
+ghost use Rattle.ctm_call.specs.Words.{requested};
+
+use crate::answer::answer;
+use call_ending::{Status, end};
+use ctm_ports::{Gate, Sink, Source};
+use std::alloc::Global;
+use std::thread::Threads;
+
+/// Does what the words ask for, over the network that the source gives, and writes the text of it on `out`, or says on
+/// `err` why there is none (docs/FORMAT.md). The words are those after the program's name. Workers run in threads of
+/// `rt`, and the gate is told when they take a region and give it back.
+pub fn ctm<R: Threads + Sync, S: Source, O: Sink, E: Sink, G: Gate>(
+    rt: &R,
+    alloc: Global,
+    words: &[String],
+    source: &mut S,
+    out: &mut O,
+    err: &mut E,
+    gate: &G,
+) -> Status
+    // There is an input, which is what the source has left where it tells it, or the made network, and by the answer to the
+    // words and this input the call ended in one of five ways: it is done, the answer is a refusal, a read of the source
+    // failed where the mode reads it, a write of the text failed, or memory was refused.
+    ensures ended { (input : List ℕ) × IsInputOf (requested words.now) (S.left source.old) input
+        × HasEnded (IsTextOf (answer_of words.now input)) (why_in (answer_of words.now input))
+        (IsReadWhole (requested words.now) (S.left source.new))
+        (Reads (requested words.now) × Rose (S.faults source.old) (S.faults source.new))
+        result
+        (sink_use (O.taken out.old) (O.taken out.new) (out.new ≡ out.old) (Rose (O.faults out.old) (O.faults out.new)) (Rose (O.wants out.old) (O.wants out.new)))
+        (sink_use (E.taken err.old) (E.taken err.new) (err.new ≡ err.old) (Rose (E.faults err.old) (E.faults err.new)) (Rose (E.wants err.old) (E.wants err.new))) }
+
+    // Where the words are refused or ask for a made network the source is as it was, and else it is read one byte past the
+    // longest input at most.
+    ensures unread { IsUnread (requested words.now) → source.new ≡ source.old }
+    ensures bounded { LosesAtMost (S.left source.old) (S.left source.new) (most_read (requested words.now)) }
+{
+    let answer = answer(rt, alloc, words, source, gate);
+    end(answer, out, err)
+}

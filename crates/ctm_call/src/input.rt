@@ -1,0 +1,83 @@
+ghost use Rattle.std.specs.Prelude.{◌≡◌, ◌+◌, ◌<◌, ◌≤◌, ◌⊎◌, ℕ, List, IfErr, IfOk, OnOk, Some, length, false, true};
+ghost use Rattle.std.specs.Io.KnownBytes.{IsAtEnd};
+ghost use Rattle.ctm_ports.specs.Count.{Rose};
+ghost use Rattle.ctm_ports.specs.ReadEnd.{LosesAtMost};
+ghost use Rattle.command_words.specs.Words.{IsInRange};
+ghost use Rattle.net_make.specs.Made.{made};
+ghost use Rattle.call_ending.specs.Refusing.{IsRefusalOf};
+ghost use Rattle.ctm_call.specs.Answer.{answer_to, why_in};
+ghost use Rattle.ctm_call.specs.Input.{IsInput, IsReadWhole, IsUnread, Reads, large_input, most_bytes, most_read, reads_source};
+
+use call_ending::{Line, Refusal, Status};
+use command_words::{Mode, Request};
+use ctm_ports::{ReadEnd, Source, read_up_to};
+use net_make::make;
+use network_file::MOST_BYTES;
+use std::alloc::Global;
+
+/// The input of a request: the whole source, or for `sample` the network that it makes.
+pub(crate) fn input_of<S: Source>(
+    alloc: Global,
+    request: Request,
+    source: &mut S,
+) -> Result<Vec<u8>, Refusal>
+    requires in_range { IsInRange request }
+    ensures input { IfOk result (λ input. IsInput request (S.left source.old) input.items × (length input.items ≤ most_bytes request.mode)) }
+    ensures refusal { IfErr result (λ refusal. (input : List ℕ) × IsInput request (S.left source.old) input
+        × IsRefusalOf (why_in (answer_to request input)) (Reads (Some request) × Rose (S.faults source.old) (S.faults source.new)) refusal) }
+    ensures unread { IsUnread (Some request) → source.new ≡ source.old }
+    ensures at_end { OnOk result (IsReadWhole (Some request) (S.left source.new)) }
+    ensures bounded { LosesAtMost (S.left source.old) (S.left source.new) (most_read (Some request)) }
+{
+    if !reads_source(request.mode) {
+        return match made_input(alloc, request) {
+            Ok(input) => Ok(input),
+            Err(refusal) => Err(refusal),
+        };
+    }
+    match read_up_to(alloc, source, most_bytes(request.mode)) {
+        ReadEnd::Whole(input) => Ok(input),
+        ReadEnd::TooLong => Err(large_input()),
+        ReadEnd::Failed => Err(Refusal::ReadFault),
+        ReadEnd::NoMemory => Err(Refusal::NoMemory),
+    }
+}
+
+// Whether the source has the input of a mode.
+fn reads_source(mode: Mode) -> bool
+    ensures { result ≡ reads_source mode }
+{
+    match mode {
+        Mode::Run | Mode::Watch | Mode::Check | Mode::Convert => true,
+        Mode::Sample => false,
+    }
+}
+
+// The most bytes that the input of a mode may have.
+fn most_bytes(mode: Mode) -> usize
+    ensures { result ≡ most_bytes mode }
+{
+    match mode {
+        Mode::Run | Mode::Watch | Mode::Sample | Mode::Check | Mode::Convert => MOST_BYTES,
+    }
+}
+
+// The refusal of an input that has more.
+fn large_input() -> Refusal
+    ensures { IsRefusalOf (Some large_input) ⊥ result }
+{
+    Refusal::Told(Status::TooLarge, Line::Fixed(b"ctm: too large: input\n"))
+}
+
+// The made network, unless it is longer than an input may be.
+fn made_input(alloc: Global, request: Request) -> Result<Vec<u8>, Refusal>
+    requires in_range { IsInRange request }
+    ensures input { IfOk result (λ input. (input.items ≡ made request.size request.seed) × (length input.items ≤ most_bytes request.mode)) }
+    ensures refusal { IfErr result (IsRefusalOf (why_in (answer_to request (made request.size request.seed))) ⊥) }
+{
+    let input = make(alloc, request.size, request.seed)?;
+    if input.len() > most_bytes(request.mode) {
+        return Err(large_input());
+    }
+    Ok(input)
+}

@@ -1,0 +1,54 @@
+ghost use Rattle.std.specs.Prelude.{◌≡◌, ◌≤◌, IfErr, IfOk, Ok, Option, length};
+ghost use Rattle.network_file.specs.Network.{Network};
+ghost use Rattle.network_file.specs.Reading.{network_of};
+ghost use Rattle.network_file.specs.declared.limits.TheConstants.{MOST_BYTES};
+ghost use Rattle.call_ending.specs.Refusing.{IsRefusalOf, Why};
+ghost use Rattle.ctm_call.specs.NetworkInput.{IsToldOf, network_line, why_of_network};
+
+use call_ending::{Line, Refusal, Status};
+use itoa::Buffer;
+use network_file::{Net, NetFault, NetRefusal};
+use signal_plan::NoMemory;
+use std::alloc::Global;
+
+/// The network that an input is, or the refusal of a file by its first fault.
+pub(crate) fn network_in(alloc: Global, input: &[u8]) -> Result<Net, Refusal>
+    requires few_bytes { length input.now ≤ MOST_BYTES }
+    ensures network { IfOk result (λ net. network_of input.now ≡ Ok net) }
+    ensures refusal { IfErr result (λ refusal. (why : Network → Option Why) → IsRefusalOf (why_of_network (network_of input.now) why) ⊥ refusal) }
+{
+    match Net::read(alloc, input) {
+        Ok(net) => Ok(net),
+        Err(refusal) => Err(refused(alloc, refusal)),
+    }
+}
+
+/// The refusal of a file, with the line that tells its fault.
+pub(crate) fn refused(alloc: Global, refusal: NetRefusal) -> Refusal
+    ensures { IsToldOf refusal result }
+{
+    match refusal {
+        NetRefusal::Fault(fault) => match fault_line(alloc, fault) {
+            Ok(line) => Refusal::Told(Status::Network, Line::Made(line)),
+            Err(NoMemory) => Refusal::NoMemory,
+        },
+        NetRefusal::NoMemory => Refusal::NoMemory,
+    }
+}
+
+// The line that tells a network's fault.
+#[tactic(auto, unfolding(crate::specs::NetworkInput::network_line))]
+fn fault_line(alloc: Global, fault: NetFault) -> Result<Vec<u8>, NoMemory>
+    ensures { IfOk result (λ line. line.items ≡ network_line fault) }
+{
+    let mut digits = Buffer::new();
+    let mut line = Vec::new(alloc);
+    line.extend_from_slice(b"ctm: network: record ")?;
+    line.extend_from_slice(digits.format(fault.place).as_bytes())?;
+    line.extend_from_slice(b" code ")?;
+    line.extend_from_slice(digits.format(fault.code.number()).as_bytes())?;
+    line.extend_from_slice(b" ")?;
+    line.extend_from_slice(fault.code.name().as_bytes())?;
+    line.extend_from_slice(b"\n")?;
+    Ok(line)
+}

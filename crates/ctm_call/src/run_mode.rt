@@ -1,0 +1,60 @@
+ghost use Rattle.std.specs.Prelude.{◌≡◌, ◌≤◌, IfErr, IfOk, None, length};
+ghost use Rattle.command_words.specs.Words.{IsInRange};
+ghost use Rattle.network_file.specs.declared.limits.TheConstants.{MOST_BYTES};
+ghost use Rattle.delay_report.specs.Report.{report_of};
+ghost use Rattle.call_ending.specs.Refusing.{IsRefusalOf};
+ghost use Rattle.ctm_call.specs.RunMode.{IsRunText, run_refused};
+ghost use Rattle.ctm_call.specs.Task.{task_of};
+
+use crate::network_input::network_in;
+use crate::recording::{large_record, records_too_much};
+use call_ending::Refusal;
+use command_words::Request;
+use ctm_ports::Gate;
+use delay_report::run_report;
+use network_file::Net;
+use network_run::{charted, last_regions};
+use signal_plan::NoMemory;
+use std::alloc::Global;
+use std::thread::Threads;
+
+/// The report of a network that workers take through all its steps, in regions.
+pub(crate) fn run_text<R: Threads + Sync, G: Gate>(
+    rt: &R,
+    alloc: Global,
+    request: Request,
+    input: &[u8],
+    gate: &G,
+) -> Result<Vec<u8>, Refusal>
+    requires in_range { IsInRange request }
+    requires few_bytes { length input.now ≤ MOST_BYTES }
+    ensures text { IfOk result (λ text. (run_refused (task_of request input.now) ≡ None) × IsRunText (task_of request input.now) text.items) }
+    ensures refusal { IfErr result (IsRefusalOf (run_refused (task_of request input.now)) ⊥) }
+{
+    let net = match network_in(alloc, input) {
+        Ok(net) => net,
+        Err(refusal) => return Err(refusal),
+    };
+    if records_too_much(&net, u64::from(request.every)) {
+        return Err(large_record());
+    }
+    Ok(report_of_run(rt, alloc, &net, request, gate)?)
+}
+
+// The report, whatever it records.
+fn report_of_run<R: Threads + Sync, G: Gate>(
+    rt: &R,
+    alloc: Global,
+    net: &Net,
+    request: Request,
+    gate: &G,
+) -> Result<Vec<u8>, NoMemory>
+    requires { IsInRange request }
+    ensures { IfOk result (λ text. text.items ≡ report_of net.now request.every) }
+{
+    let _steps = net.steps;
+    let every = u64::from(request.every);
+    let chart = charted(alloc, net, request.regions)?;
+    let regions = last_regions(rt, alloc, net, &chart, every, request.workers, gate)?;
+    run_report(alloc, net, &chart, &regions, every)
+}

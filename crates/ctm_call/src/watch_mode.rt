@@ -1,0 +1,90 @@
+ghost use Rattle.std.specs.Prelude.{◌≡◌, ◌≤◌, IfErr, IfOk, None, Some, length, nat_lt};
+ghost use Rattle.command_words.specs.Words.{IsInRange};
+ghost use Rattle.network_file.specs.declared.limits.TheConstants.{MOST_BYTES};
+ghost use Rattle.call_ending.specs.Refusing.{IsRefusalOf};
+ghost use Rattle.ctm_call.specs.Task.{task_of};
+ghost use Rattle.ctm_call.specs.WatchMode.{HasShotsAndReport, IsWatchText, large_shots, shown_rows, watch_refused};
+
+use crate::network_input::network_in;
+use crate::recording::{large_record, records_too_much};
+use call_ending::{Line, Refusal, Status};
+use command_words::Request;
+use ctm_ports::Gate;
+use delay_report::run_report;
+use network_file::Net;
+use network_run::{Watched, charted, watched_regions};
+use signal_plan::NoMemory;
+use std::alloc::Global;
+use std::thread::Threads;
+
+/// The most rows that a run's shots may show: cells times shots.
+const MOST_SHOWN: u64 = 4_000_000;
+
+/// The shots and the report of a network that workers take through all its steps, in regions.
+pub(crate) fn watch_text<R: Threads + Sync, G: Gate>(
+    rt: &R,
+    alloc: Global,
+    request: Request,
+    input: &[u8],
+    gate: &G,
+) -> Result<Vec<u8>, Refusal>
+    requires in_range { IsInRange request }
+    requires few_bytes { length input.now ≤ MOST_BYTES }
+    ensures text { IfOk result (λ text. (watch_refused (task_of request input.now) ≡ None) × IsWatchText (task_of request input.now) text.items) }
+    ensures refusal { IfErr result (IsRefusalOf (watch_refused (task_of request input.now)) ⊥) }
+{
+    let net = match network_in(alloc, input) {
+        Ok(net) => net,
+        Err(refusal) => return Err(refusal),
+    };
+    if records_too_much(&net, u64::from(request.every)) {
+        return Err(large_record());
+    }
+    if shows_too_much(&net, request.shots) {
+        return Err(large_shots());
+    }
+    Ok(shots_and_report(rt, alloc, &net, request, gate)?)
+}
+
+// Whether so many shots would show more rows than they may.
+fn shows_too_much(net: &Net, shots: u32) -> bool
+    ensures { result ≡ nat_lt 4_000_000 (shown_rows net.now shots) }
+{
+    net.cells.len() as u64 * u64::from(shots) > MOST_SHOWN
+}
+
+// The refusal of a run whose shots would.
+fn large_shots() -> Refusal
+    ensures { IsRefusalOf (Some large_shots) ⊥ result }
+{
+    Refusal::Told(Status::TooLarge, Line::Fixed(b"ctm: too large: shots\n"))
+}
+
+// The shots and the report, whatever they show and record.
+fn shots_and_report<R: Threads + Sync, G: Gate>(
+    rt: &R,
+    alloc: Global,
+    net: &Net,
+    request: Request,
+    gate: &G,
+) -> Result<Vec<u8>, NoMemory>
+    requires { IsInRange request }
+    ensures { IfOk result (λ text. HasShotsAndReport net.now request text.items) }
+{
+    let _steps = net.steps;
+    let every = u64::from(request.every);
+    let chart = charted(alloc, net, request.regions)?;
+    let Watched { mut shots, regions } = watched_regions(
+        rt,
+        alloc,
+        net,
+        &chart,
+        every,
+        request.workers,
+        request.shots,
+        gate,
+    )?;
+    let report = run_report(alloc, net, &chart, &regions, every)?;
+    shots.extend_from_slice(&report)?;
+    Ok(shots)
+}

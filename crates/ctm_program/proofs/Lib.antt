@@ -1,2 +1,0 @@
-pub mod AnswerFacts
-pub mod UsedCutting

@@ -1,6 +1,0 @@
-pub mod Answer
-pub mod Counts
-pub mod Ending
-pub mod Lines
-pub mod Refusing
-pub mod Sample

@@ -1,0 +1,60 @@
+ghost use Rattle.std.specs.Prelude.{◌≡◌, ℕ, IfOk, length, replicate};
+ghost use Rattle.flow_model.specs.State.{state_at};
+ghost use Rattle.region_cut.specs.Chart.{chart_of};
+ghost use Rattle.region_cut.specs.Cuttings.{region_count};
+ghost use Rattle.region_step.specs.Standing.{AllStand};
+ghost use Rattle.region_step.specs.Start.{zero_start};
+ghost use Rattle.delay_report.specs.Report.{report_of};
+
+use crate::by_cell::ByCell;
+use crate::cell_places::cell_places;
+use crate::whole_report::report;
+use flow_model::Row;
+use network_file::Net;
+use region_cut::Chart;
+use region_step::Region;
+use signal_plan::NoMemory;
+use std::alloc::Global;
+
+/// The report of a run (docs/FORMAT.md, "The report"): of regions that were taken from step 0 to the last one, recorded
+/// every so many steps.
+pub fn run_report(
+    alloc: Global,
+    net: &Net,
+    chart: &Chart,
+    regions: &[Region],
+    every: u64,
+) -> Result<Vec<u8>, NoMemory>
+    requires chart { chart.now ≡ chart_of net.now chart.now.cut }
+    requires one_each { length chart.now.cut ≡ length net.now.cells }
+    requires stand { AllStand net.now chart.now (zero_start net.now chart.now.cut) every (replicate (region_count chart.now.cut) net.now.steps) regions.now }
+    ensures { IfOk result (λ text. text.items ≡ report_of net.now every) }
+{
+    let _steps = net.steps;
+    let text = report(alloc, net, chart, regions, every)?;
+    Ok(text)
+}
+
+/// The rows of all cells at the last step, in the order of the file, of such regions, however they were recorded.
+pub fn run_rows(
+    alloc: Global,
+    net: &Net,
+    chart: &Chart,
+    regions: &[Region],
+) -> Result<Vec<Row>, NoMemory>
+    requires chart { chart.now ≡ chart_of net.now chart.now.cut }
+    requires one_each { length chart.now.cut ≡ length net.now.cells }
+    requires stand { (every : ℕ) × AllStand net.now chart.now (zero_start net.now chart.now.cut) every (replicate (region_count chart.now.cut) net.now.steps) regions.now }
+    ensures one_each { IfOk result (λ rows. length rows.items ≡ length net.now.cells) }
+    ensures rows { IfOk result (λ rows. rows.items ≡ state_at net.now net.now.steps) }
+{
+    let _steps = net.steps;
+    let places = cell_places(alloc, net, chart)?;
+    let by_cell = ByCell {
+        chart,
+        regions,
+        places: &places,
+    };
+    let rows = by_cell.rows(alloc, net)?;
+    Ok(rows)
+}

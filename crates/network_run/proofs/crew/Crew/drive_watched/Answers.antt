@@ -1,0 +1,14 @@
+use Rattle.std.proofs.Common.{◌+◌, arith}
+use Rattle.network_run.proofs.RoundCounts.{rounds-moved, rounds-then}
+use Rattle.network_run.proofs.crew.Crew.drive_watched.Goals as goal
+
+pub returns-then-not-is_done-clause-rounds : goal.returns-then-not-is_done-clause-rounds
+returns-then-not-is_done-clause-rounds g c = (
+  1 + c.drive.result,
+  rounds-then c.args.field.now 1 1 c.drive.result 1 c.args.self.now.members c.watch_round-shot.new.self.members c.drive.new.self.members c.watch_round-shot.ensures.many
+      c.watch_round-shot.ensures.round c.drive.ensures.rounds,
+)
+
+pub returns-else-not-is_done-clause-rounds : goal.returns-else-not-is_done-clause-rounds
+returns-else-not-is_done-clause-rounds g c =
+    (1, rounds-moved c.args.field.now 1 1 2 c.args.self.now.members c.watch_round-shot.new.self.members (omega (arith, c.watch_round-shot.ensures.round.moved)) c.watch_round-shot.ensures.round)

@@ -1,0 +1,61 @@
+//! `worst_cells < FILE` tells the three cells of a network in which most delay arises: the crates of `ctm` as another program
+//! uses them. Four workers take the network through its steps in sixteen regions.
+#![tactic(auto)]
+
+mod worst;
+
+use call_ending::{Line, Refusal, Status, end};
+use ctm_ports::{OpenGate, ReadEnd, Source, StdSink, StdSource, read_up_to};
+use delay_report::run_rows;
+use network_file::{MOST_BYTES, Net, NetRefusal};
+use network_run::{charted, last_regions};
+use signal_plan::NoMemory;
+use std::alloc::Global;
+use std::process::ExitCode;
+use std::thread::Threads;
+use worst::worst_cells;
+
+/// The most lines that are written.
+const CELLS: usize = 3;
+
+fn main(rt: HostRuntime) -> ExitCode {
+    let mut source = StdSource::new(rt.stdin());
+    let mut out = StdSink::new(rt.stdout());
+    let mut err = StdSink::new(rt.stderr());
+    let answer = answer(&rt, rt.alloc(), &mut source);
+    end(answer, &mut out, &mut err).exit_code()
+}
+
+// The lines for the network that the source gives, or why there are none.
+fn answer<R: Threads + Sync, S: Source>(
+    rt: &R,
+    alloc: Global,
+    source: &mut S,
+) -> Result<Vec<u8>, Refusal> {
+    match read_up_to(alloc, source, MOST_BYTES) {
+        ReadEnd::Whole(bytes) => match Net::read(alloc, &bytes) {
+            Ok(net) => Ok(lines(rt, alloc, &net)?),
+            Err(NetRefusal::Fault(_)) => Err(told(
+                Status::Network,
+                b"worst_cells: no network; ctm check tells why\n",
+            )),
+            Err(NetRefusal::NoMemory) => Err(Refusal::NoMemory),
+        },
+        ReadEnd::TooLong => Err(told(Status::TooLarge, b"worst_cells: too large\n")),
+        ReadEnd::Failed => Err(Refusal::ReadFault),
+        ReadEnd::NoMemory => Err(Refusal::NoMemory),
+    }
+}
+
+fn told(status: Status, line: &'static [u8]) -> Refusal {
+    Refusal::Told(status, Line::Fixed(line))
+}
+
+// The lines for a network: its worst cells after all steps.
+fn lines<R: Threads + Sync>(rt: &R, alloc: Global, net: &Net) -> Result<Vec<u8>, NoMemory> {
+    let _steps = net.steps;
+    let chart = charted(alloc, net, 16)?;
+    let regions = last_regions(rt, alloc, net, &chart, 0, 4, &OpenGate)?;
+    let rows = run_rows(alloc, net, &chart, &regions)?;
+    worst_cells(alloc, &net.cells, &rows, CELLS)
+}

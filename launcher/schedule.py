@@ -1,0 +1,50 @@
+"""In which order crates are proved and by how many jobs, and how long that takes.
+
+The crates behind which the longest chain of others waits come first. The first of these gets all processors, and the
+others one each beside it, at a lower priority: they take what it leaves idle.
+"""
+
+SPEED_OF_A_JOB = 0.7  # what each job beyond the first adds to a check's speed
+
+
+class Schedule:
+    def __init__(self, names, uses, costs, processors, most_jobs):
+        self.names, self.uses, self.costs = names, uses, costs
+        self.processors = processors
+        self.most_jobs = most_jobs  # of all crates together, as many as memory holds
+        self.chains = {}
+        for name in reversed(names):
+            above = [self.chains[it] for it in names if it in self.chains and name in uses[it]]
+            self.chains[name] = costs[name] + max(above, default=0)
+
+    def next_start(self, done, jobs):
+        """The crate to start now and its jobs, or None; `jobs` has the jobs of each crate that runs."""
+        ready = [it for it in self.names if it not in done and it not in jobs and done.issuperset(self.uses[it])]
+        free = self.most_jobs - sum(jobs.values())
+        if not ready or len(jobs) >= self.processors or (jobs and free < 1):
+            return None
+        name = max(ready, key=self.chains.get)
+        is_first = all(self.chains[name] >= self.chains[it] for it in jobs)
+        return name, max(1, min(self.processors, free)) if is_first else 1
+
+    def seconds_left(self, done, jobs, left):
+        """How long the rest takes; `left` has what is left of the costs of the crates that run."""
+        done, jobs, left, seconds = set(done), dict(jobs), dict(left), 0
+        while len(done) < len(self.names):
+            start = self.next_start(done, jobs)
+            if start:
+                jobs[start[0]] = start[1]
+                left[start[0]] = self.costs[start[0]]
+                continue
+            share = min(1, self.processors / sum(jobs.values()))
+            speeds = {it: share * self.speed(jobs[it]) for it in jobs}
+            step = min(left[it] / speeds[it] for it in jobs)
+            seconds += step
+            left = {it: left[it] - step * speeds[it] for it in jobs}
+            for it in [it for it in jobs if left[it] < 1e-6]:
+                done.add(it)
+                del jobs[it], left[it]
+        return seconds
+
+    def speed(self, jobs):
+        return 1 + SPEED_OF_A_JOB * (jobs - 1)

@@ -1,0 +1,70 @@
+"""A small repository with ./ctm, in which tests/fake_rt stands for the toolchain's command: it sleeps in place of proving."""
+
+import shutil
+import subprocess
+from pathlib import Path
+
+TOP = Path(__file__).resolve().parents[1]
+PROGRAM = r"""#!/usr/bin/env bash
+case "$1" in
+  run) cat; echo done; [ "${FAILS-}" = "" ] || { echo 'ctm: no memory' >&2; exit 7; } ;;
+  *) echo 'ctm: words refused' >&2; exit 2 ;;
+esac
+"""
+CRATES = "low:\nlong: low\nside: low\nother:\ntop: long side\nctm_program: top other\nunused: low\n"
+JOBS = 4
+SECONDS = {"low": 0.2, "long": 1.2, "side": 0.3, "other": 0.3, "top": 0.2, "ctm_program": 0.2, "unused": 9}
+
+
+class Repository:
+    """A small repository with the launcher, in which tests/fake_rt stands for rt."""
+
+    def __init__(self, folder, has_rt=True):
+        self.top = Path(folder) / "repository"
+        self.bin = Path(folder) / "bin"
+        self.log = Path(folder) / "log"
+        self.trial = Path(folder) / "trial"
+        self.bin.mkdir()
+        if has_rt:
+            shutil.copy(TOP / "tests/fake_rt", self.bin / "rt")
+        self.top.mkdir()
+        shutil.copy(TOP / "ctm", self.top)
+        shutil.copytree(TOP / "launcher", self.top / "launcher", ignore=shutil.ignore_patterns("__pycache__"))
+        (self.top / "docs").mkdir()
+        rows = "".join(f"| `{name}` | 1 | {round(100 * seconds)} | 1 |\n" for name, seconds in SECONDS.items())
+        (self.top / "docs/MAP.md").write_text(f"## Check times\n\n| Crate | Functions | Seconds | Edits |\n|---|\n{rows}")
+        (self.top / "crates.txt").write_text(CRATES)
+        for name, seconds in SECONDS.items():
+            source = self.top / "crates" / name / "src"
+            source.mkdir(parents=True)
+            (source / "lib.rt").write_text(f"// {name}\n")
+            (source / "seconds").write_text(f"{seconds}\n")
+        (self.top / "crates/ctm_program/src/program.sh").write_text(PROGRAM)
+
+    @property
+    def environment(self):
+        return {"PATH": f"{self.bin}:/usr/bin:/bin", "HOME": str(self.top), "CTM_JOBS": str(JOBS),
+                "FAKE_RT_LOG": str(self.log), "FAKE_RT_TRY": str(self.trial)}
+
+    def start(self, *words, **how):
+        how = {"stdin": subprocess.DEVNULL, "stdout": subprocess.PIPE, "stderr": subprocess.PIPE, **how}
+        return subprocess.Popen([self.top / "ctm", *words], env=self.environment, **how)
+
+    def call(self, *words, given=b"", **how):
+        """The status of ./ctm, and what it wrote on out and err, as text."""
+        process = self.start(*words, stdin=subprocess.PIPE, **how)
+        out, err = process.communicate(given, timeout=60)
+        return process.returncode, out.decode(), err.decode()
+
+    def events(self, *kinds):
+        """What fake_rt noted since it was last asked: the kind of the event, the crate and its jobs."""
+        lines = self.log.read_text().splitlines() if self.log.exists() else []
+        self.log.write_text("")
+        return [tuple(line.split()[1:]) for line in lines if not kinds or line.split()[1] in kinds]
+
+    def proved(self):
+        return [name for _, name, _ in self.events("began")]
+
+    def edit(self, name, text="// changed\n"):
+        with open(self.top / "crates" / name / "src/lib.rt", "a") as file:
+            file.write(text)

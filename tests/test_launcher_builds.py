@@ -1,0 +1,101 @@
+"""How ./ctm builds: which crates in which order and by how many jobs, what it says, and what it leaves behind."""
+
+import re
+import signal
+import subprocess
+import time
+
+import pytest
+from conftest import TOP
+from launched import JOBS
+
+
+def test_crates_are_proved_side_by_side_the_longest_chain_first(repository):
+    for name in ("long", "side"):
+        (repository.top / "crates" / name / "src/seconds").write_text("6\n")
+    err = repository.call("run")[2]
+    events = repository.events()
+    assert [name for kind, name, _ in events if kind == "began"][:2] in (["low", "other"], ["other", "low"])
+    assert not [it for it in events if it[0] == "waited" or it[0].startswith("lacked")]
+    order = [(kind, name) for kind, name, _ in events if kind in ("began", "ended")]
+    # `side` is proved while `long` is, though both stand on `low`.
+    assert order.index(("began", "side")) < order.index(("ended", "long"))
+    assert order.index(("began", "long")) < order.index(("ended", "side"))
+    assert ("niced", "side", "1") in events
+    assert order.index(("ended", "low")) < order.index(("began", "long"))
+    assert "unused" not in dict(order).values()
+    first = err.splitlines()[0]
+    assert "6 crates takes" in first and "./ctm --try WORDS gives a result meanwhile" in first
+    assert all(re.search(r"after \d+ min \d+ s; .* left$", line) for line in err.splitlines()[1:-1])
+
+
+def test_a_crate_that_is_proved_alone_gets_all_processors(repository):
+    repository.call("run")
+    jobs = {name: int(jobs) for kind, name, jobs in repository.events("began")}
+    assert jobs["long"] == jobs["top"] == jobs["ctm_program"] == JOBS
+    assert jobs["other"] == jobs["side"] == 1
+
+
+def test_a_crate_that_fails_is_told(repository):
+    repository.edit("long", "// wrong\n")
+    status, out, err = repository.call("run")
+    assert (status, out) == (125, "")
+    assert "long is wrong" in err and "long failed after" in err
+    assert err.splitlines()[-1] == "./ctm: the build failed, so nothing was run"
+    assert not (repository.top / ".ctm-build").exists()
+    (repository.top / "crates/long/src/lib.rt").write_text("// long\n")
+    repository.events()
+    assert repository.call("run")[0] == 0
+    assert "low" not in repository.proved()
+
+
+@pytest.mark.parametrize("number", [signal.SIGINT, signal.SIGTERM, signal.SIGHUP])
+def test_an_interrupted_build_leaves_nothing_behind(repository, number):
+    (repository.top / "crates/long/src/seconds").write_text("77\n")
+    process = repository.start("run")
+    while not repository.log.exists() or "began long" not in repository.log.read_text():
+        time.sleep(0.01)
+    process.send_signal(number)
+    _, err = process.communicate(timeout=30)
+    assert process.returncode == 125
+    assert b"interrupted, so nothing was run" in err
+    assert not (repository.top / ".ctm-build").exists()
+    sleeping = subprocess.run(["pgrep", "-f", f"^sleep {77 / JOBS:g}$"], stdout=subprocess.PIPE)
+    assert sleeping.stdout == b""
+
+
+def test_two_calls_at_once_build_once(repository):
+    calls = [repository.start("run") for _ in range(2)]
+    told = b"".join(call.communicate(timeout=60)[1] for call in calls)
+    assert [call.returncode for call in calls] == [0, 0]
+    assert told.count(b"another ./ctm is building here") == 1
+    assert sorted(repository.proved()) == ["ctm_program", "long", "low", "other", "side", "top"]
+
+
+def test_the_folder_of_a_build_is_out_of_reach_of_the_gate(repository):
+    (repository.top / ".git").mkdir()
+    process = repository.start("run")
+    while not repository.log.exists() or "began" not in repository.log.read_text():
+        time.sleep(0.01)
+    outside = [path for path in repository.top.rglob("*.rt")
+               if path.relative_to(repository.top).parts[0] not in ("crates", ".git")]
+    assert process.communicate(timeout=60) and outside == []
+    assert not (repository.top / ".git/ctm-build").exists()
+
+
+def test_the_time_that_is_left():
+    """By the costs below on two processors, worked on paper. `a` has two jobs beside `c`, which has one: as long as `c` runs
+    the three share two processors. Then `a` has both, and then `b`."""
+    asks = ("import sys; sys.path.insert(0, 'launcher'); from schedule import Schedule; "
+            "print(Schedule(['a', 'b', 'c'], {'a': [], 'b': ['a'], 'c': []}, {'a': 10, 'b': 20, 'c': 5}, 2, 9)"
+            ".seconds_left((), {}, {}))")
+    told = subprocess.run(["python3", "-B", "-c", asks], cwd=TOP, stdout=subprocess.PIPE, check=True).stdout
+    of_c = 5 / (2 / 3)
+    assert float(told) == pytest.approx(of_c + (10 - of_c * 1.7 * 2 / 3) / 1.7 + 20 / 1.7)
+
+
+def test_each_crate_of_the_program_has_a_check_time():
+    asks = ("import sys; sys.path.insert(0, 'launcher'); from crates import *; crates = Crates('.', 'ctm_program'); "
+            "print(*{*crates.names} - {*check_times(open('docs/MAP.md').read())})")
+    lacking = subprocess.run(["python3", "-B", "-c", asks], cwd=TOP, stdout=subprocess.PIPE, check=True).stdout
+    assert lacking.split() == []

@@ -1,0 +1,125 @@
+"""./ctm's own words, and why words are refused: its table of words against docs/FORMAT.md and against the program."""
+
+import re
+import shlex
+import subprocess
+
+import pytest
+from conftest import TOP
+from worked import CORRIDOR
+
+FORMAT = (TOP / "docs/FORMAT.md").read_text()
+
+
+def rows_of(heading, page=FORMAT):
+    """The cells of the table whose first column has this heading."""
+    lines = page.partition(f"\n| {heading} |")[2].partition("\n\n")[0].splitlines()[2:]
+    return [[cell.strip() for cell in re.split(r"(?<!\\)\|", line.strip("|"))] for line in lines]
+
+
+MODES = {row[0].strip("`"): re.findall(r"`--(\w+)`", row[1]) for row in rows_of("Mode")}
+RANGES = {row[0].strip("`-"): tuple(map(int, re.fullmatch(r"whole number (\d+) to (\d+)", row[1]).groups()))
+          for row in rows_of("Option")}
+DEFAULTS = {row[0].strip("`-"): row[2] for row in rows_of("Option")}
+REFUSED = [shlex.split(example)[1:] for row in rows_of("Words") for example in re.findall(r"`(ctm[^`]*)`", row[1])]
+
+
+def test_the_page_has_the_tables_that_are_read():
+    assert (len(MODES), len(RANGES), len(DEFAULTS)) == (5, 6, 6)
+    assert len(REFUSED) >= 20
+
+
+def test_help_has_the_modes_options_and_ranges_of_the_page(without_rt):
+    status, out, err = without_rt.call("--help")
+    assert (status, err) == (0, "")
+    modes, _, options = out.partition("An option takes")
+    shown = dict(re.findall(r"^  (\w+) .*\n(?: +options: (.*))?", modes, re.MULTILINE))
+    assert {mode: words.replace("--", "").split() for mode, words in shown.items()} == MODES
+    terms = re.findall(r"^  --(\w+) .*; from (\d+) to (\d+), and (\d+) where", options, re.MULTILINE)
+    assert {name: (int(least), int(most)) for name, least, most, _ in terms} == RANGES
+    assert {name: default for name, _, _, default in terms} == DEFAULTS
+
+
+def words_at_the_ends():
+    for option, (least, most) in RANGES.items():
+        mode = next(mode for mode, options in MODES.items() if option in options)
+        for value in {least - 1, least, most, most + 1}:
+            yield [mode, f"--{option}={value}"]
+    for mode, options in MODES.items():
+        yield [mode]
+        yield from ([mode, f"--{option}", "1"] for option in RANGES)
+
+
+OTHER_WORDS = [["--regions", "2", "run"], ["--regions=2", "run"], ["--", "run"], ["run", "--regions", "3", "--"],
+               ["run", "--regions", "008"], ["run", "--regions", "0000000008"], ["run", "--regions", "-5"],
+               ["run", "--regions=-5"], ["run", "--regions", "-"], ["run", "--regions", "--workers", "2"],
+               ["run", "--regions="], ["run", "--=3"], ["run", "-"], ["run", "--", "--"], ["run", "---"], [""],
+               ["run", ""], ["run", "--regions", "２"], ["run", "--regions", "1 "], ["run", "--regions=1=1"],
+               ["run", "--regions", "3", "--regions", "3"], ["run", "-regions", "3"], ["run", "--Regions", "3"]]
+
+
+OWN_WORDS = {"help", "--help", "-h", "--version", "-V"}
+TRIED = [words for words in [*words_at_the_ends(), *OTHER_WORDS, *REFUSED] if not OWN_WORDS & {*words}]
+
+
+@pytest.mark.parametrize("words", TRIED, ids=" ".join)
+def test_words_are_refused_where_the_program_refuses_them(words, run, without_rt):
+    """The program refuses words at once, so one that still runs has taken them."""
+    status, _, _ = run(words, seconds=20, input=CORRIDOR, stdout=subprocess.DEVNULL)
+    assert without_rt.call(*words)[0] == (2 if status == 2 else 125)
+
+
+@pytest.mark.parametrize("words, told", [
+    (["run", "--regions", "513"], ["--regions takes", "from 1 to 512", "and not 513"]),
+    (["run", "--regions=0"], ["--regions takes", "from 1 to 512", "and not 0"]),
+    (["watch", "--shots", "65"], ["--shots takes", "from 1 to 64", "and not 65"]),
+    (["run", "--every", "100001"], ["--every takes", "from 0 to 100000", "and not 100001"]),
+    (["run", "--workers=2x"], ["--workers takes", "from 1 to 16", "and not 2x"]),
+    (["run", "--regions"], ["--regions has no value", "from 1 to 512"]),
+    (["run", "--regions", "3", "--regions", "4"], ["--regions stands twice"]),
+    (["check", "--every", "60"], ["check has no option --every", "it has none"]),
+    (["run", "--shots", "1"], ["run has no option --shots", "--regions --workers --every"]),
+    (["run", "--reg", "3"], ["--reg is no option", "--regions --workers"]),
+    (["run", "-r", "3"], ["-r is no option"]),
+    (["drive"], ["drive is no mode", "run watch sample check convert"]),
+    ([], ["no mode is given", "run watch sample check convert"]),
+    (["run", "check"], ["check is a word too many"]),
+    (["--", "run", "--regions", "3"], ["--regions stands behind two dashes"]),
+    (["run", "ctm"], ["a network is read from standard input: ./ctm run < ctm"]),
+    (["run", "no such file.csv"], ["./ctm run < no\\ such\\ file.csv"]),
+    (["ctm"], ["ctm is no mode", "./ctm run < ctm"]),
+    ([b"\xff"], ["$'\\377' is no mode"]),
+    (["run", "--x]=$(echo x)"], ["is no option"]),
+    (["run", "--regions=a[$(echo x >&2)]"], ["and not a"]),
+], ids=str)
+def test_which_word_is_refused_and_why(words, told, without_rt):
+    status, out, err = without_rt.call(*words, cwd=without_rt.top)
+    assert (status, out, err.count("\n")) == (2, "", 1)
+    assert err.startswith("./ctm: ")
+    for it in told:
+        assert it in err
+
+
+@pytest.mark.parametrize("words", [["--help"], ["-h"], ["help"], ["run", "--help"], ["run", "-h"]], ids=" ".join)
+def test_help_is_shown_without_a_program(words, without_rt):
+    status, out, err = without_rt.call(*words)
+    assert (status, err) == (0, "")
+    assert out.startswith("usage: ./ctm MODE [OPTIONS] < FILE\n")
+
+
+def test_the_version_and_the_commit(repository):
+    status, out, err = repository.call("--version")
+    assert (status, err) == (0, "")
+    assert re.fullmatch(r"ctm \d+\.\d+, commit unknown\n", out)
+
+    def git(*words):
+        named = ["-c", "user.name=a", "-c", "user.email=a@b"]
+        return subprocess.run(["git", "-C", repository.top, *named, *words], check=True, stdout=subprocess.PIPE).stdout
+
+    git("init", "-q")
+    git("add", ".")
+    git("commit", "-q", "-m", "all")
+    commit = git("log", "-1", "--format=%h of %cs").decode()
+    assert repository.call("--version")[1].endswith(f", commit {commit}")
+    repository.edit("low")
+    assert "changes to its crates that are not committed" in repository.call("--version")[1]

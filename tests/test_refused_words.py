@@ -1,0 +1,118 @@
+"""Words that are refused, before any of the input is read: those of docs/FORMAT.md and others."""
+
+import re
+import shlex
+
+import pytest
+from conftest import hold
+from format_tables import rows_of
+from messages import WORDS
+
+# The name of each case and its words.
+CASES = [
+    ("recorded more seldom than may be asked", ["run", "--every", "100001"]),
+    ("recorded so often with a sign", ["run", "--every", "+1"]),
+    ("recorded, and not said how often", ["run", "--every"]),
+    ("recorded twice", ["run", "--every", "1", "--every", "1"]),
+    ("a conversion recorded", ["convert", "--every", "1"]),
+    ("no words", []),
+    ("an unknown word", ["drive"]),
+    ("an empty word", [""]),
+    ("a word too many", ["run", "run"]),
+    ("no regions", ["run", "--regions", "0"]),
+    ("one past the most regions", ["run", "--regions", "513"]),
+    ("no number of regions", ["run", "--regions"]),
+    ("an empty number of regions", ["run", "--regions", ""]),
+    ("a number of regions with a sign", ["run", "--regions", "+3"]),
+    ("a number of regions with a space", ["run", "--regions", " 3"]),
+    ("a number of regions that isn't whole", ["run", "--regions", "3.0"]),
+    ("a number of regions in ten digits", ["run", "--regions", "0000000003"]),
+    ("a number of regions that isn't text", ["run", "--regions", b"\xff"]),
+    ("regions twice", ["run", "--regions", "3", "--regions", "4"]),
+    ("regions in short", ["run", "--reg", "3"]),
+    ("regions without a mode", ["--regions", "3"]),
+    ("regions behind the dashes", ["--", "run", "--regions", "3"]),
+    ("regions, and an option that run hasn't", ["run", "--regions", "3", "--shots", "1"]),
+    ("an option that run hasn't", ["run", "--shots", "1"]),
+    ("no workers", ["run", "--workers", "0"]),
+    ("one past the most workers", ["run", "--workers", "17"]),
+    ("a number of workers that isn't whole", ["run", "--workers=2x"]),
+    ("workers for check", ["check", "--workers", "2"]),
+    ("no number of workers", ["run", "--workers"]),
+    ("workers twice", ["run", "--workers", "2", "--workers", "2"]),
+    ("workers for convert", ["convert", "--workers=2"]),
+    ("regions for check", ["check", "--regions", "3"]),
+    ("regions for convert", ["convert", "--regions=1"]),
+    ("an option that check hasn't", ["check", "--every", "1"]),
+    ("no shots", ["watch", "--shots", "0"]),
+    ("one past the most shots", ["watch", "--shots", "65"]),
+    ("a number of shots that isn't whole", ["watch", "--shots=2x"]),
+    ("no number of shots", ["watch", "--shots"]),
+    ("shots twice", ["watch", "--shots", "2", "--shots", "2"]),
+    ("shots for check", ["check", "--shots", "2"]),
+    ("shots for convert", ["convert", "--shots=2"]),
+    ("an option that watch hasn't", ["watch", "--size", "1"]),
+    ("an option that sample hasn't", ["sample", "--every", "1"]),
+    ("a size of none", ["sample", "--size", "0"]),
+    ("a size too great", ["sample", "--size", "10001"]),
+    ("a seed too great", ["sample", "--seed", "1000000000"]),
+    ("no regions for watch", ["watch", "--regions", "0"]),
+    ("help", ["--help"]),
+    ("help of run", ["run", "--help"]),
+    ("the version", ["--version"]),
+    ("a word that isn't text", [b"\xff"]),
+    ("run, and a word that isn't text", ["run", b"r\xc3"]),
+    ("run, and a space behind it", ["run "]),
+    ("a space before run", [" run"]),
+    ("run twice as one word", ["run run"]),
+    ("an option behind an equals sign that isn't there", ["run", "--regions3"]),
+    ("two equals signs", ["run", "--regions==3"]),
+    ("an equals sign and no number", ["run", "--regions="]),
+    ("an option of one dash", ["run", "-regions", "3"]),
+    ("an option in upper case", ["run", "--Regions", "3"]),
+    ("an option by two of its spellings", ["run", "--regions=3", "--regions", "3"]),
+    ("an option whose value is an option", ["run", "--regions", "--workers", "2"]),
+    ("watch twice", ["watch", "watch"]),
+    ("check and convert", ["check", "convert"]),
+    ("sample and run", ["sample", "run"]),
+    ("an option that convert hasn't", ["convert", "--size", "1"]),
+    ("a seed for watch", ["watch", "--seed", "1"]),
+    ("a seed for run", ["run", "--seed", "1"]),
+    ("shots for sample", ["sample", "--shots", "1"]),
+    ("no workers for watch", ["watch", "--workers", "0"]),
+    ("one past the most workers of watch", ["watch", "--workers", "17"]),
+    ("one past the most regions of watch", ["watch", "--regions", "513"]),
+    ("a watch recorded more seldom than may be asked", ["watch", "--every", "100001"]),
+    ("no regions for sample", ["sample", "--regions", "0"]),
+    ("one past the most regions of sample", ["sample", "--regions", "513"]),
+    ("no workers for sample", ["sample", "--workers", "0"]),
+    ("one past the most workers of sample", ["sample", "--workers", "17"]),
+    ("a number of workers in ten digits", ["run", "--workers", "0000000002"]),
+    ("a number of regions past 32 bits", ["run", "--regions", "4294967297"]),
+    ("a number of regions past 64 bits", ["run", "--regions", "18446744073709551617"]),
+    ("a number that isn't of ASCII digits", ["run", "--regions", "\u0663"]),
+    ("three dashes", ["run", "---"]),
+    ("two dashes twice", ["--", "--"]),
+    ("help behind an option", ["run", "--regions", "3", "--help"]),
+    ("an option's number that isn't text", ["run", b"--regions=\xff"]),
+]
+
+
+@pytest.mark.parametrize("words", [case[1] for case in CASES], ids=[case[0] for case in CASES])
+def test_refused_words(words, run, directory):
+    """A read of the directory would be a read fault."""
+    hold((2, b"", WORDS), run(words, stdin=directory))
+
+
+EXAMPLES = rows_of("Words | So")
+EXAMPLE_WORDS = [example for row in EXAMPLES for example in re.findall(r"`(ctm[^`]*)`", row.rpartition(" | ")[2])]
+
+
+def test_each_row_of_the_table_of_refused_words_is_read():
+    assert [row for row in EXAMPLES if "`ctm" not in row] == ["| a word that isn't UTF-8, wherever it stands | |"]
+    assert len(EXAMPLES) == 9
+
+
+@pytest.mark.parametrize("example", EXAMPLE_WORDS)
+def test_the_example_of_refused_words(example, run, directory):
+    hold((2, b"", WORDS), run(shlex.split(example)[1:], stdin=directory))

@@ -1,0 +1,22 @@
+"""The scripts of the repository, as bash and shellcheck read them."""
+
+import shutil
+import subprocess
+
+import pytest
+from conftest import TOP
+
+
+SCRIPTS = ["ctm", "ctm-tools", "launcher/words", "launcher/current", "launcher/try", "tests/fake_rt", "tests/program",
+           "tests/launcher", "examples/check", "tools/check", "tools/find-python", "tools/pictures", "tools/setup", ".ci/run"]
+
+
+@pytest.mark.parametrize("script", SCRIPTS)
+def test_bash_reads_each_script(script):
+    subprocess.run(["bash", "-n", script], cwd=TOP, check=True)
+
+
+@pytest.mark.skipif(not shutil.which("shellcheck"), reason="shellcheck isn't installed")
+@pytest.mark.parametrize("script", SCRIPTS)
+def test_shellcheck_finds_nothing(script):
+    subprocess.run(["shellcheck", "-x", script], cwd=TOP, check=True)

@@ -1,0 +1,96 @@
+"""Words that are taken and files without a fault, with the text that is wanted; the examples of docs/FORMAT.md among them."""
+
+import pytest
+from conftest import hold
+from worked import CITY, CORRIDOR, RAMPS, RAMPS_TOTALS, RECORDED, REPORT, TURN, lines
+
+CONVERTED = CORRIDOR.replace(b"ctm,1", b"ctm,2")
+FIRST_AND_LAST = b"".join(line for line in RECORDED.splitlines(True) if not line.startswith(b"at,2,"))
+REGIONS = CONVERTED + lines("region,in,0; region,a,1; region,out,1")
+ONE_REGION = CONVERTED + lines("region,in,0; region,a,0; region,out,0")
+REGIONS_BACKWARDS = CONVERTED + lines("region,out,0; region,a,1; region,in,2")
+OTHER_FORMS = b"\xef\xbb\xbf# a corridor\r\n\r\n" + CORRIDOR.replace(b"gate,in", b'gate,"in"').replace(b"\n", b"\r\n")[:-2]
+SPELLED_LONG = lines("ctm,1; steps,003; gate,in,2.0,0; road,a,06,000000000002.000000,1,02,0; exit,out,2; link,in,a; "
+                     "link,a,out; demand,in,0,000000001,4")
+SPELLED_LONG_IN_FORMAT_2 = SPELLED_LONG.replace(b"ctm,1", b"ctm,2")
+
+MADE = lines("sample,100,7,127,101,240") + RAMPS_TOTALS
+LARGE_MADE = lines("sample,2000,5,2502,2001,4040; total,0.000472,1523.105380,1523.104908,3175.878756")
+
+# The name of each case, its words, its input and the text that is wanted.
+CASES = [
+    ("run", ["run"], CORRIDOR, REPORT),
+    ("check", ["check"], CORRIDOR, b"network,3,2,3,0,0,1\n"),
+    ("convert", ["convert"], CORRIDOR, CONVERTED),
+    ("run what convert wrote", ["run"], CONVERTED, REPORT),
+    ("check what convert wrote", ["check"], CONVERTED, b"network2,3,2,3,0,0,1,0\n"),
+    ("convert what convert wrote", ["convert"], CONVERTED, CONVERTED),
+    ("run a file in other forms", ["run"], OTHER_FORMS, REPORT),
+    ("convert a file in other forms", ["convert"], OTHER_FORMS, CONVERTED),
+    ("run with regions in the file", ["run"], REGIONS, REPORT),
+    ("run with one region in the file", ["run"], ONE_REGION, REPORT),
+    ("run with regions in the file against the order of the cells", ["run"], REGIONS_BACKWARDS, REPORT),
+    ("run in one region", ["run", "--regions", "1"], CORRIDOR, REPORT),
+    ("run in two regions", ["run", "--regions=2"], CORRIDOR, REPORT),
+    ("run in as many regions as cells", ["run", "--regions", "3"], CORRIDOR, REPORT),
+    ("run in more regions than cells", ["run", "--regions", "4"], CORRIDOR, REPORT),
+    ("run in the most regions", ["run", "--regions", "512"], CORRIDOR, REPORT),
+    ("regions before the mode", ["--regions", "2", "run"], CORRIDOR, REPORT),
+    ("regions, and two dashes", ["run", "--regions", "2", "--"], CORRIDOR, REPORT),
+    ("regions spelled with zeros", ["run", "--regions", "03"], CORRIDOR, REPORT),
+    ("fewer regions than in the file", ["run", "--regions", "1"], REGIONS, REPORT),
+    ("more regions than in the file", ["run", "--regions", "3"], ONE_REGION, REPORT),
+    ("run by one worker", ["run", "--workers", "1"], CORRIDOR, REPORT),
+    ("run by two workers in three regions", ["run", "--workers=2", "--regions", "3"], CORRIDOR, REPORT),
+    ("the most workers before the mode, in one region", ["--workers", "16", "run"], CORRIDOR, REPORT),
+    ("run by workers in the regions of the file", ["run", "--workers", "2"], REGIONS_BACKWARDS, REPORT),
+    ("workers spelled with zeros", ["run", "--workers", "016"], CORRIDOR, REPORT),
+    ("recorded by three workers in two regions", ["run", "--every", "2", "--workers", "3", "--regions", "2"], CORRIDOR,
+     RECORDED),
+    ("check with turns in the file", ["check"], TURN, b"network2,3,1,3,0,0,0,1\n"),
+    ("recorded every other step", ["run", "--every", "2"], CORRIDOR, RECORDED),
+    ("recorded in three regions", ["run", "--every", "2", "--regions", "3"], CORRIDOR, RECORDED),
+    ("recorded at the last step alone and at 0", ["run", "--every", "3"], CORRIDOR, FIRST_AND_LAST),
+    ("recorded more seldom than there are steps", ["run", "--every=100000"], CORRIDOR, FIRST_AND_LAST),
+    ("recorded never", ["run", "--every", "0"], CORRIDOR, REPORT),
+    ("recorded at the last step alone and at 0, in two regions", ["run", "--every", "3", "--regions", "2"], CORRIDOR,
+     FIRST_AND_LAST),
+    ("run in many more regions than cells", ["run", "--regions=256"], CORRIDOR, REPORT),
+    ("check of a city", ["check"], CITY, b"network2,17,9,5,3,3,3,3\n"),
+    ("convert of a city, which needs no change", ["convert"], CITY, CITY),
+    ("check of regions in the file, which aren't counted", ["check"], REGIONS, b"network2,3,2,3,0,0,1,0\n"),
+    ("convert of regions in the file, which are kept", ["convert"], REGIONS, REGIONS),
+    ("convert of fields that could be spelled shorter", ["convert"], SPELLED_LONG, SPELLED_LONG_IN_FORMAT_2),
+    ("run with fields that could be spelled shorter", ["run"], SPELLED_LONG, REPORT),
+    ("check of a corridor with ramps, signals and an incident", ["check"], RAMPS, b"network,127,101,240,12,1,14\n"),
+]
+
+
+@pytest.mark.parametrize("words, given, text", [case[1:] for case in CASES], ids=[case[0] for case in CASES])
+def test_words_and_files(words, given, text, run):
+    hold((0, text, b""), run(words, input=given))
+
+
+# The name of each case, its words and the text that is wanted. The totals of the larger ones are what models from
+# docs/FORMAT.md and docs/MODEL.md alone came to.
+SAMPLES = [
+    ("the smallest made network", ["sample", "--size", "1", "--seed", "0"],
+     lines("sample,1,0,3,2,42; total,0.000000,58.068940,58.068940,262.344330")),
+    ("a made network in regions by workers", ["sample", "--size", "100", "--seed", "7", "--workers", "8", "--regions", "32"],
+     MADE),
+    ("a made network whole", ["sample", "--size=100", "--seed=7"], MADE),
+    ("a large made network in regions by workers",
+     ["sample", "--size", "2000", "--seed", "5", "--workers", "16", "--regions", "256"], LARGE_MADE),
+    ("a large made network whole", ["sample", "--size", "2000", "--seed", "5"], LARGE_MADE),
+    ("a made network of the greatest seed", ["sample", "--size", "1", "--seed", "999999999"],
+     lines("sample,1,999999999,3,2,42; total,0.000000,42.696380,42.696380,29.008370")),
+    ("the largest made network, of the greatest seed",
+     ["sample", "--size", "10000", "--seed", "999999999", "--workers", "4", "--regions", "16"],
+     lines("sample,10000,999999999,12502,10001,20040; total,0.002480,7615.538260,7615.535780,15189.910177")),
+]
+
+
+@pytest.mark.parametrize("words, text", [case[1:] for case in SAMPLES], ids=[case[0] for case in SAMPLES])
+def test_made_networks(words, text, run, directory):
+    """A read of the directory would be a read fault."""
+    hold((0, text, b""), run(words, stdin=directory))

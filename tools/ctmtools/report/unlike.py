@@ -1,0 +1,58 @@
+"""Where two reports are of other cells, other places or other times, so that a comparison isn't of like with like."""
+
+from __future__ import annotations
+
+from collections.abc import Iterator, Mapping, Sequence
+from typing import Any
+
+from .reading import Report
+
+MOST_NAMED = 3  # cells of each sort that a line names
+
+
+def unlike(first: Report, second: Report) -> Iterator[str]:
+    """A line for each thing in which the networks and the times of two reports, A and B, differ."""
+    yield from _cells(first, second)
+    yield from _places(first, second)
+    spans = [_span(report) for report in (first, second)]
+    if spans[0] != spans[1]:
+        yield f"A is of {spans[0]}, B of {spans[1]}"
+
+
+def _cells(first: Report, second: Report) -> Iterator[str]:
+    alone = [[cell for cell in one.cells.index if cell not in other.cells.index]
+             for one, other in ((first, second), (second, first))]
+    if any(alone):
+        both = len(first.cells) - len(alone[0])
+        told = [f"{len(cells)} of {name} alone ({_named(cells)})" for name, cells in zip("AB", alone) if cells]
+        yield f"A and B have other cells: {' and '.join(told)}, {both} of both"
+
+
+def _places(first: Report, second: Report) -> Iterator[str]:
+    """The cells of one name that are another part of a road in the second report."""
+    moved = [(cell, row, second.units.cells[cell]) for cell, row in first.units.cells.items()
+             if cell in second.units.cells and _place(row) != _place(second.units.cells[cell])]
+    if moved:
+        cell, row, other = moved[0]
+        yield (f"{len(moved)} cells of one name are other parts of a road in A and in B, as {cell}: {_told(row)} in A, "
+               f"{_told(other)} in B")
+
+
+def _place(row: Mapping[str, Any]) -> tuple[str, float, float]:
+    return row["road"], round(row["from_km"], 6), round(row["to_km"], 6)
+
+
+def _told(row: Mapping[str, Any]) -> str:
+    return f"{row['road']} km {row['from_km']:.6g} to {row['to_km']:.6g}"
+
+
+def _span(report: Report) -> str:
+    units = report.units
+    if not units.known:
+        return f"{report.steps:,} steps of unknown length"
+    return f"{report.steps:,} steps of {units.step:g} s, {units.clock(0)} to {units.clock(report.steps)}"
+
+
+def _named(cells: Sequence[str]) -> str:
+    more = len(cells) - MOST_NAMED
+    return ", ".join(cells[:MOST_NAMED]) + (f" and {more} more" if more > 0 else "")

@@ -1,0 +1,82 @@
+"""Times as exports of detectors write them: a clock time, with or without a date before it."""
+
+import datetime
+import re
+from dataclasses import dataclass
+
+from ..problem import Problem
+
+DATE = r"(?P<date>[0-9]{1,4}[-/.][0-9]{1,2}[-/.][0-9]{1,4})"
+CLOCK = r"(?P<hour>[0-9]{1,2}):(?P<minute>[0-5][0-9])(?::(?P<second>[0-5][0-9])(?:[.,]0*)?)?"
+HALF = r"(?P<half>[AaPp]\.?[Mm]\.?)?"
+TIME = re.compile(rf"(?:{DATE}(?:[T ]\s*))?{CLOCK}\s*{HALF}\s*(?P<zone>Z|[+-][0-9]{{2}}:?[0-9]{{2}})?")
+DAY_ALONE = re.compile(DATE + r"(?:[T ]00:00(?::00)?)?")
+
+
+@dataclass(frozen=True)
+class Moment:
+    """A time of a file: its day where one is written, its seconds after midnight, and its zone where one is written."""
+
+    day: tuple
+    seconds: int
+    zone: str
+
+
+def moment(text, key):
+    """The moment that a text spells."""
+    found = TIME.fullmatch(text.strip())
+    hour = _hour(found) if found else None
+    if hour is None:
+        raise Problem(f"{key}: expected a time such as 06:30, 6:30 AM, 2019-12-04T06:30 or 04/12/2019 06:30:00, found "
+                      f"\"{text.strip()}\"")
+    seconds = hour * 3600 + int(found["minute"]) * 60 + int(found["second"] or 0)
+    return Moment(found["date"] and day(found["date"], key), seconds, found["zone"])
+
+
+def _hour(found):
+    """The hour, 0 to 24, of a clock time that may be of half a day; None where there is no such hour."""
+    hour = int(found["hour"])
+    if not found["half"]:
+        return hour if hour < 24 or hour == 24 and not int(found["minute"]) + int(found["second"] or 0) else None
+    return hour % 12 + (12 if found["half"][0] in "pP" else 0) if 1 <= hour <= 12 else None
+
+
+def day(text, key):
+    """A date's numbers in the order in which they are written, since which is the month may not be known.
+
+    A date in another form is taken as its text.
+    """
+    text = text.strip()
+    if not text:
+        raise Problem(f"{key}: expected a date such as 2019-12-04 or 04/12/2019, found nothing")
+    found = DAY_ALONE.fullmatch(text)
+    return tuple(int(part) for part in re.split("[-/.]", found["date"])) if found else (text,)
+
+
+def day_text(written):
+    """A day as messages show it."""
+    if len(written) == 1:
+        return written[0]
+    return "{:04d}-{:02d}-{:02d}".format(*written) if written[0] > 31 else "{:02d}/{:02d}/{:02d}".format(*written)
+
+
+def follows(first, second):
+    """Whether a day is the next one after another, read in one of the orders that its numbers may have."""
+    if len(first) != 3 or len(second) != 3:
+        return False
+    return any((later - earlier).days == 1 for earlier, later in zip(_readings(first), _readings(second))
+               if earlier and later)
+
+
+def _readings(numbers):
+    """The dates that the numbers are by year, month, day; by day, month, year; and by month, day, year."""
+    one, two, three = numbers
+    year = three if three > 99 else three + 2000
+    return [_date(one, two, three) if one > 31 else None, _date(year, two, one), _date(year, one, two)]
+
+
+def _date(year, month, number):
+    try:
+        return datetime.date(year, month, number)
+    except ValueError:
+        return None

@@ -1,0 +1,22 @@
+"""The demand of a study, step by step."""
+
+from fractions import Fraction
+
+from ..amounts import PARTS, amount_text
+from .layout import HOUR
+
+
+def demands(study, scale):
+    """A record for each flow that comes to a gate before the study's end."""
+    lasting = study.duration
+    for gate in study.gates.values():
+        asked = modelled = Fraction(0)
+        for i, demand in enumerate(gate.demand, 1):
+            what = f"gates.{gate.name}.demand[{i}]"
+            begin, end = scale.span(what, demand.start, min(demand.end, lasting))
+            parts = scale.flow(what, demand.flow)
+            asked += demand.flow * (min(demand.end, lasting) - demand.start) / HOUR
+            modelled += Fraction(parts * (min(end, scale.steps) - begin), PARTS)
+            if parts:
+                yield f"demand,{gate.name},{begin},{end},{amount_text(parts)}"
+        scale.rounding.note(f"vehicles that come to gate {gate.name}", asked, modelled, "vehicles")

@@ -1,0 +1,126 @@
+"""The limits of capacity of a study: closures, openings, limits of gates and exits, and the red of timed signals."""
+
+from fractions import Fraction
+
+from ..amounts import amount_text, rounded_parts
+from ..problem import Problem
+from ..units import clock_text
+from .capacities import Change, flow_left, lanes_left, least, most_opened, spans
+from .layout import HOUR
+from .rounding import told
+
+
+class Limits:
+    """What changes the capacity of gates, exits and cells, and the records of limits that this makes.
+
+    The records of a cell never overlap: each has what is left where all hold that hold at its steps.
+    """
+
+    def __init__(self, study, junctions, scale):
+        self.study, self.junctions, self.scale = study, junctions, scale
+        self.changes = {}  # for each gate, exit and cell what changes its capacity
+        self._nodes()
+        for closure in study.closures:
+            self._on_cells(closure, closed=closure.lanes or Fraction(0), capacity=closure.capacity)
+        for opening in study.openings:
+            self._on_cells(opening, opened=opening.lanes)
+        for cell in self._cells():
+            self._widen(cell)
+
+    def add(self, name, change):
+        """Puts a change on a gate, an exit or a cell."""
+        self.changes.setdefault(name, []).append(change)
+
+    def records(self):
+        """A record for each span of steps in which a gate, an exit or a cell has another capacity than its own."""
+        for name in [*self.study.gates, *self.study.exits]:
+            yield from self._records_of(name, least)
+        for cell in self._cells():
+            yield from self._records_of(cell.name, lambda holding, cell=cell: flow_left(cell.section, holding))
+
+    def overlaps(self):
+        """What is left where closures, openings or limits overlap, in a line for each such place and time."""
+        for name in [*self.study.gates, *self.study.exits]:
+            for begin, end, holding in self._overlapping(name):
+                yield f"{_places(holding)} overlap {self._clock(begin, end)}: {_flow(least(holding))} are left"
+        for (places, span, _), cells in self._overlapping_cells().items():
+            section, holding = cells[0][0].section, cells[0][1]
+            own, opened = lanes_left(section, holding)
+            beside = f" and {told(opened)} opened" if opened else ""
+            yield (f"{places} overlap on road {cells[0][0].road} from km {told(cells[0][0].start)} to "
+                   f"{told(cells[-1][0].end)}, {span}: {told(own)} of {section.lanes} lanes{beside} and "
+                   f"{_flow(flow_left(section, holding))} are left")
+
+    def _nodes(self):
+        """The limits that gates and exits say."""
+        nodes = [(f"gates.{gate.name}", gate) for gate in self.study.gates.values()]
+        nodes += [(f"exits.{exit_.name}", exit_) for exit_ in self.study.exits.values()]
+        for place, node in nodes:
+            for i, limit in enumerate(node.limits, 1):
+                what = f"{place}.limits[{i}]"
+                self.add(node.name, Change(*self.scale.span(what, limit.start, limit.end), what, capacity=limit.flow))
+
+    def _on_cells(self, work, **terms):
+        """Puts what a closure or an opening changes on each cell of its part of the road."""
+        part = work.part
+        span = self.scale.span(part.place, part.start, part.end)
+        for cell in self.junctions.cells_of(part):
+            if terms.get("closed", 0) > cell.section.lanes:
+                raise Problem(f"{part.place}.lanes: the road has {cell.section.lanes} there")
+            self.add(cell.name, Change(*span, part.place, saturation_flow=work.saturation_flow, **terms))
+
+    def _cells(self):
+        """The cells of roads whose capacity changes, in the order of the network."""
+        return [cell for row in self.junctions.layout.cells.values() for cell in row if cell.name in self.changes]
+
+    def _widen(self, cell):
+        """Gives a cell the room of the lanes that are opened there too, since a cell has one room at all times."""
+        holding = [flow_left(cell.section, holding) for _, _, holding in spans(self.changes[cell.name])]
+        cell.most = max(cell.most, rounded_parts(max(holding) * self.scale.step / HOUR))
+        cell.opened = most_opened(self.changes[cell.name])
+        lanes = cell.section.lanes + cell.opened
+        cell.room = rounded_parts(cell.section.jam_density * lanes * (cell.end - cell.start))
+
+    def _records_of(self, name, flow_of):
+        """The records of a cell, with spans of one capacity that follow each other joined."""
+        last = None
+        for begin, end, holding in spans(self.changes.get(name, ())):
+            parts = self.scale.flow(f"{_places(holding)}: what is left", flow_of(holding))
+            if last and last[1:] == (begin, parts):
+                last = last[0], end, parts
+                continue
+            if last:
+                yield _record(name, *last)
+            last = begin, end, parts
+        if last:
+            yield _record(name, *last)
+
+    def _overlapping(self, name):
+        """The spans of a cell in which several closures, openings or limits hold; red lights aren't told."""
+        works = [change for change in self.changes.get(name, ()) if not change.red]
+        return [span for span in spans(works) if len(span[2]) > 1]
+
+    def _overlapping_cells(self):
+        """The overlaps on roads: for each, by its places, its time and its section, the cells that have it."""
+        found = {}
+        for cell in self._cells():
+            for begin, end, holding in self._overlapping(cell.name):
+                key = _places(holding), self._clock(begin, end), (cell.road, id(cell.section))
+                found.setdefault(key, []).append((cell, holding))
+        return found
+
+    def _clock(self, begin, end):
+        start, step = self.study.start, self.scale.step
+        return " to ".join(clock_text(float(start + step * time)) for time in (begin, min(end, self.scale.steps)))
+
+
+def _record(name, begin, end, parts):
+    return f"limit,{name},{begin},{end},{amount_text(parts)}"
+
+
+def _places(holding):
+    return " and ".join(dict.fromkeys(change.place for change in holding))
+
+
+def _flow(flow):
+    return f"{told(flow)} vehicles/h"

@@ -1,0 +1,24 @@
+"""What is told of a built study before the results of its run."""
+
+from __future__ import annotations
+
+from collections.abc import Iterator
+
+from ..network_file.warnings import shortened, warnings_of
+from .network_text import Built
+
+
+def told(built: Built) -> Iterator[str]:
+    """What is told of a built study: what it is made of, what was rounded, and the warnings."""
+    yield from built.remarks
+    for note in built.rounding.differing:
+        yield f"rounded: {note}"
+    if not built.rounding.differing:
+        yield "All lengths, flows, times, places and shares are modelled as asked, to 0.1 %."
+    yield from warned(built)
+
+
+def warned(built: Built) -> Iterator[str]:
+    """The warnings of a built study: what in it can hardly be meant."""
+    for line in [*built.warnings, *shortened(warnings_of(built.network, built.units), lines=False)]:
+        yield f"warning: {line}"

@@ -1,0 +1,101 @@
+"""One run of a sweep: the study built with some keys changed, run, and measured."""
+
+from __future__ import annotations
+
+import hashlib
+from dataclasses import dataclass
+from fractions import Fraction
+from pathlib import Path
+from typing import Any
+
+from ..problem import Problem, one_line
+from ..report.queues import queues_in
+from ..report.reading import Report
+from ..running import run
+from ..study.network_text import build
+from ..study.plan import Study
+from ..study.reading import study_of
+from ..study.rounding import Rounding
+from .variations import changed
+
+MEASURES = ("delay_vehicle_hours", "longest_queue_km", "most_waiting_vehicles", "served_vehicles", "inside_vehicles")
+
+
+@dataclass(frozen=True)
+class Task:
+    """A run to be made: the study's values and path, what is changed, the program, and the steps between records."""
+
+    values: dict[str, Any]
+    path: str
+    changes: dict[str, Any]
+    program: str
+    every: int | None = None
+
+
+def measure(task: Task) -> dict[str, Any]:
+    """The measures of a task's run, by name, and what went wrong, which is an empty text where nothing did.
+
+    Delay is in vehicle-hours, the longest queue in km of whole cells, most waiting are the vehicles that waited at once
+    in one queue, on roads and in gates, and the rest is in vehicles at the end.
+    """
+    try:
+        if not Path(task.program).exists():
+            raise Problem(f"there is no program {task.program} on this machine")
+        built = build(study(task))
+        _, report = run(built.text.encode(), "the built network", built.units, task.every, 1, task.program)
+        values = (report.units.hours(report.total.delay), *_greatest(report), report.total.left, report.total.inside)
+        return {**dict(zip(MEASURES, map(float, values))), "rounded": rounded(built.rounding), "error": ""}
+    except Problem as problem:
+        return failed(problem)
+    except Exception as error:  # whatever it is, it is this run's, and the other runs go on
+        return failed(f"{type(error).__name__}: {error}")
+
+
+def failed(why: object) -> dict[str, Any]:
+    """What is measured of a run that failed."""
+    return {**dict.fromkeys(MEASURES, float("nan")), "rounded": "", "error": one_line(why)}
+
+
+def rounded(rounding: Rounding) -> str:
+    """What was rounded by more than a thousandth, in one line: the first of it, and how much more there is."""
+    notes = rounding.differing
+    more = f" and {len(notes) - 1} more" if len(notes) > 1 else ""
+    return f"{notes[0]}{more}" if notes else ""
+
+
+def _greatest(report: Report) -> tuple[float, float]:
+    """The way that the longest queue reached back, in km, and the most vehicles that waited in one queue."""
+    queues = queues_in(report)
+    return (max((queue.longest_reach for queue in queues), default=0.0),
+            max((queue.most for queue in queues), default=0.0))
+
+
+def study(task: Task) -> Study:
+    """The study of a task, its keys changed and its demands multiplied."""
+    values, factors = changed(task.values, task.changes)
+    made = study_of(values, Path(task.path))
+    for name, factor in factors.items():
+        if not isinstance(factor, Fraction) or factor < 0:
+            raise Problem(f"--vary demand: expected factors, 0 or more, found {factor}")
+        if name and name not in made.gates:
+            raise Problem(f"--vary demand.{name}: the study has no gate {name}")
+        for gate in made.gates.values():
+            if name in ("", gate.name):
+                for flow in gate.demand:
+                    flow.flow *= factor
+    return made
+
+
+def fingerprint(task: Task) -> str:
+    """A short text that another study, other counts or another change would change."""
+    digest = hashlib.sha256(repr((task.values, sorted(task.changes.items()), task.every)).encode())
+    for name in _counts(task.values):
+        path = Path(task.path).parent / name
+        digest.update(path.read_bytes() if path.exists() else b"none")
+    return digest.hexdigest()[:16]
+
+
+def _counts(values: dict[str, Any]) -> list[str]:
+    """The files of counts that a study names."""
+    demands = [gate.get("demand") for gate in values.get("gates", {}).values() if isinstance(gate, dict)]
+    return [str(demand["counts"]) for demand in demands if isinstance(demand, dict) and "counts" in demand]

@@ -1,0 +1,132 @@
+"""The documents: each command in them runs, each link leads somewhere, and each crate is told."""
+
+import os
+import re
+import subprocess
+import sys
+
+import pytest
+
+from .examples import TOOLS
+
+TOP = TOOLS.parent
+COMMANDS_IN = {"README.md": 17, "tools/README.md": 7, "examples/README.md": 10}  # and how many there are at least
+PAGES = sorted(str(path.relative_to(TOP)) for path in
+               [*TOP.glob("*.md"), *TOP.glob("docs/*.md"), TOP / "tools/README.md", TOP / "examples/README.md"])
+
+# Why a command isn't run here.
+LEFT_OUT = {
+    ".ci/run": "it proves all crates",
+    "tools/setup": "it installs packages",
+    "man -l docs/ctm.1": "it needs man",
+    "dask-scheduler --port 8786": "it needs a cluster",
+    "dask-worker tcp://HOST:8786": "it needs a cluster",
+    "./ctm-tools sweep study.toml --vary demand=0.8:1.2:0.01 --dask tcp://HOST:8786": "it needs a cluster",
+}
+
+# What stands for what a reader puts in.
+GIVEN = {"STUDY.toml": "examples/bottleneck.toml", "NET.csv": "bottleneck.csv", "PICTURE": "time-space",
+         "REPORT": "bottleneck.report", "A B": "bottleneck.report bottleneck.report", "KEY=VALUES": "demand=0.9,1"}
+
+# Nothing here may build the program: `./ctm` is the one under test, but for the launcher's own page.
+STAND_IN = """#!/usr/bin/env bash
+[ "$1" != --help ] || exec {top}/ctm --help
+[ "$1" != --try ] || shift
+exec "$CTM_PROGRAM" "$@"
+"""
+
+
+def read(name):
+    return (TOP / name).read_text()
+
+
+def commands(page):
+    """The commands of a page in their order: lines of its blocks, and what stands between backticks elsewhere."""
+    for number, part in enumerate(re.split(r"^```$", page, flags=re.MULTILINE)):
+        if number % 2:
+            found = re.findall(r"^(?:\./|\.ci/|tools/|tests/|sed |cp |dask-).*", part, re.MULTILINE)
+        else:
+            found = re.findall(r"`((?:\./)?ctm(?:-tools)? [^`]*|man -l [^`]*|\.ci/run|tools/setup)`", part)
+        for command in found:
+            command = command.partition(" #")[0].strip()
+            # A mode or a command of the tools by itself is a name.
+            if not re.fullmatch(r"\./ctm(-tools)? \w+", command):
+                yield f"./{command}" if command.startswith("ctm-tools") else command
+
+
+def given(command):
+    for placeholder, words in GIVEN.items():
+        command = re.sub(rf"\b{placeholder}\b", words, command)
+    return command
+
+
+@pytest.fixture
+def top(tmp_path, program):
+    """A folder like the repository's top, in which the commands can be run as they are written."""
+    for name in ("ctm-tools", "docs", "examples", "tools"):
+        (tmp_path / name).symlink_to(TOP / name)
+    stand_in = tmp_path / "ctm"
+    stand_in.write_text(STAND_IN.format(top=TOP))
+    stand_in.chmod(0o755)
+    return tmp_path
+
+
+def ended(top, program, *words):
+    """The status of a command, and what it wrote."""
+    done = subprocess.run(words, cwd=top, env={**os.environ, "CTM_PROGRAM": program, "PYTHONPATH": str(TOOLS)},
+                          stdout=subprocess.PIPE, stderr=subprocess.STDOUT, text=True, errors="replace")
+    return done.returncode, done.stdout
+
+
+@pytest.mark.parametrize("name", COMMANDS_IN)
+def test_the_commands_of_a_document_run(name, top, recording_program):
+    to_run = [command for command in commands(read(name)) if command not in LEFT_OUT]
+    assert len(to_run) >= COMMANDS_IN[name]
+    for command in to_run:
+        status, told = ended(top, recording_program, "bash", "-o", "pipefail", "-c", given(command))
+        assert status == 0, f"{command}: status {status}: {told[-500:]}"
+
+
+def test_each_command_that_is_left_out_is_in_a_document():
+    told = {command for name in COMMANDS_IN for command in commands(read(name))}
+    assert not LEFT_OUT.keys() - told
+
+
+def test_the_lines_of_python_run(top, recording_program):
+    lines = read("tools/README.md").split("```\nimport ctmtools\n")[1].split("```")[0]
+    assert ended(top, recording_program, "./ctm-tools", "run", "examples/bottleneck.toml")[0] == 0
+    status, told = ended(top, recording_program, sys.executable, "-c", f"import ctmtools\n{lines}\nprint(queues.cell[0])")
+    assert (status, told) == (0, "m20\n")
+
+
+def anchors(page):
+    """What a link to a heading of a page may name."""
+    return {re.sub(r"[^\w\- ]", "", heading.lower()).replace(" ", "-")
+            for heading in re.findall(r"^#+ (.*)$", page, re.MULTILINE)}
+
+
+@pytest.mark.parametrize("name", PAGES)
+def test_the_links_of_a_document_lead_somewhere(name):
+    for link in re.findall(r"\]\(([^)]+)\)", read(name)):
+        path, _, anchor = link.partition("#")
+        target = ((TOP / name).parent / path).resolve() if path else TOP / name
+        assert target.exists(), link
+        assert not anchor or anchor in anchors(target.read_text()), link
+
+
+def test_each_document_is_linked_from_the_first_page():
+    linked = {str((TOP / link.partition("#")[0]).relative_to(TOP)) for link in re.findall(r"\]\(([^)]+)\)", read("README.md"))}
+    assert not set(PAGES) - linked - {"README.md"}
+
+
+@pytest.mark.parametrize("page", ["docs/MAP.md", "docs/PROVED.md"])
+def test_each_crate_is_told(page):
+    crates = re.findall(r"^(\w+)[^:#\n]*:", read("crates.txt"), re.MULTILINE)
+    assert len(crates) > 20
+    told = re.findall(r"^\| `(\w+)`" if page == "docs/MAP.md" else r"\*\*`(\w+)`\*\*", read(page), re.MULTILINE)
+    assert set(crates) <= set(told)
+
+
+@pytest.mark.parametrize("page", ["README.md", "docs/MAP.md"])
+def test_a_page_stays_short(page):
+    assert len(read(page).splitlines()) <= 200

@@ -1,0 +1,139 @@
+"""What a picture says can be read: no name over another, none cut off, and what is left out is told."""
+
+from itertools import combinations
+
+import numpy
+import plain_model
+import pytest
+from matplotlib.collections import LineCollection
+from matplotlib.colors import to_hex
+from matplotlib.text import Text
+
+from ctmtools import Problem, plot
+from ctmtools.network_file.network import network_of
+from ctmtools.plots.pictures import PICTURES
+from ctmtools.report.queues import queues_in
+from ctmtools.report.reading import report_of
+from ctmtools.units import Units
+
+RED = "#c00000"
+STUDIES = ["grid", "meter", "interchange", "street"]
+
+
+def written(figure):
+    """The texts that a figure shows, each with the box in dots that it takes."""
+    figure.draw_without_rendering()
+    hidden = set()
+    for axes in figure.axes:
+        for axis in (axes.xaxis, axes.yaxis):
+            first, last = sorted(axis.get_view_interval())
+            for tick in axis.get_major_ticks():
+                if not axes.axison or not first - 1e-9 <= tick.get_loc() <= last + 1e-9:
+                    hidden |= {id(tick.label1), id(tick.label2)}
+            if not axes.axison:
+                hidden |= {id(axis.label), id(axis.offsetText)}
+    return [(text, text.get_window_extent()) for text in figure.findobj(Text)
+            if text.get_visible() and text.get_text().strip() and id(text) not in hidden]
+
+
+def overlapping(one, two, least=1.0):
+    """Whether two boxes have more than a dot in common, in width and in height."""
+    return (min(one.x1, two.x1) - max(one.x0, two.x0) > least) and (min(one.y1, two.y1) - max(one.y0, two.y0) > least)
+
+
+def assert_readable(figure):
+    shown = written(figure)
+    for text, box in shown:
+        assert box.x0 >= -1 and box.y0 >= -1 and box.x1 <= figure.bbox.x1 + 1 and box.y1 <= figure.bbox.y1 + 1, text
+    for (one, box), (two, other) in combinations(shown, 2):
+        assert not overlapping(box, other), (one, two)
+
+
+@pytest.mark.parametrize("kind", PICTURES)
+@pytest.mark.parametrize("name", STUDIES)
+def test_no_name_stands_over_another_and_none_is_cut_off(report, name, kind):
+    assert_readable(plot(report(name), kind))
+
+
+@pytest.mark.parametrize("name", STUDIES)
+def test_pictures_without_units_can_be_read(report, name):
+    read = report(name)
+    read.units = Units()
+    for kind in PICTURES:
+        assert_readable(plot(read, kind))
+
+
+def texts(figure):
+    return "\n".join(text.get_text() for text, _ in written(figure))
+
+
+def many_roads(count):
+    """The report of so many roads side by side, of one cell each, in each of which vehicles queue."""
+    text = ("ctm,1\nsteps,60\n" + "".join(
+        f"gate,g{i},9,0\nroad,r{i},300,9,1,5,0\nexit,x{i},2\nlink,g{i},r{i}\nlink,r{i},x{i}\ndemand,g{i},0,30,{3 + i % 5}\n"
+        for i in range(count)))
+    made = report_of(plain_model.report(text.encode(), 1))
+    made.network, made.name = network_of(text.encode()), "many"
+    made.units = Units("Many", 10.0, 0.0, None, {f"r{i}": {"road": f"road{i}", "from_km": 0.0, "to_km": 0.25, "lanes": 2}
+                                                 for i in range(count)}, {f"road{i}": [f"r{i}"] for i in range(count)})
+    return made
+
+
+@pytest.mark.parametrize("kind, names", [("delay", ["road road"]), ("map", ["road road", "g", "x"])])
+def test_names_that_find_no_room_are_counted(kind, names):
+    figure = plot(many_roads(90), kind)
+    assert_readable(figure)
+    shown = texts(figure).splitlines()
+    left_out = next(int(line.split()[0]) for line in shown if line.endswith("names are left out"))
+    named = sum(any(line.startswith(name) and line[len(name):].isdigit() for name in names) for line in shown)
+    assert left_out > 0 and named + left_out == 90 * len(names)
+
+
+def test_bars_that_are_left_out_are_told(report):
+    read = report("grid")
+    roads = [road for road, cells in read.units.roads.items() if read.cells.wait[cells].sum() >= 0.0005 * read.total.delay]
+    assert f"{28 - len(roads)} roads with less than 0.05% of the delay are left out" in texts(plot(read, "delay"))
+    assert "others are left out" in texts(plot(many_roads(160), "delay"))
+
+
+def test_each_red_light_is_drawn(report):
+    read = report("street")
+    axes = plot(read, "time-space").axes[0]
+    red = [path for lines in axes.collections if isinstance(lines, LineCollection) and to_hex(lines.get_color()[0]) == RED
+           for path in lines.get_paths()]
+    assert len(red) >= 10 * 7200 // 80  # ten signals, a red in each cycle of 80 s, for two hours
+
+
+@pytest.mark.parametrize("name", ["interchange", "grid", "meter", "street"])
+def test_the_queues_drawn_have_the_figures_of_the_page(report, name):
+    read = report(name)
+    upper, lower = plot(read, "queue").axes
+    queues = queues_in(read)[:5]
+    assert [max_of(line) for line in lower.lines] == pytest.approx([queue.most for queue in queues])
+    assert [max_of(line) for line in upper.lines] == pytest.approx([queue.reach for queue in queues if queue.reach])
+
+
+def max_of(line):
+    return numpy.nanmax(numpy.asarray(line.get_ydata(), dtype=float))
+
+
+def test_queues_that_are_not_drawn_are_told(report):
+    read = report("street")
+    rest = queues_in(read)[5:]
+    hours = read.units.hours(sum(queue.delay for queue in rest))
+    shown = texts(plot(read, "queue"))
+    assert f"Not drawn: {len(rest)} more, the longest 0.15 km" in shown and f"{hours:.2f} vehicle-hours in all" in shown
+    assert "others" not in shown
+
+
+def test_the_queues_of_a_road_alone(report):
+    read = report("interchange")
+    assert len(plot(read, "queue", roads=["a"]).axes[1].lines) == 1
+    assert len(plot(read, "queue").axes[1].lines) == 2
+    with pytest.raises(Problem, match="no road q"):
+        plot(read, "queue", roads=["q"])
+
+
+def test_no_such_picture(report):
+    with pytest.raises(Problem, match="known are time-space"):
+        plot(report("interchange"), "heat")

@@ -1,0 +1,161 @@
+"""Queues: where they begin, what is one queue, their course over time, and what the page tells of them."""
+
+import numpy
+import plain_model
+import pytest
+
+from ctmtools.network_file.network import network_of
+from ctmtools.report.page import page
+from ctmtools.report.queues import course, queues_in
+from ctmtools.report.reading import report_of
+
+from .corridor import corridor
+
+
+def test_platoons_in_free_flow_are_no_queue():
+    roads = [f"c{i:02d}" for i in range(40)]
+    links = zip(["g", *roads], [*roads, "x"])
+    text = ("ctm,1\nsteps,200\ngate,g,9,0\nexit,x,9\n" + "".join(f"road,{name},60,9,1,5,0\n" for name in roads) +
+            "".join(f"link,{up},{down}\n" for up, down in links) +
+            "".join(f"demand,g,{step},{step + 3},6\n" for step in range(0, 200, 10))).encode()
+    made = report_of(plain_model.report(text, 10))
+    made.network = network_of(text)
+    assert made.total.delay == 0 and queues_in(made) == []
+
+
+def test_the_queue_of_a_lane_drop(report):
+    queue, = queues_in(report("bottleneck"))
+    units = report("bottleneck").units
+    assert (queue.origin, queue.farthest, queue.reach) == ("m20", "m08", pytest.approx(3.25))
+    assert units.clock(queue.end, True) == "08:40:50"  # 45 steps after 08:30 at the gate, 200 s down the road
+    assert queue.most == pytest.approx(450, abs=1)
+    assert units.hours(queue.delay) == pytest.approx(461.25, abs=0.3)
+
+
+def test_a_queue_at_a_signal_is_one(report):
+    queues = queues_in(report("arterial-0"))
+    assert sorted(queue.origin for queue in queues) == ["c04", "c08", "c12", "c16", "c20"]
+    assert all(queue.spells == 30 for queue in queues)  # a cycle of 120 s for an hour
+    hours = {queue.origin: report("arterial-0").units.hours(queue.delay) for queue in queues}
+    assert hours == pytest.approx({"c04": 6.75, "c08": 8.25, "c12": 6, "c16": 6, "c20": 6})
+
+
+def test_the_approaches_of_a_grid_are_one_queue_each(report):
+    read = report("grid")
+    signals = list(read.network.signals.cell)
+    assert sorted(queue.origin for queue in queues_in(read)) == sorted(signals) and len(signals) == 8
+    lines = list(page(read))
+    assert all(sum(line.startswith(f"  {cell} (") for line in lines) == 1 for cell in signals)
+
+
+def test_a_ramp_meter_is_one_queue(report):
+    read = report("meter")
+    queue = queues_in(read)[0]
+    # 900 vehicles/h come from 06:45 to 08:00, and two in each 10 s, 720 vehicles/h, are let on; then 270 vehicles/h come.
+    assert (queue.origin, read.units.clock(queue.most_at, True)) == ("town", "07:59:55")
+    assert queue.most == pytest.approx(1.25 * (900 - 720), abs=2)
+    assert read.units.hours(queue.delay) == pytest.approx(225 * (1.25 + 225 / 450) / 2, rel=0.01)
+    assert len(queues_in(read)) == 2  # and the vehicles that the meter lets on two by two, at the motorway
+
+
+def signalled(*demands):
+    """The report of a road with a signal of ten steps, five of them green, and a vehicle a step in some spans."""
+    text = ("ctm,1\nsteps,200\ngate,g,9,0\nroad,a,60,9,1,5,0\nexit,x,9\nlink,g,a\nlink,a,x\nsignal,a,10,0,0,5\n" +
+            "".join(f"demand,g,{begin},{end},1\n" for begin, end in demands))
+    return reported(text)
+
+
+def reported(text, every=1):
+    made = report_of(plain_model.report(text.encode(), every))
+    made.network = network_of(text.encode())
+    return made
+
+
+def test_a_queue_that_stays_away_for_more_than_two_cycles_is_another():
+    # A vehicle stands at the stop line two steps after it came to the gate. The last red before the pause ends with
+    # step 39; the first behind it begins with step 55 or 85.
+    queue, = queues_in(signalled((0, 40), (54, 93)))
+    assert (queue.start, queue.spells) == (5, 8)
+    first, second = sorted(queues_in(signalled((0, 40), (84, 123))), key=lambda queue: queue.start)
+    assert (first.start, second.start, first.spells, second.spells) == (5, 86, 4, 4)
+
+
+def test_the_queues_at_a_signal_of_a_part_of_the_time_are_told_one_by_one(tmp_path):
+    # 1,000 vehicles/h come to a signal that is green for half of each minute and lets 4,320 pass: each green clears what
+    # the red before it held back. For half an hour it is made of limits, and limits have no cycle.
+    signal = '[[signals]]\nroad = "m"\ncycle = 60\ngreen = 30\n'
+    for terms, spells in (("", [60]), ('start = "06:00"\nend = "06:30"\n', 30 * [1])):
+        made = corridor(tmp_path, signal + terms)
+        report = reported(made.text)
+        assert [queue.spells for queue in queues_in(report)] == spells
+
+
+def test_short_queues_are_counted_in_one_line():
+    # At x a vehicle more comes in each of 60 steps than leave. At y 6 vehicles come at once, four times, and 2 leave in a
+    # step: 4 wait, and then 2.
+    text = ("ctm,1\nsteps,200\ngate,g,9,0\ngate,h,9,0\nroad,a,300,9,1,5,0\nroad,b,60,9,1,5,0\nexit,x,2\nexit,y,2\n"
+            "link,g,a\nlink,a,x\nlink,h,b\nlink,b,y\ndemand,g,0,60,3\n" +
+            "".join(f"demand,h,{step},{step + 1},6\n" for step in (0, 40, 80, 120)))
+    lines = list(page(reported(text)))
+    assert [line for line in lines if "short" in line] == [
+        "  and 4 short queues, the longest of 1 cell from b at 2, 24 vehicle-steps in all, cleared in less than 12 steps each"]
+    assert sum(line.startswith("  a ") for line in lines) == 1 and not any(line.startswith("  b ") for line in lines)
+
+
+def test_where_all_queues_are_short_they_are_told():
+    text = ("ctm,1\nsteps,50\ngate,h,9,0\nroad,b,60,9,1,5,0\nexit,y,2\nlink,h,b\nlink,b,y\ndemand,h,0,1,6\n")
+    lines = list(page(reported(text)))
+    assert any(line.startswith("  b ") for line in lines) and not any("short" in line for line in lines)
+
+
+def test_more_queues_than_rows_are_counted():
+    text = "ctm,1\nsteps,60\n" + "".join(
+        f"gate,g{i},9,0\nroad,r{i},300,9,1,5,0\nexit,x{i},2\nlink,g{i},r{i}\nlink,r{i},x{i}\ndemand,g{i},0,{30 - i},3\n"
+        for i in range(15))
+    lines = [line for line in page(reported(text)) if "more queues" in line]
+    # In k steps 1, 2, .. k vehicles wait, and then two fewer in each: 243 vehicle-steps for k = 18, 217 for 17, 192 for 16.
+    assert lines == ["  and 3 more queues, the longest of 1 cell from r12 at 2, 652 vehicle-steps in all"]
+
+
+def test_queues_in_gates_alone_are_counted_by_their_vehicles():
+    text = "ctm,1\nsteps,60\n" + "".join(
+        f"gate,g{i},2,0\nroad,r{i},300,9,1,5,0\nexit,x{i},9\nlink,g{i},r{i}\nlink,r{i},x{i}\ndemand,g{i},0,{30 - i},3\n"
+        for i in range(15))
+    lines = [line for line in page(reported(text)) if "more queues" in line]
+    assert lines == ["  and 3 more queues, the greatest of 18 vehicles in the gate g12 at 18, 652 vehicle-steps in all"]
+
+
+@pytest.mark.parametrize("name", ["bottleneck", "interchange", "event", "arterial-0", "grid", "meter", "street"])
+def test_the_course_of_a_queue_has_the_figures_of_the_page(report, name):
+    read = report(name)
+    for queue in queues_in(read):
+        run = course(read, queue)
+        assert (run.reach.max(), run.waiting.max()) == pytest.approx((queue.reach, queue.most))
+        assert run.reach.loc[queue.reached] == run.reach.max() and run.waiting.loc[queue.most_at] == run.waiting.max()
+        assert (run.waiting * numpy.diff(read.times)).sum() == pytest.approx(queue.delay)
+
+
+def test_queues_that_meet_are_one(report):
+    first, second = queues_in(report("interchange"))
+    assert (first.origin, first.farthest, first.reach) == ("r2", "m10", pytest.approx(4.25))
+    assert (second.origin, second.delay) == ("a2", pytest.approx(64_800, abs=3))
+    queue, = queues_in(report("event"))
+    assert queue.origin == "stadium"
+    assert [(other.cell, other.reach) for other in queue.others] == [("n20", pytest.approx(1.5))]
+    assert queue.reach == 0 and queue.longest_reach == pytest.approx(1.5)
+
+
+def test_a_queue_that_still_stands():
+    # b leads nowhere. Of the 9 vehicles it holds 5.75 at the end and a behind it 2.25; the last stands in no queue.
+    made = reported("ctm,1\nsteps,9\ngate,g,1,0\nroad,a,6,2,1,2,0\nroad,b,6,2,1,2,0\nlink,g,a\nlink,a,b\ndemand,g,0,9,1\n")
+    queue, = queues_in(made)
+    assert queue.end is None and queue.origin == "b"
+    lines = "\n".join(page(made))
+    assert "not by the end" in lines
+    assert "Still inside at the end: 9 vehicles, of which 8 stand in queues: 8 in that from b." in lines
+
+
+def test_through_traffic_at_the_end_is_no_queue():
+    made = reported("ctm,1\nsteps,9\ngate,g,2,0\nroad,a,6,2,1,2,0\nroad,b,6,2,1,2,0\nexit,x,2\nlink,g,a\nlink,a,b\n"
+                    "link,b,x\ndemand,g,0,9,1\n")
+    assert list(page(made))[-1] == "Still inside at the end: 3 vehicles, none of them in a queue."
