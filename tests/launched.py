@@ -1,6 +1,7 @@
 """A small repository with ./ctm, in which tests/fake_rt stands for the toolchain's command: it sleeps in place of proving."""
 
 import shutil
+import signal
 import subprocess
 from pathlib import Path
 
@@ -14,6 +15,12 @@ esac
 CRATES = "low:\nlong: low\nside: low\nother:\ntop: long side\nctm_program: top other\nunused: low\n"
 JOBS = 4
 SECONDS = {"low": 0.2, "long": 1.2, "side": 0.3, "other": 0.3, "top": 0.2, "ctm_program": 0.2, "unused": 9}
+
+
+def heed_signals():
+    """Whoever runs the tests may ignore signals, as nohup does, and a shell can't heed those that it finds ignored."""
+    for number in signal.SIGINT, signal.SIGTERM, signal.SIGHUP:
+        signal.signal(number, signal.SIG_DFL)
 
 
 class Repository:
@@ -47,7 +54,8 @@ class Repository:
                 "FAKE_RT_LOG": str(self.log), "FAKE_RT_TRY": str(self.trial)}
 
     def start(self, *words, **how):
-        how = {"stdin": subprocess.DEVNULL, "stdout": subprocess.PIPE, "stderr": subprocess.PIPE, **how}
+        how = {"stdin": subprocess.DEVNULL, "stdout": subprocess.PIPE, "stderr": subprocess.PIPE,
+               "preexec_fn": heed_signals, **how}
         return subprocess.Popen([self.top / "ctm", *words], env=self.environment, **how)
 
     def call(self, *words, given=b"", **how):

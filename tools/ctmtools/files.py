@@ -5,7 +5,7 @@ from __future__ import annotations
 import os
 from pathlib import Path
 
-from .problem import Problem
+from .problem import Problem, reason
 from .study.network_text import MADE, Built
 from .units import units_path, write_units
 
@@ -48,11 +48,6 @@ def write(path: str | Path, content: str | bytes) -> None:
             Path(path).write_text(content, encoding="utf-8")
     except OSError as error:
         raise Problem(f"{path}: {reason(error)}") from None
-
-
-def reason(error: OSError) -> str:
-    """What the system says of a fault, in lower case."""
-    return (error.strerror or str(error)).lower()
 
 
 def beside(path: str | Path, other: str | Path) -> str:

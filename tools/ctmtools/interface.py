@@ -82,5 +82,5 @@ def sweep(study: str | Path, vary: Mapping[str, str | Iterable[object]], output:
 
 def _named(report: Report, source: str | Path | Study) -> Report:
     """A report that is called as its source is, for titles and pictures."""
-    report.name = str(source.path or "study") if isinstance(source, Study) else str(source)
+    report.name = str(source.path) if isinstance(source, Study) else str(source)
     return report

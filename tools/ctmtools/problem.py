@@ -8,3 +8,8 @@ class Problem(Exception):
 def one_line(text: object) -> str:
     """The text with all its white space as single spaces, so that it is one line."""
     return " ".join(str(text).split())
+
+
+def reason(error: OSError) -> str:
+    """What the system says of a fault, in lower case."""
+    return (error.strerror or str(error)).lower()

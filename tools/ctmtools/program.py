@@ -11,7 +11,7 @@ from functools import lru_cache
 from pathlib import Path
 from typing import IO
 
-from .problem import Problem, one_line
+from .problem import Problem, one_line, reason
 
 TOP = Path(__file__).resolve().parents[2]
 MOST_RECORDED = 4_000_000  # cells times recorded steps, docs/FORMAT.md
@@ -51,7 +51,7 @@ def ask(words: Sequence[str], content: bytes, program: str | Path | None = None,
         process = subprocess.Popen([program, *words], stdin=subprocess.PIPE, stdout=subprocess.PIPE,
                                    stderr=subprocess.PIPE)
     except OSError as error:
-        raise Problem(f"{program}: {(error.strerror or str(error)).lower()}") from None
+        raise Problem(f"{program}: {reason(error)}") from None
     told: list[str] = []
     kept: list[bytes] = []
 

@@ -82,7 +82,7 @@ def test_the_public_names_are_those_that_a_type_checker_sees():
 def test_every_public_function_says_what_it_does():
     for name in ctmtools.__all__:
         assert getattr(ctmtools, name).__doc__
-        if inspect.isfunction(getattr(ctmtools, name)) and name not in ("read_network", "read_study"):
+        if inspect.isfunction(getattr(ctmtools, name)):
             assert "return" in getattr(ctmtools, name).__annotations__
 
 

@@ -4,6 +4,7 @@ ghost use Rattle.snapshot.specs.Rooms.{IsRoomFor};
 ghost use Rattle.region_slots.specs.FieldView.{IsPassOf};
 
 use crate::pause::Pause;
+use ctm_ports::OpenGate;
 use region_slots::{Field, Pass, Shot, Turn};
 use snapshot::ShotRoom;
 use std::thread::{Threads, join, join_mut};
@@ -15,7 +16,7 @@ fn turn_meanwhile(field: &Field, pass: &mut Pass, region: u32, goal: u64, pause:
     requires in_time { goal ≤ field.now.terms.net.now.steps }
 {
     pause.wait_for_turn();
-    let answer = field.turn(pass, region, goal, pause);
+    let answer = field.turn(pass, region, goal, &OpenGate);
     pause.let_go();
     answer
 }
@@ -28,13 +29,14 @@ pub(crate) fn turns_at_once<R: Threads + Sync>(
     other: &mut Pass,
     region: u32,
     goal: u64,
-    gate: &Pause,
 ) -> (Turn, Turn)
     requires belongs { IsPassOf field.now pass.old }
     requires also { IsPassOf field.now other.old }
     requires there { region < region_count field.now.terms.chart.now.cut }
     requires in_time { goal ≤ field.now.terms.net.now.steps }
 {
+    let pause = Pause::new(0);
+    let gate = &pause;
     join(
         rt,
         move || -> Turn

@@ -1,14 +1,12 @@
 use ctm_ports::Gate;
 use std::sync::atomic::{AtomicU64, Ordering};
 
-// A gate at which a turn that holds a region waits for a while until another turn or a shot was tried. It counts how often
-// it was told that a region was freed.
+// A gate at which a turn that holds a region waits for a while until another turn or a shot was tried.
 #[derive(Drop)]
 pub(crate) struct Pause {
     region: u32,
     held: AtomicU64,
     tried: AtomicU64,
-    freed: AtomicU64,
 }
 
 impl Pause {
@@ -17,7 +15,6 @@ impl Pause {
             region,
             held: AtomicU64::new(0),
             tried: AtomicU64::new(0),
-            freed: AtomicU64::new(0),
         }
     }
 
@@ -29,10 +26,6 @@ impl Pause {
     // Lets that turn go on.
     pub(crate) fn let_go(&self) {
         self.tried.store(1, Ordering::SeqCst);
-    }
-
-    pub(crate) fn freed(&self) -> u64 {
-        self.freed.load(Ordering::SeqCst)
     }
 }
 
@@ -54,9 +47,7 @@ impl Gate for Pause {
         }
     }
 
-    fn freed(&self, region: u32, step: u64) {
-        self.freed.fetch_add(1, Ordering::SeqCst);
-    }
+    fn freed(&self, region: u32, step: u64) {}
 
     fn watched(&self, done: bool) {}
 }

@@ -1,144 +1,159 @@
+ghost use Rattle.std.specs.Prelude.{◌≡◌, ◌<◌, IfOk, length};
+ghost use Rattle.region_cut.specs.Chart.{chart_of};
+ghost use Rattle.region_cut.specs.Cuttings.{region_count};
+ghost use Rattle.snapshot.specs.Rooms.{IsRoomFor};
+
 use crate::meanwhile::turn_and_shot;
-use crate::networks::{TWO_REGIONS, VEHICLES, network};
-use crate::trial::{Trial, on_field};
+use crate::networks::{TWO_REGIONS, VEHICLES, charted};
+use crate::turns::take_turns;
 use ctm_ports::OpenGate;
 use flow_ledger::Books;
 use network_file::Net;
-use region_slots::{Field, Pass, Shot, Turn};
+use region_cut::Chart;
+use region_slots::{Field, Shot, Turn};
+use region_step::Start;
+use signal_plan::NoMemory;
 use snapshot::ShotRoom;
+use std::alloc::Global;
 use std::test::Fail;
 use std::thread::Threads;
 
-// Books of which nothing has left.
-fn books(inside: i128, flight: i128, entered: i128) -> Books {
-    Books {
-        inside,
-        flight,
-        initial: 0,
-        entered,
-        left: 0,
-    }
+// What a shot comes to after these turns, and its room.
+fn shot_after(
+    alloc: Global,
+    net: &Net,
+    chart: &Chart,
+    turns: &[(u32, u64)],
+) -> Result<(Shot, ShotRoom), NoMemory>
+    requires chart { chart.now ≡ chart_of net.now chart.now.cut }
+    requires one_each { length chart.now.cut ≡ length net.now.cells }
+    ensures room { IfOk result (λ both. IsRoomFor chart.now both.1) }
+{
+    let last = net.steps;
+    let start = Start::zero(alloc, net, chart)?;
+    let mut room = ShotRoom::new(alloc, net, chart)?;
+    let (field, mut pass) = Field::open(alloc, net, chart, &start, 0, 1)?;
+    take_turns(alloc, &field, &mut pass, last, turns)?;
+    let shot = field.shot(&mut pass, &mut room, 1);
+    Ok((shot, room))
 }
 
-// A shot after turns on three regions.
-#[derive(Drop)]
-struct ShotAfter {
-    turns: [u32; 3],
-    shot: Shot,
-}
-
-impl Trial for ShotAfter {
-    fn make<R: Threads + Sync>(
-        &mut self,
-        rt: &R,
-        net: &Net,
-        field: &Field,
-        mut pass: Pass,
-        room: &mut ShotRoom,
-    ) {
-        for region in self.turns {
-            field.turn(&mut pass, region % field.regions(), net.steps, &OpenGate);
-        }
-        self.shot = field.shot(&mut pass, room, 1);
-    }
-}
-
-// What is under way has the sign of the region ahead, and each cell is shown with what it held a step before.
 #[test]
 fn a_shot_shows_each_region_at_its_own_step(rt: HostRuntime) -> Result<(), Fail> {
-    let net = network(&rt, rt.alloc(), TWO_REGIONS)?;
-    assert!(rt; net.connectors.len() == 2);
-    for (turns, steps, inside, flight, earlier) in [
+    let net = Net::read(rt.alloc(), TWO_REGIONS)?;
+    let chart = charted(rt.alloc(), &net)?;
+    for (turns, steps, inside, flight) in [
+        ([(0, 3), (1, 3), (0, 3)], [2, 1], 2 * VEHICLES, 2 * VEHICLES),
         (
-            [0, 1, 0],
-            [2, 1],
-            2 * VEHICLES,
-            2 * VEHICLES,
-            [4_000_000, 0, 0],
+            [(0, 3), (1, 3), (1, 3)],
+            [1, 2],
+            6 * VEHICLES,
+            -2 * VEHICLES,
         ),
-        ([0, 1, 1], [1, 2], 6 * VEHICLES, -2 * VEHICLES, [0, 0, 0]),
     ] {
-        let mut trial = ShotAfter {
-            turns,
-            shot: Shot::Busy { region: 9 },
+        let (shot, room) = shot_after(rt.alloc(), &net, &chart, &turns)?;
+        let want = Books {
+            inside,
+            flight,
+            initial: 0,
+            entered: 4 * VEHICLES,
+            left: 0,
         };
-        let room = on_field(&rt, rt.alloc(), &net, &mut trial)?;
-        assert_eq!(rt; trial.shot, Shot::Taken);
+        assert_eq!(rt; shot, Shot::Taken);
         assert_eq!(rt; room.steps(), steps.as_slice());
-        assert_eq!(rt; room.earlier(), earlier.as_slice());
-        assert_eq!(rt; room.flight(&net, 0), flight);
-        assert_eq!(rt; room.books(&net), books(inside, flight, 4 * VEHICLES));
+        assert_eq!(rt; room.books(&net), want);
     }
     Ok(())
 }
 
-// A shot with one try while a turn holds a region, after a step of region 0 where that is told; then a turn on region 0 with
-// the pass that shot, and another shot where that is told.
-#[derive(Drop)]
-struct BusyShot {
-    moved_before: bool,
-    held: u32,
-    again: bool,
-    turn: Turn,
-    shot: Shot,
-    then: Turn,
-    later: Shot,
+// What a turn on region 0 comes to, a shot while the region is held, and a shot with the same pass after the turn, with its
+// room.
+fn shots_beside_a_turn<R: Threads + Sync>(
+    rt: &R,
+    alloc: Global,
+    net: &Net,
+    chart: &Chart,
+) -> Result<(Turn, Shot, Shot, ShotRoom), NoMemory>
+    requires chart { chart.now ≡ chart_of net.now chart.now.cut }
+    requires one_each { length chart.now.cut ≡ length net.now.cells }
+    requires some { 0 < region_count chart.now.cut }
+    ensures room { IfOk result (λ all. IsRoomFor chart.now all.3) }
+{
+    let goal = net.steps;
+    let start = Start::zero(alloc, net, chart)?;
+    let mut room = ShotRoom::new(alloc, net, chart)?;
+    let (field, mut pass) = Field::open(alloc, net, chart, &start, 0, 2)?;
+    let mut other = field.share(&mut pass);
+    let (turn, early) = turn_and_shot(rt, &field, &mut pass, &mut other, &mut room, 0, goal);
+    let late = field.shot(&mut other, &mut room, 1);
+    Ok((turn, early, late, room))
 }
 
-impl Trial for BusyShot {
-    fn make<R: Threads + Sync>(
-        &mut self,
-        rt: &R,
-        net: &Net,
-        field: &Field,
-        mut pass: Pass,
-        room: &mut ShotRoom,
-    ) {
-        let mut other = field.share(&mut pass);
-        if self.moved_before {
-            field.turn(&mut pass, 0, net.steps, &OpenGate);
-        }
-        let held = self.held % field.regions();
-        (self.turn, self.shot) = turn_and_shot(
-            rt, field, &mut pass, &mut other, room, held, net.steps,
-        );
-        self.then = field.turn(&mut other, 0, net.steps, &OpenGate);
-        if self.again {
-            self.later = field.shot(&mut other, room, 1);
-        }
-    }
+#[test]
+fn a_shot_is_busy_while_a_turn_holds_a_region(rt: HostRuntime) -> Result<(), Fail> {
+    let net = Net::read(rt.alloc(), TWO_REGIONS)?;
+    let chart = charted(rt.alloc(), &net)?;
+    assert!(rt; chart.regions() == 2);
+    let (turn, early, late, room) = shots_beside_a_turn(&rt, rt.alloc(), &net, &chart)?;
+    assert_eq!(rt; early, Shot::Busy { region: 0 });
+    assert_eq!(rt; turn, Turn::Moved { step: 1 });
+    assert_eq!(rt; late, Shot::Taken);
+    let want = Books {
+        inside: 4 * VEHICLES,
+        flight: 0,
+        initial: 0,
+        entered: 4 * VEHICLES,
+        left: 0,
+    };
+    assert_eq!(rt; room.steps(), [1, 0].as_slice());
+    assert_eq!(rt; room.books(&net), want);
+    Ok(())
 }
 
-// Where another shot is taken, region 0 waits for the other, and else it was free.
+// What a shot comes to after these turns, while another turn holds region 1, and its room; and then a turn on region 0 with
+// the same pass.
+fn turn_after_a_shot<R: Threads + Sync>(
+    rt: &R,
+    alloc: Global,
+    net: &Net,
+    chart: &Chart,
+    turns: &[(u32, u64)],
+) -> Result<(Shot, ShotRoom, Turn), NoMemory>
+    requires chart { chart.now ≡ chart_of net.now chart.now.cut }
+    requires one_each { length chart.now.cut ≡ length net.now.cells }
+    requires two { 1 < region_count chart.now.cut }
+    ensures room { IfOk result (λ all. IsRoomFor chart.now all.1) }
+{
+    let goal = net.steps;
+    let start = Start::zero(alloc, net, chart)?;
+    let mut room = ShotRoom::new(alloc, net, chart)?;
+    let (field, mut pass) = Field::open(alloc, net, chart, &start, 0, 2)?;
+    let mut other = field.share(&mut pass);
+    take_turns(alloc, &field, &mut pass, goal, turns)?;
+    let (_, shot) = turn_and_shot(rt, &field, &mut pass, &mut other, &mut room, 1, goal);
+    let turn = field.turn(&mut other, 0, goal, &OpenGate);
+    Ok((shot, room, turn))
+}
+
+// Region 0 was free. In the second field it stands at step 1, and the room shows step 0 all the same.
 #[test]
 fn a_busy_shot_holds_and_shows_nothing(rt: HostRuntime) -> Result<(), Fail> {
-    let net = network(&rt, rt.alloc(), TWO_REGIONS)?;
-    let one = Turn::Moved { step: 1 };
-    let two = Turn::Moved { step: 2 };
-    let behind = Turn::Behind {
-        neighbour: 1,
-        step: 0,
+    let net = Net::read(rt.alloc(), TWO_REGIONS)?;
+    let chart = charted(rt.alloc(), &net)?;
+    assert!(rt; chart.regions() == 2);
+    let nothing = Books {
+        inside: 0,
+        flight: 0,
+        initial: 0,
+        entered: 0,
+        left: 0,
     };
-    for (moved_before, held, again, then, steps, entered) in [
-        (false, 0, true, behind, [1, 0], 4 * VEHICLES),
-        (false, 1, false, one, [0, 0], 0),
-        (true, 1, false, two, [0, 0], 0),
-    ] {
-        let mut trial = BusyShot {
-            moved_before,
-            held,
-            again,
-            turn: Turn::Held,
-            shot: Shot::Taken,
-            then: Turn::Held,
-            later: Shot::Taken,
-        };
-        let room = on_field(&rt, rt.alloc(), &net, &mut trial)?;
-        assert_eq!(rt; trial.shot, Shot::Busy { region: held });
-        assert_eq!(rt; (trial.turn, trial.then), (one, then));
-        assert_eq!(rt; trial.later, Shot::Taken);
-        assert_eq!(rt; room.steps(), steps.as_slice());
-        assert_eq!(rt; room.books(&net), books(entered, 0, entered));
+    for (turns, step) in [([].as_slice(), 1), (&[(0, 3)], 2)] {
+        let (shot, room, turn) = turn_after_a_shot(&rt, rt.alloc(), &net, &chart, turns)?;
+        assert_eq!(rt; shot, Shot::Busy { region: 1 });
+        assert_eq!(rt; turn, Turn::Moved { step });
+        assert_eq!(rt; room.steps(), [0, 0].as_slice());
+        assert_eq!(rt; room.books(&net), nothing);
     }
     Ok(())
 }

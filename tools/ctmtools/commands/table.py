@@ -8,8 +8,7 @@ from typing import Any
 
 import click
 
-from ..files import reason
-
+from ..problem import reason
 from ..report.reading import read_report
 from ..report.states import states, totals
 from .reports import on_reports

@@ -1,14 +1,18 @@
 """A network file examined: what the program says of it, the first fault explained, and the warnings."""
 
-from dataclasses import dataclass
+from __future__ import annotations
+
+from collections.abc import Sequence
+from dataclasses import dataclass, field
 
 from ..problem import Problem
-from ..program import ask
-from .faults import first_fault
+from ..program import News, ask
+from ..units import Units
+from .faults import Fault, first_fault
 from .kinds import NUMBERS
 from .network import clipped, network_of, told
-from .records import line_of, read_records, text_of_line
-from .warnings import warnings_of
+from .records import Record, line_of, read_records, text_of_line
+from .warnings import Warning, warnings_of
 
 MOST_SHOWN = 100  # letters of a line of the file
 
@@ -20,10 +24,10 @@ class Findings:
     answer: str
     fault: str = ""
     shown: str = ""
-    warnings: list = None
+    warnings: list[Warning] = field(default_factory=list)
 
 
-def examine(content, name, news=None, units=None):
+def examine(content: bytes, name: str, news: News | None = None, units: Units | None = None) -> Findings:
     """The findings on the bytes of a network file; `units` are those of the network, where they are known."""
     answer = ask(("check",), content, news=news)
     if answer.status == 0:
@@ -33,12 +37,12 @@ def examine(content, name, news=None, units=None):
     records = read_records(content)
     fault = first_fault(records)
     own = f"ctm: network: record {fault.record} code {NUMBERS[fault.code]} {fault.code}" if fault else "no fault"
-    if own != answer.line:
+    if fault is None or own != answer.line:
         raise Problem(f"{name}: {answer.line}; these tools find {own}, so no hint can be given")
     return Findings(answer.line, told(content, records, fault), _shown(content, records, fault))
 
 
-def _shown(content, records, fault):
+def _shown(content: bytes, records: Sequence[Record], fault: Fault) -> str:
     """The line of the file that the fault stands in, as far as it goes on a screen."""
     if fault.record > len(records):
         return ""

@@ -1,11 +1,16 @@
 """The first fault of a network file: the same record and code as the proved program's, and what stands there."""
 
+from __future__ import annotations
+
 import re
+from collections.abc import Sequence
 from dataclasses import dataclass, field
+from typing import Any
 
 from ..amounts import parts_of, whole_of
 from . import kinds
-from .kinds import FIELDS, MOST_FLOW, MOST_PARTS
+from .kinds import FIELDS, MOST_FLOW, MOST_PARTS, Field
+from .records import Record
 
 NAME = re.compile(r"[A-Za-z0-9_.-]{1,32}")
 
@@ -19,15 +24,15 @@ class Fault:
 
     record: int
     code: str
-    place: int = None
+    place: int | None = None
     expected: str = ""
-    earlier: int = None
+    earlier: int | None = None
 
 
 class FaultFound(Exception):
     """Carries the first fault out of the checks."""
 
-    def __init__(self, *terms, **named):
+    def __init__(self, *terms: Any, **named: Any) -> None:
         super().__init__()
         self.fault = Fault(*terms, **named)
 
@@ -37,22 +42,22 @@ class Draft:
     """What the records so far have given: for each table, by name of the cell, the number of the record."""
 
     form: int = 1
-    steps: int = None
-    steps_record: int = None
-    kinds: dict = field(default_factory=dict)
-    cells: dict = field(default_factory=dict)
-    taken_out: dict = field(default_factory=dict)
-    taken_in: dict = field(default_factory=dict)
-    diverges: dict = field(default_factory=dict)
-    signals: dict = field(default_factory=dict)
-    regions: dict = field(default_factory=dict)
-    region_numbers: set = field(default_factory=set)
-    counts: dict = field(default_factory=dict)
+    steps: int | None = None
+    steps_record: int | None = None
+    kinds: dict[str, str] = field(default_factory=dict)
+    cells: dict[str, int] = field(default_factory=dict)
+    taken_out: dict[str, int] = field(default_factory=dict)
+    taken_in: dict[str, int] = field(default_factory=dict)
+    diverges: dict[str, int] = field(default_factory=dict)
+    signals: dict[str, int] = field(default_factory=dict)
+    regions: dict[str, int] = field(default_factory=dict)
+    region_numbers: set[int] = field(default_factory=set)
+    counts: dict[str, int] = field(default_factory=dict)
     first: int = 0
-    demands: list = field(default_factory=list)
+    demands: list[tuple[int, int, int]] = field(default_factory=list)
 
 
-def first_fault(records):
+def first_fault(records: Sequence[Record]) -> Fault | None:
     """The first fault of a file's records, or None where there is none."""
     draft = Draft()
     try:
@@ -65,13 +70,13 @@ def first_fault(records):
     return None
 
 
-def _check_header(records, draft):
+def _check_header(records: Sequence[Record], draft: Draft) -> None:
     if not records or records[0].fields not in (("ctm", "1"), ("ctm", "2")):
         raise FaultFound(1, "NoHeader", expected="`ctm,1` or `ctm,2` and nothing more")
     draft.form = int(records[0].fields[1])
 
 
-def _check_record(record, draft):
+def _check_record(record: Record, draft: Draft) -> None:
     number, kind = record.number, record.kind
     known = kinds.kinds_of(draft.form)
     if kind not in known:
@@ -91,9 +96,9 @@ def _check_record(record, draft):
     _keep(record, values, draft)
 
 
-def _check_fields(record, wanted, draft):
+def _check_fields(record: Record, wanted: Sequence[Field], draft: Draft) -> list[Any]:
     """The values of the fields, each checked in turn: names as they are, numbers whole or in parts."""
-    values = []
+    values: list[Any] = []
     for place, term in enumerate(wanted, 1):
         text = record.fields[place]
         if term.sort in ("whole", "amount"):
@@ -104,7 +109,7 @@ def _check_fields(record, wanted, draft):
     return values
 
 
-def _check_number(record, place, term, text, values):
+def _check_number(record: Record, place: int, term: Field, text: str, values: Sequence[Any]) -> int:
     value = whole_of(text) if term.sort == "whole" else parts_of(text)
     if value is None:
         raise FaultFound(record.number, "BadNumber", place, term.expected)
@@ -114,7 +119,7 @@ def _check_number(record, place, term, text, values):
     return value
 
 
-def _range_of(kind, term, values):
+def _range_of(kind: str, term: Field, values: Sequence[Any]) -> tuple[int, int]:
     """The least and the greatest value of a number, which may hang on the fields before it."""
     if term.sort == "amount":
         if (kind, term.name) == ("road", "first"):
@@ -137,7 +142,7 @@ def _range_of(kind, term, values):
     return 1, 1000  # A, a priority or a share
 
 
-def _check_name(record, place, term, text, draft, values):
+def _check_name(record: Record, place: int, term: Field, text: str, draft: Draft, values: Sequence[Any]) -> None:
     """What FORMAT.md asks of a field that names a cell, in its order."""
     number = record.number
     if term.sort == "new":
@@ -162,7 +167,7 @@ def _check_name(record, place, term, text, draft, values):
         raise FaultFound(number, code, place, term.expected, earlier or number)
 
 
-def _keep(record, values, draft):
+def _keep(record: Record, values: Sequence[Any], draft: Draft) -> None:
     """Notes in the draft what a record without a fault gives."""
     kind, number = record.kind, record.number
     if kind == "steps":
@@ -185,7 +190,7 @@ def _keep(record, values, draft):
         draft.region_numbers.add(values[1])
 
 
-def _check_whole(number, draft):
+def _check_whole(number: int, draft: Draft) -> None:
     """The checks of the file as a whole, once no record has a fault."""
     if draft.steps is None:
         raise FaultFound(number, "NoSteps", expected="a record `steps,T`")

@@ -1,35 +1,57 @@
 """What a fault of a network file was probably meant to be: a hint for each sort of slip."""
 
+from __future__ import annotations
+
 import difflib
 import re
+from collections.abc import Callable, Sequence
 
 from . import kinds
-from .kinds import FIELDS
-from .records import line_of
+from .faults import Fault
+from .kinds import FIELDS, Field
+from .records import Record, line_of
 
 HEADERS = (("ctm", "1"), ("ctm", "2"))
 DECIMAL_COMMA = re.compile(r"[0-9]+,[0-9]+")
 
+# Makes a hint of the file's bytes, its records, the one with the fault, and the fault.
+Hint = Callable[[bytes, Sequence[Record], Record, Fault], str]
 
-def hint_of(content, records, fault):
+
+def hint_of(content: bytes, records: Sequence[Record], fault: Fault) -> str:
     """A hint on a fault in one sentence or two, or an empty text where there is none."""
     if fault.code == "NoHeader":
         return _header_hint(content, records)
     if fault.record > len(records):
         return _whole_hint(records, fault)
     record = records[fault.record - 1]
-    hints = {"BadKind": _kind_hint, "BadCount": _count_hint, "BadName": _name_hint, "BadNumber": _number_hint,
-             "OutOfRange": _range_hint, "Repeated": _repeated_hint, "Unknown": _unknown_hint,
-             "WrongKind": _wrong_kind_hint, "InTaken": _taken_hint, "OutTaken": _taken_hint}
+    hints: dict[str, Hint] = {
+        "BadKind": _kind_hint, "BadCount": _count_hint, "BadName": _name_hint, "BadNumber": _number_hint,
+        "OutOfRange": _range_hint, "Repeated": _repeated_hint, "Unknown": _unknown_hint,
+        "WrongKind": _wrong_kind_hint, "InTaken": _taken_hint, "OutTaken": _taken_hint}
     hint = hints.get(fault.code)
     return hint(content, records, record, fault) if hint else ""
 
 
-def _line(content, records, number):
-    return line_of(content, records[number - 1].place)
+def _value(record: Record, fault: Fault) -> str:
+    """What stands in the field that a fault is of."""
+    assert fault.place is not None  # such a fault is of one field
+    return record.fields[fault.place]
 
 
-def _header_hint(content, records):
+def _term(record: Record, fault: Fault) -> Field:
+    """What the format has as the field that a fault is of."""
+    assert fault.place is not None  # such a fault is of one field
+    return FIELDS[record.kind][fault.place - 1]
+
+
+def _earlier(records: Sequence[Record], fault: Fault) -> Record:
+    """The earlier record that a fault comes from."""
+    assert fault.earlier is not None  # such a fault comes from one
+    return records[fault.earlier - 1]
+
+
+def _header_hint(content: bytes, records: Sequence[Record]) -> str:
     if not content.strip():
         return "The file is empty."
     if content.startswith(b"PK\x03\x04"):
@@ -68,11 +90,11 @@ def _header_hint(content, records):
     return "The first record of a network file is ctm,1 or ctm,2."
 
 
-def _looks_like_names(fields):
+def _looks_like_names(fields: Sequence[str]) -> bool:
     return len(fields) > 1 and all(re.fullmatch(r"[A-Za-z_ /()-]+", field) for field in fields)
 
 
-def _kind_hint(content, records, record, fault):
+def _kind_hint(content: bytes, records: Sequence[Record], record: Record, fault: Fault) -> str:
     form = int(records[0].fields[1])
     kind = record.kind
     joined = ",".join(record.fields)
@@ -98,7 +120,7 @@ def _kind_hint(content, records, record, fault):
     return ""
 
 
-def _count_hint(content, records, record, fault):
+def _count_hint(content: bytes, records: Sequence[Record], record: Record, fault: Fault) -> str:
     wanted = len(FIELDS[record.kind]) + 1
     fields = record.fields
     if len(fields) > wanted:
@@ -119,7 +141,7 @@ def _count_hint(content, records, record, fault):
     return f"Missing at the end: {', '.join(missing)}." if missing else ""
 
 
-def _decimal_comma_at(record, surplus):
+def _decimal_comma_at(record: Record, surplus: int) -> str:
     """Two fields of digits that make one number with a decimal comma, where joining such pairs mends the count."""
     sorts = [term.sort for term in FIELDS[record.kind]]
     pairs = []
@@ -134,8 +156,8 @@ def _decimal_comma_at(record, surplus):
     return " and ".join(pairs) if pairs and len(pairs) == surplus else ""
 
 
-def _name_hint(content, records, record, fault):
-    text = record.fields[fault.place]
+def _name_hint(content: bytes, records: Sequence[Record], record: Record, fault: Fault) -> str:
+    text = _value(record, fault)
     if not text:
         return "The name is empty."
     if len(text) > 32:
@@ -146,9 +168,9 @@ def _name_hint(content, records, record, fault):
     return f"{better} would do." if better.strip("_") else ""
 
 
-def _number_hint(content, records, record, fault):
-    text = record.fields[fault.place]
-    sort = FIELDS[record.kind][fault.place - 1].sort
+def _number_hint(content: bytes, records: Sequence[Record], record: Record, fault: Fault) -> str:
+    text = _value(record, fault)
+    sort = _term(record, fault).sort
     if not text:
         return "The field is empty."
     if "#" in text:
@@ -178,13 +200,14 @@ def _number_hint(content, records, record, fault):
         return f"Take the unit {unit[2]} away; the file counts in steps and vehicles."
     if re.fullmatch(r"[0-2]?[0-9]:[0-5][0-9](:[0-5][0-9])?", text):
         return "A clock time isn't read here; the file counts steps from 0."
-    if fault.place < len(record.fields) - 1 and re.fullmatch(r"[0-9.]+", record.fields[fault.place + 1]):
+    behind = record.fields[fault.place + 1:fault.place + 2] if fault.place is not None else ()
+    if behind and re.fullmatch(r"[0-9.]+", behind[0]):
         return "Are two fields exchanged?"
     return ""
 
 
-def _range_hint(content, records, record, fault):
-    name = FIELDS[record.kind][fault.place - 1].name
+def _range_hint(content: bytes, records: Sequence[Record], record: Record, fault: Fault) -> str:
+    name = _term(record, fault).name
     if record.kind == "road" and name == "B":
         return "A/B is the speed of waves by the free-flow speed, at most 1; are A and B exchanged?"
     if record.kind == "road" and name == "first":
@@ -201,17 +224,17 @@ def _range_hint(content, records, record, fault):
     return ""
 
 
-def _repeated_hint(content, records, record, fault):
-    line = _line(content, records, fault.earlier)
+def _repeated_hint(content: bytes, records: Sequence[Record], record: Record, fault: Fault) -> str:
+    line = line_of(content, _earlier(records, fault).place)
     if record.kind == "steps":
-        return f"Line {line} has {','.join(records[fault.earlier - 1].fields)}."
-    name = record.fields[fault.place]
+        return f"Line {line} has {','.join(_earlier(records, fault).fields)}."
+    name = _value(record, fault)
     what = {"signal": "signal", "region": "region"}.get(record.kind)
     return f"The {what} of {name} stands in line {line}." if what else f"{name} stands in line {line} too."
 
 
-def _unknown_hint(content, records, record, fault):
-    name = record.fields[fault.place]
+def _unknown_hint(content: bytes, records: Sequence[Record], record: Record, fault: Fault) -> str:
+    name = _value(record, fault)
     later = next((other for other in records[fault.record:]
                   if other.kind in kinds.CELLS and len(other.fields) > 1 and other.fields[1] == name), None)
     if later is not None:
@@ -224,7 +247,7 @@ def _unknown_hint(content, records, record, fault):
     return f"Is {' or '.join(near)} meant?" if near else "No cell of this file has that name."
 
 
-def _near(name, names):
+def _near(name: str, names: Sequence[str]) -> list[str]:
     """The names that one may be meant to be: those that look alike, else those that differ least."""
     for alike in (str.lower, _looks, _without_zeros):
         found = [other for other in names if alike(other) == alike(name)]
@@ -233,40 +256,40 @@ def _near(name, names):
     return difflib.get_close_matches(name, names, 2, 0.6)
 
 
-def _looks(name):
+def _looks(name: str) -> str:
     """A name with letters and digits that are easily taken for each other made one."""
     return name.lower().translate(str.maketrans("li|o-", "1110_"))
 
 
-def _without_zeros(name):
+def _without_zeros(name: str) -> str:
     """A name with its numbers without leading zeros."""
     return re.sub(r"0+(?=[0-9])", "", name.lower())
 
 
-def _wrong_kind_hint(content, records, record, fault):
-    name = record.fields[fault.place]
-    kind = records[fault.earlier - 1].kind
-    line = _line(content, records, fault.earlier)
-    sort = FIELDS[record.kind][fault.place - 1].sort
+def _wrong_kind_hint(content: bytes, records: Sequence[Record], record: Record, fault: Fault) -> str:
+    name = _value(record, fault)
+    kind = _earlier(records, fault).kind
+    line = line_of(content, _earlier(records, fault).place)
+    sort = _term(record, fault).sort
     why = {"up": "nothing leads out of an exit", "down": "nothing leads into a gate", "signal": "an exit has no signal",
            "demand": "demand comes at gates alone", "turn": "no diverge above leads out of it"}[sort]
     return f"{name} is {'an exit' if kind == 'exit' else 'a ' + kind} (line {line}); {why}."
 
 
-def _taken_hint(content, records, record, fault):
-    name = record.fields[fault.place]
+def _taken_hint(content: bytes, records: Sequence[Record], record: Record, fault: Fault) -> str:
+    name = _value(record, fault)
     way = "into" if fault.code == "InTaken" else "out of"
     joint = "A merge joins two cells into one." if fault.code == "InTaken" else "A diverge parts one cell into two."
     if fault.earlier == record.number:
         return f"{name} stands twice in this record."
-    other = records[fault.earlier - 1]
+    other = _earlier(records, fault)
+    line = line_of(content, other.place)
     if other.fields == record.fields:
-        return f"The same record stands in line {_line(content, records, fault.earlier)}."
-    return (f"{','.join(other.fields)} in line {_line(content, records, fault.earlier)} leads {way} {name} already. "
-            f"{joint}")
+        return f"The same record stands in line {line}."
+    return f"{','.join(other.fields)} in line {line} leads {way} {name} already. {joint}"
 
 
-def _whole_hint(records, fault):
+def _whole_hint(records: Sequence[Record], fault: Fault) -> str:
     if fault.code == "TooMuch":
         return "A demand is vehicles in each step; is one written in vehicles per hour?"
     if fault.code == "NoSteps":

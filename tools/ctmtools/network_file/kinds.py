@@ -1,5 +1,7 @@
 """The kinds of records and their fields, as docs/FORMAT.md has them."""
 
+from __future__ import annotations
+
 from dataclasses import dataclass
 
 MOST_PARTS = 10_000_000 * 1_000_000
@@ -16,11 +18,11 @@ class Field:
     expected: str
 
 
-def _whole(name, least, most):
+def _whole(name: str, least: int | str, most: int | str) -> Field:
     return Field(name, "whole", f"a whole number, {least} to {most}")
 
 
-def _amount(name, most, unit="vehicles"):
+def _amount(name: str, most: int | str, unit: str = "vehicles") -> Field:
     return Field(name, "amount", f"{unit}, 0 to {most}, with a point and at most six decimals")
 
 
@@ -30,15 +32,15 @@ TO = _whole("to", "from + 1", 100_000)
 CAPACITY = _amount("Q", 100_000, "vehicles in a step")
 
 
-def _up(name):
+def _up(name: str) -> Field:
     return Field(name, "up", "a road or a gate that stands above and has no connector out of it yet")
 
 
-def _down(name):
+def _down(name: str) -> Field:
     return Field(name, "down", "a road or an exit that stands above and has no connector into it yet")
 
 
-FIELDS = {
+FIELDS: dict[str, tuple[Field, ...]] = {
     "steps": (_whole("T", 1, 100_000),),
     "road": (NEW, _amount("N", 100_000), CAPACITY, _whole("A", 1, 1000), _whole("B", "A", 1000), _amount("first", "N")),
     "gate": (NEW, CAPACITY, _amount("first", 10_000_000)),
@@ -69,12 +71,12 @@ CODES = {1: "NoHeader", 2: "BadKind", 3: "BadCount", 4: "BadName", 5: "BadNumber
 NUMBERS = {name: number for number, name in CODES.items()}
 
 
-def kinds_of(form):
+def kinds_of(form: int) -> tuple[str, ...]:
     """The kinds of records that a file of format 1 or 2 may have."""
     return tuple(kind for kind in FIELDS if form == 2 or kind not in ONLY_IN_FORMAT_2)
 
 
-def most_group(kind):
+def most_group(kind: str) -> str | None:
     """The sort of records that are counted together with a kind, or None where it isn't counted."""
     if kind in CELLS:
         return "cells"

@@ -1,36 +1,50 @@
 """Cells, steps and amounts of a network as messages name them: in the engineer's units where these are known."""
 
+from __future__ import annotations
+
+from typing import Any
+
 from ..units import Units
+from .network import Network
 
 
 class Naming:
     """Names of what is in a network. The units say of which road a cell is where the network was built of a study."""
 
-    def __init__(self, network, units=None):
+    def __init__(self, network: Network, units: Units | None = None) -> None:
         self.network, self.units = network, units or Units()
 
     @property
-    def of_study(self):
+    def of_study(self) -> bool:
         """Whether roads, kilometres and clock times are known."""
         return bool(self.units.known and self.units.cells)
 
-    def place(self, cell):
+    def place(self, cell: str) -> dict[str, Any] | None:
         """The road and the kilometres of a cell; None where they aren't known, as of one that was added by hand."""
         return self.units.cells.get(cell) if self.of_study else None
 
-    def cell(self, cell, last=None):
+    def cell(self, cell: str, last: str | None = None) -> str:
         """A cell with its kind, or with its road and its kilometres, up to the end of a later cell if one is given."""
         place = self.place(cell)
         if place is None:
             return f"the {self.network.kinds[cell]} {cell}"
-        return f"road {place['road']} from km {place['from_km']:.6g} to {self.place(last or cell)['to_km']:.6g}"
+        return f"road {place['road']} from km {place['from_km']:.6g} to {self.units.cells[last or cell]['to_km']:.6g}"
 
-    def time(self, step):
+    def time(self, step: int) -> str:
         """A step, or its clock time."""
         return self.units.clock(step) if self.of_study else f"step {step}"
 
-    def flow(self, vehicles):
+    def lasting(self, steps: int) -> str:
+        """A number of steps, or their seconds."""
+        return f"{steps} steps" if self._seconds is None else f"{steps * self._seconds:g} s"
+
+    def flow(self, vehicles: float) -> str:
         """Vehicles in a step, or in an hour."""
-        if not self.of_study:
+        if self._seconds is None:
             return f"{vehicles:.6g} vehicles a step"
-        return f"{vehicles * 3600 / self.units.step:,.6g} vehicles/h"
+        return f"{vehicles * 3600 / self._seconds:,.6g} vehicles/h"
+
+    @property
+    def _seconds(self) -> float | None:
+        """The seconds of a step, where the network is of a study."""
+        return self.units.step if self.of_study else None

@@ -1,19 +1,26 @@
 """A network file that has no fault, as cells, connectors and what comes with the steps."""
 
+from __future__ import annotations
+
 from bisect import bisect_right
+from collections.abc import Callable, Sequence
 from dataclasses import dataclass, field
 from functools import cached_property
 from pathlib import Path
+from typing import Any
 
 import networkx
 import pandas
 
 from ..amounts import PARTS, parts_of
-from ..problem import Problem
-from .faults import first_fault
+from ..problem import Problem, reason
+from .faults import Fault, first_fault
 from .hints import hint_of
 from .kinds import FIELDS
-from .records import ends_of_lines, line_of, read_records
+from .records import Record, ends_of_lines, line_of, read_records
+
+Rows = dict[str, list[Any]]  # for each frame its rows
+Put = Callable[[Rows, int, list[str]], None]  # puts the fields of a record of a number among the rows
 
 
 @dataclass
@@ -32,11 +39,11 @@ class Network:
     limits: pandas.DataFrame
     demands: pandas.DataFrame
     turns: pandas.DataFrame
-    records: list = field(repr=False, default_factory=list)
+    records: list[Record] = field(repr=False, default_factory=list)
     content: bytes = field(repr=False, default=b"")
 
     @cached_property
-    def graph(self):
+    def graph(self) -> networkx.DiGraph:
         """The cells as a directed graph in the direction of travel, with each link's connector as `kind`."""
         graph = networkx.DiGraph()
         graph.add_nodes_from(self.cells.index)
@@ -45,40 +52,40 @@ class Network:
         return graph
 
     @cached_property
-    def kinds(self):
+    def kinds(self) -> dict[str, str]:
         """The kind of each cell, by name."""
         return self.cells.kind.to_dict()
 
     @cached_property
-    def line_ends(self):
+    def line_ends(self) -> list[int]:
         """The places behind the ends of the lines of the file."""
         return ends_of_lines(self.content)
 
-    def line(self, record):
+    def line(self, record: int) -> int:
         """The line, from 1, that a record of this number stands in."""
         return 1 + bisect_right(self.line_ends, self.records[record - 1].place)
 
 
-def read_network(path):
+def read_network(path: str | Path) -> Network:
     """The network of a file, its amounts in vehicles and its times in steps; see Network for the frames."""
     return network_of(read_bytes(path), str(path))
 
 
-def read_bytes(path):
+def read_bytes(path: str | Path) -> bytes:
     """The bytes of a file, or the problem that there are none."""
     try:
         return Path(path).read_bytes()
     except OSError as error:
-        raise Problem(f"{path}: {error.strerror.lower()}") from None
+        raise Problem(f"{path}: {reason(error)}") from None
 
 
-def network_of(content, name="the network"):
+def network_of(content: bytes, name: str = "the network") -> Network:
     """The network of a file's bytes."""
     records = read_records(content)
     fault = first_fault(records)
     if fault:
         raise Problem(f"{name}: {told(content, records, fault)}")
-    rows = {sort: [] for sort in ("cells", "links", "signals", "limits", "demands", "turns")}
+    rows: Rows = {sort: [] for sort in ("cells", "links", "signals", "limits", "demands", "turns")}
     steps = 0
     for record in records[1:]:
         kind, *values = record.fields
@@ -91,7 +98,7 @@ def network_of(content, name="the network"):
     return Network(steps, **frames, records=records, content=content)
 
 
-def told(content, records, fault):
+def told(content: bytes, records: Sequence[Record], fault: Fault) -> str:
     """A fault in one line: where it stands, what stands there, what was expected, and a hint."""
     hint = hint_of(content, records, fault)
     place = _place_of(content, records, fault)
@@ -99,7 +106,7 @@ def told(content, records, fault):
     return " ".join(part for part in (f"{place}:", f"{fault.code};", what + ("." if what else ""), hint) if part)
 
 
-def _place_of(content, records, fault):
+def _place_of(content: bytes, records: Sequence[Record], fault: Fault) -> str:
     if fault.record > len(records):
         return "the whole file" if records else "line 1"
     record = records[fault.record - 1]
@@ -110,25 +117,27 @@ def _place_of(content, records, fault):
     return f"line {line}, field {fault.place + 1} ({names[fault.place]}), `{clipped(record.fields[fault.place])}`"
 
 
-def clipped(text, most=60):
+def clipped(text: str, most: int = 60) -> str:
     """A text as far as it goes into a line, with what can't be printed as spaces."""
     text = "".join(letter if letter.isprintable() else " " for letter in text)
     return text if len(text) <= most else text[:most] + ".."
 
 
-def field_names(kind):
+def field_names(kind: str) -> list[str]:
     """The names of the fields behind a kind."""
     return [term.name for term in FIELDS.get(kind, ())]
 
 
-def _vehicles(text):
-    return parts_of(text) / PARTS
+def _vehicles(text: str) -> float:
+    parts = parts_of(text)
+    assert parts is not None  # the file has no fault
+    return parts / PARTS
 
 
-def _cell(kind):
-    def put(rows, record, values):
-        row = {"cell": values[0], "kind": kind, "N": None, "Q": None, "A": None, "B": None, "first": 0.0,
-               "record": record}
+def _cell(kind: str) -> Put:
+    def put(rows: Rows, record: int, values: list[str]) -> None:
+        row: dict[str, Any] = {"cell": values[0], "kind": kind, "N": None, "Q": None, "A": None, "B": None,
+                               "first": 0.0, "record": record}
         if kind == "road":
             row.update(N=_vehicles(values[1]), Q=_vehicles(values[2]), A=int(values[3]), B=int(values[4]),
                        first=_vehicles(values[5]))
@@ -140,42 +149,43 @@ def _cell(kind):
     return put
 
 
-def _link(rows, record, values):
+def _link(rows: Rows, record: int, values: list[str]) -> None:
     rows["links"].append((values[0], values[1], "link", 1, record))
 
 
-def _merge(rows, record, values):
+def _merge(rows: Rows, record: int, values: list[str]) -> None:
     rows["links"].append((values[0], values[2], "merge", int(values[3]), record))
     rows["links"].append((values[1], values[2], "merge", int(values[4]), record))
 
 
-def _diverge(rows, record, values):
+def _diverge(rows: Rows, record: int, values: list[str]) -> None:
     rows["links"].append((values[0], values[1], "diverge", int(values[3]), record))
     rows["links"].append((values[0], values[2], "diverge", int(values[4]), record))
 
 
-def _signal(rows, record, values):
+def _signal(rows: Rows, record: int, values: list[str]) -> None:
     rows["signals"].append((values[0], *map(int, values[1:]), record))
 
 
-def _limit(rows, record, values):
+def _limit(rows: Rows, record: int, values: list[str]) -> None:
     rows["limits"].append((values[0], int(values[1]), int(values[2]), _vehicles(values[3]), record))
 
 
-def _demand(rows, record, values):
+def _demand(rows: Rows, record: int, values: list[str]) -> None:
     rows["demands"].append((values[0], int(values[1]), int(values[2]), _vehicles(values[3]), record))
 
 
-def _turn(rows, record, values):
+def _turn(rows: Rows, record: int, values: list[str]) -> None:
     rows["turns"].append((values[0], *map(int, values[1:]), record))
 
 
-def _region(rows, record, values):
+def _region(rows: Rows, record: int, values: list[str]) -> None:
     """A region changes nothing of the traffic."""
 
 
-_ROWS = {"road": _cell("road"), "gate": _cell("gate"), "exit": _cell("exit"), "link": _link, "merge": _merge,
-         "diverge": _diverge, "signal": _signal, "limit": _limit, "demand": _demand, "turn": _turn, "region": _region}
+_ROWS: dict[str, Put] = {
+    "road": _cell("road"), "gate": _cell("gate"), "exit": _cell("exit"), "link": _link, "merge": _merge,
+    "diverge": _diverge, "signal": _signal, "limit": _limit, "demand": _demand, "turn": _turn, "region": _region}
 _COLUMNS = {"cells": ["cell", "kind", "N", "Q", "A", "B", "first", "record"],
             "links": ["up", "down", "kind", "weight", "record"],
             "signals": ["cell", "cycle", "offset", "from", "to", "record"],

@@ -1,5 +1,7 @@
 """From the bytes of a network file to its records, each with its line, by the rules of docs/FORMAT.md."""
 
+from __future__ import annotations
+
 import re
 from dataclasses import dataclass
 
@@ -18,20 +20,22 @@ class Record:
 
     number: int
     place: int
-    fields: tuple
+    fields: tuple[str, ...]
 
     @property
-    def kind(self):
+    def kind(self) -> str:
         """The first field, which names the kind of the record."""
         return self.fields[0]
 
 
-def read_records(content):
+def read_records(content: bytes) -> list[Record]:
     """The records of a file's bytes, in order."""
-    found = []
+    found: list[Record] = []
     place = len(BYTE_ORDER_MARK) if content.startswith(BYTE_ORDER_MARK) else 0
     while True:
-        place = SKIPPED.match(content, place).end()
+        skipped = SKIPPED.match(content, place)
+        assert skipped  # it matches nothing too
+        place = skipped.end()
         if place >= len(content):
             return found
         if UNFINISHED_COMMENT.match(content, place):
@@ -42,7 +46,7 @@ def read_records(content):
         place = end
 
 
-def _record_at(content, place):
+def _record_at(content: bytes, place: int) -> tuple[tuple[str, ...], int]:
     """The fields of the record that begins at a place, and the place behind them."""
     plain = PLAIN_RECORD.match(content, place)
     if plain:
@@ -50,6 +54,7 @@ def _record_at(content, place):
     fields = []
     while True:
         found = FIELD.match(content, place)
+        assert found  # it matches nothing too
         quoted, behind, bare = found.groups()
         field = bare if quoted is None else quoted.replace(b'""', b'"') + behind
         fields.append(field.decode("ascii", "backslashreplace"))
@@ -59,17 +64,17 @@ def _record_at(content, place):
         place += 1
 
 
-def line_of(content, place):
+def line_of(content: bytes, place: int) -> int:
     """The number from 1 of the line that the byte at a place stands in, as an editor counts lines."""
     return 1 + sum(1 for _ in LINE_END.finditer(content, 0, place))
 
 
-def ends_of_lines(content):
+def ends_of_lines(content: bytes) -> list[int]:
     """The places behind the ends of all lines, in rising order."""
     return [found.end() for found in LINE_END.finditer(content)]
 
 
-def text_of_line(content, line):
+def text_of_line(content: bytes, line: int) -> str:
     """The text of a line, counted from 1, without its end."""
     lines = LINE_END.split(content)
     return lines[line - 1].decode("utf-8", "backslashreplace") if line <= len(lines) else ""

@@ -1,9 +1,17 @@
 """What no refusal covers, and what an engineer would still want to know of a network."""
 
+from __future__ import annotations
+
+from collections.abc import Collection, Iterator, Sequence
 from dataclasses import dataclass
 
+import networkx
+import pandas
+
 from ..amounts import PARTS
+from ..units import Units
 from .naming import Naming
+from .network import Network
 
 FAR_ABOVE = 2  # a demand is far above a gate's capacity from this many times it on
 SUPPOSED_STEP = 10  # seconds, in a warning's example where the step isn't known
@@ -19,25 +27,25 @@ class Warning:
     text: str
 
 
-def warnings_of(network, units=None):
+def warnings_of(network: Network, units: Units | None = None) -> list[Warning]:
     """The warnings of a network without a fault, in the order of the file's lines within each kind.
 
     They are in roads, kilometres, clock times and vehicles/h where the units of the network know these.
     """
     naming = Naming(network, units)
-    found = []
+    found: list[Warning] = []
     for check in (_dead_ends, _unreached, _gates_without_demand, _high_demands, _late, _twice, _overlapping,
                   _short_of_capacity, _high_limits, _never_green):
         found += sorted(check(network, naming), key=lambda warning: warning.line)
     return found
 
 
-def shortened(warnings, lines=True):
+def shortened(warnings: Sequence[Warning], lines: bool = True) -> list[str]:
     """The warnings as lines of text, the first few of each kind and the number of the others.
 
     Without `lines` they don't say where in the network file they are of, as for a study.
     """
-    told = []
+    told: list[str] = []
     for kind in dict.fromkeys(warning.kind for warning in warnings):
         own = [warning for warning in warnings if warning.kind == kind]
         told += [f"line {warning.line}: {warning.text}" if lines else warning.text for warning in own[:MOST_OF_A_KIND]]
@@ -46,11 +54,11 @@ def shortened(warnings, lines=True):
     return told
 
 
-def _line(network, cell):
+def _line(network: Network, cell: str) -> int:
     return network.line(int(network.cells.record[cell]))
 
 
-def _dead_ends(network, naming):
+def _dead_ends(network: Network, naming: Naming) -> Iterator[Warning]:
     """Roads and gates that nothing leads out of."""
     names = list(network.kinds)
     for number, (cell, kind) in enumerate(network.kinds.items()):
@@ -68,7 +76,7 @@ def _dead_ends(network, naming):
                       f"the {kind} {cell} is a dead end: nothing leads out of it, so what comes in stays.{hint}")
 
 
-def _follower(network, names, number):
+def _follower(network: Network, names: Sequence[str], number: int) -> str | None:
     """The next cell in the file, where nothing leads into it: a link to it may be forgotten."""
     if number + 1 < len(names):
         following = names[number + 1]
@@ -77,7 +85,7 @@ def _follower(network, names, number):
     return None
 
 
-def _unreached(network, naming):
+def _unreached(network: Network, naming: Naming) -> Iterator[Warning]:
     """Roads and exits that no vehicle comes to; of cells that lead to each other the first alone is told."""
     demands, cells = network.demands, network.cells
     reached = set(demands.gate[(demands["amount"] > 0) & (demands["from"] < network.steps)])
@@ -97,7 +105,7 @@ def _unreached(network, naming):
                       f"no vehicle ever reaches {naming.cell(cell)}{more}: no gate leads to it")
 
 
-def _spread(graph, cells, barred=frozenset()):
+def _spread(graph: networkx.DiGraph, cells: set[str], barred: Collection[str] = frozenset()) -> None:
     """Adds to a set of cells all that can be reached from them, but for those that are barred."""
     waiting = list(cells)
     while waiting:
@@ -107,14 +115,14 @@ def _spread(graph, cells, barred=frozenset()):
                 waiting.append(down)
 
 
-def _gates_without_demand(network, naming):
+def _gates_without_demand(network: Network, naming: Naming) -> Iterator[Warning]:
     fed = set(network.demands.gate) | set(network.cells.index[network.cells["first"] > 0])
     for cell, kind in network.kinds.items():
         if kind == "gate" and cell not in fed:
             yield Warning("gates without demand", _line(network, cell), f"the gate {cell} has no demand: nobody comes")
 
 
-def _high_demands(network, naming):
+def _high_demands(network: Network, naming: Naming) -> Iterator[Warning]:
     """Demands far above the greatest capacity that their gates ever have."""
     step = naming.units.step
     seconds = step or SUPPOSED_STEP
@@ -133,16 +141,16 @@ def _high_demands(network, naming):
         yield Warning("demands far above a gate's capacity", network.line(row.record), text)
 
 
-def _late(network, naming):
+def _late(network: Network, naming: Naming) -> Iterator[Warning]:
     for sort, frame in (("demand", network.demands), ("limit", network.limits), ("turn", network.turns)):
         for row in frame[frame["from"] >= network.steps].itertuples():
             yield Warning("ranges behind the last step", network.line(row.record),
                           f"this {sort} begins behind the last step, {network.steps - 1}, so it does nothing")
 
 
-def _twice(network, naming):
+def _twice(network: Network, naming: Naming) -> Iterator[Warning]:
     """Records that stand twice; only those that the program accepts twice are left: demands, limits and turns."""
-    seen = {}
+    seen: dict[tuple[str, ...], int] = {}
     for record in network.records[1:]:
         if record.fields in seen:
             does = "their amounts add up" if record.kind == "demand" else "the second does nothing"
@@ -155,7 +163,7 @@ def _twice(network, naming):
             seen[record.fields] = record.number
 
 
-def _overlapping(network, naming):
+def _overlapping(network: Network, naming: Naming) -> Iterator[Warning]:
     """Demands, limits and turns of one cell whose ranges overlap, but for those that stand twice."""
     for sort, frame, does in (("demands", network.demands, "their amounts add up"),
                               ("limits", network.limits, "the last one in the file holds there"),
@@ -166,30 +174,31 @@ def _overlapping(network, naming):
                           f"the {sort} of {cell} overlap from {naming.time(begin)} on{where}; {does}")
 
 
-def _overlaps(network, frame):
+def _overlaps(network: Network, frame: pandas.DataFrame) -> Iterator[tuple[str, int, int, int]]:
     """Where ranges of a cell overlap: the cell, from which step, and the numbers of both records, the later first."""
-    last = None  # of the cell's ranges so far the one that reaches farthest: its cell, end, record and fields
+    # Of the cell's ranges so far the one that reaches farthest: its cell, end, record and fields.
+    last: tuple[str, int, int, tuple[str, ...]] | None = None
     for row in frame.sort_values([frame.columns[0], "from"], kind="stable").itertuples(index=False):
         cell, begin, end, record = row[0], row[1], row[2], row[-1]
         fields = network.records[record - 1].fields
-        same = last is not None and last[0] == cell
-        if same and begin < last[1] and fields != last[3]:
-            yield cell, begin, max(record, last[2]), min(record, last[2])
-        if not same or end > last[1]:
+        same = last if last and last[0] == cell else None
+        if same and begin < same[1] and fields != same[3]:
+            yield cell, begin, max(record, same[2]), min(record, same[2])
+        if not same or end > same[1]:
             last = cell, end, record, fields
 
 
-def _lasting(cells):
+def _lasting(cells: pandas.DataFrame) -> pandas.Series:
     """The greatest lasting flow of each road, N·A/(A + B), in vehicles a step."""
     roads = cells[cells.kind == "road"]
     return roads.N.astype(float) * roads.A.astype(float) / (roads.A + roads.B).astype(float)
 
 
-def _short_of_capacity(network, naming):
+def _short_of_capacity(network: Network, naming: Naming) -> Iterator[Warning]:
     """Roads whose greatest lasting flow is below Q; of a study's road the cells that are alike together."""
     lasting = _lasting(network.cells)
     most = network.cells.Q[lasting.index].astype(float)
-    groups = {}
+    groups: dict[tuple[str, float, float], list[str]] = {}
     for cell in lasting.index[most - lasting > (most / 1_000_000).clip(lower=1 / PARTS)]:
         place = naming.place(cell)
         road = place["road"] if place else cell
@@ -203,7 +212,7 @@ def _short_of_capacity(network, naming):
         yield Warning("roads that can't carry Q for long", _line(network, cells[0]), text)
 
 
-def _high_limits(network, naming):
+def _high_limits(network: Network, naming: Naming) -> Iterator[Warning]:
     """Limits above what their road can carry for long."""
     lasting = _lasting(network.cells)
     for row in network.limits[network.limits.cell.isin(lasting.index)].itertuples():
@@ -213,14 +222,13 @@ def _high_limits(network, naming):
                           f"{naming.flow(lasting[row.cell])} that it can carry for long, N·A/(A + B)")
 
 
-def _never_green(network, naming):
+def _never_green(network: Network, naming: Naming) -> Iterator[Warning]:
     """Signals that are green in no step of the run."""
     for row in network.signals.itertuples(index=False):
         cell, cycle, offset, begin, end, record = row
         steps = range(min(network.steps, cycle))
         if not any(begin <= (step + offset) % cycle < end for step in steps):
-            lasts = f"{cycle} steps is longer than the run of {network.steps}"
-            if naming.of_study:
-                lasts = f"{cycle * naming.units.step:g} s is longer than the study"
+            whole = "the study" if naming.of_study else f"the run of {network.steps}"
             yield Warning("signals that are never green", network.line(record),
-                          f"the signal of {cell} is green in no step of the run: its cycle of {lasts}")
+                          f"the signal of {cell} is green in no step of the run: its cycle of {naming.lasting(cycle)} "
+                          f"is longer than {whole}")

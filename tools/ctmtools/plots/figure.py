@@ -16,7 +16,7 @@ from matplotlib.colors import LinearSegmentedColormap
 from matplotlib.figure import Figure
 from matplotlib.ticker import FuncFormatter, MultipleLocator
 
-from ..problem import Problem
+from ..problem import Problem, reason
 from ..report.reading import Report
 from ..study.quantities import clock
 from ..units import DAY, clock_text
@@ -87,7 +87,7 @@ def save(drawn: Figure, path: Path) -> None:
         with rc_context(LOOK):
             drawn.savefig(path)
     except OSError as error:
-        raise Problem(f"{path}: {(error.strerror or str(error)).lower()}") from None
+        raise Problem(f"{path}: {reason(error)}") from None
 
 
 def moments(report: Report, steps: Iterable[float]) -> list[float]:

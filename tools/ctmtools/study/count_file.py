@@ -1,14 +1,21 @@
 """The rows of a CSV file of counts: those of one station and of one day, each with its line and its time."""
 
+from __future__ import annotations
+
 import csv
+from collections.abc import Sequence
 from dataclasses import dataclass
+from pathlib import Path
+from typing import Any
 
 from ..network_file.network import read_bytes
 from ..problem import Problem
 from ..units import DAY
-from .count_times import day, day_text, follows, moment
+from .count_times import Day, Moment, day, day_text, follows, moment
 
 MOST_NAMED = 6  # stations or days that a message names
+
+Table = list[tuple[int, dict[str, Any]]]  # each row with its line in the file
 
 
 @dataclass(frozen=True)
@@ -26,13 +33,13 @@ class Choice:
 
     column: str
     time_column: str
-    station: str = None
+    station: str | None = None
     station_column: str = "station"
-    date: tuple = None
+    date: Day | None = None
     date_column: str = "date"
 
 
-def rows_of(path, separator, choice, passes_midnight):
+def rows_of(path: Path, separator: str, choice: Choice, passes_midnight: bool) -> tuple[list[Row], bool, bool]:
     """The rows that a choice takes of a file, in rising order, whether they have dates, and whether they have a zone.
 
     Where the study passes midnight, the rows of the next day are taken too.
@@ -51,12 +58,11 @@ def rows_of(path, separator, choice, passes_midnight):
     if len(zones) > 1:
         raise Problem(f"{path}: the times are of several zones, {', '.join(zones)}")
     rows = [Row(line, found.seconds, row[choice.column]) for line, found, row in timed]
-    dated = any(days)
-    rows = _of_days(path, rows, days, choice, passes_midnight) if dated else _unwound(path, rows)
-    return _rising(path, rows), dated, bool(zones)
+    rows = _of_days(path, rows, days, choice, passes_midnight) if days else _unwound(path, rows)
+    return _rising(path, rows), bool(days), bool(zones)
 
 
-def _table(path, separator):
+def _table(path: Path, separator: str) -> tuple[Table, list[str]]:
     """All rows of the file, each with its line, and the names of its columns."""
     text = read_bytes(path).decode("utf-8-sig", "replace")
     reader = csv.DictReader(text.splitlines(), delimiter=separator, skipinitialspace=True)
@@ -68,13 +74,13 @@ def _table(path, separator):
     return rows, names
 
 
-def _need_column(path, names, column):
+def _need_column(path: Path, names: Sequence[str], column: str) -> None:
     if column not in names:
         hint = "; is the separator another?" if len(names) == 1 else ""
         raise Problem(f"{path}: line 1 has no column {column}, it has {', '.join(names) or 'nothing'}{hint}")
 
 
-def _of_station(path, names, table, choice):
+def _of_station(path: Path, names: Sequence[str], table: Table, choice: Choice) -> Table:
     """The rows of the chosen station; without a choice all of them, where they are of one."""
     column = choice.station_column
     if choice.station is not None:
@@ -92,21 +98,22 @@ def _of_station(path, names, table, choice):
     return chosen
 
 
-def _days(path, names, timed, choice):
-    """The day of each row: by its time, or by the column of dates; None where the file has no dates."""
+def _days(path: Path, names: Sequence[str], timed: Sequence[tuple[int, Moment, dict[str, Any]]],
+          choice: Choice) -> list[Day]:
+    """The day of each row: by its time, or by the column of dates; none where the file has no dates."""
     if choice.date_column in names:
         column = choice.date_column
         return [day(row[column] or "", f"{path}: line {line}, {column}") for line, _, row in timed]
-    days = [found.day for _, found, _ in timed]
-    bare = next((line for (line, _, _), one in zip(timed, days) if one is None), None)
-    if bare and any(days):
+    days = [found.day for _, found, _ in timed if found.day is not None]
+    bare = next((line for line, found, _ in timed if found.day is None), None)
+    if bare and days:
         raise Problem(f"{path}: line {bare} has a time without a date, and others have one")
-    if choice.date is not None and not any(days):
+    if choice.date is not None and not days:
         raise Problem(f"{path}: has no dates; it has neither a column {choice.date_column} nor dates in the times")
     return days
 
 
-def _of_days(path, rows, days, choice, passes_midnight):
+def _of_days(path: Path, rows: Sequence[Row], days: Sequence[Day], choice: Choice, passes_midnight: bool) -> list[Row]:
     """The rows of the chosen day, with those of the next one behind them where the study passes midnight."""
     found = list(dict.fromkeys(days))
     shown = [day_text(one) for one in found]
@@ -123,9 +130,10 @@ def _of_days(path, rows, days, choice, passes_midnight):
     return chosen + [Row(row.line, row.seconds + DAY, row.text) for row, one in zip(rows, days) if one in nexts]
 
 
-def _unwound(path, rows):
+def _unwound(path: Path, rows: Sequence[Row]) -> list[Row]:
     """Rows without dates, with a day more behind a midnight that their times pass."""
-    found, days = [], 0
+    found: list[Row] = []
+    days = 0
     for row in rows:
         if found and row.seconds + DAY * days <= found[-1].seconds - DAY / 2:
             days += 1
@@ -137,7 +145,7 @@ def _unwound(path, rows):
     return found
 
 
-def _rising(path, rows):
+def _rising(path: Path, rows: list[Row]) -> list[Row]:
     """The rows, whose times rise from one to the next."""
     for before, row in zip(rows, rows[1:]):
         if row.seconds <= before.seconds:
@@ -148,6 +156,6 @@ def _rising(path, rows):
     return rows
 
 
-def _named(names):
+def _named(names: Sequence[str]) -> str:
     more = len(names) - MOST_NAMED
     return ", ".join(names[:MOST_NAMED]) + (f" and {more} more" if more > 0 else "")

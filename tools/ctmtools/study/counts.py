@@ -1,19 +1,29 @@
 """Demand from a CSV file of counts: the vehicles that were counted at a place in each interval."""
 
+from __future__ import annotations
+
 import datetime
+from collections.abc import Iterator, Sequence
 from dataclasses import dataclass
 from fractions import Fraction
+from pathlib import Path
+from typing import Any
 
 from ..problem import Problem
 from ..units import DAY
-from .count_file import Choice, rows_of
-from .count_times import day
+from .count_file import Choice, Row, rows_of
+from .count_times import Day, day
+from .entries import Entries
 from .plan import Flow
 from .quantities import duration, shown, word
 from .rounding import told
+from .times import Times
 
 HOUR = 3600
 MISSING = ("error", "zero", "interpolate")
+
+Piece = tuple[Fraction, Fraction, Fraction]  # the start, the end and the middle of an interval of a gap
+Placed = list[tuple[Fraction, Row]]  # each row with its seconds after the study's start
 
 
 @dataclass(frozen=True)
@@ -22,7 +32,7 @@ class Reading:
 
     decimal: str
     per: str
-    interval: Fraction
+    interval: Fraction | None
     missing: str
 
 
@@ -36,7 +46,7 @@ class Count:
     flow: Fraction
 
 
-def flows_of_counts(table, times):
+def flows_of_counts(table: Entries, times: Times) -> list[Flow]:
     """The flows in vehicles/h that a table of the study takes from a file of counts; tools/README.md has its keys."""
     path = times.folder / table.take("counts", word)
     choice = Choice(table.take("column", word), table.take("time", word, "time"), table.take("station", _text, None),
@@ -61,7 +71,7 @@ def flows_of_counts(table, times):
     return flows
 
 
-def _one_of(table, name, words):
+def _one_of(table: Entries, name: str, words: Sequence[str]) -> str:
     """One of some words, by default the first."""
     value = table.take(name, word, words[0])
     if value not in words:
@@ -69,26 +79,26 @@ def _one_of(table, name, words):
     return value
 
 
-def _text(value, key):
+def _text(value: Any, key: str) -> str:
     return str(value) if isinstance(value, int) and not isinstance(value, bool) else word(value, key)
 
 
-def _date(value, key):
+def _date(value: Any, key: str) -> Day:
     return day(value.isoformat() if isinstance(value, datetime.date) else word(value, key), key)
 
 
-def _interval(path, rows, said):
+def _interval(path: Path, rows: Sequence[Row], said: Fraction | None) -> Fraction:
     """The seconds of an interval: those that are said, else the way from row to row where all rows agree on it.
 
     A row may be missing, so a way may also be several intervals.
     """
-    ways = [(behind.seconds - row.seconds, row.line) for row, behind in zip(rows, rows[1:])]
+    ways = [(Fraction(behind.seconds - row.seconds), row.line) for row, behind in zip(rows, rows[1:])]
     if said is None and not ways:
         raise Problem(f"{path}: with one row alone, say interval in the study")
-    least, line = min(ways, default=(said, None))
-    interval = least if said is None else said
+    interval = min(ways)[0] if said is None else said
     if not 0 < interval <= DAY:
         raise Problem(f"{path}: an interval is above 0 and at most a day, found {_lasting(interval)}")
+    least, line = min(ways, default=(interval, 0))
     if least < interval:
         raise Problem(f"{path}: from line {line} to the next row are {_lasting(least)}, less than the interval of "
                       f"{_lasting(interval)}")
@@ -96,30 +106,31 @@ def _interval(path, rows, said):
     if odd and said is None:
         raise Problem(f"{path}: the rows don't agree on the interval: {_lasting(least)} from line {line} on, "
                       f"{_lasting(odd[0])} from line {odd[1]} on; say interval in the study")
-    return Fraction(interval)
+    return interval
 
 
-def _on_days(rows, interval, times):
+def _on_days(rows: Sequence[Row], interval: Fraction, times: Times) -> Placed:
     """Rows that have no dates, each with its seconds after the study's start, in order.
 
     They are put on the day on which they cover most of the study, and what of it they don't cover there is taken from
     the days beside it, but never further than a day after the study's start.
     """
-    def covered(shift):
+    def covered(shift: int) -> Fraction:
         starts = [row.seconds - times.start + shift for row in rows]
-        return sum(max(0, min(start + interval, times.duration) - max(start, 0)) for start in starts)
+        shares = (min(start + interval, times.duration) - max(start, Fraction(0)) for start in starts)
+        return sum((max(Fraction(0), share) for share in shares), Fraction(0))
 
     chosen, *others = sorted((0, -DAY, DAY), key=covered, reverse=True)
     first, last = (row.seconds - times.start + chosen for row in (rows[0], rows[-1]))
     placed = [(row.seconds - times.start + chosen, row) for row in rows]
     for start, row in ((row.seconds - times.start + other, row) for other in others for row in rows):
         beside = start + interval <= first or start >= last + interval
-        if beside and start + interval > 0 and start < min(times.duration, DAY):
+        if beside and start + interval > 0 and start < min(times.duration, Fraction(DAY)):
             placed.append((start, row))
     return sorted(placed, key=lambda pair: pair[0])
 
 
-def _counts(path, column, placed, reading, interval):
+def _counts(path: Path, column: str, placed: Placed, reading: Reading, interval: Fraction) -> list[Count]:
     """The counts in order; a row without a number is missing."""
     found = []
     for start, row in placed:
@@ -130,7 +141,7 @@ def _counts(path, column, placed, reading, interval):
     return found
 
 
-def _number(text, decimal, key):
+def _number(text: str, decimal: str, key: str) -> Fraction:
     try:
         counted = Fraction(text.strip().replace(decimal, "."))
     except (ValueError, ZeroDivisionError):
@@ -141,15 +152,18 @@ def _number(text, decimal, key):
     return counted
 
 
-def _filled(path, counts, interval, missing, times):
+def _filled(path: Path, counts: Sequence[Count], interval: Fraction, missing: str,
+            times: Times) -> tuple[list[Flow], list[Fraction]]:
     """The flows of the study's time, and the starts of the missing intervals, which are filled as `missing` says."""
-    flows, missed, before = [], [], None
+    flows: list[Flow] = []
+    missed: list[Fraction] = []
+    before: Count | None = None
     for count in [*counts, None]:
-        begin = max(before.end, 0) if before else Fraction(0)
+        begin = max(before.end, Fraction(0)) if before else Fraction(0)
         end = min(count.start, times.duration) if count else times.duration
         if begin < end:
-            gap = _pieces(before.end if before else begin, count.start if count else end, interval)
-            gap = [(max(start, Fraction(0)), min(stop, times.duration), middle) for start, stop, middle in gap
+            pieces = _pieces(before.end if before else begin, count.start if count else end, interval)
+            gap = [(max(start, Fraction(0)), min(stop, times.duration), middle) for start, stop, middle in pieces
                    if stop > 0 and start < times.duration]
             missed += [start for start, _, _ in gap]
             flows += _filling(path, before, count, gap, missing, times)
@@ -159,7 +173,7 @@ def _filled(path, counts, interval, missing, times):
     return flows, missed
 
 
-def _pieces(begin, end, interval):
+def _pieces(begin: Fraction, end: Fraction, interval: Fraction) -> Iterator[Piece]:
     """A gap in intervals: the start, the end and the middle of each."""
     while begin < end:
         stop = min(begin + interval, end)
@@ -167,7 +181,8 @@ def _pieces(begin, end, interval):
         begin = stop
 
 
-def _filling(path, before, behind, gap, missing, times):
+def _filling(path: Path, before: Count | None, behind: Count | None, gap: Sequence[Piece], missing: str,
+             times: Times) -> list[Flow]:
     """What a gap between two counts is filled with, or the problem that there is one."""
     if missing == "zero":
         return []
@@ -183,18 +198,18 @@ def _filling(path, before, behind, gap, missing, times):
     raise Problem(f"{path}: no count for {_clock(gap[0][0], times)}, {where}{why}; {advice}")
 
 
-def _missed(missed, missing, times):
+def _missed(missed: Sequence[Fraction], missing: str, times: Times) -> str:
     if not missed:
         return ""
     what = "taken as zero" if missing == "zero" else "interpolated"
     return f"; {len(missed)} missing, from {_clock(missed[0], times)} on, {what}"
 
 
-def _clock(time, times):
+def _clock(time: Fraction, times: Times) -> str:
     """The clock time at which an interval begins: 00:00, where one that ends would end at 24:00."""
     return times.clock(time - DAY if times.start + time == DAY else time)
 
 
-def _lasting(seconds):
+def _lasting(seconds: Fraction) -> str:
     """A length of time in minutes, or in seconds where it isn't whole minutes."""
-    return f"{told(seconds)} s" if seconds % 60 else f"{told(Fraction(seconds) / 60)} min"
+    return f"{told(seconds)} s" if seconds % 60 else f"{told(seconds / 60)} min"

@@ -1,12 +1,17 @@
 """The demand of a study, step by step."""
 
+from __future__ import annotations
+
+from collections.abc import Iterator
 from fractions import Fraction
 
 from ..amounts import PARTS, amount_text
 from .layout import HOUR
+from .plan import Study
+from .scale import Scale
 
 
-def demands(study, scale):
+def demands(study: Study, scale: Scale) -> Iterator[str]:
     """A record for each flow that comes to a gate before the study's end."""
     lasting = study.duration
     for gate in study.gates.values():

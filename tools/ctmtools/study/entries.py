@@ -1,32 +1,45 @@
 """A table of the study file with its place, of which every key has to be known."""
 
+from __future__ import annotations
+
 import difflib
+from collections.abc import Callable, Sequence
+from typing import Any, TypeVar, overload
 
 from ..problem import Problem
 from .quantities import shown
 
 MISSING = object()
+Value = TypeVar("Value")
+Default = TypeVar("Default")
+Reader = Callable[[Any, str], Value]  # takes a value of the file and its key
 
 
 class Entries:
     """The keys of a table of the study, each taken once by a reader; `done` refuses those that nobody took."""
 
-    def __init__(self, values, place):
+    def __init__(self, values: Any, place: str) -> None:
         if not isinstance(values, dict):
             raise Problem(f"{place}: expected a table, found {shown(values)}")
-        self.values = values
+        self.values: dict[str, Any] = values
         self.place = place
-        self.known = []
+        self.known: list[str] = []
 
-    def key(self, name):
+    def key(self, name: str) -> str:
         """The full name of a key, as messages say it."""
         return f"{self.place}.{name}" if self.place else name
 
-    def has(self, name):
+    def has(self, name: str) -> bool:
         """Whether the table has a key."""
         return name in self.values
 
-    def take(self, name, read, default=MISSING):
+    @overload
+    def take(self, name: str, read: Reader[Value]) -> Value: ...
+
+    @overload
+    def take(self, name: str, read: Reader[Value], default: Default) -> Value | Default: ...
+
+    def take(self, name: str, read: Reader[Any], default: Any = MISSING) -> Any:
         """The value of a key through a reader, or the default where there is none."""
         self.known.append(name)
         if name in self.values:
@@ -35,17 +48,17 @@ class Entries:
             raise Problem(f"{self.key(name)}: is missing")
         return default
 
-    def tables(self, name):
+    def tables(self, name: str) -> Sequence[tuple[str, Entries]]:
         """The named tables under a key, in the order of the file."""
         found = self.take(name, lambda value, key: Entries(value, key), None)
         return [] if found is None else [(key, Entries(value, found.key(key))) for key, value in found.values.items()]
 
-    def list(self, name):
+    def list(self, name: str) -> Sequence[Entries]:
         """The tables of an array of tables."""
-        values = self.take(name, _list_of_tables, [])
+        values: list[Any] = self.take(name, _list_of_tables, [])
         return [Entries(value, f"{self.key(name)}[{i}]") for i, value in enumerate(values, 1)]
 
-    def done(self):
+    def done(self) -> None:
         """Refuses a key that nobody took, with one that it may be meant to be."""
         for name in self.values:
             if name not in self.known:
@@ -54,22 +67,22 @@ class Entries:
                 raise Problem(f"{self.key(name)}: no such key; {hint}")
 
 
-def _list(value, key):
+def _list(value: Any, key: str) -> list[Any]:
     if not isinstance(value, list):
         raise Problem(f"{key}: expected a list, found {shown(value)}")
     return value
 
 
-def _list_of_tables(value, key):
+def _list_of_tables(value: Any, key: str) -> list[Any]:
     if isinstance(value, dict):
         hint = "" if "[" in key else f"; head it [[{key}]]"
         raise Problem(f"{key}: expected a list of tables, found one table{hint}")
     return _list(value, key)
 
 
-def list_of(read, count=None):
+def list_of(read: Reader[Value], count: int | None = None) -> Reader[list[Value]]:
     """A reader of lists, each entry through a reader, of a given length where that is said."""
-    def read_list(value, key):
+    def read_list(value: Any, key: str) -> list[Value]:
         entries = _list(value, key)
         if count is not None and len(entries) != count:
             raise Problem(f"{key}: expected {count} entries, found {len(entries)}")

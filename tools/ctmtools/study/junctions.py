@@ -1,22 +1,37 @@
 """The connectors of a study: links within roads and between them, merges, diverges and ramps."""
 
+from __future__ import annotations
+
+from collections.abc import Collection, Sequence
+from fractions import Fraction
+
 from ..problem import Problem
-from .plan import Merge
+from .layout import Layout, RoadCell
+from .plan import Diverge, Merge, RoadPart, Signal, Study
+from .scale import Scale
+
+Boundary = tuple[str, int]  # a road and the number of its cells before the boundary
 
 
 class Junctions:
     """The records of connectors and turns, and which cells each cell leads into."""
 
-    def __init__(self, study, layout, scale):
+    def __init__(self, study: Study, layout: Layout, scale: Scale) -> None:
         self.study, self.layout, self.scale = study, layout, scale
-        self.connectors, self.turns = [], []
-        self.out_of = {}  # for each cell the cells that its connector leads into, and the place in the study
-        self.into = {}  # for each cell that something leads into the place in the study
+        self.connectors: list[str] = []
+        self.turns: list[str] = []
+        # For each cell the cells that its connector leads into, and the place in the study.
+        self.out_of: dict[str, tuple[list[str], str]] = {}
+        self.into: dict[str, str] = {}  # for each cell that something leads into the place in the study
         self._roads(self._ramps())
         self._ends()
         self._joints()
 
-    def road_cells(self, road, place):
+    def led_to(self, cell: str) -> list[str]:
+        """The cells that a cell leads into."""
+        return self.out_of[cell][0] if cell in self.out_of else []
+
+    def road_cells(self, road: str, place: str) -> list[RoadCell]:
         """The cells of a road that a place of the study names."""
         if road not in self.layout.cells:
             names = [*self.study.roads, *self.study.gates, *self.study.exits]
@@ -24,26 +39,26 @@ class Junctions:
             raise Problem(f"{place}: there is no road {road}; {known}")
         return self.layout.cells[road]
 
-    def boundary(self, road, kilometre, what):
+    def boundary(self, road: str, kilometre: Fraction, what: str) -> int:
         """The number of cells before the boundary that lies nearest to a kilometre of a road, noted where it moves."""
         self._within(road, kilometre, what)
         boundary = self.layout.boundary(road, kilometre)
         self.note_place(road, kilometre, boundary, what)
         return boundary
 
-    def _within(self, road, kilometre, what):
+    def _within(self, road: str, kilometre: Fraction, what: str) -> None:
         length = self.study.roads[road].length
         if kilometre > length:
             raise Problem(f"{what}: km {float(kilometre):g} is beyond road {road}, which has {float(length):g} km")
 
-    def note_place(self, road, kilometre, boundary, what):
+    def note_place(self, road: str, kilometre: Fraction, boundary: int, what: str) -> None:
         """Notes that a kilometre of a road is modelled as a boundary between cells."""
         cells = self.layout.cells[road]
         cell = cells[max(0, boundary - 1)]
         self.scale.rounding.note(f"place of {what}", kilometre, self.layout.kilometre(road, boundary), "km",
                                  cell.end - cell.start)
 
-    def cells_of(self, part):
+    def cells_of(self, part: RoadPart) -> list[RoadCell]:
         """The cells of a part of a road, at least one, from the boundary nearest to its start to that of its end."""
         cells = self.road_cells(part.road, part.place)
         end = self.study.roads[part.road].length if part.end_km is None else part.end_km
@@ -58,7 +73,7 @@ class Junctions:
             self.note_place(part.road, end, last, f"{part.place}, to")
         return cells[first:last]
 
-    def stop_line(self, signal):
+    def stop_line(self, signal: Signal) -> str:
         """The cell before a signal's stop line, or its gate."""
         if signal.road in self.study.gates:
             return signal.road
@@ -71,15 +86,15 @@ class Junctions:
         self.note_place(signal.road, signal.at, boundary, what)
         return cells[boundary - 1].name
 
-    def _source(self, name, place):
+    def _source(self, name: str, place: str) -> str:
         """The cell that a road or a gate ends in."""
         return name if name in self.study.gates else self.road_cells(name, place)[-1].name
 
-    def _target(self, name, place):
+    def _target(self, name: str, place: str) -> str:
         """The cell that a road begins with, or an exit."""
         return name if name in self.study.exits else self.road_cells(name, place)[0].name
 
-    def _put(self, kind, ups, downs, numbers, place):
+    def _put(self, kind: str, ups: list[str], downs: list[str], numbers: Sequence[int], place: str) -> None:
         for up in ups:
             if up in self.out_of:
                 raise Problem(f"{place}: {up} leads on already, by {self.out_of[up][1]}; a diverge parts one into two")
@@ -91,14 +106,14 @@ class Junctions:
             self.into[down] = place
         self.connectors.append(",".join([kind, *ups, *downs, *map(str, numbers)]))
 
-    def _roads(self, cut):
+    def _roads(self, cut: Collection[Boundary]) -> None:
         """Links the cells of each road, but for the boundaries that ramps have taken."""
         for road, cells in self.layout.cells.items():
             for i in range(1, len(cells)):
                 if (road, i) not in cut:
                     self._put("link", [cells[i - 1].name], [cells[i].name], [], f"roads.{road}")
 
-    def _ends(self):
+    def _ends(self) -> None:
         """Links gates and exits to their roads, and roads that go on as another."""
         for gate in self.study.gates.values():
             if gate.into:
@@ -111,7 +126,7 @@ class Junctions:
         for source, into, place in self.study.links:
             self._put("link", [self._source(source, place)], [self._target(into, place)], [], place)
 
-    def _joints(self):
+    def _joints(self) -> None:
         """Puts the merges and diverges at the ends of roads."""
         for diverge in self.study.diverges:
             if diverge.at is None:
@@ -122,14 +137,14 @@ class Junctions:
                 self._put_merge(merge, [self._source(name, merge.place) for name in merge.sources],
                                 self._target(merge.into, merge.place))
 
-    def _ramps(self):
+    def _ramps(self) -> dict[Boundary, str]:
         """Puts the merges and diverges of ramps, and gives the boundaries that they take from their roads."""
-        cut = {}
-        for ramp in [*self.study.diverges, *self.study.merges]:
+        cut: dict[Boundary, str] = {}
+        ramps: list[Merge | Diverge] = [*self.study.diverges, *self.study.merges]
+        for ramp in ramps:
             if ramp.at is None:
                 continue
-            joins = isinstance(ramp, Merge)
-            road = ramp.into if joins else ramp.source
+            road = ramp.into if isinstance(ramp, Merge) else ramp.source
             cells = self.road_cells(road, ramp.place)
             boundary = self.boundary(road, ramp.at, ramp.place)
             if not 0 < boundary < len(cells):
@@ -139,17 +154,17 @@ class Junctions:
                               "cell apart")
             cut[road, boundary] = ramp.place
             before, behind = cells[boundary - 1].name, cells[boundary].name
-            if joins:
+            if isinstance(ramp, Merge):
                 self._put_merge(ramp, [before, self._source(ramp.sources[1], ramp.place)], behind)
             else:
                 self._put_diverge(ramp, before, [behind, self._target(ramp.into[1], ramp.place)])
         return cut
 
-    def _put_merge(self, merge, ups, down):
+    def _put_merge(self, merge: Merge, ups: list[str], down: str) -> None:
         weights = self.scale.weights(f"{merge.place}: priority of the first", merge.priorities)
         self._put("merge", ups, [down], weights, merge.place)
 
-    def _put_diverge(self, diverge, up, downs):
+    def _put_diverge(self, diverge: Diverge, up: str, downs: list[str]) -> None:
         shares = self.scale.weights(f"{diverge.place}: share of the first", diverge.shares)
         self._put("diverge", [up], downs, shares, diverge.place)
         for i, turn in enumerate(diverge.turns, 1):

@@ -1,5 +1,8 @@
 """Roads cut into cells: each as long as the way of a step at the free-flow speed, named by road and number."""
 
+from __future__ import annotations
+
+from collections.abc import Mapping, Sequence
 from dataclasses import dataclass
 from fractions import Fraction
 
@@ -7,6 +10,8 @@ from ..amounts import rounded_parts
 from ..network_file.faults import NAME
 from ..network_file.kinds import NAME_RULE
 from ..problem import Problem
+from .plan import Road, Section, Study
+from .rounding import Rounding
 
 HOUR = 3600
 
@@ -23,7 +28,7 @@ class RoadCell:
     road: str
     start: Fraction
     end: Fraction
-    section: object
+    section: Section
     room: int
     capacity: int
     ratio: Fraction
@@ -46,19 +51,20 @@ class Stretch:
 class Layout:
     """The cells of all roads of a study, in order, with the way from kilometres to boundaries of cells."""
 
-    def __init__(self, study, rounding):
+    def __init__(self, study: Study, rounding: Rounding) -> None:
         self.step = study.step
-        self.stretches = {}
-        self.cells = {}
+        self.stretches: dict[str, list[Stretch]] = {}
+        self.cells: dict[str, list[RoadCell]] = {}
         for road in study.roads.values():
             self.stretches[road.name] = self._cut(road, rounding)
         names = self._names(study)
         for road in study.roads.values():
             self.cells[road.name] = self._fill(road, names)
 
-    def _cut(self, road, rounding):
+    def _cut(self, road: Road, rounding: Rounding) -> list[Stretch]:
         ends = [section.start for section in road.sections[1:]] + [road.length]
-        stretches, first = [], 0
+        stretches: list[Stretch] = []
+        first = 0
         for section, end in zip(road.sections, ends):
             length = section.free_flow_speed * self.step / HOUR
             count = max(1, round((end - section.start) / length))
@@ -71,16 +77,17 @@ class Layout:
                           part.count * part.length, "km")
         return stretches
 
-    def _names(self, study):
+    def _names(self, study: Study) -> dict[str, list[str]]:
         """The names of all cells by road: those of one name before the number are counted through the study.
 
         A name that ends with a digit has a point behind it, so that it isn't read as one number with the cell's.
         """
-        counts = {}
+        counts: dict[str, int] = {}
         for road in study.roads.values():
             for section, part in zip(road.sections, self.stretches[road.name]):
                 counts[section.cells] = counts.get(section.cells, 0) + part.count
-        numbers, taken, names = dict.fromkeys(counts, 0), set(study.gates) | set(study.exits), {}
+        numbers, taken = dict.fromkeys(counts, 0), set(study.gates) | set(study.exits)
+        names: dict[str, list[str]] = {}
         for road in study.roads.values():
             names[road.name] = []
             for section, part in zip(road.sections, self.stretches[road.name]):
@@ -98,8 +105,9 @@ class Layout:
                     names[road.name].append(name)
         return names
 
-    def _fill(self, road, names):
-        cells, place = [], Fraction(0)
+    def _fill(self, road: Road, names: Mapping[str, Sequence[str]]) -> list[RoadCell]:
+        cells: list[RoadCell] = []
+        place = Fraction(0)
         for section, part in zip(road.sections, self.stretches[road.name]):
             ratio = (section.wave_speed / section.free_flow_speed).limit_denominator(1000)
             if ratio == 0:
@@ -114,14 +122,14 @@ class Layout:
                 place += part.length
         return cells
 
-    def boundary(self, road, kilometre):
+    def boundary(self, road: str, kilometre: Fraction) -> int:
         """The number of cells before the boundary between cells that lies nearest to a kilometre of a road."""
         for part in self.stretches[road]:
             if kilometre < part.end or part is self.stretches[road][-1]:
                 return part.first + min(part.count, max(0, round((kilometre - part.start) / part.length)))
         raise AssertionError("a road has sections")
 
-    def kilometre(self, road, boundary):
+    def kilometre(self, road: str, boundary: int) -> Fraction:
         """The kilometre of the road as the study counts it, at a boundary between cells."""
         for part in self.stretches[road]:
             if boundary <= part.first + part.count:

@@ -1,13 +1,25 @@
 """The limits of capacity of a study: closures, openings, limits of gates and exits, and the red of timed signals."""
 
+from __future__ import annotations
+
+from collections.abc import Callable, Iterator, Sequence
 from fractions import Fraction
+from functools import partial
+from typing import Any
 
 from ..amounts import amount_text, rounded_parts
 from ..problem import Problem
 from ..units import clock_text
 from .capacities import Change, flow_left, lanes_left, least, most_opened, spans
-from .layout import HOUR
+from .junctions import Junctions
+from .layout import HOUR, RoadCell
+from .plan import Closure, Exit, Gate, Opening, Study
 from .rounding import told
+from .scale import Scale
+
+# The cells in which changes overlap, with these, by the places of the changes, their time and the section.
+Overlaps = dict[tuple[str, str, tuple[str, int]], list[tuple[RoadCell, list[Change]]]]
+Span = tuple[int, int, list[Change]]  # the steps from and to which some changes hold
 
 
 class Limits:
@@ -16,9 +28,9 @@ class Limits:
     The records of a cell never overlap: each has what is left where all hold that hold at its steps.
     """
 
-    def __init__(self, study, junctions, scale):
+    def __init__(self, study: Study, junctions: Junctions, scale: Scale) -> None:
         self.study, self.junctions, self.scale = study, junctions, scale
-        self.changes = {}  # for each gate, exit and cell what changes its capacity
+        self.changes: dict[str, list[Change]] = {}  # for each gate, exit and cell what changes its capacity
         self._nodes()
         for closure in study.closures:
             self._on_cells(closure, closed=closure.lanes or Fraction(0), capacity=closure.capacity)
@@ -27,18 +39,18 @@ class Limits:
         for cell in self._cells():
             self._widen(cell)
 
-    def add(self, name, change):
+    def add(self, name: str, change: Change) -> None:
         """Puts a change on a gate, an exit or a cell."""
         self.changes.setdefault(name, []).append(change)
 
-    def records(self):
+    def records(self) -> Iterator[str]:
         """A record for each span of steps in which a gate, an exit or a cell has another capacity than its own."""
         for name in [*self.study.gates, *self.study.exits]:
             yield from self._records_of(name, least)
         for cell in self._cells():
-            yield from self._records_of(cell.name, lambda holding, cell=cell: flow_left(cell.section, holding))
+            yield from self._records_of(cell.name, partial(flow_left, cell.section))
 
-    def overlaps(self):
+    def overlaps(self) -> Iterator[str]:
         """What is left where closures, openings or limits overlap, in a line for each such place and time."""
         for name in [*self.study.gates, *self.study.exits]:
             for begin, end, holding in self._overlapping(name):
@@ -51,16 +63,16 @@ class Limits:
                    f"{told(cells[-1][0].end)}, {span}: {told(own)} of {section.lanes} lanes{beside} and "
                    f"{_flow(flow_left(section, holding))} are left")
 
-    def _nodes(self):
+    def _nodes(self) -> None:
         """The limits that gates and exits say."""
-        nodes = [(f"gates.{gate.name}", gate) for gate in self.study.gates.values()]
+        nodes: list[tuple[str, Gate | Exit]] = [(f"gates.{gate.name}", gate) for gate in self.study.gates.values()]
         nodes += [(f"exits.{exit_.name}", exit_) for exit_ in self.study.exits.values()]
         for place, node in nodes:
             for i, limit in enumerate(node.limits, 1):
                 what = f"{place}.limits[{i}]"
                 self.add(node.name, Change(*self.scale.span(what, limit.start, limit.end), what, capacity=limit.flow))
 
-    def _on_cells(self, work, **terms):
+    def _on_cells(self, work: Closure | Opening, **terms: Any) -> None:
         """Puts what a closure or an opening changes on each cell of its part of the road."""
         part = work.part
         span = self.scale.span(part.place, part.start, part.end)
@@ -69,11 +81,11 @@ class Limits:
                 raise Problem(f"{part.place}.lanes: the road has {cell.section.lanes} there")
             self.add(cell.name, Change(*span, part.place, saturation_flow=work.saturation_flow, **terms))
 
-    def _cells(self):
+    def _cells(self) -> list[RoadCell]:
         """The cells of roads whose capacity changes, in the order of the network."""
         return [cell for row in self.junctions.layout.cells.values() for cell in row if cell.name in self.changes]
 
-    def _widen(self, cell):
+    def _widen(self, cell: RoadCell) -> None:
         """Gives a cell the room of the lanes that are opened there too, since a cell has one room at all times."""
         holding = [flow_left(cell.section, holding) for _, _, holding in spans(self.changes[cell.name])]
         cell.most = max(cell.most, rounded_parts(max(holding) * self.scale.step / HOUR))
@@ -81,9 +93,9 @@ class Limits:
         lanes = cell.section.lanes + cell.opened
         cell.room = rounded_parts(cell.section.jam_density * lanes * (cell.end - cell.start))
 
-    def _records_of(self, name, flow_of):
+    def _records_of(self, name: str, flow_of: Callable[[Sequence[Change]], Fraction]) -> Iterator[str]:
         """The records of a cell, with spans of one capacity that follow each other joined."""
-        last = None
+        last: tuple[int, int, int] | None = None
         for begin, end, holding in spans(self.changes.get(name, ())):
             parts = self.scale.flow(f"{_places(holding)}: what is left", flow_of(holding))
             if last and last[1:] == (begin, parts):
@@ -95,32 +107,32 @@ class Limits:
         if last:
             yield _record(name, *last)
 
-    def _overlapping(self, name):
+    def _overlapping(self, name: str) -> list[Span]:
         """The spans of a cell in which several closures, openings or limits hold; red lights aren't told."""
         works = [change for change in self.changes.get(name, ()) if not change.red]
         return [span for span in spans(works) if len(span[2]) > 1]
 
-    def _overlapping_cells(self):
+    def _overlapping_cells(self) -> Overlaps:
         """The overlaps on roads: for each, by its places, its time and its section, the cells that have it."""
-        found = {}
+        found: Overlaps = {}
         for cell in self._cells():
             for begin, end, holding in self._overlapping(cell.name):
                 key = _places(holding), self._clock(begin, end), (cell.road, id(cell.section))
                 found.setdefault(key, []).append((cell, holding))
         return found
 
-    def _clock(self, begin, end):
+    def _clock(self, begin: int, end: int) -> str:
         start, step = self.study.start, self.scale.step
         return " to ".join(clock_text(float(start + step * time)) for time in (begin, min(end, self.scale.steps)))
 
 
-def _record(name, begin, end, parts):
+def _record(name: str, begin: int, end: int, parts: int) -> str:
     return f"limit,{name},{begin},{end},{amount_text(parts)}"
 
 
-def _places(holding):
+def _places(holding: Sequence[Change]) -> str:
     return " and ".join(dict.fromkeys(change.place for change in holding))
 
 
-def _flow(flow):
+def _flow(flow: Fraction) -> str:
     return f"{told(flow)} vehicles/h"

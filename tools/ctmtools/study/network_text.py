@@ -1,5 +1,8 @@
 """From a study to the text of its network file, its units, and what was rounded."""
 
+from __future__ import annotations
+
+from collections.abc import Iterable, Iterator
 from dataclasses import dataclass, field
 from fractions import Fraction
 from functools import cached_property
@@ -8,14 +11,16 @@ from itertools import groupby
 from ..amounts import PARTS, amount_text, rounded_parts
 from ..network_file.faults import NAME, first_fault
 from ..network_file.kinds import CELLS, CONNECTORS, MOST_RECORDS, NAME_RULE
-from ..network_file.network import network_of, told as fault_told
+from ..network_file.network import Network, network_of
+from ..network_file.network import told as fault_told
 from ..network_file.records import read_records
 from ..problem import Problem
 from ..units import Units, clock_text
 from .demands import demands
 from .junctions import Junctions
-from .layout import HOUR, Layout
+from .layout import HOUR, Layout, RoadCell, Stretch
 from .limits import Limits
+from .plan import Section, Study
 from .plausible import implausible
 from .rounding import Rounding, told
 from .scale import Scale
@@ -34,16 +39,16 @@ class Built:
     text: str
     units: Units
     rounding: Rounding = field(repr=False)
-    remarks: list = field(repr=False, default_factory=list)
-    warnings: list = field(repr=False, default_factory=list)
+    remarks: list[str] = field(repr=False, default_factory=list)
+    warnings: list[str] = field(repr=False, default_factory=list)
 
     @cached_property
-    def network(self):
+    def network(self) -> Network:
         """The built network, read from its text."""
         return network_of(self.text.encode())
 
 
-def build(study):
+def build(study: Study) -> Built:
     """The network of a study."""
     try:
         return Builder(study).build()
@@ -54,7 +59,7 @@ def build(study):
 class Builder:
     """Makes the text of a study's network, sort by sort."""
 
-    def __init__(self, study):
+    def __init__(self, study: Study) -> None:
         _check_names(study)
         self.study = study
         self.rounding = Rounding()
@@ -64,16 +69,16 @@ class Builder:
         self.limits = Limits(study, self.junctions, self.scale)
         self.signals = Signals(study, self.junctions, self.scale, self.limits)
 
-    def build(self):
+    def build(self) -> Built:
         """The built network."""
-        sections = [
+        made: list[tuple[str, Iterable[str]]] = [
             ("gate,name,Q,first", self._gates()), ("road,name,N,Q,A,B,first", self._roads()),
             ("exit,name,Q", self._exits()),
             ("link,up,down; merge,first up,second up,down,P1,P2; diverge,up,first down,second down,B1,B2; "
              "turn,cell,from,to,B1,B2", [*self.junctions.connectors, *self.junctions.turns]),
             ("signal,cell,cycle,offset,from,to", self.signals.records), ("limit,cell,from,to,Q", self.limits.records()),
             ("demand,gate,from,to,vehicles in a step", demands(self.study, self.scale))]
-        sections = [(comment, list(records)) for comment, records in sections]
+        sections = [(comment, list(records)) for comment, records in made]
         large = _is_large([record for _, records in sections for record in records])
         form = 2 if self.junctions.turns or large else 1
         text = "\n".join([*self._head(), f"ctm,{form}", f"steps,{self.scale.steps}"]) + "\n"
@@ -82,14 +87,14 @@ class Builder:
         remarks = [*self.study.remarks, *self._opened(), *self.limits.overlaps(), *self.signals.remarks]
         return Built(text, self._units(), self.rounding, remarks, list(implausible(self.study, self.layout)))
 
-    def _opened(self):
+    def _opened(self) -> Iterator[str]:
         """What an opening makes of the room of its cells, which a closed lane has too."""
         for opening in self.study.openings:
             cells = self.junctions.cells_of(opening.part)
             yield (f"{opening.part.place}: road {opening.part.road} from km {told(cells[0].start)} to "
                    f"{told(cells[-1].end)} has the room of the opened lanes at all times")
 
-    def _head(self):
+    def _head(self) -> Iterator[str]:
         """The comment that says the units."""
         study = self.study
         step = float(study.step)
@@ -104,14 +109,14 @@ class Builder:
                        f"{float(part.length) * 1000:g} m, {float(section.free_flow_speed):g} km/h, waves "
                        f"{float(section.wave_speed):g} km/h; in a lane {float(section.jam_density):g} vehicles/km and "
                        f"{float(section.saturation_flow):g} vehicles/h")
-            for opened, row in groupby(cells, lambda cell: cell.opened):
-                row = list(row)
+            for opened, group in groupby(cells, lambda cell: cell.opened):
+                row = list(group)
                 if opened:
                     names = dict.fromkeys([row[0].name, row[-1].name])
                     yield f"# {' to '.join(names)}: with room for {float(opened):g} more, opened at times"
         yield ""
 
-    def _capacity(self, what, flow, cells):
+    def _capacity(self, what: str, flow: Fraction | None, cells: Iterable[str]) -> int:
         """The parts that pass in a step: of a flow where it is said, else as much as the cells beside it."""
         if flow is not None:
             return self.scale.flow(what, flow)
@@ -121,13 +126,13 @@ class Builder:
             raise Problem(f"{what}: is missing, and no road stands beside it")
         return sum(found)
 
-    def _gates(self):
+    def _gates(self) -> Iterator[str]:
         for gate in self.study.gates.values():
-            downs, _ = self.junctions.out_of.get(gate.name, ([], ""))
+            downs = self.junctions.led_to(gate.name)
             capacity = self._capacity(f"gates.{gate.name}.capacity", gate.capacity, downs)
             yield f"gate,{gate.name},{amount_text(capacity)},{amount_text(rounded_parts(gate.first))}"
 
-    def _roads(self):
+    def _roads(self) -> Iterator[str]:
         for road, cells in self.layout.cells.items():
             for cell in cells:
                 yield (f"road,{cell.name},{amount_text(cell.room)},{amount_text(cell.capacity)},"
@@ -135,7 +140,7 @@ class Builder:
             for part, section in zip(self.layout.stretches[road], self.study.roads[road].sections):
                 self._note_section(f"of road {road} from km {float(part.start):g}", section, cells[part.first], part)
 
-    def _note_section(self, where, section, cell, part):
+    def _note_section(self, where: str, section: Section, cell: RoadCell, part: Stretch) -> None:
         note, lanes = self.rounding.note, section.lanes
         note(f"wave speed {where}", section.wave_speed, cell.ratio * section.free_flow_speed, "km/h")
         note(f"jam density {where}", section.jam_density * (lanes + cell.opened),
@@ -143,13 +148,13 @@ class Builder:
         note(f"saturation flow {where}", section.saturation_flow * lanes,
              Fraction(cell.capacity, PARTS) * HOUR / self.study.step, "vehicles/h")
 
-    def _exits(self):
+    def _exits(self) -> Iterator[str]:
         for exit_ in self.study.exits.values():
             ups = [up for up, (downs, _) in self.junctions.out_of.items() if exit_.name in downs]
             capacity = self._capacity(f"exits.{exit_.name}.capacity", exit_.capacity, ups)
             yield f"exit,{exit_.name},{amount_text(capacity)}"
 
-    def _units(self):
+    def _units(self) -> Units:
         units = Units(self.study.title, float(self.study.step), float(self.study.start))
         for road, row in self.layout.cells.items():
             units.roads[road] = [cell.name for cell in row]
@@ -163,7 +168,7 @@ class Builder:
         return units
 
 
-def _check_names(study):
+def _check_names(study: Study) -> None:
     for name in [*study.gates, *study.exits]:
         if not NAME.fullmatch(name):
             raise Problem(f"{name}: a gate's or an exit's name is {NAME_RULE}")
@@ -171,14 +176,14 @@ def _check_names(study):
             raise Problem(f"{name}: a road, a gate and an exit have names of their own")
 
 
-def _is_large(records):
+def _is_large(records: Iterable[str]) -> bool:
     """Whether a network has more records of a sort than format 1 allows."""
     kinds = [record.split(",", 1)[0] for record in records]
     return any(sum(kind in sort for kind in kinds) > MOST_RECORDS[1]
                for sort in (CELLS, CONNECTORS, ("limit",), ("demand",)))
 
 
-def _check(text):
+def _check(text: str) -> None:
     """The problem of a built network that the program would refuse, as one with too many cells."""
     content = text.encode()
     records = read_records(content)

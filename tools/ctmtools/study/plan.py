@@ -1,5 +1,7 @@
 """A study as its file says it: roads, gates, exits, junctions, signals, closures, all in physical units."""
 
+from __future__ import annotations
+
 from dataclasses import dataclass, field
 from fractions import Fraction
 from pathlib import Path
@@ -28,8 +30,8 @@ class Road:
 
     name: str
     length: Fraction
-    sections: list
-    points: list = field(default_factory=list)
+    sections: list[Section]
+    points: list[list[float]] = field(default_factory=list)
 
 
 @dataclass
@@ -46,10 +48,10 @@ class Gate:
     """Where vehicles come in: the road that it leads into, its demand, its capacity in vehicles/h where it is said."""
 
     name: str
-    into: str = None
-    demand: list = field(default_factory=list)
-    capacity: Fraction = None
-    limits: list = field(default_factory=list)
+    into: str | None = None
+    demand: list[Flow] = field(default_factory=list)
+    capacity: Fraction | None = None
+    limits: list[Flow] = field(default_factory=list)
     first: Fraction = Fraction(0)
 
 
@@ -58,19 +60,19 @@ class Exit:
     """Where vehicles go out: the road that leads to it, its capacity in vehicles/h where it is said, and limits."""
 
     name: str
-    source: str = None
-    capacity: Fraction = None
-    limits: list = field(default_factory=list)
+    source: str | None = None
+    capacity: Fraction | None = None
+    limits: list[Flow] = field(default_factory=list)
 
 
 @dataclass
 class Merge:
     """Two streams into one, with what passes of each where both queue. `at` is the km of a road that a ramp joins."""
 
-    sources: list
+    sources: list[str]
     into: str
-    priorities: list
-    at: Fraction = None
+    priorities: list[Fraction]
+    at: Fraction | None = None
     place: str = ""
 
 
@@ -80,7 +82,7 @@ class Turn:
 
     start: Fraction
     end: Fraction
-    shares: list
+    shares: list[Fraction]
 
 
 @dataclass
@@ -88,10 +90,10 @@ class Diverge:
     """One stream into two, with turning shares and those by time. `at` is the km of a road that a ramp leaves."""
 
     source: str
-    into: list
-    shares: list
-    turns: list = field(default_factory=list)
-    at: Fraction = None
+    into: list[str]
+    shares: list[Fraction]
+    turns: list[Turn] = field(default_factory=list)
+    at: Fraction | None = None
     place: str = ""
 
 
@@ -103,7 +105,7 @@ class Signal:
     """
 
     road: str
-    at: Fraction
+    at: Fraction | None
     start: Fraction
     end: Fraction
     cycle: Fraction
@@ -118,7 +120,7 @@ class RoadPart:
 
     road: str
     start_km: Fraction
-    end_km: Fraction
+    end_km: Fraction | None
     start: Fraction
     end: Fraction
     place: str
@@ -129,9 +131,9 @@ class Closure:
     """Lanes closed on a part of a road, or the capacity in vehicles/h that is left there."""
 
     part: RoadPart
-    lanes: Fraction = None
-    capacity: Fraction = None
-    saturation_flow: Fraction = None
+    lanes: Fraction | None = None
+    capacity: Fraction | None = None
+    saturation_flow: Fraction | None = None
 
 
 @dataclass
@@ -140,7 +142,7 @@ class Opening:
 
     part: RoadPart
     lanes: Fraction
-    saturation_flow: Fraction = None
+    saturation_flow: Fraction | None = None
 
 
 @dataclass
@@ -154,14 +156,14 @@ class Study:
     step: Fraction
     start: Fraction
     duration: Fraction
-    roads: dict
-    gates: dict
-    exits: dict
-    links: list
-    merges: list
-    diverges: list
-    signals: list
-    closures: list
-    openings: list
-    path: Path = None
-    remarks: list = field(default_factory=list)
+    roads: dict[str, Road]
+    gates: dict[str, Gate]
+    exits: dict[str, Exit]
+    links: list[tuple[str, str, str]]  # from, into, and the place in the study
+    merges: list[Merge]
+    diverges: list[Diverge]
+    signals: list[Signal]
+    closures: list[Closure]
+    openings: list[Opening]
+    path: Path
+    remarks: list[str] = field(default_factory=list)

@@ -1,5 +1,11 @@
 """What in a study can hardly be meant: lengths, speeds, densities and flows that no road has."""
 
+from __future__ import annotations
+
+from collections.abc import Iterator
+
+from .layout import Layout
+from .plan import Section, Study
 from .rounding import told
 
 LONGEST = 200  # km of a road
@@ -14,13 +20,13 @@ LANES = {
 SLOWEST = 40  # km/h on a road of several lanes
 
 
-def implausible(study, layout):
+def implausible(study: Study, layout: Layout) -> Iterator[str]:
     """A line for each value of a study that no road has, with what may be meant."""
     for road in study.roads.values():
         if road.length > LONGEST:
             yield (f"roads.{road.name}.length: {told(road.length)} km, which makes "
                    f"{len(layout.cells[road.name]):,} cells; are metres meant? Then write \"{float(road.length):g} m\"")
-        lines = {}
+        lines: dict[str, None] = {}
         for section in road.sections:
             for line in _lanes(section):
                 lines[f"roads.{road.name}.{line}"] = None
@@ -31,7 +37,7 @@ def implausible(study, layout):
                "a cell is as long as the way of that time at the free-flow speed")
 
 
-def _lanes(section):
+def _lanes(section: Section) -> Iterator[str]:
     """What no lane has of the values of a section."""
     for key, (least, most, unit, hint) in LANES.items():
         value = getattr(section, key)

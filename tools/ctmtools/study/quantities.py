@@ -1,9 +1,13 @@
 """Quantities of a study: numbers in the documented unit, or texts such as "500 m", as exact fractions."""
 
+from __future__ import annotations
+
 import datetime
 import re
 import unicodedata
+from collections.abc import Callable
 from fractions import Fraction
+from typing import Any
 
 from ..problem import Problem
 
@@ -22,18 +26,18 @@ TEXT = re.compile(r"\s*([+-]?[0-9]+(?:\.[0-9]+)?)\s*(.*?)\s*")
 CLOCK = re.compile(r"([0-9]{1,2}):([0-9]{2})(?::([0-9]{2}(?:\.[0-9]+)?))?")
 
 
-def number(value, key):
+def number(value: Any, key: str) -> Fraction:
     """The exact fraction of a number of the study file."""
     if isinstance(value, bool) or not isinstance(value, (int, Fraction)):
         raise Problem(f"{key}: expected a number, found {shown(value)}")
     return Fraction(value)
 
 
-def quantity(sort):
+def quantity(sort: str) -> Callable[[Any, str], Fraction]:
     """A reader of quantities of a sort, which gives each in the unit of a bare number."""
     unit, units = UNITS[sort]
 
-    def read(value, key):
+    def read(value: Any, key: str) -> Fraction:
         if isinstance(value, str):
             found = TEXT.fullmatch(value)
             if not found or found[2] not in units:
@@ -55,7 +59,7 @@ flow = quantity("flow")  # in vehicles/h
 duration = quantity("duration")  # in s
 
 
-def clock(value, key):
+def clock(value: Any, key: str) -> Fraction:
     """A clock time in seconds after midnight: a text `hh:mm` or `hh:mm:ss`, or a local time of TOML."""
     if isinstance(value, datetime.time):
         return Fraction(value.hour * 3600 + value.minute * 60 + value.second) + Fraction(value.microsecond, 10**6)
@@ -65,7 +69,7 @@ def clock(value, key):
     return Fraction(int(found[1]) * 3600 + int(found[2]) * 60) + Fraction(found[3] or 0)
 
 
-def whole(value, key):
+def whole(value: Any, key: str) -> int:
     """A whole number, 1 or more."""
     result = number(value, key)
     if result.denominator != 1 or result < 1:
@@ -73,14 +77,14 @@ def whole(value, key):
     return int(result)
 
 
-def word(value, key):
+def word(value: Any, key: str) -> str:
     """A text that isn't empty."""
     if not isinstance(value, str) or not value:
         raise Problem(f"{key}: expected a text, found {shown(value)}")
     return value
 
 
-def title(value, key):
+def title(value: Any, key: str) -> str:
     """A text in one line, as a comment of the network file has it."""
     text = word(value, key)
     if any(unicodedata.category(letter) == "Cc" for letter in text):
@@ -88,7 +92,7 @@ def title(value, key):
     return text
 
 
-def shown(value):
+def shown(value: object) -> str:
     """A value of the study file as a message shows it."""
     if isinstance(value, dict):
         return "a table"

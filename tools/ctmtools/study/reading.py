@@ -1,23 +1,28 @@
 """From a study file, TOML, to the study: every key known, every value in its unit."""
 
+from __future__ import annotations
+
 import tomllib
 from fractions import Fraction
 from pathlib import Path
+from typing import Any
 
 from ..given import read_as
 from ..problem import Problem, one_line
-from ..units import DAY, clock_text
+from ..units import DAY
 from .counts import flows_of_counts
-from .entries import Entries, list_of
+from .entries import Entries, Reader, list_of
 from .plan import Closure, Diverge, Exit, Flow, Gate, Merge, Opening, Road, RoadPart, Section, Signal, Study, Turn
 from .quantities import clock, density, duration, flow, length, number, shown, speed, title, whole, word
 from .slips import slip_hint
+from .times import Times
 
 LANE = ("free_flow_speed", "wave_speed", "jam_density", "saturation_flow")
-LANE_READERS = {"free_flow_speed": speed, "wave_speed": speed, "jam_density": density, "saturation_flow": flow}
+LANE_READERS: dict[str, Reader[Fraction]] = {"free_flow_speed": speed, "wave_speed": speed, "jam_density": density,
+                                             "saturation_flow": flow}
 
 
-def read_values(path):
+def read_values(path: str | Path) -> dict[str, Any]:
     """The values of a study file as TOML has them, with each decimal number as an exact fraction."""
     content = read_as(path, "a study")
     try:
@@ -28,17 +33,17 @@ def read_values(path):
         raise Problem(f"{path}: {one_line(error)}{slip_hint(content, str(error))}") from None
 
 
-def _decimal(text):
+def _decimal(text: str) -> Fraction | float:
     """A decimal number of TOML as an exact fraction; `nan` and `inf` as they are, so that their keys refuse them."""
     return float(text) if text.strip("+-") in ("nan", "inf") else Fraction(text)
 
 
-def read_study(path):
+def read_study(path: str | Path) -> Study:
     """The study in a file; see ctmtools.study.plan for its units."""
     return study_of(read_values(path), Path(path))
 
 
-def study_of(values, path):
+def study_of(values: dict[str, Any], path: Path) -> Study:
     """The study of the values of a study file. Its path tells where files of counts stand."""
     try:
         return _study(Entries(values, ""), path)
@@ -46,14 +51,14 @@ def study_of(values, path):
         raise Problem(f"{path}: {problem}") from None
 
 
-def _study(entries, path):
+def _study(entries: Entries, path: Path) -> Study:
     start = entries.take("start", clock, Fraction(0))
     study = Study(entries.take("title", title, path.stem), entries.take("step", duration), start,
                   _duration_of(entries, start), {}, {}, {}, [], [], [], [], [], [], path)
     if study.step == 0:
         raise Problem("step: must be above 0")
     times = Times(study)
-    lane = entries.take("lane", lambda value, key: _lane(Entries(value, key)), {})
+    lane: dict[str, Fraction] = entries.take("lane", lambda value, key: _lane(Entries(value, key)), {})
     for name, table in entries.tables("roads"):
         study.roads[name] = _road(name, table, lane)
     for name, table in entries.tables("gates"):
@@ -74,63 +79,18 @@ def _study(entries, path):
     return study
 
 
-def _duration_of(entries, start):
+def _duration_of(entries: Entries, start: Fraction) -> Fraction:
     if entries.has("duration") == entries.has("end"):
         raise Problem("end: say either end, a clock time, or duration")
-    end = entries.take("end", clock, None)
-    lasting = entries.take("duration", duration, None)
-    if lasting is None:
+    end, lasting = entries.take("end", clock, None), entries.take("duration", duration, None)
+    if end is not None:
         lasting = end - start if end > start else end + DAY - start
-    if lasting == 0:
+    if not lasting:
         raise Problem("duration: must be above 0")
     return lasting
 
 
-class Times:
-    """Clock times of a study as seconds after its start; where it passes midnight those before are of the next day.
-
-    `remarks` are lines on what was read beside the study file, as counts.
-    """
-
-    def __init__(self, study):
-        self.start = study.start
-        self.duration = study.duration
-        self.folder = study.path.parent
-        self.remarks = study.remarks
-
-    @property
-    def passes_midnight(self):
-        """Whether the study ends on the day after its start."""
-        return self.start + self.duration > DAY
-
-    def clock(self, time):
-        """The clock time of seconds after the study's start."""
-        return clock_text(float(self.start + time))
-
-    def after_start(self, value, key):
-        """The seconds from the study's start to a clock time."""
-        time = clock(value, key) - self.start
-        if time < 0 and time + DAY > self.duration and not self.passes_midnight:
-            raise Problem(f"{key}: {self.clock(time)} is before the study's start, {self.clock(0)}")
-        return time if time >= 0 else time + DAY
-
-    def span(self, table):
-        """The start and the end that a table gives, by default those of the whole study."""
-        begin = table.take("start", self.after_start, Fraction(0))
-        end = table.take("end", self.after_start, self.duration)
-        return self.checked(begin, end, table.key("start"), table.key("end"))
-
-    def checked(self, begin, end, begin_key, end_key):
-        """A start and an end, where the one lies in the study's time and the other after it."""
-        if begin >= self.duration:
-            raise Problem(f"{begin_key}: {self.clock(begin)} is outside the study's time, {self.clock(0)} to "
-                          f"{self.clock(self.duration)}")
-        if end <= begin:
-            raise Problem(f"{end_key}: the end isn't after the start")
-        return begin, end
-
-
-def _lane(table):
+def _lane(table: Entries) -> dict[str, Fraction]:
     lane = {name: table.take(name, LANE_READERS[name]) for name in LANE if table.has(name)}
     for name in LANE:
         table.known.append(name)
@@ -138,18 +98,18 @@ def _lane(table):
     return lane
 
 
-def _road(name, table, lane):
+def _road(name: str, table: Entries, lane: dict[str, Fraction]) -> Road:
     lasting = table.take("length", length)
     if lasting == 0:
         raise Problem(f"{table.key('length')}: must be above 0")
-    base = {"lanes": table.take("lanes", whole, None), "cells": table.take("cells", word, name),
+    base: dict[str, Any] = {"lanes": table.take("lanes", whole, None), "cells": table.take("cells", word, name),
             "first_density": table.take("first_density", density, Fraction(0))}
     for term in LANE:
         base[term] = table.take(term, LANE_READERS[term], lane.get(term))
     places = table.list("sections")
-    points = table.take("points", list_of(list_of(lambda value, key: float(number(value, key)), 2)), [])
+    points: list[list[float]] = table.take("points", list_of(list_of(_coordinate, 2)), [])
     table.done()
-    sections = []
+    sections: list[Section] = []
     if not places or places[0].take("from", length) > 0:
         sections.append(_section(table, None, base))
     for place in places:
@@ -159,9 +119,13 @@ def _road(name, table, lane):
     return Road(name, lasting, sections, points)
 
 
-def _section(road, place, base):
+def _coordinate(value: Any, key: str) -> float:
+    return float(number(value, key))
+
+
+def _section(road: Entries, place: Entries | None, base: dict[str, Any]) -> Section:
     """A section with what the road says where it says nothing itself."""
-    readers = {"lanes": whole, "first_density": density, "cells": word, **LANE_READERS}
+    readers: dict[str, Reader[Any]] = {"lanes": whole, "first_density": density, "cells": word, **LANE_READERS}
     table = place or Entries({}, road.place)
     start = table.take("from", length) if place else Fraction(0)
     terms = {name: table.take(name, read, base[name]) for name, read in readers.items()}
@@ -180,9 +144,9 @@ def _section(road, place, base):
     return Section(start, **terms)
 
 
-def _flows(times, what):
+def _flows(times: Times, what: str) -> Reader[list[Flow]]:
     """A reader of flows by time: one number for the whole study, rows of start, end and flow, or tables of them."""
-    def read(value, key):
+    def read(value: Any, key: str) -> list[Flow]:
         if isinstance(value, dict):
             if what != "demand":
                 raise Problem(f"{key}: expected rows of start, end and flow")
@@ -193,7 +157,7 @@ def _flows(times, what):
     return read
 
 
-def _flow_row(row, key, times):
+def _flow_row(row: Any, key: str, times: Times) -> Flow:
     if isinstance(row, dict):
         table = Entries(row, key)
         begin, end = times.span(table)
@@ -206,7 +170,7 @@ def _flow_row(row, key, times):
     return Flow(begin, end, flow(row[2], key))
 
 
-def _gate(name, table, times):
+def _gate(name: str, table: Entries, times: Times) -> Gate:
     gate = Gate(name, table.take("into", word, None), table.take("demand", _flows(times, "demand"), []),
                 table.take("capacity", flow, None), table.take("limits", _flows(times, "limits"), []),
                 table.take("first", number, Fraction(0)))
@@ -214,34 +178,34 @@ def _gate(name, table, times):
     return gate
 
 
-def _exit(name, table, times):
+def _exit(name: str, table: Entries, times: Times) -> Exit:
     found = Exit(name, table.take("from", word, None), table.take("capacity", flow, None),
                  table.take("limits", _flows(times, "limits"), []))
     table.done()
     return found
 
 
-def _link(table):
-    pair = table.take("from", word), table.take("into", word), table.place
+def _link(table: Entries) -> tuple[str, str, str]:
+    link = table.take("from", word), table.take("into", word), table.place
     table.done()
-    return pair
+    return link
 
 
-def _weights(value, key):
+def _weights(value: Any, key: str) -> list[Fraction]:
     weights = list_of(number, 2)(value, key)
     if min(weights) < 0 or max(weights) == 0:
         raise Problem(f"{key}: expected two numbers that aren't negative, and not both 0")
     return weights
 
 
-def _merge(table):
+def _merge(table: Entries) -> Merge:
     merge = Merge(table.take("from", list_of(word, 2)), table.take("into", word), table.take("priorities", _weights),
                   place=table.place)
     table.done()
     return merge
 
 
-def _on_ramp(table):
+def _on_ramp(table: Entries) -> Merge:
     road = table.take("road", word)
     merge = Merge([road, table.take("ramp", word)], road, table.take("priorities", _weights), table.take("at", length),
                   table.place)
@@ -249,7 +213,7 @@ def _on_ramp(table):
     return merge
 
 
-def _turns(table, times):
+def _turns(table: Entries, times: Times) -> list[Turn]:
     turns = []
     for row in table.list("turns"):
         begin, end = times.span(row)
@@ -258,14 +222,14 @@ def _turns(table, times):
     return turns
 
 
-def _diverge(table, times):
+def _diverge(table: Entries, times: Times) -> Diverge:
     diverge = Diverge(table.take("from", word), table.take("into", list_of(word, 2)), table.take("shares", _weights),
                       _turns(table, times), place=table.place)
     table.done()
     return diverge
 
 
-def _off_ramp(table, times):
+def _off_ramp(table: Entries, times: Times) -> Diverge:
     road = table.take("road", word)
     diverge = Diverge(road, [road, table.take("ramp", word)], table.take("shares", _weights), _turns(table, times),
                       table.take("at", length), table.place)
@@ -273,16 +237,16 @@ def _off_ramp(table, times):
     return diverge
 
 
-def _signals(table, times):
+def _signals(table: Entries, times: Times) -> list[Signal]:
     """The signals of an entry: one stop line or several, each `offset` after the one before."""
     road = table.take("road", word)
     several = isinstance(table.values.get("at"), list)
-    lines = table.take("at", list_of(length) if several else length, None)
+    lines: list[Fraction | None] = [*table.take("at", list_of(length))] if several else [table.take("at", length, None)]
     span = times.span(table)
     cycle, green = table.take("cycle", duration), table.take("green", duration)
     first = table.take("first_green", duration, Fraction(0))
     if isinstance(table.values.get("offset"), list):
-        greens = table.take("offset", list_of(duration, len(lines) if several else 1))
+        greens = table.take("offset", list_of(duration, len(lines)))
     else:
         offset = table.take("offset", duration, Fraction(0))
         greens = [first + i * offset for i in range(len(lines))] if several else [first + offset]
@@ -290,23 +254,23 @@ def _signals(table, times):
     if not 0 < green <= cycle:
         raise Problem(f"{table.key('green')}: must be above 0 s and at most the cycle, {float(cycle):g} s")
     return [Signal(road, line, *span, cycle, green, begin, table.place)
-            for line, begin in zip(lines if several else [lines], greens)]
+            for line, begin in zip(lines, greens)]
 
 
-def _part(table, times):
+def _part(table: Entries, times: Times) -> RoadPart:
     """The part of a road and the time that a closure or an opening is of."""
     return RoadPart(table.take("road", word), table.take("from", length, Fraction(0)), table.take("to", length, None),
                     *times.span(table), table.place)
 
 
-def _lanes(value, key):
+def _lanes(value: Any, key: str) -> Fraction:
     lanes = number(value, key)
     if lanes < 0:
         raise Problem(f"{key}: a number of lanes isn't negative, found {shown(value)}")
     return lanes
 
 
-def _closure(table, times):
+def _closure(table: Entries, times: Times) -> Closure:
     closure = Closure(_part(table, times), table.take("lanes", _lanes, None), table.take("capacity", flow, None),
                       table.take("saturation_flow", flow, None))
     table.done()
@@ -315,7 +279,7 @@ def _closure(table, times):
     return closure
 
 
-def _opening(table, times):
+def _opening(table: Entries, times: Times) -> Opening:
     opening = Opening(_part(table, times), table.take("lanes", _lanes), table.take("saturation_flow", flow, None))
     table.done()
     if opening.lanes == 0:

@@ -1,27 +1,32 @@
 """From seconds, vehicles per hour and ratios to whole steps, parts and whole numbers, each rounding noted."""
 
+from __future__ import annotations
+
+from collections.abc import Sequence
 from fractions import Fraction
 
 from ..amounts import PARTS, rounded_parts
 from ..problem import Problem
 from .layout import HOUR
+from .plan import Study
+from .rounding import Rounding
 
 
 class Scale:
     """The steps of a study, and the amounts in one of them."""
 
-    def __init__(self, study, rounding):
+    def __init__(self, study: Study, rounding: Rounding) -> None:
         self.step = study.step
         self.rounding = rounding
         self.steps = self.whole_steps("duration of the study", study.duration, least=1)
 
-    def whole_steps(self, what, seconds, least=0, of=None):
+    def whole_steps(self, what: str, seconds: Fraction, least: int = 0, of: Fraction | None = None) -> int:
         """The steps nearest to a time in seconds; the time may be one in a span or a cycle of so many seconds."""
         steps = max(least, round(seconds / self.step))
         self.rounding.note(what, seconds, steps * self.step, "s", of)
         return steps
 
-    def span(self, what, start, end):
+    def span(self, what: str, start: Fraction, end: Fraction) -> tuple[int, int]:
         """The steps from a time to another, in seconds after the study's start; at least one."""
         begin = self.whole_steps(f"start of {what}", start, of=end - start)
         stop = self.whole_steps(f"end of {what}", end, of=end - start)
@@ -29,13 +34,13 @@ class Scale:
             raise Problem(f"{what}: is shorter than a step of {float(self.step):g} s")
         return begin, stop
 
-    def flow(self, what, flow):
+    def flow(self, what: str, flow: Fraction) -> int:
         """The parts in a step of a flow in vehicles/h."""
         parts = rounded_parts(flow * self.step / HOUR)
         self.rounding.note(what, flow, Fraction(parts, PARTS) * HOUR / self.step, "vehicles/h")
         return parts
 
-    def weights(self, what, pair):
+    def weights(self, what: str, pair: Sequence[Fraction]) -> tuple[int, int]:
         """Two whole numbers, 1 to 1,000, in the ratio of two numbers or next to it."""
         less, more = sorted(pair)
         ratio = (less / more).limit_denominator(1000)

@@ -1,9 +1,16 @@
 """The signals of a study: those that run all the time, and those of a part of it, whose red is made of limits."""
 
+from __future__ import annotations
+
+from collections.abc import Iterator
 from dataclasses import dataclass
 
 from ..problem import Problem
 from .capacities import Change
+from .junctions import Junctions
+from .limits import Limits
+from .plan import Signal, Study
+from .scale import Scale
 
 
 @dataclass(frozen=True)
@@ -16,7 +23,7 @@ class Phases:
     green: int
     first: int
 
-    def reds(self):
+    def reds(self) -> Iterator[tuple[int, int]]:
         """The steps from and to which it is red while it runs."""
         red = self.begin + self.first % self.cycle + self.green - self.cycle
         while red < self.end and self.green < self.cycle:
@@ -29,14 +36,15 @@ class Phases:
 class Signals:
     """The records of signals; those that run for a part of the time put their red among the limits."""
 
-    def __init__(self, study, junctions, scale, limits):
+    def __init__(self, study: Study, junctions: Junctions, scale: Scale, limits: Limits) -> None:
         self.study, self.junctions, self.scale, self.limits = study, junctions, scale, limits
-        self.records, self.remarks = [], {}
-        self.lines = {}  # for each stop line the signals there so far
+        self.records: list[str] = []
+        self.remarks: dict[str, None] = {}
+        self.lines: dict[str, list[tuple[Phases, str]]] = {}  # for each stop line the signals there so far
         for signal in study.signals:
             self._put(signal)
 
-    def _put(self, signal):
+    def _put(self, signal: Signal) -> None:
         cell, phases = self.junctions.stop_line(signal), self._phases(signal)
         for other, place in self.lines.setdefault(cell, []):
             if phases.begin < other.end and other.begin < phases.end:
@@ -49,7 +57,7 @@ class Signals:
         for begin, end in phases.reds():
             self.limits.add(barrier, Change(begin, end, signal.place, red=True))
 
-    def _phases(self, signal):
+    def _phases(self, signal: Signal) -> Phases:
         whole = self.scale.whole_steps
         cycle = whole(f"cycle of {signal.place}", signal.cycle, least=1)
         green = whole(f"green of {signal.place}", signal.green)
@@ -59,11 +67,11 @@ class Signals:
                           f"{float(self.study.step):g} s")
         return Phases(*self.scale.span(signal.place, signal.start, signal.end), cycle, green, first)
 
-    def _barrier(self, cell, signal):
+    def _barrier(self, cell: str, signal: Signal) -> str:
         """Where a limit of 0 stops what a red light stops: at the gate, at the exit behind the line, or at its cell."""
         if cell in self.study.gates:
             return cell
-        downs, _ = self.junctions.out_of.get(cell, ([], ""))
+        downs = self.junctions.led_to(cell)
         if len(downs) == 1 and downs[0] in self.study.exits:
             ups = [up for up, (behind, _) in self.junctions.out_of.items() if downs[0] in behind]
             if ups == [cell]:

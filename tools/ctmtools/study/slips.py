@@ -1,5 +1,7 @@
 """What a study file that isn't TOML was probably meant to say: a hint for each sort of slip."""
 
+from __future__ import annotations
+
 import re
 
 LINE = re.compile(r"\(at line ([0-9]+)")
@@ -14,7 +16,7 @@ SLIPS = (
 )
 
 
-def slip_hint(content, message):
+def slip_hint(content: bytes, message: str) -> str:
     """A hint on a fault that the reader of TOML tells of a line, with the line, or an empty text."""
     if content.startswith(b"PK\x03\x04"):
         return "; this is an Excel workbook or another archive"

@@ -10,8 +10,7 @@ from typing import Any
 
 import pandas
 
-from ..files import reason
-from ..problem import Problem
+from ..problem import Problem, reason
 from .task import MEASURES
 from .variations import shown
 

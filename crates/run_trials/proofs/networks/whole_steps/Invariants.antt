@@ -1,6 +1,6 @@
 use Rattle.std.proofs.Common.{◌≡◌}
 use Rattle.flow_model.specs.State.{state_at}
-use Rattle.field_trials.proofs.ending.last_rows.Given as goal
+use Rattle.run_trials.proofs.networks.whole_steps.Given as goal
 
 -- the rows are those of step t
 abbrev pub invariant-loop-t : goal.invariant-loop-t

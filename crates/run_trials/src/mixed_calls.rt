@@ -1,0 +1,189 @@
+ghost use Rattle.std.specs.Prelude.{◌≡◌, ◌≤◌, length};
+ghost use Rattle.region_cut.specs.Chart.{chart_of};
+ghost use Rattle.snapshot.specs.Rooms.{IsRoomFor};
+ghost use Rattle.region_slots.specs.FieldView.{IsPassOf};
+ghost use Rattle.network_run.specs.Enlisted.{AreEnlisted, IsEnlisted};
+
+use ctm_ports::Gate;
+use flow_ledger::Books;
+use network_file::Net;
+use region_cut::Chart;
+use region_slots::{Field, Pass, Shot};
+use snapshot::ShotRoom;
+use std::alloc::Global;
+use std::sync::atomic::{AtomicU64, Ordering};
+use std::thread::{Threads, for_each_mut, yield_now};
+use step_words::is_lawful;
+use worker_claim::{Member, drive};
+
+// The last step of the chain.
+const LAST: u64 = 200;
+
+// How many shots are taken of it.
+pub(crate) const SHOTS: u64 = 100;
+
+// How many shots have shown a field, how many of these weren't sound, and how many were taken on the way.
+#[derive(Drop)]
+pub(crate) struct Found {
+    taken: AtomicU64,
+    unsound: AtomicU64,
+    midway: AtomicU64,
+}
+
+impl Found {
+    pub(crate) fn none() -> Found {
+        Found {
+            taken: AtomicU64::new(0),
+            unsound: AtomicU64::new(0),
+            midway: AtomicU64::new(0),
+        }
+    }
+
+    fn note(&self, sound: bool, midway: bool) {
+        self.taken.fetch_add(1, Ordering::SeqCst);
+        if !sound {
+            self.unsound.fetch_add(1, Ordering::SeqCst);
+        }
+        if midway {
+            self.midway.fetch_add(1, Ordering::SeqCst);
+        }
+    }
+
+    // How many shots were taken.
+    pub(crate) fn taken(&self) -> u64 {
+        self.taken.load(Ordering::SeqCst)
+    }
+
+    // How many of them weren't sound.
+    pub(crate) fn unsound(&self) -> u64 {
+        self.unsound.load(Ordering::SeqCst)
+    }
+
+    // How many of them were taken on the way.
+    pub(crate) fn midway(&self) -> u64 {
+        self.midway.load(Ordering::SeqCst)
+    }
+}
+
+// Whoever has brought a region half the way waits for a while until a shot was taken on the way. No region gets past a
+// neighbour that isn't there yet, so that none is at the end before.
+impl Gate for Found {
+    fn held(&self, region: u32, step: u64) {}
+
+    fn freed(&self, region: u32, step: u64) {
+        if step == LAST / 2 {
+            for _ in 0..1_000_000_000 {
+                if self.midway() > 0 {
+                    return;
+                }
+            }
+        }
+    }
+
+    fn watched(&self, done: bool) {}
+}
+
+// Has four members call the field at once: two take turns, one looks, and one shoots.
+pub(crate) fn call_at_once<R: Threads + Sync>(
+    rt: &R,
+    alloc: Global,
+    net: &Net,
+    chart: &Chart,
+    field: &Field,
+    members: &mut [Member],
+    found: &Found,
+    goal: u64,
+)
+    requires network { (field.now.terms.net.now ≡ net.now) × (field.now.terms.chart.now ≡ chart.now) }
+    requires charted { chart.now ≡ chart_of net.now chart.now.cut }
+    requires one_each { length chart.now.cut ≡ length net.now.cells }
+    requires enlisted { AreEnlisted field.now goal members.old }
+    requires in_time { goal ≤ field.now.terms.net.now.steps }
+    ensures many { length members.new ≡ length members.old }
+    ensures enlisted { AreEnlisted field.now goal members.new }
+{
+    let work = move |k: usize, member: &mut Member|
+        requires { IsEnlisted field.now goal member.old × (goal ≤ field.now.terms.net.now.steps)
+            × (field.now.terms.net.now ≡ net.now) × (field.now.terms.chart.now ≡ chart.now)
+            × (chart.now ≡ chart_of net.now chart.now.cut) × (length chart.now.cut ≡ length net.now.cells) }
+        ensures { IsEnlisted field.entry.now goal member.new }
+    {
+        match k {
+            0 | 1 => take_turns(field, member, found, goal),
+            2 => look_round(field, member, goal),
+            _ => shoot(alloc, net, chart, field, member, found, goal),
+        }
+    };
+    for_each_mut(rt, members, 4, &work);
+}
+
+// Drives to the goal.
+fn take_turns(field: &Field, member: &mut Member, found: &Found, goal: u64)
+    requires enlisted { IsEnlisted field.now goal member.old }
+    requires in_time { goal ≤ field.now.terms.net.now.steps }
+    ensures enlisted { IsEnlisted field.now goal member.new }
+{
+    drive(
+        field,
+        &mut member.pass,
+        goal,
+        1_000_000,
+        member.first,
+        found,
+    );
+}
+
+// Looks at all regions, again and again.
+fn look_round(field: &Field, member: &mut Member, goal: u64)
+    requires enlisted { IsEnlisted field.now goal member.old }
+    ensures enlisted { IsEnlisted field.now goal member.new }
+{
+    for k in 0..2_000u32 {
+        field.look(&mut member.pass, k % field.regions());
+    }
+}
+
+// Takes shots with three tries each, until so many have shown the field, one of them on the way.
+fn shoot(
+    alloc: Global,
+    net: &Net,
+    chart: &Chart,
+    field: &Field,
+    member: &mut Member,
+    found: &Found,
+    goal: u64,
+)
+    requires network { (field.now.terms.net.now ≡ net.now) × (field.now.terms.chart.now ≡ chart.now) }
+    requires charted { chart.now ≡ chart_of net.now chart.now.cut }
+    requires one_each { length chart.now.cut ≡ length net.now.cells }
+    requires enlisted { IsEnlisted field.now goal member.old }
+    ensures enlisted { IsEnlisted field.now goal member.new }
+{
+    let Ok(mut room) = ShotRoom::new(alloc, net, chart) else {
+        return;
+    };
+    for _ in 0..1_000_000 {
+        if found.taken() >= SHOTS && found.midway() > 0 {
+            return;
+        }
+        if field.shot(&mut member.pass, &mut room, 3) == Shot::Taken {
+            let sound = is_lawful(room.steps(), net, chart) && balances(room.books(net));
+            found.note(sound, is_midway(room.steps()));
+        }
+        yield_now();
+    }
+}
+
+// Whether the first region stands between the first step and the last.
+fn is_midway(steps: &[u64]) -> bool {
+    match steps.first() {
+        Some(step) => step % LAST != 0,
+        None => false,
+    }
+}
+
+fn balances(books: Books) -> bool {
+    let here = books.inside.wrapping_add(books.flight);
+    let come = books.initial.wrapping_add(books.entered);
+    here == come.wrapping_sub(books.left)
+}
