@@ -1,7 +1,7 @@
 #!/usr/bin/env python3
 """The recurrences of docs/MODEL.md once more, plainly and in whole parts, to compare the program's records with.
 
-As a program it takes `run [--every K]` as the proved one does, over a file without faults and without quotes.
+As a program it takes `run [--every E]` as the proved one does, over a file without faults and without quotes.
 """
 
 import sys

@@ -111,7 +111,7 @@ def run_words(every: int, workers: int = 1, program: str | Path | None = None) -
 
 
 def recording_step(steps: int, cells: int) -> int:
-    """The least K with which a run of so many steps and cells is recorded within the program's limit."""
+    """The least E with which a run of so many steps and cells is recorded within the program's limit."""
     every = max(1, -(-steps * cells // MOST_RECORDED))
     while (steps // every + 1 + (steps % every > 0)) * cells > MOST_RECORDED:
         every += 1

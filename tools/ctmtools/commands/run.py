@@ -18,14 +18,14 @@ Examples:
   ctm-tools run examples/interchange.csv --every 6
 
 A study is built first; its network and units go beside the report. Without -o the report is written into the folder one
-is in. Each step is recorded where the program's limit of 4,000,000 recorded values allows, else each K-th.
+is in. Each step is recorded where the program's limit of 4,000,000 recorded values allows, else each E-th.
 CTM_PROGRAM names another program than ./ctm."""
 
 
 @click.command(epilog=EPILOG)
 @click.argument("source", metavar="STUDY.toml|NET.csv", type=click.Path())
 @click.option("-o", "--output", metavar="FILE.report", type=click.Path(), help="Where the report goes.")
-@click.option("--every", metavar="K", type=click.IntRange(0, 100_000), help="Record each K-th step; 0 records none.")
+@click.option("--every", metavar="E", type=click.IntRange(0, 100_000), help="Record each E-th step; 0 records none.")
 @click.option("--workers", metavar="N", type=click.IntRange(1, 16), help="Threads; by default as many as processors.")
 def command(source: str, output: str | None, every: int | None, workers: int | None) -> None:
     """Run a study or a network by ./ctm, write its report with records, and print a page.

@@ -40,7 +40,7 @@ path that it has here."""
               help="Where the results go; else STUDY.sweep here.")
 @click.option("--over", metavar="KEY", multiple=True,
               help="Draw over this key, or over two; else the first two varied.")
-@click.option("--every", metavar="K", type=click.IntRange(1, 100_000), help="Record each K-th step.")
+@click.option("--every", metavar="E", type=click.IntRange(1, 100_000), help="Record each E-th step.")
 @click.option("--rows", default=20, show_default=True, type=click.IntRange(1), help="How many rows are told.")
 def command(source: str, varied: tuple[str, ...], jobs: int | None, address: str | None, output: str | None,
             over: tuple[str, ...], every: int | None, rows: int) -> None:

@@ -67,7 +67,7 @@ class Report:
     def need_records(self) -> None:
         """The problem of a report without records, where there are none."""
         if not self.recorded:
-            raise Problem(f"{self.name}: the report has no records; `ctm-tools run` and `ctm run --every K` write them")
+            raise Problem(f"{self.name}: the report has no records; `ctm-tools run` and `ctm run --every E` write them")
 
     def need_network(self) -> Network:
         """The network, or the problem that it isn't known."""
