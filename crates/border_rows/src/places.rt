@@ -2,8 +2,8 @@ ghost use Rattle.std.specs.Prelude.{◌≡◌, ◌+◌, ◌*◌, ◌<◌, ◌≤
 ghost use Rattle.border_rows.specs.Places.{IsOfNetwork, base_of, claim_place, row_place, step_place, width_at, widths_of, words_of};
 
 use crate::span::Span;
+use no_memory::NoMemory;
 use region_cut::Chart;
-use signal_plan::NoMemory;
 use std::alloc::Global;
 use std::marker::Model;
 

@@ -2,7 +2,7 @@ ghost use Rattle.std.specs.Prelude.{◌≡◌};
 ghost use Rattle.call_ending.specs.Refusing.{bytes_of, line_of, status_of};
 
 use crate::status::Status;
-use signal_plan::NoMemory;
+use no_memory::NoMemory;
 
 /// A line that standard error gets, with its line end.
 #[derive(Debug, Drop)]

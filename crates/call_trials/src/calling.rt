@@ -2,7 +2,8 @@ ghost use Rattle.std.specs.Prelude.{◌≤◌};
 
 use call_ending::Status;
 use ctm_call::ctm;
-use ctm_ports::{Gate, MemSink, MemSource, OpenGate, SureSink, SureSource};
+use ctm_ports::{MemSink, MemSource, SureSink, SureSource};
+use region_slots::{Gate, OpenGate};
 use std::alloc::{AllocError, Global};
 use std::thread::Threads;
 

@@ -1,4 +1,4 @@
-use ctm_ports::Gate;
+use region_slots::Gate;
 use std::sync::atomic::{AtomicU64, Ordering};
 
 // A gate that notes which of four regions was held at which of 64 steps.

@@ -1,6 +1,6 @@
 use crate::calling::{CORRIDOR, CORRIDOR_REPORT, call_past, failing_call, lines};
 use call_ending::Status;
-use ctm_ports::OpenGate;
+use region_slots::OpenGate;
 use std::test::Fail;
 
 // Each of the reads fails in turn. The last of them would have found the end, so the one past it is never made.

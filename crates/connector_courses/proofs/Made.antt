@@ -3,7 +3,7 @@ use Rattle.std.specs.Prelude.{All, IfOk, Result, slice_index}
 use Rattle.std.proofs.Common.{◌≡◌, ℕ, zero, suc, ◌<◌, List, [], ◌∷◌, length, get_or, refl, sym, ap, subst, ◌∙◌, arith}
 use Rattle.std.proofs.lemmas.Result.{IfOk-weaker}
 use Rattle.signal_plan.specs.Turning.{shares_at}
-use Rattle.signal_plan.specs.declared.memory.NoMemory.{NoMemory}
+use Rattle.no_memory.specs.declared.memory.NoMemory.{NoMemory}
 use Rattle.network_file.specs.Connectors.{connector_at}
 use Rattle.network_file.specs.Network.{IsNetwork, IsSoundConnector, Network}
 use Rattle.network_file.specs.declared.connector.Connector.{Connector}

@@ -2,7 +2,8 @@ ghost use Rattle.std.specs.Prelude.{◌≡◌, ◌≤◌, ◌<◌, ℕ, Bool, If
 ghost use Rattle.timelines.specs.Courses.{IsSteady, light_at};
 ghost use Rattle.connector_courses.specs.Courses.{cell_most, green_by, most_by};
 
-use signal_plan::{MOST_STEPS, NoMemory, Plan, Signal};
+use no_memory::NoMemory;
+use signal_plan::{MOST_STEPS, Plan, Signal};
 use std::alloc::Global;
 use timelines::{Now, Timeline, light};
 

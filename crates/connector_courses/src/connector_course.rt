@@ -13,8 +13,9 @@ use crate::weight_course::WeightCourse;
 use crate::weight_pair::WeightPair;
 use flow_model::Flow;
 use network_file::{Connector, Net};
+use no_memory::NoMemory;
 use place_sweep::Space;
-use signal_plan::{MOST_STEPS, NoMemory};
+use signal_plan::MOST_STEPS;
 use std::alloc::Global;
 use std::marker::Model;
 

@@ -8,7 +8,8 @@ use crate::limits::Limits;
 use crate::rule::Rule;
 use crate::weight_course::WeightCourse;
 use crate::weight_pair::WeightPair;
-use signal_plan::{MOST_STEPS, NoMemory, Plan};
+use no_memory::NoMemory;
+use signal_plan::{MOST_STEPS, Plan};
 use std::alloc::Global;
 use timelines::Now;
 

@@ -1,7 +1,8 @@
 ghost use Rattle.std.specs.Prelude.{◌≡◌, ◌≤◌, ◌<◌, ℕ, IfOk, length};
 ghost use Rattle.signal_plan.specs.Demand.{demand_at};
 
-use signal_plan::{MOST_STEPS, NoMemory, Plan};
+use no_memory::NoMemory;
+use signal_plan::{MOST_STEPS, Plan};
 use std::alloc::Global;
 use std::marker::Model;
 use timelines::Timeline;

@@ -4,7 +4,8 @@ ghost use Rattle.timelines.specs.Courses.{IsSteady};
 ghost use Rattle.connector_courses.specs.Weights.{AreWeights, changed_first, changed_second, weights_at};
 
 use crate::weight_pair::WeightPair;
-use signal_plan::{Change, MOST_STEPS, NoMemory, Plan};
+use no_memory::NoMemory;
+use signal_plan::{Change, MOST_STEPS, Plan};
 use std::alloc::Global;
 use timelines::{Now, Timeline};
 

@@ -18,7 +18,8 @@ use crate::watch_mode::watch_text;
 use crate::words::request_of;
 use call_ending::Refusal;
 use command_words::{Mode, Request};
-use ctm_ports::{Gate, Source};
+use ctm_ports::Source;
+use region_slots::Gate;
 use std::alloc::Global;
 use std::thread::Threads;
 

@@ -8,7 +8,8 @@ ghost use Rattle.ctm_call.specs.Words.{requested};
 
 use crate::answer::answer;
 use call_ending::{Status, end};
-use ctm_ports::{Gate, Sink, Source};
+use ctm_ports::{Sink, Source};
+use region_slots::Gate;
 use std::alloc::Global;
 use std::thread::Threads;
 

@@ -8,7 +8,7 @@ use crate::network_input::network_in;
 use call_ending::Refusal;
 use line_fields::put_count;
 use network_file::Net;
-use signal_plan::NoMemory;
+use no_memory::NoMemory;
 use std::alloc::Global;
 
 /// The counts of a network.

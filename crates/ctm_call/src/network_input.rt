@@ -8,7 +8,7 @@ ghost use Rattle.ctm_call.specs.NetworkInput.{IsToldOf, network_line, why_of_net
 use call_ending::{Line, Refusal, Status};
 use itoa::Buffer;
 use network_file::{Net, NetFault, NetRefusal};
-use signal_plan::NoMemory;
+use no_memory::NoMemory;
 use std::alloc::Global;
 
 /// The network that an input is, or the refusal of a file by its first fault.

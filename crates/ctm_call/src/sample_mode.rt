@@ -8,12 +8,12 @@ ghost use Rattle.ctm_call.specs.Task.{task_of};
 use crate::network_input::network_in;
 use call_ending::Refusal;
 use command_words::Request;
-use ctm_ports::Gate;
 use delay_report::put_last_totals;
 use line_fields::put_count;
 use network_file::Net;
 use network_run::{charted, last_regions};
-use signal_plan::NoMemory;
+use no_memory::NoMemory;
+use region_slots::Gate;
 use std::alloc::Global;
 use std::thread::Threads;
 

@@ -9,11 +9,11 @@ use crate::network_input::network_in;
 use crate::recording::{large_record, records_too_much};
 use call_ending::{Line, Refusal, Status};
 use command_words::Request;
-use ctm_ports::Gate;
 use delay_report::run_report;
 use network_file::Net;
 use network_run::{Watched, charted, watched_regions};
-use signal_plan::NoMemory;
+use no_memory::NoMemory;
+use region_slots::Gate;
 use std::alloc::Global;
 use std::thread::Threads;
 

@@ -8,11 +8,9 @@
 //! - `read_up_to` reads a whole source, `write_all` writes a whole text.
 //! - `MemSource` and `MemSink` fail at the calls that they were told to; `SureSource` and `SureSink` never.
 //! - `StdSource` and `StdSink` stand over a `Read` and a `Write`.
-//! - A [`Gate`] is told of the moments of a shared run; `OpenGate` lets all of them pass.
 #![tactic(auto)]
 
 mod calls;
-mod gate;
 mod mem_sink;
 mod mem_source;
 mod reading;
@@ -27,7 +25,6 @@ mod tests;
 mod unread;
 mod writing;
 
-pub use gate::{Gate, OpenGate};
 pub use mem_sink::MemSink;
 pub use mem_source::MemSource;
 pub use reading::{ReadEnd, read_up_to};

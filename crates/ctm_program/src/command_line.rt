@@ -1,4 +1,4 @@
-use signal_plan::NoMemory;
+use no_memory::NoMemory;
 use std::alloc::Global;
 use std::env;
 use std::env::Env;

@@ -5,7 +5,8 @@ mod command_line;
 
 use call_ending::{Refusal, tell};
 use ctm_call::ctm;
-use ctm_ports::{OpenGate, StdSink, StdSource};
+use ctm_ports::{StdSink, StdSource};
+use region_slots::OpenGate;
 use std::process::ExitCode;
 
 fn main(rt: HostRuntime) -> ExitCode {

@@ -7,9 +7,9 @@ ghost use Rattle.region_step.specs.declared.note.Note.{Note as NoteValue};
 
 use flow_model::Row;
 use network_file::Net;
+use no_memory::NoMemory;
 use region_cut::Chart;
 use region_step::{Note, Region};
-use signal_plan::NoMemory;
 use std::alloc::Global;
 
 /// Regions, seen cell by cell.

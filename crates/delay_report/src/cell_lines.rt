@@ -4,7 +4,7 @@ ghost use Rattle.delay_report.specs.Report.{cell_line, cell_lines};
 use flow_model::Row;
 use line_fields::put_row_fields;
 use network_file::Cell;
-use signal_plan::NoMemory;
+use no_memory::NoMemory;
 
 /// Appends the line of each cell, by its row at the last step.
 pub(crate) fn put_cell_lines(

@@ -3,8 +3,8 @@ ghost use Rattle.region_cut.specs.Chart.{chart_of};
 ghost use Rattle.delay_report.specs.Places.{ArePlaced};
 
 use network_file::Net;
+use no_memory::NoMemory;
 use region_cut::{Chart, place};
-use signal_plan::NoMemory;
 use std::alloc::Global;
 
 /// The place of each cell among the cells of its region.

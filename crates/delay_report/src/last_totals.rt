@@ -10,9 +10,9 @@ use crate::by_cell::ByCell;
 use crate::cell_places::cell_places;
 use crate::total_line::put_total_line;
 use network_file::Net;
+use no_memory::NoMemory;
 use region_cut::Chart;
 use region_step::Region;
-use signal_plan::NoMemory;
 use std::alloc::Global;
 
 /// Appends the report's line of totals alone (docs/FORMAT.md, "The report"), of regions, one a number in order, at the

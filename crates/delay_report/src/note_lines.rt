@@ -9,8 +9,8 @@ ghost use Rattle.region_step.specs.declared.note.Note.{Note as NoteValue};
 use crate::by_cell::ByCell;
 use line_fields::{put_amount, put_count};
 use network_file::{Cell, Net};
+use no_memory::NoMemory;
 use region_step::{Note, is_recorded};
-use signal_plan::NoMemory;
 
 /// Appends a line for each recorded step and each cell.
 pub(crate) fn put_note_lines(

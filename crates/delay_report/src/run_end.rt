@@ -11,9 +11,9 @@ use crate::cell_places::cell_places;
 use crate::whole_report::report;
 use flow_model::Row;
 use network_file::Net;
+use no_memory::NoMemory;
 use region_cut::Chart;
 use region_step::Region;
-use signal_plan::NoMemory;
 use std::alloc::Global;
 
 /// The report of a run (docs/FORMAT.md, "The report"): of regions that were taken from step 0 to the last one, recorded

@@ -6,7 +6,7 @@ use flow_ledger::books;
 use flow_model::Row;
 use line_fields::put_signed;
 use network_file::Net;
-use signal_plan::NoMemory;
+use no_memory::NoMemory;
 
 /// Appends the line of the totals: what is inside, what has entered and left, and the delay.
 #[tactic(auto, unfolding(crate::specs::Report::total_line))]

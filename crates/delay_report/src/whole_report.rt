@@ -17,9 +17,9 @@ use crate::note_lines::put_note_lines;
 use crate::total_line::put_total_line;
 use line_fields::put_count;
 use network_file::Net;
+use no_memory::NoMemory;
 use region_cut::Chart;
 use region_step::Region;
-use signal_plan::NoMemory;
 use std::alloc::Global;
 
 /// The report of a run whose regions, one a number in order, stand at the last step (docs/FORMAT.md, "The report"). They

@@ -2,12 +2,11 @@ ghost use Rattle.std.specs.Prelude.{◌≡◌};
 ghost use Rattle.region_cut.specs.Chart.{chart_of};
 
 use crate::networks::{ONE_REGION, charted};
-use ctm_ports::OpenGate;
 use network_file::Net;
+use no_memory::NoMemory;
 use region_cut::Chart;
-use region_slots::Field;
+use region_slots::{Field, OpenGate};
 use region_step::Start;
-use signal_plan::NoMemory;
 use std::alloc::Global;
 use std::test::Fail;
 use worker_claim::{Driven, drive};

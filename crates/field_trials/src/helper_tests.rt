@@ -3,12 +3,11 @@ ghost use Rattle.region_cut.specs.Chart.{chart_of};
 
 use crate::networks::{FOUR_REGIONS, charted};
 use crate::two_nests::{helper_at, two_nests};
-use ctm_ports::Gate;
 use network_file::Net;
+use no_memory::NoMemory;
 use region_cut::Chart;
-use region_slots::Field;
+use region_slots::{Field, Gate};
 use region_step::Start;
-use signal_plan::NoMemory;
 use std::alloc::Global;
 use std::slice;
 use std::sync::atomic::{AtomicU64, Ordering};

@@ -4,8 +4,7 @@ ghost use Rattle.snapshot.specs.Rooms.{IsRoomFor};
 ghost use Rattle.region_slots.specs.FieldView.{IsPassOf};
 
 use crate::pause::Pause;
-use ctm_ports::OpenGate;
-use region_slots::{Field, Pass, Shot, Turn};
+use region_slots::{Field, OpenGate, Pass, Shot, Turn};
 use snapshot::ShotRoom;
 use std::thread::{Threads, join, join_mut};
 

@@ -1,5 +1,5 @@
 use crate::pause::wait_for;
-use ctm_ports::Gate;
+use region_slots::Gate;
 use std::sync::atomic::{AtomicU64, Ordering};
 
 // Whether one of two that wait for each other has come, and whether it has met the other, however often it comes.

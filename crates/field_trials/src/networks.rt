@@ -2,8 +2,8 @@ ghost use Rattle.std.specs.Prelude.{◌≡◌, IfOk, length};
 ghost use Rattle.region_cut.specs.Chart.{chart_of};
 
 use network_file::Net;
+use no_memory::NoMemory;
 use region_cut::{Chart, cutting};
-use signal_plan::NoMemory;
 use std::alloc::Global;
 
 // A gate, a road and an exit, of which the road and the exit are one region.

@@ -1,4 +1,4 @@
-use ctm_ports::Gate;
+use region_slots::Gate;
 use std::sync::atomic::{AtomicU64, Ordering};
 
 // A gate at which a turn that holds a region waits for a while until another turn or a shot was tried.

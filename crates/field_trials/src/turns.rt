@@ -1,9 +1,8 @@
 ghost use Rattle.std.specs.Prelude.{◌≡◌, ◌≤◌};
 ghost use Rattle.region_slots.specs.FieldView.{IsPassOf};
 
-use ctm_ports::OpenGate;
-use region_slots::{Field, Pass, Turn};
-use signal_plan::NoMemory;
+use no_memory::NoMemory;
+use region_slots::{Field, OpenGate, Pass, Turn};
 use std::alloc::Global;
 
 // What comes of turns on these regions with these goals, one after the other. Regions and goals past the last are brought

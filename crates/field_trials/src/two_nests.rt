@@ -3,8 +3,8 @@ ghost use Rattle.region_cut.specs.Cuttings.{region_count};
 ghost use Rattle.region_slots.specs.FieldView.{IsPassOf};
 ghost use Rattle.worker_claim.specs.Helping.{IsHelperOf};
 
+use no_memory::NoMemory;
 use region_slots::{Field, Pass};
-use signal_plan::NoMemory;
 use std::alloc::Global;
 use worker_claim::{Helper, Member, Nest, nests};
 

@@ -3,7 +3,7 @@ ghost use Rattle.std.specs.Io.{StartsWith};
 ghost use Rattle.line_fields.specs.Fields.{amount_field, signed_field};
 
 use fixed_flow::{Amount, Text48, put_wide};
-use signal_plan::NoMemory;
+use no_memory::NoMemory;
 
 /// Appends a comma and an amount, in parts.
 pub fn put_amount(text: &mut Vec<u8>, parts: u64) -> Result<(), NoMemory>

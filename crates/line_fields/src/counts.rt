@@ -3,7 +3,7 @@ ghost use Rattle.std.specs.Io.{StartsWith};
 ghost use Rattle.line_fields.specs.Fields.{count_field};
 
 use itoa::Buffer;
-use signal_plan::NoMemory;
+use no_memory::NoMemory;
 
 /// Appends a comma and a count, in decimal digits.
 pub fn put_count(text: &mut Vec<u8>, count: u64) -> Result<(), NoMemory>

@@ -4,7 +4,7 @@ ghost use Rattle.line_fields.specs.Fields.{row_fields};
 
 use crate::amounts::put_amount;
 use flow_model::Row;
-use signal_plan::NoMemory;
+use no_memory::NoMemory;
 
 /// Appends a cell's name and the fields of its row: what it holds, what has come and gone, in parts, and its wait, in
 /// parts times steps.

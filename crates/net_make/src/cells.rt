@@ -3,7 +3,7 @@ ghost use Rattle.net_make.specs.Made.{cell_lines, cells, ended, has_off_ramp, ha
 
 use crate::features::{has_off_ramp, has_on_ramp};
 use crate::numbers::put_number;
-use signal_plan::NoMemory;
+use no_memory::NoMemory;
 
 /// Appends the cells behind the corridor's gate.
 pub(crate) fn put_cells(text: &mut Vec<u8>, size: u32) -> Result<(), NoMemory>

@@ -3,7 +3,7 @@ ghost use Rattle.net_make.specs.Made.{connectors, connector_line, diverge_line, 
 
 use crate::features::{has_off_ramp, has_on_ramp};
 use crate::numbers::put_number;
-use signal_plan::NoMemory;
+use no_memory::NoMemory;
 
 /// Appends the connectors, from the corridor's gate to its exit.
 pub(crate) fn put_connectors(text: &mut Vec<u8>, size: u32) -> Result<(), NoMemory>

@@ -5,7 +5,7 @@ ghost use Rattle.net_make.specs.Made.{demands, ended, main_demand, on_ramps, ram
 use crate::draws::Draws;
 use crate::features::has_on_ramp;
 use crate::numbers::{put_amount, put_number};
-use signal_plan::NoMemory;
+use no_memory::NoMemory;
 
 /// Appends the demands of the gates, by the first draws.
 pub(crate) fn put_demands(text: &mut Vec<u8>, size: u32, draws: &mut Draws) -> Result<(), NoMemory>

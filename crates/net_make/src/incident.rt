@@ -4,7 +4,7 @@ ghost use Rattle.net_make.specs.Made.{ended, incident, incident_line, on_ramps, 
 
 use crate::draws::Draws;
 use crate::numbers::put_number;
-use signal_plan::NoMemory;
+use no_memory::NoMemory;
 
 /// Appends the incident by the last draw, where there are two main cells or more.
 #[tactic(auto, unfolding(crate::specs::Made::incident))]

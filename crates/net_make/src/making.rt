@@ -8,7 +8,7 @@ use crate::draws::Draws;
 use crate::incident::put_incident;
 use crate::signals::put_signals;
 use itoa::Buffer;
-use signal_plan::NoMemory;
+use no_memory::NoMemory;
 use std::alloc::Global;
 
 /// The network file of a corridor of `size` main cells, 1 or more, whose demands, signals and incident are drawn from

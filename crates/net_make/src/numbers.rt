@@ -3,7 +3,7 @@ ghost use Rattle.fixed_flow.specs.Printed.{amount_text};
 
 use fixed_flow::{Amount, Text48};
 use itoa::Buffer;
-use signal_plan::NoMemory;
+use no_memory::NoMemory;
 
 /// Appends what stands before a number, and the number.
 pub(crate) fn put_number(text: &mut Vec<u8>, before: &[u8], number: u32) -> Result<(), NoMemory>

@@ -5,7 +5,7 @@ ghost use Rattle.net_make.specs.Made.{ended, on_ramps, signal_line, signal_lines
 use crate::draws::Draws;
 use crate::features::has_signal;
 use crate::numbers::put_number;
-use signal_plan::NoMemory;
+use no_memory::NoMemory;
 
 /// Appends the signals, by the draws behind those of the demands.
 pub(crate) fn put_signals(text: &mut Vec<u8>, size: u32, draws: &mut Draws) -> Result<(), NoMemory>

@@ -6,7 +6,8 @@ ghost use Rattle.signal_plan.specs.declared.bounds.TheConstants.{MOST_RECORDS};
 use crate::cell::{Cell, Kind};
 use crate::limits::MOST_BYTES;
 use crate::name_index::NameIndex;
-use signal_plan::{MOST_RECORDS, NoMemory};
+use no_memory::NoMemory;
+use signal_plan::MOST_RECORDS;
 use std::alloc::Global;
 use std::marker::Model;
 

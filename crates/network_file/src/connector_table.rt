@@ -5,7 +5,7 @@ ghost use Rattle.network_file.specs.Marks.{is_marked};
 
 use crate::connector::Connector;
 use crate::marks::Marks;
-use signal_plan::NoMemory;
+use no_memory::NoMemory;
 use std::alloc::Global;
 use std::marker::Model;
 

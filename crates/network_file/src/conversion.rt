@@ -11,7 +11,7 @@ use crate::file_records::{next_record, open_records};
 use crate::limits::MOST_BYTES;
 use crate::reading::read_file;
 use csv::ByteRecord;
-use signal_plan::NoMemory;
+use no_memory::NoMemory;
 use std::alloc::Global;
 
 /// The text of a file in format 2, of the same network, without comments, blank lines and quotes.

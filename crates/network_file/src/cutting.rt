@@ -4,7 +4,7 @@ ghost use Rattle.network_file.specs.Cutting.{greatest, has_no_gap};
 ghost use Rattle.network_file.specs.Marks.{is_marked};
 
 use crate::marks::Marks;
-use signal_plan::NoMemory;
+use no_memory::NoMemory;
 use std::alloc::Global;
 
 /// Whether each region number below the greatest of a list is in it. It needs memory for a mark for each

@@ -18,7 +18,8 @@ use crate::limits::{MOST_BYTES, MOST_CAPACITY, MOST_REGIONS};
 use crate::record_kind::RecordKind;
 use crate::region_table::RegionTable;
 use fixed_flow::MOST_PARTS;
-use signal_plan::{MOST_RATIO, MOST_STEPS, NoMemory, Plan};
+use no_memory::NoMemory;
+use signal_plan::{MOST_RATIO, MOST_STEPS, Plan};
 use std::alloc::Global;
 use std::marker::Model;
 

@@ -3,7 +3,7 @@ ghost use Rattle.network_file.specs.Refused.{fault_at, refusal_at};
 ghost use Rattle.network_file.specs.declared.fault.NetRefusal.TheVariants.{Fault};
 
 use crate::code::Code;
-use signal_plan::NoMemory;
+use no_memory::NoMemory;
 
 /// The first fault of a file: the record that has it, counted from 1, and why. A fault of the file as a whole
 /// stands at one more than the number of records.

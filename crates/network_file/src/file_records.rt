@@ -4,7 +4,7 @@ ghost use Rattle.csv.specs.Reading.{error_kind, stops_reader};
 ghost use Rattle.network_file.specs.FileRecords.{IsReading, records_left, file_records_of};
 
 use csv::{ByteRecord, Error, ErrorKind, Reader, ReaderBuilder};
-use signal_plan::NoMemory;
+use no_memory::NoMemory;
 use std::alloc::Global;
 
 /// A reader of the records of a file: byte records without a header row, of any length, with `#`

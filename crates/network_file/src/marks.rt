@@ -1,7 +1,7 @@
 ghost use Rattle.std.specs.Prelude.{◌≡◌, ◌||◌, ◌==◌, ℕ, false, OnOk};
 ghost use Rattle.network_file.specs.Marks.{is_marked};
 
-use signal_plan::NoMemory;
+use no_memory::NoMemory;
 use std::alloc::Global;
 
 /// A set of cell numbers, as one mark for each number up to the greatest.

@@ -7,7 +7,8 @@ ghost use Rattle.signal_plan.specs.declared.bounds.TheConstants.{MOST_RECORDS};
 use crate::buckets::Buckets;
 use crate::cell::Cell;
 use crate::limits::MOST_BYTES;
-use signal_plan::{MOST_RECORDS, NoMemory};
+use no_memory::NoMemory;
+use signal_plan::MOST_RECORDS;
 use std::alloc::Global;
 
 /// Where the cells of a list are found by their names. The cells whose names fall into one bucket are chained, the

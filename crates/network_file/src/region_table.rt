@@ -2,7 +2,7 @@ ghost use Rattle.std.specs.Prelude.{◌≡◌, ◌==◌, ◌++◌, ◌∷◌, []
 ghost use Rattle.network_file.specs.Regions.{all_have_regions, region_in, region_numbers};
 
 use crate::region_record::RegionRecord;
-use signal_plan::NoMemory;
+use no_memory::NoMemory;
 use std::alloc::Global;
 use std::marker::Model;
 

@@ -4,8 +4,8 @@ ghost use Rattle.region_cut.specs.Chart.{chart_of};
 ghost use Rattle.region_cut.specs.Cuttings.{even_cutting};
 
 use network_file::Net;
+use no_memory::NoMemory;
 use region_cut::{Chart, cutting};
-use signal_plan::NoMemory;
 use std::alloc::Global;
 
 /// The chart of a network in the regions that its file gives, or else in so many of nearly equal size.

@@ -1,7 +1,7 @@
 ghost use Rattle.std.specs.Prelude.{◌≡◌, ◌*◌, ◌/◌, ◌<◌, ◌≤◌};
 
+use no_memory::NoMemory;
 use region_slots::{Field, Pass};
-use signal_plan::NoMemory;
 use std::alloc::Global;
 use std::marker::Model;
 use worker_claim::{Helper, Member, Nest, nests};

@@ -2,8 +2,7 @@ ghost use Rattle.std.specs.Prelude.{◌≡◌, ◌↔◌, All, IsTrue};
 ghost use Rattle.std.specs.List.{list_any};
 
 use crate::crew::Crew;
-use ctm_ports::Gate;
-use region_slots::{Field, Pass, Shot};
+use region_slots::{Field, Gate, Pass, Shot};
 use snapshot::ShotRoom;
 use std::thread::Threads;
 use worker_claim::{Helper, crew_hints, crew_watch_hints};

@@ -5,12 +5,11 @@ ghost use Rattle.region_step.specs.Standing.{AllStand};
 ghost use Rattle.region_step.specs.Start.{zero_start};
 
 use crate::crew::Crew;
-use ctm_ports::Gate;
 use network_file::Net;
+use no_memory::NoMemory;
 use region_cut::Chart;
-use region_slots::{Closed, Field};
+use region_slots::{Closed, Field, Gate};
 use region_step::{Region, Start};
-use signal_plan::NoMemory;
 use std::alloc::Global;
 use std::thread::Threads;
 use worker_claim::finish;

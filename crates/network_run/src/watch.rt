@@ -6,8 +6,7 @@ ghost use Rattle.region_slots.specs.FieldView.{IsPassOf};
 ghost use Rattle.worker_claim.specs.Driving.{AllReach};
 
 use crate::crew::Crew;
-use ctm_ports::Gate;
-use region_slots::{Field, Pass, Shot};
+use region_slots::{Field, Gate, Pass, Shot};
 use snapshot::ShotRoom;
 use std::thread::Threads;
 use worker_claim::finish;

@@ -10,12 +10,11 @@ ghost use Rattle.worker_claim.specs.Driving.{AllReach};
 
 use crate::crew::Crew;
 use crate::watch::watch_to;
-use ctm_ports::Gate;
 use network_file::Net;
+use no_memory::NoMemory;
 use region_cut::Chart;
-use region_slots::{Closed, Field, Pass};
+use region_slots::{Closed, Field, Gate, Pass};
 use region_step::{Region, Start};
-use signal_plan::NoMemory;
 use snapshot::{ShotRoom, shot_text};
 use std::alloc::Global;
 use std::thread::Threads;

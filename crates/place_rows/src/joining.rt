@@ -4,8 +4,8 @@ ghost use Rattle.timelines.specs.Followed.{AreFollowed, IsThere};
 ghost use Rattle.place_rows.specs.Joining.{Extends, IsAt};
 
 use network_file::Net;
+use no_memory::NoMemory;
 use place_sweep::Place;
-use signal_plan::NoMemory;
 use std::alloc::Global;
 use timelines::{FollowedLink, LinkCourse};
 

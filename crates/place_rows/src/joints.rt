@@ -12,8 +12,8 @@ use crate::joining::join_next;
 use crate::tie::Tie;
 use crate::tying::tied;
 use network_file::Net;
+use no_memory::NoMemory;
 use place_sweep::Place;
-use signal_plan::NoMemory;
 use std::alloc::Global;
 use timelines::FollowedLink;
 

@@ -14,8 +14,8 @@ use crate::origin::Origin;
 use connector_courses::DemandCourse;
 use flow_model::Row;
 use network_file::{Kind, Net};
+use no_memory::NoMemory;
 use place_sweep::Place;
-use signal_plan::NoMemory;
 use std::alloc::Global;
 
 /// What never changes of these cells.

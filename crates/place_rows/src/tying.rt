@@ -8,8 +8,8 @@ use crate::spot::Spot;
 use crate::tie::Tie;
 use connector_courses::ConnectorCourse;
 use network_file::Net;
+use no_memory::NoMemory;
 use region_cut::{place, three_cells};
-use signal_plan::NoMemory;
 use std::alloc::Global;
 
 /// The tie of connector `k`, at step 0.

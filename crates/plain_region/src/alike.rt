@@ -8,9 +8,9 @@ ghost use Rattle.plain_region.specs.Rounds.{AllAt};
 use crate::PlainRegion;
 use crate::rounds::step_all;
 use network_file::Net;
+use no_memory::NoMemory;
 use region_cut::Chart;
 use region_step::Region;
-use signal_plan::NoMemory;
 
 // Takes both kinds of regions through all steps, and gives the first step at which they differ.
 pub(crate) fn first_difference(

@@ -10,9 +10,9 @@ ghost use Rattle.plain_region.specs.Rounds.{IsAt, IsShaped};
 
 use crate::PlainRegion;
 use network_file::Net;
+use no_memory::NoMemory;
 use region_cut::Chart;
 use region_step::{Region, Start};
-use signal_plan::NoMemory;
 use std::alloc::Global;
 
 // A region with one of the two bodies.

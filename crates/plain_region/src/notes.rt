@@ -2,8 +2,8 @@ ghost use Rattle.std.specs.Prelude.{◌≡◌, ◌+◌, ◌≤◌, ◌++◌, [],
 ghost use Rattle.region_step.specs.Recording.{notes_of};
 
 use flow_model::Row;
+use no_memory::NoMemory;
 use region_step::Note;
-use signal_plan::NoMemory;
 
 /// Makes room for a note for each of so many cells, where their step is recorded. It changes no note.
 pub(crate) fn make_room(trail: &mut Vec<Note>, cells: usize, recorded: bool) -> Result<(), NoMemory>

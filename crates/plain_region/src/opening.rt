@@ -5,8 +5,8 @@ ghost use Rattle.plain_region.specs.Opening.{earlier_row};
 
 use crate::notes::{make_room, note_step};
 use flow_model::Row;
+use no_memory::NoMemory;
 use region_step::Note;
-use signal_plan::NoMemory;
 use std::alloc::Global;
 
 /// The rows of these cells.

@@ -10,10 +10,10 @@ use crate::opening::first_notes;
 use crate::wiring::Wiring;
 use flow_model::Row;
 use network_file::Net;
+use no_memory::NoMemory;
 use place_rows::nothing_put;
 use region_cut::Chart;
 use region_step::{Note, Start, is_recorded};
-use signal_plan::NoMemory;
 use std::alloc::Global;
 use std::marker::Model;
 

@@ -6,9 +6,9 @@ ghost use Rattle.plain_region.specs.Rounds.{AllAt, AllTold, IsTold};
 
 use crate::bodies::Body;
 use network_file::Net;
+use no_memory::NoMemory;
 use region_cut::Chart;
 use region_step::Start;
-use signal_plan::NoMemory;
 use std::alloc::Global;
 
 // All regions of a start at step 0.

@@ -10,9 +10,9 @@ use crate::networks::{
 };
 use crate::rounds::open_all;
 use network_file::{MOST_BYTES, MOST_REGIONS, Net};
+use no_memory::NoMemory;
 use region_cut::{Chart, Cut, cutting};
 use region_step::{Region, Start};
-use signal_plan::NoMemory;
 use std::alloc::Global;
 use std::process::Abort;
 use std::test::Fail;

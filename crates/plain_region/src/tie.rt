@@ -6,8 +6,8 @@ ghost use Rattle.place_rows.specs.Joining.{AreKnown, IsKnown};
 
 use crate::place::Place;
 use network_file::Net;
+use no_memory::NoMemory;
 use region_cut::{place, three_cells};
-use signal_plan::NoMemory;
 use std::alloc::Global;
 
 /// A connector that touches the region, with the places of its cells in the order of its fields; that of a link

@@ -8,9 +8,9 @@ ghost use Rattle.std.specs.Prelude.{◌≡◌};
 
 use crate::tie::{Tie, ties};
 use network_file::Net;
+use no_memory::NoMemory;
 use region_cut::Chart;
 use region_step::{border_places, halo_cells};
-use signal_plan::NoMemory;
 use std::alloc::Global;
 
 /// How a region's cells hang together: what is found out once, when it is opened.

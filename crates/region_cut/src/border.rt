@@ -4,7 +4,7 @@ ghost use Rattle.region_cut.specs.Chart.{list_at};
 ghost use Rattle.region_cut.specs.Gathered.{inside};
 
 use crate::lists::Lists;
-use signal_plan::NoMemory;
+use no_memory::NoMemory;
 use std::alloc::Global;
 
 /// For each region those of the cells met by its connectors that lie in it.

@@ -3,7 +3,7 @@ ghost use Rattle.std.specs.List.{range_with_len};
 ghost use Rattle.region_cut.specs.Gathered.{inside};
 
 use crate::lists::Lists;
-use signal_plan::NoMemory;
+use no_memory::NoMemory;
 use std::alloc::Global;
 
 /// The cells of each region.

@@ -13,7 +13,7 @@ use crate::lists::Lists;
 use crate::met::met_by_region;
 use crate::neighbours::neighbours_by_region;
 use network_file::{MOST_REGIONS, Net};
-use signal_plan::NoMemory;
+use no_memory::NoMemory;
 use std::alloc::Global;
 use std::marker::Model;
 

@@ -7,7 +7,7 @@ use crate::cell_lists::empty_lists;
 use crate::connector_cells::three_cells;
 use crate::lists::Lists;
 use network_file::Net;
-use signal_plan::NoMemory;
+use no_memory::NoMemory;
 use std::alloc::Global;
 
 /// The connectors that touch each region.

@@ -7,7 +7,7 @@ ghost use Rattle.region_cut.specs.Cuttings.{even_cutting, region_count};
 use crate::even::even_list;
 use crate::fault::{CutFault, CutRefusal};
 use network_file::{MOST_REGIONS, Net, greatest, has_no_gap};
-use signal_plan::NoMemory;
+use no_memory::NoMemory;
 use std::alloc::Global;
 use std::marker::Model;
 

@@ -1,7 +1,7 @@
 ghost use Rattle.std.specs.Prelude.{◌≡◌, ◌*◌, ◌/◌, ◌<◌, ◌≤◌, IfOk};
 ghost use Rattle.region_cut.specs.Cuttings.{even_cutting};
 
-use signal_plan::NoMemory;
+use no_memory::NoMemory;
 use std::alloc::Global;
 
 /// The even cutting of so many cells into `k` regions.

@@ -1,7 +1,7 @@
 ghost use Rattle.std.specs.Prelude.{◌≡◌};
 ghost use Rattle.region_cut.specs.CutFaults.{fault_number};
 
-use signal_plan::NoMemory;
+use no_memory::NoMemory;
 
 /// Why a list is no cutting of a network. They are looked for in the order length, many, gap.
 #[derive(Clone, Copy, Debug, PartialEq, Eq)]

@@ -7,7 +7,7 @@ ghost use Rattle.region_cut.specs.Gathered.{CanPlace, outside, placed};
 use crate::halo::Halo;
 use crate::list_place::place;
 use crate::lists::Lists;
-use signal_plan::NoMemory;
+use no_memory::NoMemory;
 use std::alloc::Global;
 
 /// For each region those of the cells met by its connectors that lie in others, each with its place in its border.

@@ -8,7 +8,7 @@ use crate::connector_cells::three_cells;
 use crate::lists::Lists;
 use crate::ordered::order;
 use network_file::Net;
-use signal_plan::NoMemory;
+use no_memory::NoMemory;
 use std::alloc::Global;
 
 /// For each region the cells of the connectors that touch it and another region.

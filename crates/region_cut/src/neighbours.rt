@@ -6,7 +6,7 @@ ghost use Rattle.region_cut.specs.Gathered.{regions_of};
 use crate::halo::Halo;
 use crate::lists::Lists;
 use crate::ordered::order;
-use signal_plan::NoMemory;
+use no_memory::NoMemory;
 use std::alloc::Global;
 
 /// For each region those that its halo names.

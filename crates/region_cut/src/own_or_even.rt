@@ -5,7 +5,7 @@ ghost use Rattle.network_file.specs.declared.limits.TheConstants.{MOST_REGIONS};
 use crate::cut::Cut;
 use crate::fault::CutRefusal;
 use network_file::Net;
-use signal_plan::NoMemory;
+use no_memory::NoMemory;
 use std::alloc::Global;
 
 /// The cutting of a run: the file's where it has one, and else the even one into so many regions, or as many as there

@@ -5,9 +5,9 @@ ghost use Rattle.border_rows.specs.Places.{widths_of, words_of};
 ghost use Rattle.region_slots.specs.FirstWords.{AreFirstWords, IsLaidOut, OnlyThose};
 
 use border_rows::Places;
+use no_memory::NoMemory;
 use region_cut::Chart;
 use region_step::Start;
-use signal_plan::NoMemory;
 use std::alloc::Global;
 
 /// The words of a field that opens: no region is taken, each has published the step where it starts, and its rows say what

@@ -10,6 +10,7 @@
 mod close;
 mod field;
 mod first_words;
+mod gate;
 mod gather;
 mod look;
 mod open;
@@ -24,6 +25,7 @@ mod turn;
 
 pub use close::Closed;
 pub use field::{Field, Pass};
+pub use gate::{Gate, OpenGate};
 pub use pauses::Pauses;
 pub use shot::Shot;
 pub use turn::Turn;

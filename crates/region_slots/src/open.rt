@@ -7,9 +7,9 @@ use crate::first_words::first_words;
 use atomic_table::Table;
 use border_rows::{Places, Terms};
 use network_file::Net;
+use no_memory::NoMemory;
 use region_cut::Chart;
 use region_step::{Start, open_regions};
-use signal_plan::NoMemory;
 use std::alloc::Global;
 
 impl<'a> Field<'a> {

@@ -1,7 +1,7 @@
 use crate::field::{Field, Pass};
+use crate::gate::Gate;
 use atomic_table::Seat;
 use border_rows::View;
-use ctm_ports::Gate;
 use region_step::Region;
 
 /// What came of a turn.

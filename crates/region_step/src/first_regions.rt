@@ -6,8 +6,8 @@ ghost use Rattle.region_step.specs.Start.{Fits};
 use crate::region::Region;
 use crate::start::Start;
 use network_file::Net;
+use no_memory::NoMemory;
 use region_cut::Chart;
-use signal_plan::NoMemory;
 use std::alloc::Global;
 
 /// All regions of a start, each at the step where it starts. They are recorded at each step that `every` divides and at

@@ -3,8 +3,8 @@ ghost use Rattle.std.specs.List.{Contains};
 ghost use Rattle.std.specs.List.Sorted.{IsStrictlyIncreasing};
 ghost use Rattle.region_step.specs.Opening.{ArePlaces};
 
+use no_memory::NoMemory;
 use region_cut::{Halo, place};
-use signal_plan::NoMemory;
 use std::alloc::Global;
 
 /// The cells of a halo.

@@ -10,9 +10,9 @@ ghost use Rattle.region_step.specs.Start.{Fits};
 use crate::opening::halo_cells;
 use crate::start::Start;
 use network_file::Net;
+use no_memory::NoMemory;
 use place_rows::{Cells, PlacedRows};
 use region_cut::Chart;
-use signal_plan::NoMemory;
 use std::alloc::Global;
 
 /// The cells of region `r` with the rows of a start.

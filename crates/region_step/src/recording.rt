@@ -4,8 +4,8 @@ ghost use Rattle.place_rows.specs.Rows.{rows_of};
 ghost use Rattle.region_step.specs.Recording.{is_recorded, notes_of, recorded_after};
 
 use crate::note::Note;
+use no_memory::NoMemory;
 use place_rows::PlacedRows;
-use signal_plan::NoMemory;
 use std::alloc::Global;
 
 /// Whether step `t` of so many is recorded: `every` divides it, or it is the last one. Where `every` is 0 none is.

@@ -12,9 +12,9 @@ use crate::recording::{first_notes, is_recorded, note_step};
 use crate::start::Start;
 use flow_model::Row;
 use network_file::Net;
+use no_memory::NoMemory;
 use place_rows::{PlacedRows, nothing_put};
 use region_cut::Chart;
-use signal_plan::NoMemory;
 use std::alloc::Global;
 use std::marker::Model;
 

@@ -7,8 +7,8 @@ ghost use Rattle.region_step.specs.Start.{IsCellInBounds};
 use crate::bounds::{is_earlier_in_bounds, is_row_in_bounds};
 use flow_model::{Row, first_rows};
 use network_file::Net;
+use no_memory::NoMemory;
 use region_cut::Chart;
-use signal_plan::NoMemory;
 use std::alloc::Global;
 use std::marker::Model;
 

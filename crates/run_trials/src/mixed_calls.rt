@@ -4,11 +4,10 @@ ghost use Rattle.snapshot.specs.Rooms.{IsRoomFor};
 ghost use Rattle.region_slots.specs.FieldView.{IsPassOf};
 ghost use Rattle.network_run.specs.Enlisted.{AreEnlisted, IsEnlisted};
 
-use ctm_ports::Gate;
 use flow_ledger::Books;
 use network_file::Net;
 use region_cut::Chart;
-use region_slots::{Field, Pass, Shot};
+use region_slots::{Field, Gate, Pass, Shot};
 use snapshot::ShotRoom;
 use std::alloc::Global;
 use std::sync::atomic::{AtomicU64, Ordering};

@@ -3,9 +3,9 @@ ghost use Rattle.region_step.specs.Opened.{IsOf};
 
 use flow_model::{Row, first_rows, plain_step};
 use network_file::{MOST_BYTES, Net};
+use no_memory::NoMemory;
 use region_cut::Chart;
 use region_step::Region;
-use signal_plan::NoMemory;
 use std::alloc::{AllocError, Global};
 use std::process::Abort;
 use std::test::Fail;

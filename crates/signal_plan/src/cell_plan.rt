@@ -6,9 +6,9 @@ use crate::cell_records::CellRecords;
 use crate::change::Change;
 use crate::demand::Demand;
 use crate::limit::Limit;
-use crate::memory::NoMemory;
 use crate::signal::Signal;
 use crate::turn::Turn;
+use no_memory::NoMemory;
 use std::alloc::Global;
 use std::marker::Model;
 

@@ -6,10 +6,10 @@ use crate::change::Change;
 use crate::demand::Demand;
 use crate::fallback::with_fallback;
 use crate::limit::Limit;
-use crate::memory::NoMemory;
 use crate::record_changes::{demand_changes, limit_changes, turn_changes};
 use crate::signal::Signal;
 use crate::turn::Turn;
+use no_memory::NoMemory;
 use std::alloc::Global;
 use std::marker::Model;
 

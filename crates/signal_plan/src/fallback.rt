@@ -2,7 +2,7 @@ ghost use Rattle.std.specs.Prelude.{◌≡◌, map, IfOk};
 ghost use Rattle.std.specs.Option.{unwrap_or};
 
 use crate::change::Change;
-use crate::memory::NoMemory;
+use no_memory::NoMemory;
 use std::alloc::Global;
 
 /// The changes with `own` in force where these say nothing.

@@ -20,7 +20,6 @@ mod demand;
 mod fallback;
 mod join;
 mod limit;
-mod memory;
 mod merge;
 mod range;
 mod record_changes;
@@ -33,6 +32,5 @@ mod turn;
 
 pub use bounds::{MOST_CELLS, MOST_PARTS, MOST_RATIO, MOST_RECORDS, MOST_STEPS};
 pub use change::Change;
-pub use memory::NoMemory;
 pub use signal::Signal;
 pub use step_plan::Plan;

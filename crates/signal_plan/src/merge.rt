@@ -4,7 +4,7 @@ ghost use Rattle.signal_plan.specs.Merging.{IsLeft, IsNext, IsTaken};
 
 use crate::change::Change;
 use crate::join::Join;
-use crate::memory::NoMemory;
+use no_memory::NoMemory;
 use std::alloc::Global;
 
 /// The step of the next change, of `older` at `i` or of `newer` at `j`.

@@ -6,10 +6,10 @@ ghost use Rattle.signal_plan.specs.Changes.{in_force, IsRising};
 use crate::change::Change;
 use crate::demand::Demand;
 use crate::limit::Limit;
-use crate::memory::NoMemory;
 use crate::merge::merge;
 use crate::span::span;
 use crate::turn::Turn;
+use no_memory::NoMemory;
 use std::alloc::Global;
 
 /// The capacities by these limits, of which the last one holds, and nothing where none speaks.

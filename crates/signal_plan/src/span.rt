@@ -4,7 +4,7 @@ ghost use Rattle.signal_plan.specs.Records.{in_range};
 
 use crate::change::Change;
 use crate::join::Join;
-use crate::memory::NoMemory;
+use no_memory::NoMemory;
 use std::alloc::Global;
 
 /// The changes of a value that is in force in each step of `[from, to)`, and nothing in the others.

@@ -7,8 +7,8 @@ use flow_ledger::flight;
 use flow_model::Row;
 use line_fields::{put_count, put_signed};
 use network_file::Net;
+use no_memory::NoMemory;
 use region_cut::{Chart, three_cells};
-use signal_plan::NoMemory;
 
 /// Appends a line for each connector that touches cells of more than one region, by its flight.
 pub(crate) fn put_flight_lines(

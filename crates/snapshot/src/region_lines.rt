@@ -3,7 +3,7 @@ ghost use Rattle.std.specs.Io.{StartsWith};
 ghost use Rattle.snapshot.specs.ShotText.{region_line, region_lines};
 
 use line_fields::put_count;
-use signal_plan::NoMemory;
+use no_memory::NoMemory;
 
 /// Appends a line for each region, by its step.
 pub(crate) fn put_region_lines(text: &mut Vec<u8>, steps: &[u64]) -> Result<(), NoMemory>

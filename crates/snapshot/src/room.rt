@@ -1,9 +1,9 @@
 use flow_ledger::{Books, books, flight};
 use flow_model::{Row, first_rows};
 use network_file::Net;
+use no_memory::NoMemory;
 use region_cut::Chart;
 use region_step::Region;
-use signal_plan::NoMemory;
 use std::alloc::Global;
 use std::marker::Model;
 

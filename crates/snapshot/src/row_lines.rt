@@ -5,7 +5,7 @@ ghost use Rattle.snapshot.specs.ShotText.{row_line, row_lines};
 use flow_model::Row;
 use line_fields::put_row_fields;
 use network_file::Cell;
-use signal_plan::NoMemory;
+use no_memory::NoMemory;
 
 /// Appends a line for each cell, by its row.
 pub(crate) fn put_row_lines(

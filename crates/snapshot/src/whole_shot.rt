@@ -10,8 +10,8 @@ use crate::row_lines::put_row_lines;
 use flow_ledger::Books;
 use line_fields::{put_count, put_signed};
 use network_file::Net;
+use no_memory::NoMemory;
 use region_cut::Chart;
-use signal_plan::NoMemory;
 
 /// Appends shot `number` of a room (docs/FORMAT.md, "The shots"): its books, the step of each region, the flight of each
 /// connector between regions, and the row of each cell. After want of memory the text is as it was.

@@ -3,8 +3,9 @@ ghost use Rattle.std.specs.Prelude.{◌≡◌, ◌≤◌, ◌<◌, ℕ, IfOk, Is
 use crate::now::Now;
 use crate::phase::light;
 use crate::timeline::Timeline;
+use no_memory::NoMemory;
 use place_sweep::link_capacity;
-use signal_plan::{MOST_STEPS, NoMemory, Plan, Signal};
+use signal_plan::{MOST_STEPS, Plan, Signal};
 use std::alloc::Global;
 use std::marker::Model;
 

@@ -1,7 +1,7 @@
 use crate::deque_rule::{Below, Keeps, Opens, Tells};
 use crate::thief::Thief;
 use crossbeam_deque::Worker;
-use signal_plan::NoMemory;
+use no_memory::NoMemory;
 use std::alloc::Global;
 use std::marker::Model;
 

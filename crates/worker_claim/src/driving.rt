@@ -6,8 +6,7 @@ ghost use Rattle.worker_claim.specs.Driving.{HasDriven};
 use crate::driven::Driven;
 use crate::pausing::pause_where;
 use crate::sweep::sweep;
-use ctm_ports::Gate;
-use region_slots::{Field, Pass, Pauses};
+use region_slots::{Field, Gate, Pass, Pauses};
 
 /// Makes so many sweeps with a pass, or fewer where all turns of one find their region at the goal or past it. A sweep is
 /// one turn on each region, in order of number from `first` on and round.

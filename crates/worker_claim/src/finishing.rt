@@ -5,8 +5,7 @@ ghost use Rattle.region_slots.specs.Turning.{IsWithin};
 ghost use Rattle.worker_claim.specs.Driving.{AllReach};
 
 use crate::sweep::sweep;
-use ctm_ports::Gate;
-use region_slots::{Field, Pass};
+use region_slots::{Field, Gate, Pass};
 
 /// Brings each region to the goal, or leaves it past it, with the pass that has all of the field's seats. Nobody else can
 /// hold a region then, and the lowest region below the goal has no lower neighbour, so that each sweep moves one.

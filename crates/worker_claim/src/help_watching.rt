@@ -8,8 +8,7 @@ ghost use Rattle.worker_claim.specs.Watching.{IsWatched};
 use crate::helper::Helper;
 use crate::helping::crew_hints;
 use crate::watching::watch;
-use ctm_ports::Gate;
-use region_slots::{Field, Pass, Shot};
+use region_slots::{Field, Gate, Pass, Shot};
 use snapshot::ShotRoom;
 use std::thread::{Threads, join_mut};
 

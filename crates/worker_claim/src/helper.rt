@@ -4,8 +4,7 @@ use crate::nest::Nest;
 use crate::part::sweep_within;
 use crate::pausing::pause_where;
 use crate::sweep::turns;
-use ctm_ports::Gate;
-use region_slots::{Field, Pauses};
+use region_slots::{Field, Gate, Pauses};
 
 /// A member of a crew that hands numbers of regions on: the member, whose `driven` tells what came of its last turns, and
 /// its nest.

@@ -2,8 +2,7 @@ ghost use Rattle.std.specs.Prelude.{◌≡◌, ◌≤◌};
 ghost use Rattle.worker_claim.specs.Helping.{AreHelped, AreHelpersOf, IsHelped, IsHelperOf};
 
 use crate::helper::Helper;
-use ctm_ports::Gate;
-use region_slots::Field;
+use region_slots::{Field, Gate};
 use std::thread::{Threads, for_each_mut};
 
 /// Has each helper make as many turns as so many sweeps have, or fewer where all regions are at the goal: all helpers at

@@ -1,7 +1,6 @@
 use crate::driven::Driven;
 use crate::driving::drive;
-use ctm_ports::Gate;
-use region_slots::{Field, Pass};
+use region_slots::{Field, Gate, Pass};
 
 /// A member of a crew: a pass, the region at which its sweeps begin, and what came of its last drive.
 #[derive(Drop)]

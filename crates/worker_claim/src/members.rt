@@ -2,8 +2,7 @@ ghost use Rattle.std.specs.Prelude.{◌≡◌, ◌≤◌};
 ghost use Rattle.worker_claim.specs.Members.{AreDriven, AreMembersOf, IsDriven, IsMemberOf};
 
 use crate::member::Member;
-use ctm_ports::Gate;
-use region_slots::Field;
+use region_slots::{Field, Gate};
 use std::thread::{Threads, for_each_mut};
 
 /// Has each member drive, all at once where the threads can be made, and one after the other where they can't.

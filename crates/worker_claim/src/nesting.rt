@@ -3,7 +3,7 @@ ghost use Rattle.std.specs.Prelude.{◌≡◌, ◌+◌, ◌<◌, ◌≤◌, ℕ,
 use crate::deque::Deque;
 use crate::nest::Nest;
 use crate::thief::Thief;
-use signal_plan::NoMemory;
+use no_memory::NoMemory;
 use std::alloc::Global;
 
 /// An empty nest for each of so many members, which hand the numbers of so many regions to each other.

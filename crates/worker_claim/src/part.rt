@@ -5,8 +5,7 @@ ghost use Rattle.worker_claim.specs.Turns.{HasWorked, turns_of};
 
 use crate::driven::Driven;
 use crate::sweep::{sweep, turns};
-use ctm_ports::Gate;
-use region_slots::{Field, Pass};
+use region_slots::{Field, Gate, Pass};
 
 /// A sweep, or its first turns where so many are left that it can't be whole.
 pub(crate) fn sweep_within<G: Gate>(

@@ -5,8 +5,7 @@ ghost use Rattle.worker_claim.specs.Driving.{HasSwept, steps_left};
 ghost use Rattle.worker_claim.specs.Turns.{HasTurned, IsCounted};
 
 use crate::driven::Driven;
-use ctm_ports::Gate;
-use region_slots::{Field, Pass};
+use region_slots::{Field, Gate, Pass};
 
 /// One turn on each region, in order of number from `first` on and round.
 pub(crate) fn sweep<G: Gate>(

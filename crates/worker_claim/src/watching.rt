@@ -7,8 +7,7 @@ ghost use Rattle.worker_claim.specs.Watching.{IsWatched};
 
 use crate::member::Member;
 use crate::members::crew;
-use ctm_ports::Gate;
-use region_slots::{Field, Pass, Shot};
+use region_slots::{Field, Gate, Pass, Shot};
 use snapshot::ShotRoom;
 use std::thread::{Threads, join_mut};
 

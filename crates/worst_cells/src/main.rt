@@ -5,11 +5,12 @@
 mod worst;
 
 use call_ending::{Line, Refusal, Status, end};
-use ctm_ports::{OpenGate, ReadEnd, Source, StdSink, StdSource, read_up_to};
+use ctm_ports::{ReadEnd, Source, StdSink, StdSource, read_up_to};
 use delay_report::run_rows;
 use network_file::{MOST_BYTES, Net, NetRefusal};
 use network_run::{charted, last_regions};
-use signal_plan::NoMemory;
+use no_memory::NoMemory;
+use region_slots::OpenGate;
 use std::alloc::Global;
 use std::process::ExitCode;
 use std::thread::Threads;

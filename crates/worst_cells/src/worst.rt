@@ -1,7 +1,7 @@
 use flow_model::Row;
 use line_fields::put_amount;
 use network_file::Cell;
-use signal_plan::NoMemory;
+use no_memory::NoMemory;
 use std::alloc::Global;
 
 /// A line for each of so many cells in which most delay arose, the most first: its name and its delay, in vehicles times

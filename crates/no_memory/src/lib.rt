@@ -1,0 +1,6 @@
+//! What a call answers that got no memory.
+#![tactic(auto)]
+
+mod memory;
+
+pub use memory::NoMemory;
