@@ -1,6 +1,6 @@
--- Regions that all stand at the last step.
+-- Regions that all stand at one step.
 use Rattle.std.specs.Prelude.{replicate, slice_index}
-use Rattle.std.proofs.Common.{◌≡◌, ℕ, ◌<◌, ◌≤◌, List, sym, subst, ◌∙◌, arith}
+use Rattle.std.proofs.Common.{◌≡◌, ℕ, ◌<◌, ◌≤◌, List, length, sym, subst, ◌∙◌, arith}
 use Rattle.std.proofs.lemmas.List.{ext_get_or, get_or-replicate, length-replicate}
 use Rattle.network_file.specs.Network.{Network}
 use Rattle.region_cut.specs.Chart.{ChartLists}
@@ -13,21 +13,24 @@ use Rattle.border_rows.specs.declared.view.Terms.{Terms}
 use Rattle.border_rows.specs.declared.view.View.{View}
 use Rattle.worker_claim.specs.Driving.{AllReach}
 
--- lawful steps none of which is below the last one
-pub all-at-last : (net : Network) (cut : List ℕ) (steps : List ℕ) → AreLawful net cut steps → ((r : ℕ) → r < region_count cut → net.steps ≤ slice_index steps r) → steps ≡ replicate (region_count cut) net.steps
-all-at-last net cut steps lawful low =
-    ext_get_or 0 steps (replicate (region_count cut) net.steps) (lawful.one_each ∙ sym (length-replicate {A = ℕ} (region_count cut) net.steps))
-    (λ r within. let inside : r < region_count cut = omega (arith, within, lawful.one_each) in
-    omega (arith, low r inside, lawful.in_time r 0 within, get_or-replicate (region_count cut) r net.steps 0 inside))
+-- steps of all regions, none below this one and none past it
+pub all-at : (cut : List ℕ) (steps : List ℕ) (goal : ℕ) → length steps ≡ region_count cut → ((r : ℕ) → r < region_count cut → goal ≤ slice_index steps r) →
+    ((r : ℕ) → r < region_count cut → slice_index steps r ≤ goal) → steps ≡ replicate (region_count cut) goal
+all-at cut steps goal one_each low high =
+    ext_get_or 0 steps (replicate (region_count cut) goal) (one_each ∙ sym (length-replicate {A = ℕ} (region_count cut) goal))
+    (λ r within. let inside : r < region_count cut = omega (arith, within, one_each) in
+    omega (arith, low r inside, high r inside, get_or-replicate (region_count cut) r goal 0 inside))
 
--- the regions of a field that is closed with a pass which has seen all of them at the last step stand there
-pub all-ended : (terms : Terms) (net : Network) (chart : ChartLists) (start : StartLists) (every : ℕ) (view : View) (steps : List ℕ) (regions : List RegionValue) →
+-- the regions of a field that is closed with a pass which has seen all of them at a goal stand there, where none is past it
+pub all-ended : (terms : Terms) (net : Network) (chart : ChartLists) (start : StartLists) (every goal : ℕ) (view : View) (steps : List ℕ) (regions : List RegionValue) →
     terms.net.now ≡ net → terms.chart.now ≡ chart → terms.start.now ≡ start → terms.every ≡ every →
     AllStand terms.net.now terms.chart.now terms.start.now terms.every steps regions → AreLawful terms.net.now terms.chart.now.cut steps →
-    ((r : ℕ) → r < region_count terms.chart.now.cut → slice_index view.seen r ≤ slice_index steps r) → AllReach (region_count chart.cut) net.steps view →
-    AllStand net chart start every (replicate (region_count chart.cut) net.steps) regions
-all-ended terms net chart start every view steps regions same_net same_chart same_start same_every stand lawful later reach =
+    ((r : ℕ) → r < region_count terms.chart.now.cut → slice_index view.seen r ≤ slice_index steps r) → AllReach (region_count chart.cut) goal view →
+    ((r : ℕ) → r < region_count terms.chart.now.cut → slice_index steps r ≤ goal) →
+    AllStand net chart start every (replicate (region_count chart.cut) goal) regions
+all-ended terms net chart start every goal view steps regions same_net same_chart same_start same_every stand lawful later reach high =
     let here : AllStand net chart start every steps regions = rw (same_net, same_chart, same_start, same_every) at stand in
     let allowed : AreLawful net chart.cut steps = rw (same_net, same_chart) at lawful in
     let past : (r : ℕ) → r < region_count chart.cut → slice_index view.seen r ≤ slice_index steps r = rw same_chart at later in
-    subst (λ list. AllStand net chart start every list regions) (all-at-last net chart.cut steps allowed (λ r there. omega (arith, reach r there, past r there))) here
+    let most : (r : ℕ) → r < region_count chart.cut → slice_index steps r ≤ goal = rw same_chart at high in
+    subst (λ list. AllStand net chart start every list regions) (all-at chart.cut steps goal allowed.one_each (λ r there. omega (arith, reach r there, past r there)) most) here

@@ -10,5 +10,5 @@ mod watch;
 mod watched_run;
 
 pub use charting::charted;
-pub use run::last_regions;
+pub use run::{last_regions, regions_from};
 pub use watched_run::{Watched, watched_regions};

@@ -1,8 +1,9 @@
-ghost use Rattle.std.specs.Prelude.{◌≡◌, ◌≤◌, IfOk, replicate};
+ghost use Rattle.std.specs.Prelude.{◌≡◌, ◌<◌, ◌≤◌, ℕ, IfOk, replicate, slice_index};
 ghost use Rattle.region_cut.specs.Chart.{chart_of};
 ghost use Rattle.region_cut.specs.Cuttings.{region_count};
+ghost use Rattle.region_cut.specs.LawfulSteps.{AreLawful};
 ghost use Rattle.region_step.specs.Standing.{AllStand};
-ghost use Rattle.region_step.specs.Start.{zero_start};
+ghost use Rattle.region_step.specs.Start.{Fits, zero_start};
 
 use crate::crew::Crew;
 use network_file::Net;
@@ -31,14 +32,39 @@ pub fn last_regions<R: Threads + Sync, G: Gate>(
     ensures { IfOk result (λ regions. AllStand net.now chart.now (zero_start net.now chart.now.cut) every
         (replicate (region_count chart.now.cut) net.now.steps) regions.items) }
 {
-    let steps = net.steps;
+    let goal = net.steps;
     let start = Start::zero(alloc, net, chart)?;
+    regions_from(rt, alloc, net, chart, &start, every, goal, workers, gate)
+}
+
+/// The regions of a chart at the step `goal`, taken there by so many workers from where a start says, none of them past
+/// that step. They are recorded as `last_regions` says, and memory is taken as there.
+pub fn regions_from<R: Threads + Sync, G: Gate>(
+    rt: &R,
+    alloc: Global,
+    net: &Net,
+    chart: &Chart,
+    start: &Start,
+    every: u64,
+    goal: u64,
+    workers: u32,
+    gate: &G,
+) -> Result<Vec<Region>, NoMemory>
+    requires chart { chart.now ≡ chart_of net.now chart.now.cut }
+    requires fits { Fits net.now chart.now.cut start.now }
+    requires lawful { AreLawful net.now chart.now.cut start.now.steps }
+    requires before { (r : ℕ) → r < region_count chart.now.cut → slice_index start.now.steps r ≤ goal }
+    requires in_time { goal ≤ net.now.steps }
+    requires workers { (1 ≤ workers) × (workers ≤ 16) }
+    ensures { IfOk result (λ regions. AllStand net.now chart.now start.now every
+        (replicate (region_count chart.now.cut) goal) regions.items) }
+{
     let mut crew = Crew::new(alloc, workers, chart.regions())?;
-    let (field, mut pass) = Field::open(alloc, net, chart, &start, every, workers + 1)?;
+    let (field, mut pass) = Field::open(alloc, net, chart, start, every, workers + 1)?;
     crew.enlist(&field, &mut pass);
-    crew.drive(rt, &field, steps, gate);
+    crew.drive(rt, &field, goal, gate);
     crew.dismiss(&field, &mut pass);
-    finish(&field, &mut pass, steps, gate);
+    finish(&field, &mut pass, goal, gate);
     let Closed { steps: _, regions } = field.close(pass);
     Ok(regions)
 }

@@ -2,7 +2,8 @@ ghost use Rattle.std.specs.Prelude.{◌≡◌, ◌+◌, ◌<◌, ◌≤◌, ◌^
 ghost use Rattle.region_cut.specs.Chart.{chart_of};
 ghost use Rattle.region_cut.specs.Cuttings.{region_count};
 ghost use Rattle.region_step.specs.Standing.{AllStand};
-ghost use Rattle.region_step.specs.Start.{zero_start};
+ghost use Rattle.region_cut.specs.LawfulSteps.{AreLawful};
+ghost use Rattle.region_step.specs.Start.{Fits, zero_start};
 ghost use Rattle.snapshot.specs.Rooms.{IsRoomFor};
 ghost use Rattle.snapshot.specs.Shots.{AreShots, goal_of};
 ghost use Rattle.region_slots.specs.FieldView.{IsPassOf};
@@ -50,13 +51,68 @@ pub fn watched_regions<R: Threads + Sync, G: Gate>(
         (replicate (region_count chart.now.cut) net.now.steps) watched.regions.items) }
 {
     let start = Start::zero(alloc, net, chart)?;
+    watched_from(rt, alloc, net, chart, &start, every, workers, shots, gate)
+}
+
+// The same from this start, which is that at step 0.
+fn watched_from<R: Threads + Sync, G: Gate>(
+    rt: &R,
+    alloc: Global,
+    net: &Net,
+    chart: &Chart,
+    start: &Start,
+    every: u64,
+    workers: u32,
+    shots: u32,
+    gate: &G,
+) -> Result<Watched, NoMemory>
+    requires chart { chart.now ≡ chart_of net.now chart.now.cut }
+    requires start { start.now ≡ zero_start net.now chart.now.cut }
+    requires fits { Fits net.now chart.now.cut start.now }
+    requires lawful { AreLawful net.now chart.now.cut start.now.steps }
+    requires one_each { length chart.now.cut ≡ length net.now.cells }
+    requires workers { (1 ≤ workers) × (workers ≤ 16) }
+    requires shots { (1 ≤ shots) × (shots + 1 < 2 ^ 32) }
+    ensures shots { IfOk result (λ watched. AreShots net.now chart.now.cut shots watched.shots.items) }
+    ensures stand { IfOk result (λ watched. AllStand net.now chart.now (zero_start net.now chart.now.cut) every
+        (replicate (region_count chart.now.cut) net.now.steps) watched.regions.items) }
+{
     let mut crew = Crew::new(alloc, workers, chart.regions())?;
     let mut room = ShotRoom::new(alloc, net, chart)?;
-    let (field, mut pass) = Field::open(alloc, net, chart, &start, every, workers + 1)?;
+    let (field, pass) = Field::open(alloc, net, chart, start, every, workers + 1)?;
+    watched_field(rt, alloc, net, chart, field, pass, &mut crew, &mut room, shots, gate)
+}
+
+// The same of a field that is open.
+fn watched_field<R: Threads + Sync, G: Gate>(
+    rt: &R,
+    alloc: Global,
+    net: &Net,
+    chart: &Chart,
+    field: Field,
+    mut pass: Pass,
+    crew: &mut Crew,
+    room: &mut ShotRoom,
+    shots: u32,
+    gate: &G,
+) -> Result<Watched, NoMemory>
+    requires network { (field.terms.net.now ≡ net.now) × (field.terms.chart.now ≡ chart.now) }
+    requires start { field.terms.start.now ≡ zero_start net.now chart.now.cut }
+    requires one_each { length chart.now.cut ≡ length net.now.cells }
+    requires shots { (1 ≤ shots) × (shots + 1 < 2 ^ 32) }
+    requires belongs { IsPassOf field pass }
+    requires seats { (pass.knows.share ≡ crew.old.workers + 1) × (pass.knows.share ≡ field.terms.seats) }
+    requires some { 1 ≤ crew.old.workers }
+    requires regions { crew.old.regions ≡ region_count chart.now.cut }
+    requires nobody { crew.old.members ≡ [] }
+    requires room { IsRoomFor chart.now room.old }
+    requires reach { pass.knows.reach ≡ 0 }
+    ensures shots { IfOk result (λ watched. AreShots net.now chart.now.cut shots watched.shots.items) }
+    ensures stand { IfOk result (λ watched. AllStand net.now chart.now (zero_start net.now chart.now.cut) field.entry.terms.every
+        (replicate (region_count chart.now.cut) net.now.steps) watched.regions.items) }
+{
     let mut text = Vec::new(alloc);
-    take_shots(
-        rt, net, chart, &field, &mut pass, &mut crew, &mut room, shots, gate, &mut text,
-    )?;
+    take_shots(rt, net, chart, &field, &mut pass, crew, room, shots, gate, &mut text)?;
     let Closed { steps: _, regions } = field.close(pass);
     Ok(Watched {
         shots: text,
