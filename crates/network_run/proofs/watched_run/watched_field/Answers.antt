@@ -13,6 +13,6 @@ returns-clause-stand g c =
     let count : region_count terms.chart.now.cut ≡ region_count c.args.chart.now.cut = ap (λ chart. region_count chart.cut) c.requires.network.1 in
     let steps : terms.net.now.steps ≡ c.args.net.now.steps = ap (λ net. net.steps) c.requires.network.0 in
     all-ended terms c.args.net.now c.args.chart.now (zero_start c.args.net.now c.args.chart.now.cut) terms.every c.args.net.now.steps c.take_shots.new.pass.knows c.close-regions.result.steps.items c.close-regions.result.regions.items
-    c.requires.network.0 c.requires.network.1 c.requires.start refl
+    c.requires.network.0 c.requires.network.1 c.requires.start (refl {a = terms.every})
     closed.stand closed.lawful closed.later (c.in_ok-take_shots.ensures.last refl)
     (λ r there. omega (arith, steps, closed.lawful.in_time r 0 (omega (arith, there, closed.lawful.one_each))))
