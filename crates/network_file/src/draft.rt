@@ -19,7 +19,7 @@ use crate::record_kind::RecordKind;
 use crate::region_table::RegionTable;
 use fixed_flow::MOST_PARTS;
 use no_memory::NoMemory;
-use signal_plan::{MOST_RATIO, MOST_STEPS, Plan};
+use signal_plan::{Demand, Limit, MOST_RATIO, MOST_STEPS, Plan, Signal, Turn};
 use std::alloc::Global;
 use std::marker::Model;
 
@@ -109,97 +109,64 @@ impl NetDraft {
         Ok(NetDraft { connectors, ..self })
     }
 
-    /// With the signal of a cell: it sends only where its place in the cycle is in `[from, to)`.
-    pub(crate) fn add_signal(
-        self,
-        cell: u32,
-        cycle: u32,
-        offset: u32,
-        from: u32,
-        to: u32,
-    ) -> Result<NetDraft, NoMemory>
-        requires there { cell < length self.cells }
-        requires sends { is_exit_at self.cells cell ≡ false }
-        requires first_signal { is_signalled self.plan cell ≡ false }
-        requires cycle { cycle ≤ MOST_STEPS }
-        requires offset { offset < cycle }
-        requires some_step { from < to }
-        requires within { to ≤ cycle }
-        ensures { IfOk result (λ more. more ≡ add_signal self (record { cell = cell; cycle = cycle; offset = offset; from = from; to = to })) }
+    /// With the signal of a cell that has none yet.
+    pub(crate) fn add_signal(self, signal: Signal) -> Result<NetDraft, NoMemory>
+        requires there { signal.cell < length self.cells }
+        requires sends { is_exit_at self.cells signal.cell ≡ false }
+        requires first_signal { is_signalled self.plan signal.cell ≡ false }
+        requires cycle { signal.cycle ≤ MOST_STEPS }
+        requires some_step { signal.from < signal.to }
+        requires within { signal.to ≤ signal.cycle }
+        ensures { IfOk result (λ more. more ≡ add_signal self signal) }
     {
         let mut plan = self.plan;
-        plan.put_signal(
-            cell,
-            u64::from(cycle),
-            u64::from(offset),
-            u64::from(from),
-            u64::from(to),
-        )?;
+        plan.put_signal(signal)?;
         Ok(NetDraft { plan, ..self })
     }
 
-    /// With this capacity of a cell in each step of `[from, to)`.
-    pub(crate) fn add_limit(
-        self,
-        cell: u32,
-        from: u32,
-        to: u32,
-        capacity: u64,
-    ) -> Result<NetDraft, NoMemory>
+    /// With one more limit.
+    pub(crate) fn add_limit(self, limit: Limit) -> Result<NetDraft, NoMemory>
         requires room { length self.plan.limits < most_records self.format }
-        requires there { cell < length self.cells }
-        requires some_step { from < to }
-        requires in_time { to ≤ MOST_STEPS }
-        requires capacity { capacity ≤ MOST_CAPACITY }
-        ensures { IfOk result (λ more. more ≡ add_limit self (record { cell = cell; from = from; to = to; capacity = capacity })) }
+        requires there { limit.cell < length self.cells }
+        requires some_step { limit.from < limit.to }
+        requires in_time { limit.to ≤ MOST_STEPS }
+        requires capacity { limit.capacity ≤ MOST_CAPACITY }
+        ensures { IfOk result (λ more. more ≡ add_limit self limit) }
     {
         let mut plan = self.plan;
-        plan.put_limit(cell, u64::from(from), u64::from(to), capacity)?;
+        plan.put_limit(limit)?;
         Ok(NetDraft { plan, ..self })
     }
 
-    /// With so many parts in each step of `[from, to)` that enter a gate.
-    pub(crate) fn add_demand(
-        self,
-        gate: u32,
-        from: u32,
-        to: u32,
-        amount: u64,
-    ) -> Result<NetDraft, NoMemory>
+    /// With one more demand of a gate.
+    pub(crate) fn add_demand(self, demand: Demand) -> Result<NetDraft, NoMemory>
         requires room { length self.plan.demands < most_records self.format }
-        requires there { gate < length self.cells }
-        requires at_gate { is_gate_at self.cells gate ≡ true }
-        requires some_step { from < to }
-        requires in_time { to ≤ MOST_STEPS }
-        requires amount { amount ≤ MOST_PARTS }
-        ensures { IfOk result (λ more. more ≡ add_demand self (record { cell = gate; from = from; to = to; amount = amount })) }
+        requires there { demand.cell < length self.cells }
+        requires at_gate { is_gate_at self.cells demand.cell ≡ true }
+        requires some_step { demand.from < demand.to }
+        requires in_time { demand.to ≤ MOST_STEPS }
+        requires amount { demand.amount ≤ MOST_PARTS }
+        ensures { IfOk result (λ more. more ≡ add_demand self demand) }
     {
         let mut plan = self.plan;
-        plan.put_demand(gate, u64::from(from), u64::from(to), amount)?;
+        plan.put_demand(demand)?;
         Ok(NetDraft { plan, ..self })
     }
 
-    /// With these turning shares of the diverge out of a cell in each step of `[from, to)`.
-    pub(crate) fn add_turn(
-        self,
-        cell: u32,
-        from: u32,
-        to: u32,
-        b1: u32,
-        b2: u32,
-    ) -> Result<NetDraft, NoMemory>
+    /// With one more turn of the diverge out of a cell.
+    pub(crate) fn add_turn(self, turn: Turn) -> Result<NetDraft, NoMemory>
         requires room { length self.plan.turns < most_records self.format }
-        requires there { cell < length self.cells }
-        requires some_step { from < to }
-        requires in_time { to ≤ MOST_STEPS }
-        requires some_first { 1 ≤ b1 }
-        requires first { b1 ≤ MOST_RATIO }
-        requires some_second { 1 ≤ b2 }
-        requires second { b2 ≤ MOST_RATIO }
-        ensures { IfOk result (λ more. more ≡ add_turn self (record { cell = cell; from = from; to = to; b1 = b1; b2 = b2 })) }
+        requires there { turn.cell < length self.cells }
+        requires some_step { turn.from < turn.to }
+        requires in_time { turn.to ≤ MOST_STEPS }
+        requires some_first { 1 ≤ turn.b1 }
+        requires first { turn.b1 ≤ MOST_RATIO }
+        requires some_second { 1 ≤ turn.b2 }
+        requires second { turn.b2 ≤ MOST_RATIO }
+        ensures { IfOk result (λ more. more ≡ add_turn self turn) }
     {
         let mut plan = self.plan;
-        plan.put_turn(cell, u64::from(from), u64::from(to), b1, b2)?;
+        plan.put_turn(turn)?;
         Ok(NetDraft { plan, ..self })
     }
 
@@ -218,14 +185,14 @@ impl NetDraft {
     pub(crate) fn taken_before(&self, kind: RecordKind) -> usize
         ensures { result ≡ taken_before kind self.now }
     {
-        let (_, limits, demands) = self.plan.counts();
+        let planned = self.plan.counts();
         match kind {
             RecordKind::Steps | RecordKind::Signal | RecordKind::Region => 0,
             RecordKind::Road | RecordKind::Gate | RecordKind::Exit => self.cells.len(),
             RecordKind::Link | RecordKind::Merge | RecordKind::Diverge => self.connectors.len(),
-            RecordKind::Limit => limits as usize,
-            RecordKind::Demand => demands as usize,
-            RecordKind::Turn => self.plan.turns() as usize,
+            RecordKind::Limit => planned.limits,
+            RecordKind::Demand => planned.demands,
+            RecordKind::Turn => planned.turns,
         }
     }
 }

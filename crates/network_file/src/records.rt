@@ -18,7 +18,7 @@ use crate::limits::{MOST_CAPACITY, MOST_REGIONS, MOST_ROOM};
 use crate::record_kind::RecordKind;
 use csv::ByteRecord;
 use fixed_flow::MOST_PARTS;
-use signal_plan::MOST_STEPS;
+use signal_plan::{Demand, Limit, MOST_STEPS, Signal, Turn};
 use std::alloc::Global;
 
 /// The draft with one more record.
@@ -164,7 +164,13 @@ fn take_signal(draft: NetDraft, row: &ByteRecord) -> Result<NetDraft, RecordRefu
     let cycle = whole_within(1, MOST_STEPS, field(row, 2))?;
     let offset = whole_within(0, cycle - 1, field(row, 3))?;
     let (from, to) = range_within(cycle, field(row, 4), field(row, 5))?;
-    Ok(draft.add_signal(cell, cycle, offset, from, to)?)
+    Ok(draft.add_signal(Signal {
+        cell,
+        cycle,
+        offset,
+        from,
+        to,
+    })?)
 }
 
 #[tactic(auto, unfolding(crate::specs::Taking::take_limit))]
@@ -175,7 +181,12 @@ fn take_limit(draft: NetDraft, row: &ByteRecord) -> Result<NetDraft, RecordRefus
     let cell = known_cell(&draft.cells, field(row, 1))?;
     let (from, to) = range_within(MOST_STEPS, field(row, 2), field(row, 3))?;
     let capacity = amount_within(MOST_CAPACITY, field(row, 4))?;
-    Ok(draft.add_limit(cell, from, to, capacity)?)
+    Ok(draft.add_limit(Limit {
+        cell,
+        from,
+        to,
+        capacity,
+    })?)
 }
 
 #[tactic(auto, unfolding(crate::specs::Taking::take_demand))]
@@ -186,7 +197,12 @@ fn take_demand(draft: NetDraft, row: &ByteRecord) -> Result<NetDraft, RecordRefu
     let gate = demand_gate(&draft.cells, field(row, 1))?;
     let (from, to) = range_within(MOST_STEPS, field(row, 2), field(row, 3))?;
     let amount = amount_within(MOST_PARTS, field(row, 4))?;
-    Ok(draft.add_demand(gate, from, to, amount)?)
+    Ok(draft.add_demand(Demand {
+        cell: gate,
+        from,
+        to,
+        amount,
+    })?)
 }
 
 #[tactic(auto, unfolding(crate::specs::Taking::take_turn))]
@@ -197,7 +213,13 @@ fn take_turn(draft: NetDraft, row: &ByteRecord) -> Result<NetDraft, RecordRefusa
     let cell = turn_cell(&draft.cells, &draft.connectors, field(row, 1))?;
     let (from, to) = range_within(MOST_STEPS, field(row, 2), field(row, 3))?;
     let (b1, b2) = weights(field(row, 4), field(row, 5))?;
-    Ok(draft.add_turn(cell, from, to, b1, b2)?)
+    Ok(draft.add_turn(Turn {
+        cell,
+        from,
+        to,
+        b1,
+        b2,
+    })?)
 }
 
 #[tactic(auto, unfolding(crate::specs::Taking::take_region))]
