@@ -16,7 +16,8 @@ COMMANDS = {"build": "Make the network file of a study.", "run": "Run a study or
             "lint": "Explain the first fault of a network file, or warn.",
             "table": "Write a report as a tidy table, CSV.",
             "travel-time": "Tell the travel times along a road or a route.", "plot": "Draw a report.",
-            "compare": "Compare two reports.", "sweep": "Run a study over varied values."}
+            "import": "Make a study of another program's network.", "compare": "Compare two reports.", "sweep": "Run a study over varied values."}
+MODULES = {"import": "importing", "travel-time": "travel_time"}  # of commands whose names aren't those of their modules
 PACKAGES = {"click": "python3-click", "pandas": "python3-pandas", "numpy": "python3-numpy",
             "matplotlib": "python3-matplotlib", "networkx": "python3-networkx", "distributed": "python3-distributed"}
 EPILOG = """\b
@@ -40,7 +41,7 @@ class Commands(click.Group):
         """The command of a name, or None."""
         if name not in COMMANDS:
             return None
-        command: click.Command = importlib.import_module(f".commands.{name.replace('-', '_')}", __package__).command
+        command: click.Command = importlib.import_module(f".commands.{MODULES.get(name, name)}", __package__).command
         return command
 
     def format_commands(self, context: click.Context, formatter: click.HelpFormatter) -> None:

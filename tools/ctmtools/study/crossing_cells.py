@@ -180,5 +180,9 @@ class Expansion:
         taken = " to ".join(told(steps * step) for steps in ends)
         off = "; the fewest of each approach are taken off its length" if self.crossing.within else ""
         self.study.remarks.append(
-            f"{self.crossing.place}: {len(self.movements)} movements, {len(self.made)} cells of its own; driving through "
-            f"takes {taken} s more, a step in each cell{off}")
+            f"{self.crossing.place}: {_counted(len(self.movements), 'movement')}, {_counted(len(self.made), 'cell')} of its "
+            f"own; driving through takes {taken} s more, a step in each cell{off}")
+
+
+def _counted(count: int, what: str) -> str:
+    return f"{count} {what}{'s'[:count != 1]}"

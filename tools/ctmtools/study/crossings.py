@@ -12,7 +12,7 @@ from .plan import Crossing, Matrix, Phase
 from .quantities import duration, number, shown, word
 from .times import Times
 
-MOST_ARMS = 8
+MOST_ARMS = 16
 
 
 def crossing(table: Entries, times: Times) -> Crossing:
@@ -122,7 +122,8 @@ def _phase(table: Entries, found: Crossing, pause: Fraction) -> Phase:
     ways = _ways(table, found)
     table.done()
     cycle = found.cycle or Fraction(0)
-    if not 0 < green or start + green > cycle:
+    said = table.has("start")
+    if not 0 < green <= cycle or start >= cycle or start + green > cycle and not said:
         raise Problem(f"{table.key('green')}: from {float(start):g} to {float(start + green):g} s is not within the "
                       f"cycle of {float(cycle):g} s")
     if not ways:

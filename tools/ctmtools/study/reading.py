@@ -75,6 +75,7 @@ def _study(entries: Entries, path: Path) -> Study:
     study.signals = [signal for table in entries.list("signals") for signal in _signals(table, times)]
     study.closures = [_closure(table, times) for table in entries.list("closures")]
     study.openings = [_opening(table, times) for table in entries.list("openings")]
+    study.remarks += entries.take("notes", list_of(title), [])
     study.crossings = [crossing(table, times) for table in entries.list("junctions")]
     entries.done()
     if not study.roads and not study.gates:
