@@ -85,3 +85,26 @@ def put(found: Streets, terms: Terms, interval: float, until: float, target: str
     click.echo(f"{target}: {len(traffic.streets)} streets, {len(found.programs)} signals, {vehicles:,.6g} vehicles")
     for line in text.split("notes = [", 1)[1].split("\n]", 1)[0].splitlines()[1:] if "notes = [" in text else []:
         click.echo(f"  {line.strip()[1:-2]}")
+
+
+@command.command("gmns", epilog="""\b
+Example:
+  ctm-tools import gmns town -o town.toml
+
+Of the folder are read node.csv, link.csv, movement.csv, signal_timing_plan.csv, signal_timing_phase.csv,
+signal_phase_mvmt.csv, signal_coordination.csv and the units of config.csv (else km and km/h). Demand is no part of GMNS: it
+comes from demand.csv with the columns link_id, start, end (s) and flow (vehicles/h), turning shares from a column `share`
+of movement.csv, else by lanes.""")
+@click.argument("folder", metavar="FOLDER", type=click.Path())
+@click.option("-o", "--output", metavar="STUDY.toml", type=click.Path(), help="Where the study goes.")
+@click.option("--step", default="2 s", show_default=True, metavar="TIME", help="The length of a step.")
+@click.option("--start", default="00:00", show_default=True, metavar="TIME", help="The clock time of second 0.")
+@click.option("--until", default="1 h", show_default=True, metavar="TIME", help="How long the study is.")
+def gmns(folder: str, output: str | None, step: str, start: str, until: str) -> None:
+    """Make a study of a network in GMNS, a folder of CSV files."""
+    from ..imports.gmns import read_folder
+
+    clock(start, "--start")
+    lasting = seconds(until, "--until")
+    found = read_folder(folder)
+    put(found, Terms(seconds(step, "--step"), start, lasting), lasting, lasting, output or found.title + ".toml")
