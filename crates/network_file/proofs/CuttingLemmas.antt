@@ -10,7 +10,7 @@ use Rattle.std.proofs.lemmas.List.Folds.{find-append, list_all-append, list_all-
 use Rattle.std.proofs.lemmas.List.FromFn.{length-range_with_len, get_or-range_with_len, length-map-range_with_len, get_or-map-range_with_len, map-range_with_len_more}
 use Rattle.network_file.specs.Cutting.{greatest, has_no_gap, IsCutting}
 use Rattle.network_file.specs.Draft.{Draft}
-use Rattle.network_file.specs.Reading.{regions_of}
+use Rattle.network_file.specs.Reading.{cutting_of_draft}
 use Rattle.network_file.specs.declared.code.Code.TheVariants.{NoRegion, RegionGap}
 use Rattle.network_file.specs.declared.limits.TheConstants.{MOST_REGIONS}
 use Rattle.network_file.specs.Regions.{all_have_regions, region_in, region_numbers}
@@ -93,11 +93,11 @@ chosen false false whole numbers regions is = cc
 chosen false true false numbers regions is = cc
 chosen false true true numbers regions is = inr (refl, cc)
 
-pub regions_of-cutting : (draft : Draft) (regions : List ℕ) →
+pub cutting_of_draft-cutting : (draft : Draft) (regions : List ℕ) →
     All (λ region. (region.cell < length draft.cells) × (region.number < MOST_REGIONS)) draft.regions →
-    regions_of draft ≡ Ok regions → (regions ≡ []) ⊎ IsCutting (length draft.cells) regions
-unfolding regions_of
-regions_of-cutting draft regions sound is =
+    cutting_of_draft draft ≡ Ok regions → (regions ≡ []) ⊎ IsCutting (length draft.cells) regions
+unfolding cutting_of_draft
+cutting_of_draft-cutting draft regions sound is =
     let cells : ℕ = length draft.cells in
     let numbers : List ℕ = region_numbers cells draft.regions in
     let few = All-weaker (λ (region : RegionRecord). (region.cell < cells) × (region.number < MOST_REGIONS)) (λ region. region.number < MOST_REGIONS)
@@ -110,3 +110,8 @@ regions_of-cutting draft regions sound is =
         no_gap = made.0;
       }))
     ]
+
+-- without region records there are no regions
+pub cutting_of_draft-none : (draft : Draft) (regions : List ℕ) → draft.regions ≡ [] → cutting_of_draft draft ≡ Ok regions → regions ≡ []
+unfolding cutting_of_draft
+cutting_of_draft-none draft regions none is = cc (rw none at is)

@@ -54,3 +54,5 @@ pub record IsSoundDraft (draft : Draft) : Type 0 where
   pub few_steps : (steps : ℕ) → draft.steps ≡ Some steps → steps ≤ MOST_STEPS
   pub sound : HasSoundParts draft.format draft.cells draft.connectors draft.plan
   pub regions : All (λ region. (region.cell < length draft.cells) × (region.number < MOST_REGIONS)) draft.regions
+  -- format 1 has no regions
+  pub no_regions : draft.format ≡ 1 → draft.regions ≡ []

@@ -9,6 +9,7 @@ pub mod Draft
 pub mod FaultCode
 pub mod Fields
 pub mod FileRecords
+pub mod Fitting
 pub mod Formats
 pub mod Marks
 pub mod NameIndexing

@@ -1,7 +1,7 @@
 -- When an index finds the cells of a list by their names. The cells whose names fall into one bucket are chained.
-use Rattle.std.specs.Prelude.{◌≡◌, ◌≢◌, ℕ, ◌+◌, ◌-◌, ◌<◌, ◌≤◌, List, [], Some, length, map, bit_and, slice_index, slice_index_or}
+use Rattle.std.specs.Prelude.{◌≡◌, ◌≢◌, ℕ, ◌+◌, ◌-◌, ◌<◌, ◌≤◌, List, Some, length, bit_and, slice_index}
 use Rattle.std.specs.Hash.FoldHasher as folding
-use Rattle.network_file.specs.Cells.{cell_named}
+use Rattle.network_file.specs.Cells.{cell_named, name_at}
 use Rattle.network_file.specs.declared.buckets.Buckets.{Buckets}
 use Rattle.network_file.specs.declared.cell.Cell.{Cell}
 use Rattle.network_file.specs.declared.name_index.NameIndex.{NameIndex}
@@ -10,9 +10,6 @@ use Rattle.signal_plan.specs.declared.bounds.TheConstants.{MOST_RECORDS}
 -- the bucket of a name
 unfoldable pub bucket_of : Buckets → List ℕ → ℕ
 bucket_of buckets name = bit_and (folding.finish (folding.write buckets.seed name)) buckets.last
-
-abbrev pub name_at : List Cell → ℕ → List ℕ
-name_at cells i = slice_index_or (map (λ c. c.name) cells) i []
 
 -- end is one more than the number of the last of the first n cells that is in the bucket, or 0 where none is
 pub record IsChainEnd (bucket_at : ℕ → ℕ) (n bucket end : ℕ) : Type 0 where

@@ -1,12 +1,12 @@
 -- A network as contracts see it, and what holds of every network.
 use Rattle.std.specs.Prelude.{◌≡◌, ℕ, ◌+◌, ◌<◌, ◌≤◌, ◌⊎◌, List, [], length, map, eqb, bytes_eq, All, count_by, sum_by, true, false}
-use Rattle.std.specs.List.{IsDistinct}
+use Rattle.std.specs.List.{IsDistinct, list_any}
 use Rattle.fixed_flow.specs.declared.amount.TheConstants.{MOST_PARTS}
 use Rattle.signal_plan.specs.Records.{PlanRecords, TurnRecord}
 use Rattle.signal_plan.specs.Total.{total_demand}
 use Rattle.signal_plan.specs.declared.bounds.TheConstants.{MOST_RATIO, MOST_STEPS}
 use Rattle.network_file.specs.Cells.{is_road, is_exit, is_exit_at, is_gate_at}
-use Rattle.network_file.specs.Connectors.{upstream_of, downstream_of, weights_of, leads_into, leads_out_of}
+use Rattle.network_file.specs.Connectors.{diverges_from, upstream_of, downstream_of, weights_of, leads_into, leads_out_of}
 use Rattle.network_file.specs.Cutting.{IsCutting}
 use Rattle.network_file.specs.Formats.{most_records}
 use Rattle.network_file.specs.declared.limits.TheConstants.{MOST_ROOM, MOST_CAPACITY}
@@ -67,6 +67,8 @@ pub record IsPlanOf (format : ℕ) (cells : List Cell) (plan : PlanRecords) : Ty
   pub demands : All (λ demand. (is_gate_at cells demand.cell ≡ true) × (demand.to ≤ MOST_STEPS)) plan.demands
   pub few_turns : length plan.turns ≤ most_records format
   pub turns : All (λ turn. (turn.to ≤ MOST_STEPS) × IsTurnWithin turn) plan.turns
+  -- format 1 has no turns
+  pub no_turns : format ≡ 1 → plan.turns ≡ []
 
 -- what holds of the parts of a network, and of a draft of one at each record
 pub record HasSoundParts (format : ℕ) (cells : List Cell) (connectors : List Connector) (plan : PlanRecords) : Type 0 where
@@ -79,6 +81,8 @@ pub record HasSoundParts (format : ℕ) (cells : List Cell) (connectors : List C
   pub one_out : (i : ℕ) → count_by (leads_out_of i) connectors ≤ 1
   pub one_in : (i : ℕ) → count_by (leads_into i) connectors ≤ 1
   pub planned : IsPlanOf format cells plan
+  -- a diverge leads out of the cell of each turn record
+  pub turns_diverge : All (λ turn. list_any (diverges_from turn.cell) connectors ≡ true) plan.turns
 
 -- all that ever enters: first occupancies, and the demand of the steps below T
 abbrev pub load_of : List Cell → PlanRecords → (steps : ℕ) → ℕ
@@ -92,4 +96,6 @@ pub record IsNetwork (net : Network) : Type 0 where
   pub some_cells : 1 ≤ length net.cells
   pub sound : HasSoundParts net.format net.cells net.connectors net.plan
   pub regions : (net.regions ≡ []) ⊎ IsCutting (length net.cells) net.regions
+  -- format 1 has no regions
+  pub no_regions : net.format ≡ 1 → net.regions ≡ []
   pub load : load_of net.cells net.plan net.steps ≤ MOST_PARTS

@@ -1,0 +1,20 @@
+use crate::cell::Cell;
+use crate::connector::Connector;
+use crate::plan_records::{Demand, Limit, Turn};
+use crate::region_record::RegionRecord;
+use signal_plan::Signal;
+
+/// What a record of the file says, before a draft has taken it.
+#[derive(Drop)]
+pub(crate) enum Entry {
+    /// The number of steps.
+    Steps(u32),
+    /// A cell and its capacity.
+    Cell(Cell, u64),
+    Connector(Connector),
+    Signal(Signal),
+    Limit(Limit),
+    Demand(Demand),
+    Turn(Turn),
+    Region(RegionRecord),
+}
