@@ -12,7 +12,7 @@ use Rattle.network_file.specs.Formats.{most_records}
 use Rattle.network_file.specs.Network.{IsSoundConnector}
 use Rattle.network_file.specs.declared.cell.Cell.{Cell}
 use Rattle.network_file.specs.declared.connector.Connector.TheVariants.{Link, Merge, Diverge}
-use Rattle.signal_plan.specs.declared.bounds.TheConstants.{MOST_RATIO}
+use Rattle.signal_plan.specs.Limits.{most_ratio}
 
 -- a cell that may stand upstream, one that may stand downstream, and a weight
 abbrev Sends : List Cell → ℕ → Type 0
@@ -22,7 +22,7 @@ abbrev Receives : List Cell → ℕ → Type 0
 Receives cells i = (i < length cells) × (is_gate_at cells i ≡ false)
 
 abbrev IsWeight : ℕ → Type 0
-IsWeight weight = (1 ≤ weight) × (weight ≤ MOST_RATIO)
+IsWeight weight = (1 ≤ weight) × (weight ≤ most_ratio)
 
 one : (P : ℕ → Type 0) (a : ℕ) → P a → All P (a ∷ [])
 one P a h = All-cons P a [] h (All-nil P)

@@ -1,7 +1,7 @@
 -- A converted file is the same network in format 2.
 use Rattle.std.proofs.Common.{ℕ, ◌≡◌, ◌+◌, List, [], ◌∷◌, Ok, Err, Some, None, refl, sym, ap, ◌∙◌, drop, length}
 use Rattle.std.specs.Prelude.{Option, Result, nat_le, nat_lt, ok_or}
-use Rattle.fixed_flow.specs.declared.amount.TheConstants.{MOST_PARTS}
+use Rattle.fixed_flow.specs.Limits.{most_parts}
 use Rattle.std.proofs.lemmas.List.Elements.{All-nil}
 use Rattle.network_file.specs.Converted.{converted}
 use Rattle.network_file.specs.Draft.{Draft, empty_draft}
@@ -36,12 +36,12 @@ unfolding network_in_all
 network_in_all-alike draft net made =
     let (steps, (is_steps, made1)) = bind-ok (ok_or draft.steps NoSteps) _ net made in
     let (cells, made2) = must-ok (nat_lt 0 (length draft.cells)) NoCells _ net made1 in
-    let (load, made3) = must-ok (nat_le (load_of draft.cells draft.plan steps) MOST_PARTS) TooMuch _ net made2 in
+    let (load, made3) = must-ok (nat_le (load_of draft.cells draft.plan steps) most_parts) TooMuch _ net made2 in
     let (regions, (is_regions, made4)) = bind-ok (cutting_of_draft draft) _ net made3 in
     let same : record { format = draft.format; steps = steps; cells = draft.cells; connectors = draft.connectors; plan = draft.plan; regions = regions } ≡ net = cc made4 in
     bind-as (ok_or draft.steps NoSteps) _ steps _ is_steps
     (must-as (nat_lt 0 (length draft.cells)) NoCells _ _ cells
-    (must-as (nat_le (load_of draft.cells draft.plan steps) MOST_PARTS) TooMuch _ _ load
+    (must-as (nat_le (load_of draft.cells draft.plan steps) most_parts) TooMuch _ _ load
     (bind-as (cutting_of_draft (in_format_2 draft)) _ regions _ (cutting_of_draft-in_format_2 draft ∙ is_regions) (ap (λ net. Ok (net_in_format_2 net)) same))))
 
 at_place-ok : {A : Type 0} (place : ℕ) (m : Result A Code) (a : A) → at_place place m ≡ Ok a → m ≡ Ok a

@@ -1,19 +1,17 @@
 -- What a network says of its cells and connectors, for the crates above.
 use Rattle.std.proofs.Common.{ℕ, ◌≡◌, ◌==◌, ◌<◌, ◌≤◌, ◌^◌, Bool, true, false, List, length, get_or, cond, sym, ap, ◌∙◌, arith}
 use Rattle.std.proofs.lemmas.List.{get_or_default}
-use Rattle.signal_plan.specs.declared.bounds.TheConstants.{MOST_RECORDS}
 use Rattle.network_file.specs.Connectors.{connector_at}
 use Rattle.network_file.specs.Formats.{most_records}
 use Rattle.network_file.specs.Network.{IsNetwork, IsSoundConnector, Network}
 use Rattle.network_file.specs.declared.connector.Connector.{Connector}
 use Rattle.network_file.specs.declared.connector.Connector.TheVariants.{Link}
-use Rattle.network_file.specs.declared.limits.TheConstants.{MOST_RECORDS_OF_FORMAT_1}
 
--- a file of either format has few records of a sort
-pub few_records : (format : ℕ) → most_records format ≤ MOST_RECORDS
+-- a file of either format has at most as many records of a sort as one of format 2
+pub few_records : (format : ℕ) → most_records format ≤ most_records 2
 few_records format = by (format == 2)
   where
-    by : (second : Bool) → cond second MOST_RECORDS MOST_RECORDS_OF_FORMAT_1 ≤ MOST_RECORDS
+    by : (second : Bool) → cond second (most_records 2) (most_records 1) ≤ most_records 2
     by true = omega arith
     by false = omega arith
 

@@ -2,7 +2,6 @@
 use Rattle.std.proofs.Common.{ℕ, zero, suc, ◌≡◌, ◌==◌, ◌<◌, true, List, [], ◌∷◌, Ok, refl, sym, subst, ap, ◌∙◌, arith, length}
 use Rattle.std.specs.Prelude.{nat_lt, ok_or}
 use Rattle.std.proofs.lemmas.Bool.{eqb-true, lt-ltb, ltb-true}
-use Rattle.signal_plan.specs.declared.bounds.TheConstants.{MOST_RECORDS}
 use Rattle.network_file.specs.Draft.{Draft}
 use Rattle.network_file.specs.Fields.{field}
 use Rattle.network_file.specs.Formats.{most_records}
@@ -78,10 +77,10 @@ taken_before-in_format_2 Turn draft = refl
 taken_before-in_format_2 Region draft = refl
 
 -- what is within the limit of a format is within that of format 2
-room-in_format_2 : (taken format : ℕ) → nat_lt taken (most_records format) ≡ true → nat_lt taken MOST_RECORDS ≡ true
+room-in_format_2 : (taken format : ℕ) → nat_lt taken (most_records format) ≡ true → nat_lt taken (most_records 2) ≡ true
 room-in_format_2 taken format room =
     let less : taken < most_records format = ltb-true taken (most_records format) room in
-    lt-ltb taken MOST_RECORDS (omega (arith, less, few_records format))
+    lt-ltb taken (most_records 2) (omega (arith, less, few_records format))
 
 fields_from-tail : (first : List ℕ) (rest : List (List ℕ)) (place count : ℕ) → fields_from (first ∷ rest) (suc place) count ≡ fields_from rest place count
 fields_from-tail first rest place zero = refl
@@ -113,13 +112,13 @@ take_record-alike draft more fields names taken =
     record_kind_of-word draft.format (field fields 0) kind (ok_or-some (record_kind_of draft.format (field fields 0)) BadKind kind is_kind) in
     let count : length fields ≡ suc (later_count kind) = eqb-true (length fields) (field_count kind) counted ∙ field_count-later kind in
     let kind_2 : ok_or (record_kind_of 2 (field fields 0)) BadKind ≡ Ok kind = ap (λ text. ok_or (record_kind_of 2 text) BadKind) named ∙ ap (λ o. ok_or o BadKind) (record_kind_of-word_of kind) in
-    let room_2 : nat_lt (taken_before kind (in_format_2 draft)) MOST_RECORDS ≡ true =
-    ap (λ n. nat_lt n MOST_RECORDS) (taken_before-in_format_2 kind draft) ∙ room-in_format_2 (taken_before kind draft) draft.format room in (
+    let room_2 : nat_lt (taken_before kind (in_format_2 draft)) (most_records 2) ≡ true =
+    ap (λ n. nat_lt n (most_records 2)) (taken_before-in_format_2 kind draft) ∙ room-in_format_2 (taken_before kind draft) draft.format room in (
       plain-by_places fields (later_count kind) count (subst IsPlain (sym named) (word_of-plain kind)) plain,
       (
         bind-as (ok_or (record_kind_of 2 (field fields 0)) BadKind) _ kind _ kind_2
             (must-as (length fields == field_count kind) BadCount _ _ counted
-            (must-as (nat_lt (taken_before kind (in_format_2 draft)) MOST_RECORDS) TooMany _ _ room_2 alike)),
+            (must-as (nat_lt (taken_before kind (in_format_2 draft)) (most_records 2)) TooMany _ _ room_2 alike)),
         new_names,
       ),
     )

@@ -11,6 +11,7 @@ pub mod Fields
 pub mod FileRecords
 pub mod Fitting
 pub mod Formats
+pub mod Limits
 pub mod Marks
 pub mod NameIndexing
 pub mod NetView

@@ -10,12 +10,11 @@ use crate::connector::Connector;
 use crate::connector_table::ConnectorTable;
 use crate::entry::Entry;
 use crate::limits::MOST_BYTES;
-use crate::plan_records::{Demand, Limit, Turn};
 use crate::record_kind::RecordKind;
 use crate::region_record::RegionRecord;
 use crate::region_table::RegionTable;
 use no_memory::NoMemory;
-use signal_plan::{MOST_STEPS, Plan, Signal};
+use signal_plan::{Demand, Limit, MOST_STEPS, Plan, Signal, Turn};
 use std::alloc::Global;
 use std::marker::Model;
 
@@ -122,13 +121,7 @@ impl NetDraft {
         ensures { IfOk result (λ more. more ≡ add_signal self signal) }
     {
         let mut plan = self.plan;
-        plan.put_signal(
-            signal.cell,
-            u64::from(signal.cycle),
-            u64::from(signal.offset),
-            u64::from(signal.from),
-            u64::from(signal.to),
-        )?;
+        plan.put_signal(signal)?;
         Ok(NetDraft { plan, ..self })
     }
 
@@ -138,12 +131,7 @@ impl NetDraft {
         ensures { IfOk result (λ more. more ≡ add_limit self limit) }
     {
         let mut plan = self.plan;
-        plan.put_limit(
-            limit.cell,
-            u64::from(limit.from),
-            u64::from(limit.to),
-            limit.capacity,
-        )?;
+        plan.put_limit(limit)?;
         Ok(NetDraft { plan, ..self })
     }
 
@@ -153,12 +141,7 @@ impl NetDraft {
         ensures { IfOk result (λ more. more ≡ add_demand self demand) }
     {
         let mut plan = self.plan;
-        plan.put_demand(
-            demand.cell,
-            u64::from(demand.from),
-            u64::from(demand.to),
-            demand.amount,
-        )?;
+        plan.put_demand(demand)?;
         Ok(NetDraft { plan, ..self })
     }
 
@@ -168,13 +151,7 @@ impl NetDraft {
         ensures { IfOk result (λ more. more ≡ add_turn self turn) }
     {
         let mut plan = self.plan;
-        plan.put_turn(
-            turn.cell,
-            u64::from(turn.from),
-            u64::from(turn.to),
-            turn.b1,
-            turn.b2,
-        )?;
+        plan.put_turn(turn)?;
         Ok(NetDraft { plan, ..self })
     }
 
@@ -191,14 +168,14 @@ impl NetDraft {
     pub(crate) fn taken_before(&self, kind: RecordKind) -> usize
         ensures { result ≡ taken_before kind self.now }
     {
-        let (_, limits, demands) = self.plan.counts();
+        let counts = self.plan.counts();
         match kind {
             RecordKind::Steps | RecordKind::Signal | RecordKind::Region => 0,
             RecordKind::Road | RecordKind::Gate | RecordKind::Exit => self.cells.len(),
             RecordKind::Link | RecordKind::Merge | RecordKind::Diverge => self.connectors.len(),
-            RecordKind::Limit => limits as usize,
-            RecordKind::Demand => demands as usize,
-            RecordKind::Turn => self.plan.turns() as usize,
+            RecordKind::Limit => counts.limits,
+            RecordKind::Demand => counts.demands,
+            RecordKind::Turn => counts.turns,
         }
     }
 }

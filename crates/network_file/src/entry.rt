@@ -1,8 +1,7 @@
 use crate::cell::Cell;
 use crate::connector::Connector;
-use crate::plan_records::{Demand, Limit, Turn};
 use crate::region_record::RegionRecord;
-use signal_plan::Signal;
+use signal_plan::{Demand, Limit, Signal, Turn};
 
 /// What a record of the file says, before a draft has taken it.
 #[derive(Drop)]

@@ -23,7 +23,6 @@ mod marks;
 mod name;
 mod name_index;
 mod net;
-mod plan_records;
 mod reading;
 mod record_kind;
 mod records;

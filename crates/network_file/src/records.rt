@@ -17,12 +17,11 @@ use crate::fields::{
 };
 use crate::format::most_records;
 use crate::limits::{MOST_CAPACITY, MOST_REGIONS, MOST_ROOM};
-use crate::plan_records::{Demand, Limit, Turn};
 use crate::record_kind::RecordKind;
 use crate::region_record::RegionRecord;
 use csv::ByteRecord;
 use fixed_flow::MOST_PARTS;
-use signal_plan::{MOST_STEPS, Signal};
+use signal_plan::{Demand, Limit, MOST_STEPS, Signal, Turn};
 use std::alloc::Global;
 
 /// The draft with one more record.

@@ -4,7 +4,7 @@ use Rattle.std.specs.List.{list_all}
 use Rattle.network_file.specs.Checks.{◌>>◌, must}
 use Rattle.network_file.specs.Cutting.{has_no_gap}
 use Rattle.network_file.specs.Network.{Network}
-use Rattle.network_file.specs.declared.limits.TheConstants.{MOST_REGIONS}
+use Rattle.network_file.specs.Limits.{most_regions}
 use Rattle.region_cut.specs.declared.fault.CutFault.{CutFault}
 use Rattle.region_cut.specs.declared.fault.CutFault.TheVariants.{Length, Gap, Many}
 use Rattle.region_cut.specs.declared.fault.CutRefusal.{CutRefusal}
@@ -14,7 +14,7 @@ use Rattle.region_cut.specs.declared.fault.CutRefusal.TheVariants.{Fault, NoMemo
 unfoldable pub cut_of : Network → List ℕ → Result (List ℕ) CutFault
 cut_of net list = do
   must (length list == length net.cells) Length
-  must (list_all (λ region. nat_lt region MOST_REGIONS) list) Many
+  must (list_all (λ region. nat_lt region most_regions) list) Many
   must (has_no_gap list) Gap
   Ok list
 

@@ -4,7 +4,7 @@ use Rattle.std.proofs.Common.{◌≡◌, ◌≢◌, ℕ, false, ◌<◌, List, [
 use Rattle.std.proofs.lemmas.Bool.{cases_eq, cases_lt}
 use Rattle.std.proofs.lemmas.List.{get_or_append_left, get_or_push, get_or-set_same, get_or-set_other, length-set, length_push}
 use Rattle.std.proofs.Math.Seq.{map-set_same}
-use Rattle.signal_plan.specs.declared.bounds.TheConstants.{MOST_CELLS, MOST_RECORDS}
+use Rattle.signal_plan.specs.Limits.{most_cells, most_records}
 use Rattle.signal_plan.specs.Records.{DemandRecord, LimitRecord, PlanRecords, SignalRecord, TurnRecord, with_cell, with_demand, with_limit, with_signal, with_turn}
 use Rattle.signal_plan.specs.Sound.{IsSoundDemand, IsSoundLimit, IsSoundPlan, IsSoundSignal, IsSoundTurn}
 use Rattle.signal_plan.specs.Green.{is_signalled}
@@ -56,7 +56,7 @@ laid_out-with_limit cells plan limit c new has read grown fits laid =
 pub laid_out-with_demand : (cells : List PlannedCell) (plan : PlanRecords) (demand : DemandRecord) (c new : PlannedCell) →
     demand.cell < length cells → c ≡ get_or cells demand.cell c →
     new ≡ record c { records = record c.records { demands = c.records.demands ++ demand ∷ [] } } →
-    length plan.demands < MOST_RECORDS → IsSoundDemand (length plan.cells) demand → IsLaidOut cells plan →
+    length plan.demands < most_records → IsSoundDemand (length plan.cells) demand → IsLaidOut cells plan →
     IsLaidOut (slice_set cells demand.cell new) (with_demand plan demand)
 laid_out-with_demand cells plan demand c new has read grown few fits laid =
     let more : PlannedCell → PlannedCell =
@@ -92,7 +92,7 @@ laid_out-with_signal cells plan signal c new has read grown none fits laid =
     (λ other apart. ap (planned plan other) (records_at-with_signal_other plan signal other apart)) laid
 
 pub laid_out-with_cell : (cells : List PlannedCell) (plan : PlanRecords) (capacity : ℕ) → length plan.cells ≡ length cells →
-    length plan.cells < MOST_CELLS → IsLaidOut cells plan →
+    length plan.cells < most_cells → IsLaidOut cells plan →
     IsLaidOut (cells ++ record { capacity = capacity; records = bare } ∷ []) (with_cell plan capacity)
 laid_out-with_cell cells plan capacity as_many few laid = let c : PlannedCell = record { capacity = capacity; records = bare } in record {
   sound = IsSoundPlan-with_cell plan capacity few laid.sound;

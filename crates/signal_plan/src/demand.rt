@@ -6,11 +6,15 @@ use std::marker::Model;
 
 /// A demand record: what enters its cell in each step of `[from, to)`, in parts.
 #[derive(Clone, Copy, Debug)]
-pub(crate) struct Demand {
-    pub(crate) cell: u32,
-    pub(crate) from: u64,
-    pub(crate) to: u64,
-    pub(crate) amount: u64,
+pub struct Demand {
+    /// The number of the gate, from 0.
+    pub cell: u32,
+    /// The first step, from 0.
+    pub from: u32,
+    /// The step after the last one.
+    pub to: u32,
+    /// What enters in each step, in parts: 0 to `MOST_PARTS`.
+    pub amount: u64,
 }
 
 impl Model for Demand {
@@ -39,7 +43,8 @@ impl Demand {
     pub(crate) fn within(&self, t: u64, end: u64) -> u128
         ensures { result ≡ self.now.amount * (min self.now.to end - max self.now.from t) }
     {
-        let steps = self.to.min(end).saturating_sub(self.from.max(t));
+        let (from, to) = (u64::from(self.from), u64::from(self.to));
+        let steps = to.min(end).saturating_sub(from.max(t));
         u128::from(self.amount) * u128::from(steps)
     }
 }

@@ -21,6 +21,7 @@ mod fallback;
 mod join;
 mod limit;
 mod merge;
+mod plan_counts;
 mod range;
 mod record_changes;
 mod signal;
@@ -32,5 +33,9 @@ mod turn;
 
 pub use bounds::{MOST_CELLS, MOST_PARTS, MOST_RATIO, MOST_RECORDS, MOST_STEPS};
 pub use change::Change;
+pub use demand::Demand;
+pub use limit::Limit;
+pub use plan_counts::PlanCounts;
 pub use signal::Signal;
 pub use step_plan::Plan;
+pub use turn::Turn;

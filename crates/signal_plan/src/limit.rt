@@ -6,11 +6,15 @@ use std::marker::Model;
 
 /// A limit record: the capacity of its cell in each step of `[from, to)`.
 #[derive(Clone, Copy, Debug)]
-pub(crate) struct Limit {
-    pub(crate) cell: u32,
-    pub(crate) from: u64,
-    pub(crate) to: u64,
-    pub(crate) capacity: u64,
+pub struct Limit {
+    /// The number of the cell, from 0.
+    pub cell: u32,
+    /// The first step, from 0.
+    pub from: u32,
+    /// The step after the last one.
+    pub to: u32,
+    /// The capacity, in parts a step.
+    pub capacity: u64,
 }
 
 impl Model for Limit {

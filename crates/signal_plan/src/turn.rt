@@ -6,12 +6,17 @@ use std::marker::Model;
 
 /// A turn record: the turning shares of the diverge out of its cell in each step of `[from, to)`.
 #[derive(Clone, Copy, Debug)]
-pub(crate) struct Turn {
-    pub(crate) cell: u32,
-    pub(crate) from: u64,
-    pub(crate) to: u64,
-    pub(crate) b1: u32,
-    pub(crate) b2: u32,
+pub struct Turn {
+    /// The number of the cell, from 0.
+    pub cell: u32,
+    /// The first step, from 0.
+    pub from: u32,
+    /// The step after the last one.
+    pub to: u32,
+    /// The share of the first cell downstream: 1 to `MOST_RATIO`.
+    pub b1: u32,
+    /// The share of the second cell downstream: 1 to `MOST_RATIO`.
+    pub b2: u32,
 }
 
 impl Model for Turn {
