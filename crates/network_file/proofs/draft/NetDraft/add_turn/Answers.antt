@@ -7,12 +7,12 @@ pub invariant_of-result : goal.invariant_of-result
 invariant_of-result c =
     let draft = c.self.inside in
     let plan : c.put_turn.new.self ≡ with_turn draft.plan.value c.args.turn = search rules in
-    let given = rw (← c.self.view_is) at c.requires in
+    let fits = rw (← c.self.view_is) at c.requires in
     record {
       format = c.self.invariant.format;
       some_steps = c.self.invariant.some_steps;
       few_steps = c.self.invariant.few_steps;
-      sound = rw plan (HasSoundParts-add_turn draft.format draft.cells draft.connectors draft.plan.value c.args.turn c.self.invariant.sound given.room given.in_time
-          (record { some_first = given.some_first; first = given.first; some_second = given.some_second; second = given.second }));
+      sound = rw plan (HasSoundParts-add_turn draft.format draft.cells draft.connectors draft.plan.value c.args.turn c.self.invariant.sound fits.second_format fits.room fits.diverges fits.in_time fits.within);
       regions = c.self.invariant.regions;
+      no_regions = c.self.invariant.no_regions;
     }
