@@ -5,7 +5,7 @@ use Rattle.std.specs.Option.{option_map_or}
 use Rattle.signal_plan.specs.Records.{DemandRecord, LimitRecord, PlanRecords, SignalRecord, TurnRecord, in_range}
 use Rattle.signal_plan.specs.Green.{shows_green, signal_of}
 
--- the records of a cell: its signal, and its limit, demand and turn records in the order that they were put
+-- the records of a cell: its signal, and its limit, demand and turn records in the order in which they were put
 pub record CellRecords : Type 0 where
   pub signal : Option SignalRecord
   pub limits : List LimitRecord

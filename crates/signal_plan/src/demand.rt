@@ -14,9 +14,9 @@ use std::marker::Model;
 pub struct Demand {
     /// The number of the gate, from 0.
     pub cell: u32,
-    /// The first step, from 0.
+    /// The first step of the range, from 0.
     pub from: u32,
-    /// The step after the last one.
+    /// The step after the last one of the range, above `from`.
     pub to: u32,
     /// What enters in each step, in parts: 0 to `MOST_PARTS`.
     pub amount: u64,

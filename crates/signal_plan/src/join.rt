@@ -22,6 +22,7 @@ pub(crate) trait Join: Copy {
         requires { Fits (joined self newer) }
         ensures { result ≡ joined self newer };
 
+    // Where no record comes before or after, nothing changes; and it's the same which two join first.
     ghost joined_none: { (given : Self) → joined given none ≡ given };
 
     ghost none_joined: { (given : Self) → joined none given ≡ given };

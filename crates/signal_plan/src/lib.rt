@@ -7,9 +7,9 @@
 //!
 //! - The plan is in `step_plan`; what it says of one cell in `cell_plan`, over its `cell_records`; the
 //!   records in `signal`, `limit`, `demand` and `turn`.
-//! - Lists of changes: each `ranged` record has those of one `span` of steps; `merge` those of two lists
-//!   together, by a `join` of their values; `record_changes` those of all records of a kind that a cell
-//!   has; `fallback` puts the cell's own value where no record speaks.
+//! - Lists of changes: `span` makes that of one `ranged` record; `merge` makes one of two lists, by a
+//!   `join` of their values; `record_changes` that of all records of one kind that a cell has; `fallback`
+//!   puts the cell's own value where no record speaks.
 #![tactic(auto)]
 
 mod bounds;

@@ -14,11 +14,11 @@ use std::marker::Model;
 pub struct Limit {
     /// The number of the cell, from 0.
     pub cell: u32,
-    /// The first step, from 0.
+    /// The first step of the range, from 0.
     pub from: u32,
-    /// The step after the last one.
+    /// The step after the last one of the range, above `from`.
     pub to: u32,
-    /// The capacity, in parts a step.
+    /// The capacity, in parts a step, from 0.
     pub capacity: u64,
 }
 

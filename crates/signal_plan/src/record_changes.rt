@@ -9,7 +9,7 @@ use crate::ranged::Ranged;
 use no_memory::NoMemory;
 use std::alloc::Global;
 
-/// The changes of what these records give together.
+/// The changes of what these records give together: those of each half, merged.
 pub(crate) fn record_changes<R: Ranged>(
     alloc: Global,
     records: &[R],

@@ -23,7 +23,8 @@ use std::marker::Model;
 /// What varies from step to step: the capacity of each cell, the light of each signal, the demand of
 /// each gate and the turning shares of each diverge.
 ///
-/// Each record stands twice: in the list of its kind, and with its cell, which is asked for it.
+/// Each record stands twice: in the list of its kind, in the order of the file, and with its cell, so that
+/// what is asked of a cell takes the time of its own records alone.
 #[derive(Debug, Drop)]
 pub struct Plan {
     alloc: Global,
@@ -209,7 +210,7 @@ impl Plan {
     }
 
     /// The changes of a cell's capacity, in parts, from its own capacity at the start. For k limits of
-    /// the cell it takes a time in the order k log k.
+    /// the cell it takes time in the order of k log k.
     pub fn capacity_changes(&self, alloc: Global, cell: u32) -> Result<Vec<Change<u64>>, NoMemory>
         requires has_cell { cell < length self.now.cells }
         ensures in_force { IfOk result (λ changes. (t : ℕ) →
@@ -220,7 +221,7 @@ impl Plan {
     }
 
     /// The changes of what enters a gate in a step, in parts, from 0 at the start. For k demand records
-    /// of the cell it takes a time in the order k log k.
+    /// of the cell it takes time in the order of k log k.
     pub fn demand_changes(&self, alloc: Global, cell: u32) -> Result<Vec<Change<u64>>, NoMemory>
         requires has_cell { cell < length self.now.cells }
         ensures in_force { IfOk result (λ changes. (t : ℕ) → in_force 0 changes.items t ≡ demand_at self.now cell t) }
@@ -230,7 +231,7 @@ impl Plan {
     }
 
     /// The changes of the turning shares of the diverge out of a cell, from `own` at the start. For k
-    /// turn records of the cell it takes a time in the order k log k.
+    /// turn records of the cell it takes time in the order of k log k.
     pub fn share_changes(
         &self,
         alloc: Global,

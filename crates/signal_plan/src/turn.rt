@@ -14,9 +14,9 @@ use std::marker::Model;
 pub struct Turn {
     /// The number of the cell, from 0.
     pub cell: u32,
-    /// The first step, from 0.
+    /// The first step of the range, from 0.
     pub from: u32,
-    /// The step after the last one.
+    /// The step after the last one of the range, above `from`.
     pub to: u32,
     /// The share of the first cell downstream: 1 to `MOST_RATIO`.
     pub b1: u32,
