@@ -4,6 +4,7 @@ pub mod Changes
 pub mod Merging
 pub mod Filters
 pub mod Searches
+pub mod Given
 pub mod Overlap
 pub mod Sound
 pub mod OwnRecords

@@ -10,3 +10,4 @@ pub mod Layout
 pub mod Turning
 pub mod Changes
 pub mod Merging
+pub mod Given

@@ -1,7 +1,12 @@
 ghost use Rattle.std.specs.Prelude.{◌≡◌, ◌-◌, ◌*◌, min, max, if◌then◌else◌};
 ghost use Rattle.signal_plan.specs.Records.{in_range};
 
+use crate::change::Change;
 use crate::range::is_in_range;
+use crate::ranged::Ranged;
+use crate::span::span;
+use no_memory::NoMemory;
+use std::alloc::Global;
 use std::marker::Model;
 
 /// A demand record: what enters its cell in each step of `[from, to)`, in parts.
@@ -27,16 +32,28 @@ impl Model for Demand {
     ghost inverse = { λ d. record { cell = d.cell; from = d.from; to = d.to; amount = d.amount } };
 }
 
+impl Ranged for Demand {
+    type Given = u64;
+
+    ghost speaks = { λ d step. in_range d.from d.to step };
+
+    ghost gives = { λ d. d.amount };
+
+    fn holds_at(&self, t: u64) -> bool {
+        is_in_range(self.from, self.to, t)
+    }
+
+    fn changes(&self, alloc: Global) -> Result<Vec<Change<u64>>, NoMemory> {
+        span(alloc, self.from, self.to, self.amount)
+    }
+}
+
 impl Demand {
     /// What the record brings in step `t`.
     pub(crate) fn at(&self, t: u64) -> u64
         ensures { result ≡ if in_range self.now.from self.now.to t then self.now.amount else 0 }
     {
-        if is_in_range(self.from, self.to, t) {
-            self.amount
-        } else {
-            0
-        }
+        if self.holds_at(t) { self.amount } else { 0 }
     }
 
     /// What the record brings in all steps of `[t, end)`.

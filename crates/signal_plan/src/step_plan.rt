@@ -82,7 +82,7 @@ impl Plan {
         // Room first: after it the last push cannot fail.
         self.limits.reserve(1)?;
         let own = &mut self.cells[limit.cell as usize];
-        own.put_limit(self.alloc, limit)?;
+        own.put(self.alloc, limit)?;
         self.limits.push(limit)?;
         Ok(())
     }
@@ -100,7 +100,7 @@ impl Plan {
         // Room first: after it the last push cannot fail.
         self.signals.reserve(1)?;
         let own = &mut self.cells[signal.cell as usize];
-        own.set_signal(self.alloc, signal)?;
+        own.put(self.alloc, signal)?;
         self.signals.push(signal)?;
         Ok(())
     }
@@ -117,7 +117,7 @@ impl Plan {
         // Room first: after it the last push cannot fail.
         self.demands.reserve(1)?;
         let own = &mut self.cells[demand.cell as usize];
-        own.put_demand(self.alloc, demand)?;
+        own.put(self.alloc, demand)?;
         self.demands.push(demand)?;
         Ok(())
     }
@@ -136,7 +136,7 @@ impl Plan {
         // Room first: after it the last push cannot fail.
         self.turns.reserve(1)?;
         let own = &mut self.cells[turn.cell as usize];
-        own.put_turn(self.alloc, turn)?;
+        own.put(self.alloc, turn)?;
         self.turns.push(turn)?;
         Ok(())
     }

@@ -1,7 +1,12 @@
-ghost use Rattle.std.specs.Prelude.{◌≡◌};
+ghost use Rattle.std.specs.Prelude.{Some};
 ghost use Rattle.signal_plan.specs.Records.{in_range};
 
+use crate::change::Change;
 use crate::range::is_in_range;
+use crate::ranged::Ranged;
+use crate::span::span;
+use no_memory::NoMemory;
+use std::alloc::Global;
 use std::marker::Model;
 
 /// A turn record: the turning shares of the diverge out of its cell in each step of `[from, to)`.
@@ -29,11 +34,18 @@ impl Model for Turn {
     ghost inverse = { λ t. record { cell = t.cell; from = t.from; to = t.to; b1 = t.b1; b2 = t.b2 } };
 }
 
-impl Turn {
-    /// Whether the record speaks of step `t`.
-    pub(crate) fn holds_at(&self, t: u64) -> bool
-        ensures { result ≡ in_range self.now.from self.now.to t }
-    {
+impl Ranged for Turn {
+    type Given = Option<(u32, u32)>;
+
+    ghost speaks = { λ t step. in_range t.from t.to step };
+
+    ghost gives = { λ t. Some (t.b1, t.b2) };
+
+    fn holds_at(&self, t: u64) -> bool {
         is_in_range(self.from, self.to, t)
+    }
+
+    fn changes(&self, alloc: Global) -> Result<Vec<Change<Option<(u32, u32)>>>, NoMemory> {
+        span(alloc, self.from, self.to, Some((self.b1, self.b2)))
     }
 }

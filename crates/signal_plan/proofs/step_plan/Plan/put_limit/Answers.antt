@@ -9,18 +9,18 @@ cell_is : (c : goal.In_ok-push) → c.limit.inside.cell ≡ c.args.limit.cell
 cell_is c = ap (λ limit. limit.cell) c.limit.view_is
 
 same_capacities : (c : goal.In_ok-push) →
-    map (λ p. p.capacity) (slice_set c.self.inside.cells.items c.args.limit.cell c.put_limit.new.self) ≡
+    map (λ p. p.capacity) (slice_set c.self.inside.cells.items c.args.limit.cell c.put.new.self) ≡
     map (λ p. p.capacity) c.self.inside.cells.items
 same_capacities c =
-    capacities-set c.self.inside.cells.items c.args.limit.cell _ c.put_limit.new.self
-    (rw (cell_is c) at c.index_mut-own.ensures.value) (ap (λ p. p.capacity) c.in_ok-put_limit.ensures.added)
+    capacities-set c.self.inside.cells.items c.args.limit.cell _ c.put.new.self
+    (rw (cell_is c) at c.index_mut-own.ensures.value) (ap (λ p. p.capacity) c.in_ok-put.ensures.added)
 
 pub invariant_of-self-2 : goal.invariant_of-self-2
 invariant_of-self-2 c =
     let has = rw (← c.self.view_is, length-map) at c.requires.has_cell in
     let cell = rw (← c.self.view_is) at c.requires.has_cell in
     rw (c.in_ok-push.ensures.items, c.reserve.ensures.items, cell_is c, same_capacities c) (
-    laid_out-with_limit _ _ _ _ _ has (rw (cell_is c) at c.index_mut-own.ensures.value) c.in_ok-put_limit.ensures.added
+    laid_out-with_limit _ _ _ _ _ has (rw (cell_is c) at c.index_mut-own.ensures.value) c.in_ok-put.ensures.added
     (record { cell = cell; steps = c.requires.some_step }) c.self.invariant
     )
 
