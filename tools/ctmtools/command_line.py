@@ -17,6 +17,7 @@ COMMANDS = {"build": "Make the network file of a study.", "run": "Run a study or
             "table": "Write a report as a tidy table, CSV.",
             "travel-time": "Tell the travel times along a road or a route.", "plot": "Draw a report.",
             "import": "Make a study of another program's network.",
+            "report": "Make a page for a browser of a report, or of two.",
             "export": "Write a report in the format of another program.", "compare": "Compare two reports.", "sweep": "Run a study over varied values."}
 MODULES = {"export": "exporting", "import": "importing", "travel-time": "travel_time"}  # of commands whose names aren't those of their modules
 PACKAGES = {"click": "python3-click", "pandas": "python3-pandas", "numpy": "python3-numpy",

@@ -128,6 +128,15 @@ def test_a_movement_that_is_never_green_is_closed(tool, files):
     assert report.cells.gone["b-c1"] == 0 and report.cells.gone["a-c1"] > 300
 
 
+def test_a_movement_at_a_signal_that_it_does_not_control_is_free(tool, files):
+    (files / "town.net.xml").write_text(NET.format(sort="static").replace('toLane="0" tl="J" linkIndex="2"', 'toLane="0"'))
+    out = tool("import", "sumo", "town.net.xml", "--routes", "town.rou.xml", "-o", "town.toml")[1]
+    signals = [line.split(",")[1] for line in build(read_study("town.toml")).text.splitlines() if line.startswith("signal,")]
+    assert "never green" not in out and signals[0] == "a10"
+    green = next(line for line in build(read_study("town.toml")).text.splitlines() if line.startswith("signal,b10"))
+    assert green.split(",")[4:] == ["0", "30"]  # all of the cycle of 30 steps
+
+
 def test_a_merge_a_diverge_and_a_link_have_no_cells_of_their_own(tool, files):
     net = NET.format(sort="static").replace('tl="J"', "").replace('<connection from="a" to="d" fromLane="2" toLane="0"', "<x")
     (files / "town.net.xml").write_text(net)

@@ -11,7 +11,7 @@ import pandas
 from ..problem import Problem, one_line
 from ..study.quantities import MILE
 from .streets import Program, Span, Street, Streets, Way
-from .sumo import joined
+from .sumo import always, joined
 
 KILOMETRES = {"km": 1.0, "kilometer": 1.0, "kilometers": 1.0, "m": 0.001, "meter": 0.001, "meters": 0.001,
               "mi": float(MILE), "mile": float(MILE), "miles": float(MILE), "ft": 0.0003048, "feet": 0.0003048}
@@ -101,6 +101,7 @@ class Reader:
             own = [row for row in phases if row.get("timing_plan_id") == plan["timing_plan_id"]]
             if own:
                 self._plan(plan, own, served, offsets.get(plan["timing_plan_id"], 0.0))
+        always(self.found, {pair for pair, way in self.found.ways.items() if way.green})
 
     def _plan(self, plan: dict[str, str], phases: Rows, served: Rows, offset: float) -> None:
         spans = phase_spans(phases)

@@ -115,6 +115,15 @@ def _programs(root: Element, found: Streets, links: list[Element]) -> None:
         greens.setdefault(pair, []).extend(_greens(signal, int(link.get("linkIndex", 0))))
     for pair, spans in greens.items():
         found.ways[pair].green = joined(spans, found.programs[found.streets[pair[0]].end].cycle)
+    always(found, set(greens))
+
+
+def always(found: Streets, controlled: set[tuple[str, str]]) -> None:
+    """Makes the movements at signals that no signal controls green all the time."""
+    for pair, way in found.ways.items():
+        program = found.programs.get(found.streets[pair[0]].end)
+        if program and pair not in controlled:
+            way.green = [(0.0, program.cycle)]
 
 
 def _greens(logic: Element, index: int) -> Iterator[Span]:
