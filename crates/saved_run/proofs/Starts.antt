@@ -1,17 +1,15 @@
 -- The content of a shot from a true start has a true start.
-use Rattle.std.specs.Prelude.{◌==◌, if◌then◌else◌, map, slice_index}
+use Rattle.std.specs.Prelude.{◌==◌, map, slice_index}
 use Rattle.std.specs.List.{range_with_len}
 use Rattle.std.proofs.Common.{◌≡◌, ◌⊎◌, ℕ, ◌+◌, ◌<◌, ◌≤◌, inl, inr, cond, true, List, length, get_or, Some, None, Ok, refl, sym, ap, subst, ◌∙◌, arith}
 use Rattle.std.proofs.lemmas.Bool.{cases_lt, eq-eqb}
-use Rattle.std.proofs.lemmas.List.{get_or-map, length-map}
 use Rattle.std.proofs.lemmas.List.FromFn.{fill_by_all, get_or-map-range_with_len, length-map-range_with_len}
 use Rattle.std.proofs.lemmas.Simd.{map-map}
 use Rattle.network_file.specs.Cutting.{IsCutting}
-use Rattle.network_file.specs.Network.{IsNetwork, Network}
+use Rattle.network_file.specs.Network.{Network}
 use Rattle.flow_model.specs.Bounds.{IsHeldInBounds, IsRowInBounds}
 use Rattle.flow_model.specs.Rows.{empty_row}
-use Rattle.flow_model.specs.State.{occupancy, row_at, state_at}
-use Rattle.flow_model.specs.declared.row.Row.{Row}
+use Rattle.flow_model.specs.State.{row_at, state_at}
 use Rattle.region_cut.specs.CutFaults.{cut_of}
 use Rattle.region_cut.specs.Cuttings.{region_at, region_count}
 use Rattle.region_cut.proofs.CutFaults.{cut_of-IsCutting}
@@ -20,10 +18,8 @@ use Rattle.region_step.specs.Grid.{grid_before, grid_held, grid_row}
 use Rattle.region_step.specs.Start.{Fits, IsCellInBounds, IsTrueStart, StartLists, start_of}
 use Rattle.region_step.proofs.Grids.{are_the_recurrences, grid_before-next, grid_before-start, grid_held-earlier, grid_held-started, held_in_bounds, stay_in_bounds}
 use Rattle.snapshot.specs.Rooms.{RoomValue}
-use Rattle.snapshot.specs.Snapshots.{IsSnapshot}
-use Rattle.saved_run.specs.Content.{Content}
 use Rattle.saved_run.specs.Laws.{HasTrueStart, IsShotOf}
-use Rattle.saved_run.specs.Loading.{CanStart, cutting_by, cutting_in, of_regions, regions_in, start_in}
+use Rattle.saved_run.specs.Loading.{cutting_by, cutting_in, of_regions, regions_in, start_in}
 use Rattle.saved_run.specs.Shown.{content_shown, line_shown}
 use Rattle.saved_run.specs.declared.row_line.RowLine.{RowLine}
 

@@ -1,17 +1,17 @@
 -- A saved text is read as its content, and what is read as a content is its saved text.
-use Rattle.std.specs.Prelude.{All, codes, flat_map, nat_le, nat_lt}
-use Rattle.std.proofs.Common.{◌≡◌, ℕ, zero, suc, ◌+◌, ◌<◌, ◌≤◌, ◌^◌, ◌&&◌, Bool, true, false, cond, List, [], ◌∷◌, ◌++◌, length, Option, Some, None, refl, sym, ap, subst, ◌∙◌, arith, append_assoc, length-append}
+use Rattle.std.specs.Prelude.{codes, flat_map, nat_le, nat_lt}
+use Rattle.std.proofs.Common.{◌≡◌, ℕ, ◌+◌, ◌<◌, ◌≤◌, Bool, true, false, cond, List, [], ◌∷◌, ◌++◌, length, Option, Some, None, refl, sym, ap, subst, ◌∙◌, arith, append_assoc, length-append}
 use Rattle.std.proofs.lemmas.Bool.{and_parts}
 use Rattle.std.proofs.lemmas.Bool.Decides.{nat_tests}
 use Rattle.network_file.specs.declared.limits.TheConstants.{MOST_BYTES, MOST_REGIONS}
-use Rattle.saved_run.specs.Content.{Content, IsContent, IsRowLine}
-use Rattle.saved_run.specs.Fronts.{Front, counted_line_at}
+use Rattle.saved_run.specs.Content.{Content, IsContent}
+use Rattle.saved_run.specs.Fronts.{counted_line_at}
 use Rattle.saved_run.specs.Reading.{IsTextOf, content_of, is_region_count, rows_at, steps_at}
 use Rattle.saved_run.specs.SavedText.{counted_line, row_line, saved_text}
 use Rattle.saved_run.specs.declared.row_line.RowLine.{RowLine}
 use Rattle.saved_run.proofs.Fronts.{chained, counted_line_at-line, line-counted_line_at}
 use Rattle.saved_run.proofs.Heads.{lines-rows_at, lines-steps_at, rows_at-lines, steps_at-lines}
-use Rattle.saved_run.proofs.Numbers.{none_is_no_some, passed, some_same}
+use Rattle.saved_run.proofs.Numbers.{none_is_no_some, passed}
 
 five : (a b c d e : List ℕ) → a ++ b ++ c ++ d ++ e ≡ a ++ (b ++ (c ++ (d ++ e)))
 five a b c d e = simp append_assoc refl
@@ -35,7 +35,7 @@ content_of-saved_text content is =
     let steps_text = flat_map (counted_line (codes "step")) content.steps ++ rows_text in
     let whole = five (counted_line (codes "saved,1") count) (flat_map (counted_line (codes "step")) content.steps) (flat_map row_line content.rows) (codes "net\n") content.network in
     let regions : counted_line_at (codes "saved,1") (counted_line (codes "saved,1") count ++ flat_map (counted_line (codes "step")) content.steps ++ flat_map row_line content.rows ++ codes "net\n" ++ content.network)
-      ≡ Some (record { value = count; rest = steps_text }) =
+    ≡ Some (record { value = count; rest = steps_text }) =
     ap (counted_line_at (codes "saved,1")) whole ∙ counted_line_at-line (codes "saved,1") count steps_text (omega (arith, is.few)) in
     let counted : is_region_count count ≡ true = grind (arith, nat_tests, is.some, is.few) in
     let steps : steps_at count steps_text ≡ Some (record { value = content.steps; rest = rows_text }) = steps_at-lines content.steps rows_text is.steps in

@@ -1,9 +1,9 @@
 -- A turn of reading: one line more stands with those before it.
 use Rattle.std.specs.Prelude.{codes, option_and_then}
 use Rattle.std.proofs.lemmas.List.{append-nil}
-use Rattle.std.proofs.Common.{◌≡◌, ℕ, zero, suc, add-one, ◌+◌, List, [], ◌∷◌, ◌++◌, Option, Some, None, refl, sym, ap, ◌∙◌, append_assoc}
+use Rattle.std.proofs.Common.{◌≡◌, ℕ, suc, add-one, ◌+◌, List, [], ◌∷◌, ◌++◌, Option, Some, None, refl, sym, ap, ◌∙◌, append_assoc}
 use Rattle.saved_run.specs.Fronts.{Front, behind, counted_line_at, row_line_at}
-use Rattle.saved_run.specs.Reading.{rows_at, rows_or_end, steps_at}
+use Rattle.saved_run.specs.Reading.{rows_at, steps_at}
 use Rattle.saved_run.specs.declared.row_line.RowLine.{RowLine}
 
 -- what was read before, and what is found behind it

@@ -5,7 +5,6 @@ use Rattle.network_file.specs.Network.{Network as NetworkValue}
 use Rattle.network_file.specs.declared.fault.NetFault.{NetFault}
 use Rattle.network_file.specs.declared.limits.TheConstants.{MOST_REGIONS}
 use Rattle.region_cut.specs.declared.fault.CutFault.{CutFault}
-use Rattle.saved_run.specs.declared.fault.LoadFault.{LoadFault}
 use Rattle.saved_run.specs.declared.fault.LoadFault.TheVariants.{Spelling, Network, Cutting, Start}
 use Rattle.saved_run.specs.declared.fault.LoadRefusal.{LoadRefusal}
 use Rattle.saved_run.specs.declared.fault.LoadRefusal.TheVariants.{Fault, NoMemory}

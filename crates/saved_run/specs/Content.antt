@@ -1,5 +1,5 @@
 -- What a saved text says.
-use Rattle.std.specs.Prelude.{◌≡◌, ℕ, ◌^◌, ◌<◌, ◌≤◌, All, List, length}
+use Rattle.std.specs.Prelude.{ℕ, ◌^◌, ◌<◌, ◌≤◌, All, List, length}
 use Rattle.flow_model.specs.declared.row.Row.{Row}
 use Rattle.network_file.specs.declared.limits.TheConstants.{MOST_BYTES, MOST_REGIONS}
 use Rattle.saved_run.specs.declared.row_line.RowLine.{RowLine}

@@ -1,5 +1,5 @@
 -- What stands at the front of a text, and what follows it.
-use Rattle.std.specs.Prelude.{ℕ, List, [], ◌∷◌, bytes_eq, codes, drop, length, take, Option, Some, None, if◌then◌else◌, option_and_then}
+use Rattle.std.specs.Prelude.{ℕ, List, bytes_eq, codes, drop, length, take, Option, Some, None, if◌then◌else◌, option_and_then}
 use Rattle.std.specs.Char.{is_ascii_digit}
 use Rattle.std.specs.List.{prefix_len}
 use Rattle.flow_model.specs.declared.row.Row.{Row}

@@ -1,5 +1,5 @@
 -- The content of a saved text.
-use Rattle.std.specs.Prelude.{◌≡◌, ℕ, zero, suc, ◌&&◌, Bool, true, false, List, [], ◌∷◌, codes, length, nat_le, nat_lt, Option, Some, None, if◌then◌else◌}
+use Rattle.std.specs.Prelude.{◌≡◌, ℕ, zero, suc, ◌&&◌, Bool, List, [], ◌∷◌, codes, length, nat_le, nat_lt, Option, Some, None, if◌then◌else◌}
 use Rattle.network_file.specs.declared.limits.TheConstants.{MOST_BYTES, MOST_REGIONS}
 use Rattle.saved_run.specs.Content.{Content, IsContent}
 use Rattle.saved_run.specs.Fronts.{Front, ◌>>=◌, behind, counted_line_at, row_line_at}

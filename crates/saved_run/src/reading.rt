@@ -3,8 +3,8 @@ ghost use Rattle.network_file.specs.declared.limits.TheConstants.{MOST_BYTES};
 ghost use Rattle.saved_run.specs.Heads.{content_in};
 ghost use Rattle.saved_run.specs.Reading.{content_of};
 
-use crate::lines::counted_line;
 use crate::head::{row_lines, step_lines};
+use crate::lines::counted_line;
 use crate::saved_head::SavedHead;
 use network_file::{MOST_BYTES, MOST_REGIONS};
 use no_memory::NoMemory;

@@ -35,7 +35,11 @@ pub(crate) fn put_step_lines(text: &mut Vec<u8>, steps: &[u64]) -> Result<(), No
 }
 
 /// Appends a line for each cell that the room shows.
-pub(crate) fn put_row_lines(text: &mut Vec<u8>, chart: &Chart, room: &ShotRoom) -> Result<(), NoMemory>
+pub(crate) fn put_row_lines(
+    text: &mut Vec<u8>,
+    chart: &Chart,
+    room: &ShotRoom,
+) -> Result<(), NoMemory>
     requires room { IsRoomFor chart.now room.now }
     requires few { length chart.now.cut < 2 ^ 32 }
     ensures lines { OnOk result (text.new.items ≡ text.old.items ++ lines_of (λ i. row_line (line_shown chart.now.cut room.now i)) (length chart.now.cut)) }

@@ -1,9 +1,9 @@
 use Rattle.std.specs.Prelude.{Ok}
-use Rattle.std.proofs.Common.{◌≡◌, ◌≢◌, List, false, length, ap, arith, refl, sym, ◌∙◌}
+use Rattle.std.proofs.Common.{◌≡◌, ◌≢◌, false, length, ap, arith, refl, sym, ◌∙◌}
 use Rattle.std.proofs.lemmas.Result.{err_from_is_err_and}
 use Rattle.region_cut.specs.CutFaults.{cut_of}
 use Rattle.region_cut.specs.Cuttings.{region_count}
-use Rattle.saved_run.specs.Charting.{IsCutRefusal, are_regions}
+use Rattle.saved_run.specs.Charting.{are_regions}
 use Rattle.saved_run.specs.Loading.{regions_in}
 use Rattle.saved_run.proofs.Cuttings.{cutting_by-Ok, cutting_by-few, cutting_by-other, passed_on}
 use Rattle.saved_run.proofs.chart_in.chart_in.Goals as goal

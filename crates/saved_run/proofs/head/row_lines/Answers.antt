@@ -1,6 +1,6 @@
-use Rattle.std.proofs.Common.{◌-◌, ◌+◌, arith, length, rules, ap, sym, ◌∙◌, ◌++◌, [], ◌∷◌}
+use Rattle.std.proofs.Common.{◌-◌, ◌+◌, arith, length, ap, sym, ◌∙◌}
 use Rattle.saved_run.specs.Reading.{rows_at}
-use Rattle.saved_run.proofs.Turns.{rows_at-done, rows_at-end, rows_at-more, rows_at-no_line, with_before, with_none}
+use Rattle.saved_run.proofs.Turns.{rows_at-done, rows_at-end, rows_at-more, rows_at-no_line, with_before}
 use Rattle.saved_run.proofs.head.row_lines.Goals as goal
 
 pub returns-in-Some : goal.returns-in-Some

@@ -1,6 +1,6 @@
-use Rattle.std.proofs.Common.{◌-◌, ◌+◌, arith, rules, ap, sym, ◌∙◌, ◌++◌, [], ◌∷◌}
+use Rattle.std.proofs.Common.{◌-◌, ◌+◌, arith, ap, sym, ◌∙◌}
 use Rattle.saved_run.specs.Reading.{steps_at}
-use Rattle.saved_run.proofs.Turns.{steps_at-done, steps_at-more, steps_at-no_line, with_before, with_none}
+use Rattle.saved_run.proofs.Turns.{steps_at-done, steps_at-more, steps_at-no_line, with_before}
 use Rattle.saved_run.proofs.head.step_lines.Goals as goal
 
 pub returns-in_default : goal.returns-in_default

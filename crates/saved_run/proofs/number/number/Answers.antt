@@ -1,5 +1,4 @@
-use Rattle.std.proofs.Common.{◌≡◌, ◌≢◌, ◌-◌, ◌<◌, true, length, sym, ap, ◌∙◌, inl, inr, arith, rules, take_all, get_or, Some, None, cond, nat_lt, ◌^◌}
-use Rattle.std.specs.Prelude.{slice_index}
+use Rattle.std.proofs.Common.{◌≡◌, ◌≢◌, ◌-◌, ◌<◌, true, length, sym, ap, ◌∙◌, inl, inr, arith, take_all, get_or, Some, None, cond, nat_lt, ◌^◌}
 use Rattle.std.proofs.lemmas.Bool.{and_from}
 use Rattle.std.proofs.lemmas.Bool.Decides.{nat_tests}
 use Rattle.std.proofs.lemmas.List.Folds.{list_all_more, list_all_at}

@@ -1,5 +1,4 @@
-use Rattle.std.proofs.Common.{◌≡◌, ◌≤◌, length, refl, arith, ap, subst, sym, ◌∙◌}
-use Rattle.network_file.specs.declared.limits.TheConstants.{MOST_REGIONS}
+use Rattle.std.proofs.Common.{◌≡◌, length, refl, arith, ap, subst, sym, ◌∙◌}
 use Rattle.saved_run.specs.Content.{IsContent}
 use Rattle.saved_run.specs.Laws.{BeginsTrue}
 use Rattle.saved_run.specs.Reading.{content_of}
