@@ -1,6 +1,6 @@
 use crate::{
-    Gate, MemSink, MemSource, OpenGate, Piece, ReadEnd, Sink, Source, StdSink, StdSource, SureSink,
-    SureSource, Written, Wrote, read_up_to, write_all,
+    MemSink, MemSource, Piece, ReadEnd, Sink, Source, StdSink, StdSource, SureSink, SureSource,
+    Written, Wrote, read_up_to, write_all,
 };
 use std::alloc::{AllocError, Global};
 use std::io;
@@ -173,14 +173,4 @@ fn an_error_of_a_writer_and_a_write_of_nothing_are_faults(rt: HostRuntime) -> Re
     }
     assert_eq!(rt; writer.got.as_slice(), b"abc".as_slice());
     Ok(())
-}
-
-#[test]
-fn an_open_gate_lets_every_moment_pass(rt: HostRuntime) {
-    fn pass<G: Gate>(gate: &G) {
-        gate.held(1, 2);
-        gate.freed(1, 3);
-        gate.watched(true);
-    }
-    pass(&OpenGate);
 }
