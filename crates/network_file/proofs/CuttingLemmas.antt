@@ -68,8 +68,6 @@ region_in-push regions cell number i none = elim (cases_eq i cell) [
     last_none None = refl
     last_none (Some region) = refl
 
--- the cutting that the region records of a draft make
-
 region_in-few : (regions : List RegionRecord) (cell : ℕ) → All (λ region. region.number < most_regions) regions →
     unwrap_or (region_in regions cell) 0 < most_regions
 region_in-few [] cell few = omega arith
@@ -93,6 +91,7 @@ chosen false false whole numbers regions is = cc
 chosen false true false numbers regions is = cc
 chosen false true true numbers regions is = inr (refl, cc)
 
+-- the cutting that the region records of a draft make
 pub cutting_of_draft-cutting : (draft : Draft) (regions : List ℕ) →
     All (λ region. (region.cell < length draft.cells) × (region.number < most_regions)) draft.regions →
     cutting_of_draft draft ≡ Ok regions → (regions ≡ []) ⊎ IsCutting (length draft.cells) regions

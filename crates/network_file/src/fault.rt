@@ -20,7 +20,7 @@ pub struct NetFault {
 pub enum NetRefusal {
     /// The file is no network, and this is its first fault.
     Fault(NetFault),
-    /// The memory that the network needs was not to be had.
+    /// The memory that the network needs was refused.
     NoMemory,
 }
 

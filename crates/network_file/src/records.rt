@@ -38,11 +38,7 @@ pub(crate) fn take_record(
 
 /// What a record says, if the draft can take it.
 #[tactic(auto, unfolding(crate::specs::Taking::take_record))]
-fn read_record(
-    alloc: Global,
-    draft: &NetDraft,
-    row: &ByteRecord,
-) -> Result<Entry, RecordRefusal>
+fn read_record(alloc: Global, draft: &NetDraft, row: &ByteRecord) -> Result<Entry, RecordRefusal>
     ensures answer { AnswersBy result (with_entry draft.now) (take_record draft.now (fields_of row.now)) }
     ensures fits { IfOk result (Fits draft.now) }
 {

@@ -102,7 +102,7 @@ impl Chart {
         self.neighbours.at(r)
     }
 
-    /// The cells of region `r` that a connector touches that touches another region.
+    /// The cells of region `r` that share a connector with another region.
     pub fn border(&self, r: u32) -> &[u32]
         requires { r < region_count self.now.cut }
         ensures list { result.now ≡ list_at self.now.border r }

@@ -9,7 +9,7 @@ use crate::ordered::order;
 use no_memory::NoMemory;
 use std::alloc::Global;
 
-/// For each region those that its halo names.
+/// For each region the regions that its halo names.
 pub(crate) fn neighbours_by_region(
     alloc: Global,
     halo: &Lists<Halo>,
