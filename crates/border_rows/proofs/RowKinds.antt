@@ -29,6 +29,7 @@ use Rattle.border_rows.specs.declared.view.Terms.{Terms}
 use Rattle.border_rows.specs.declared.view.View.{View}
 use Rattle.border_rows.proofs.ChartWidths.{length-widths_of}
 use Rattle.border_rows.proofs.Keeping.{neighbours-there, steps_of-same}
+use Rattle.border_rows.proofs.LookKinds.{steps_of-at}
 use Rattle.border_rows.proofs.ViewUpdates.{Contains-elem, Contains-set, set-Contains, set-keeps, sum-set}
 use Rattle.border_rows.proofs.WordUpdates.{border-set, border-set-claim, border-set-other, border-set-step, step-set, step-set-border, step-set-claim, step-set-other}
 
@@ -148,14 +149,11 @@ pub working-there : (terms : Terms) (s : FieldState) (id : ℕ) (view : View) (h
 working-there terms s id view hold holds works = works.standing.claims.there view hold (working-held terms s id view hold holds works)
 
 -- neighbours stand at most a step apart
-step_of-listed : (chart : ChartLists) (words : List ℕ) (r : ℕ) → r < region_count chart.cut → slice_index (steps_of chart words) r ≡ step_of chart words r
-step_of-listed chart words r within = get_or-map-range_with_len (step_of chart words) 0 (region_count chart.cut) r r 0 within (omega arith)
-
 pub steps-close : (net : Network) (chart : ChartLists) (words : List ℕ) (r q : ℕ) → AreLawful net chart.cut (steps_of chart words) → are_neighbours net.connectors chart.cut r q ≡ true →
     step_of chart words r ≤ step_of chart words q + 1
 steps-close net chart words r q lawful near =
     let there = neighbours-there net chart r q near in
-    omega (arith, lawful.close r q near, step_of-listed chart words r there.0, step_of-listed chart words q there.1)
+    omega (arith, lawful.close r q near, steps_of-at chart words r there.0, steps_of-at chart words q there.1)
 
 -- a border word of a neighbour at the region's step or past it is what the cell holds at that step
 pub border-read-near : (terms : Terms) (s : FieldState) (id : ℕ) (view : View) (hold : Hold) (holds : List Hold) (q j : ℕ) → IsWorking terms s id view hold holds →
@@ -566,15 +564,15 @@ lawful-risen net chart before after r within lawful raised more below lowest = r
   in_time = λ k d inside.
       let there : k < region_count chart.cut = omega (arith, inside, long after) in
       let is : get_or (steps_of chart after) k d ≡ step_of chart after k = get_or-map-range_with_len (step_of chart after) 0 (region_count chart.cut) k k d there (omega arith) in
-      let was : step_of chart before k ≤ net.steps = omega (arith, lawful.in_time k 0 (omega (arith, there, long before)), step_of-listed chart before k there) in
+      let was : step_of chart before k ≤ net.steps = omega (arith, lawful.in_time k 0 (omega (arith, there, long before)), steps_of-at chart before k there) in
       elim (cases_eq k r) [
         | inl same ↦ omega (arith, is, ap (step_of chart after) same, more, below)
         | inr apart ↦ omega (arith, is, raised.others k there apart, was)
       ];
   close = λ p q near.
       let both = neighbours-there net chart p q near in
-      let here = step_of-listed chart after p both.0 in
-      let there = step_of-listed chart after q both.1 in
+      let here = steps_of-at chart after p both.0 in
+      let there = steps_of-at chart after q both.1 in
       elim (cases_eq p r) [
         | inl same ↦
             let near_own : are_neighbours net.connectors chart.cut r q ≡ true = subst (λ k. are_neighbours net.connectors chart.cut k q ≡ true) same near in

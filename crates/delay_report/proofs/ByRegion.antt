@@ -12,11 +12,11 @@ use Rattle.region_cut.specs.Cuttings.{region_at}
 use Rattle.region_cut.proofs.Membership.{region_at-there}
 use Rattle.region_step.specs.Region.{RegionValue}
 use Rattle.region_step.specs.declared.note.Note.{Note}
-use Rattle.delay_report.specs.Places.{IsPlaceOf}
+use Rattle.delay_report.specs.Places.{IsCellPlace}
 use Rattle.delay_report.specs.Regions.{AreNotesOf, AreRowsOf, note_at}
 use Rattle.delay_report.proofs.Standing.{length-notes}
 
-pub row-found : (chart : ChartLists) (regions : List RegionValue) (rows : List Row) (i place : ℕ) (region : RegionValue) → IsPlaceOf chart i place → AreRowsOf chart regions rows →
+pub row-found : (chart : ChartLists) (regions : List RegionValue) (rows : List Row) (i place : ℕ) (region : RegionValue) → IsCellPlace chart i place → AreRowsOf chart regions rows →
     row_at (slice_index_or regions (region_at chart.cut i) region).state.rows place ≡ row_at rows i
 row-found chart regions rows i place region placed are =
     let q : ℕ = region_at chart.cut i in
@@ -28,7 +28,7 @@ pub note-inside : (k steps cells place trail : ℕ) → k < steps → place < ce
 note-inside k steps cells place trail earlier inside long =
     let wide : (k + 1) * cells ≤ steps * cells = mul-le-mul_right cells (omega (arith, earlier)) in omega (arith, wide, inside, long)
 
-pub note-found : (chart : ChartLists) (regions : List RegionValue) (recorded : List ℕ) (note : ℕ → ℕ → Note) (k i place : ℕ) (region : RegionValue) → IsPlaceOf chart i place →
+pub note-found : (chart : ChartLists) (regions : List RegionValue) (recorded : List ℕ) (note : ℕ → ℕ → Note) (k i place : ℕ) (region : RegionValue) → IsCellPlace chart i place →
     k < length recorded → AreNotesOf chart regions recorded note →
     note_at (slice_index_or regions (region_at chart.cut i) region).state.trail (k * length (list_at chart.cells (region_at chart.cut i)) + place) ≡ note (slice_index recorded k) i
 note-found chart regions recorded note k i place region placed within are =

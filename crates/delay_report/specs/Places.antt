@@ -4,11 +4,11 @@ use Rattle.region_cut.specs.Chart.{ChartLists, list_at}
 use Rattle.region_cut.specs.Cuttings.{region_at}
 
 -- cell i is there
-pub record IsPlaceOf (chart : ChartLists) (i place : ℕ) : Type 0 where
+pub record IsCellPlace (chart : ChartLists) (i place : ℕ) : Type 0 where
   pub inside : place < length (list_at chart.cells (region_at chart.cut i))
   pub cell : slice_index (list_at chart.cells (region_at chart.cut i)) place ≡ i
 
 -- the first cells, so many of them
-pub record ArePlaced (chart : ChartLists) (cells : ℕ) (places : List ℕ) : Type 0 where
+pub record AreCellPlaces (chart : ChartLists) (cells : ℕ) (places : List ℕ) : Type 0 where
   pub one_each : length places ≡ cells
-  pub each : (i : ℕ) → i < cells → IsPlaceOf chart i (slice_index places i)
+  pub each : (i : ℕ) → i < cells → IsCellPlace chart i (slice_index places i)

@@ -1,8 +1,8 @@
 -- The report of a run, by the rows of all cells at the last step and by what was noted of them at the recorded steps.
-use Rattle.std.specs.Prelude.{ℕ, List, ◌++◌, length, codes, flat_map, sum_by}
+use Rattle.std.specs.Prelude.{ℕ, List, ◌++◌, length, codes, flat_map}
 use Rattle.network_file.specs.Network.{Network}
 use Rattle.network_file.specs.declared.cell.Cell.{Cell}
-use Rattle.flow_model.specs.State.{row_at, state_at}
+use Rattle.flow_model.specs.State.{delay_of, row_at, state_at}
 use Rattle.flow_model.specs.declared.row.Row.{Row}
 use Rattle.flow_ledger.specs.Books.{entered_of, inside_of, left_of}
 use Rattle.line_fields.specs.Fields.{amount_field, count_field, lines_of, row_fields}
@@ -25,10 +25,6 @@ note_line t name note = codes "at" ++ count_field t ++ codes "," ++ name ++ amou
 -- `cell,name,n,come,gone,wait`
 unfoldable pub cell_line : (name : List ℕ) → Row → List ℕ
 cell_line name row = codes "cell," ++ row_fields name row ++ codes "\n"
-
--- the waits of all cells, parts times steps
-unfoldable pub delay_of : List Row → ℕ
-delay_of rows = sum_by (λ row. row.wait) rows
 
 -- what is inside, what has entered, what has left, and the delay
 unfoldable pub totals : Network → List Row → List ℕ

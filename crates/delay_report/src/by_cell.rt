@@ -1,7 +1,7 @@
 ghost use Rattle.std.specs.Prelude.{◌≡◌, ◌+◌, ◌*◌, ◌<◌, ℕ, List, IfOk, length, slice_index};
 ghost use Rattle.flow_model.specs.State.{row_at};
 ghost use Rattle.flow_model.specs.declared.row.Row.{Row as RowValue};
-ghost use Rattle.delay_report.specs.Places.{ArePlaced};
+ghost use Rattle.delay_report.specs.Places.{AreCellPlaces};
 ghost use Rattle.delay_report.specs.Regions.{AreNotesOf, AreRowsOf, HaveNotes, HaveRows, note_at};
 ghost use Rattle.region_step.specs.declared.note.Note.{Note as NoteValue};
 
@@ -25,7 +25,7 @@ impl ByCell<'_> {
     /// The row of cell `i` at its region's step.
     pub(crate) fn row(&self, i: u32) -> Row
         requires there { i < length self.now.chart.now.cut }
-        requires placed { ArePlaced self.now.chart.now (length self.now.chart.now.cut) self.now.places.now }
+        requires placed { AreCellPlaces self.now.chart.now (length self.now.chart.now.cut) self.now.places.now }
         requires rows { HaveRows self.now.chart.now self.now.regions.now }
         ensures { (rows : List RowValue) → AreRowsOf self.now.chart.now self.now.regions.now rows → result ≡ row_at rows i }
     {
@@ -36,7 +36,7 @@ impl ByCell<'_> {
     /// What was noted of cell `i` at the `k`-th recorded step.
     pub(crate) fn note(&self, k: usize, i: u32) -> Note
         requires there { i < length self.now.chart.now.cut }
-        requires placed { ArePlaced self.now.chart.now (length self.now.chart.now.cut) self.now.places.now }
+        requires placed { AreCellPlaces self.now.chart.now (length self.now.chart.now.cut) self.now.places.now }
         requires rows { HaveRows self.now.chart.now self.now.regions.now }
         requires notes { (steps : ℕ) × (k < steps) × HaveNotes self.now.chart.now self.now.regions.now steps }
         ensures { (recorded : List ℕ) (note : ℕ → ℕ → NoteValue) → k < length recorded → AreNotesOf self.now.chart.now self.now.regions.now recorded note →
@@ -51,7 +51,7 @@ impl ByCell<'_> {
     /// The rows of all cells.
     pub(crate) fn rows(&self, alloc: Global, net: &Net) -> Result<Vec<Row>, NoMemory>
         requires one_each { length self.now.chart.now.cut ≡ length net.now.cells }
-        requires placed { ArePlaced self.now.chart.now (length self.now.chart.now.cut) self.now.places.now }
+        requires placed { AreCellPlaces self.now.chart.now (length self.now.chart.now.cut) self.now.places.now }
         requires rows { HaveRows self.now.chart.now self.now.regions.now }
         ensures one_each { IfOk result (λ own. length own.items ≡ length net.now.cells) }
         ensures rows { IfOk result (λ own. (rows : List RowValue) → AreRowsOf self.now.chart.now self.now.regions.now rows → own.items ≡ rows) }

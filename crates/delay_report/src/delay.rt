@@ -1,5 +1,5 @@
 ghost use Rattle.std.specs.Prelude.{◌≡◌, ◌*◌, ◌≤◌, ◌^◌, length};
-ghost use Rattle.delay_report.specs.Report.{delay_of};
+ghost use Rattle.flow_model.specs.State.{delay_of};
 
 use flow_model::Row;
 

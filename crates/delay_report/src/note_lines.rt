@@ -1,5 +1,5 @@
 ghost use Rattle.std.specs.Prelude.{◌≡◌, ◌++◌, ◌<◌, ◌^◌, ℕ, List, length, slice_index, OnOk};
-ghost use Rattle.delay_report.specs.Places.{ArePlaced};
+ghost use Rattle.delay_report.specs.Places.{AreCellPlaces};
 ghost use Rattle.delay_report.specs.Report.{recorded_count};
 ghost use Rattle.delay_report.specs.Regions.{AreNotesOf, HaveNotes, HaveRows};
 ghost use Rattle.delay_report.specs.Report.{note_line, note_lines, step_lines};
@@ -20,7 +20,7 @@ pub(crate) fn put_note_lines(
     every: u64,
 ) -> Result<(), NoMemory>
     requires one_each { length by_cell.now.chart.now.cut ≡ length net.now.cells }
-    requires placed { ArePlaced by_cell.now.chart.now (length by_cell.now.chart.now.cut) by_cell.now.places.now }
+    requires placed { AreCellPlaces by_cell.now.chart.now (length by_cell.now.chart.now.cut) by_cell.now.places.now }
     requires rows { HaveRows by_cell.now.chart.now by_cell.now.regions.now }
     requires notes { HaveNotes by_cell.now.chart.now by_cell.now.regions.now (recorded_count net.now.steps every) }
     ensures { OnOk result ((note : ℕ → ℕ → NoteValue) → AreNotesOf by_cell.now.chart.now by_cell.now.regions.now (recorded net.now.steps every 0 net.now.steps) note →
@@ -46,7 +46,7 @@ fn put_step_lines(
 ) -> Result<(), NoMemory>
     requires few { length cells.now < 2 ^ 32 }
     requires one_each { length by_cell.now.chart.now.cut ≡ length cells.now }
-    requires placed { ArePlaced by_cell.now.chart.now (length by_cell.now.chart.now.cut) by_cell.now.places.now }
+    requires placed { AreCellPlaces by_cell.now.chart.now (length by_cell.now.chart.now.cut) by_cell.now.places.now }
     requires rows { HaveRows by_cell.now.chart.now by_cell.now.regions.now }
     requires notes { (steps : ℕ) × (k < steps) × HaveNotes by_cell.now.chart.now by_cell.now.regions.now steps }
     ensures { OnOk result ((recorded : List ℕ) (note : ℕ → ℕ → NoteValue) → k < length recorded → slice_index recorded k ≡ t →

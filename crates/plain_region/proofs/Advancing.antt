@@ -8,11 +8,11 @@ use Rattle.std.proofs.lemmas.List.Elements.{Contains-get_or}
 use Rattle.network_file.specs.Cells.{is_gate_at}
 use Rattle.network_file.specs.Network.{IsNetwork, Network}
 use Rattle.flow_model.specs.Flows.{inflow, outflow}
-use Rattle.flow_model.specs.Rows.{moved_row, next_row, row_by}
+use Rattle.flow_model.specs.Rows.{moved_row, next_row}
 use Rattle.flow_model.specs.State.{row_at, rows_after}
 use Rattle.flow_model.specs.declared.row.Row.{Row}
 use Rattle.flow_model.proofs.Bounds.{changes, moved_row-in_bounds, small}
-use Rattle.flow_model.proofs.Flows.{entered_by-gate}
+use Rattle.flow_model.proofs.Flows.{inflow-gate}
 use Rattle.region_cut.specs.Chart.{ChartLists, list_at}
 use Rattle.region_step.specs.Advance.{HasHaloPut, HasRowsInBounds, advanced, known, next_rows_of}
 use Rattle.region_step.specs.Opened.{halo_cells}
@@ -59,7 +59,7 @@ scene-read net chart region t cells halo ties rows put sound inside before bound
 -- what enters in all is the inflow, and so the row can change
 enters-is : (net : Network) (t i : ℕ) (n : ℕ → ℕ) (change : Change) → IsChangeOf net t n i change → enters_in_all net t i change ≡ inflow net t n i
 enters-is net t i n change is = elim (cases_Bool (is_gate_at net.cells i)) [
-  | inl gate ↦ rw gate (sym (entered_by-gate net.connectors net t i n gate))
+  | inl gate ↦ rw gate (sym (inflow-gate net t i n gate))
   | inr other ↦ rw other (is.enters other)
 ]
 
@@ -72,7 +72,7 @@ can_change net t cells halo ties rows put all p scene within is =
     let row : Row = row_at rows p in
     let has : i < length net.cells = scene.there p 0 within in
     let own : n i ≡ row.n = known-own cells halo rows put p scene.apart within in
-    let change = rw own at (changes net t i n (inflow net t n i) (outflow net t n i) scene.sound has (λ gate. entered_by-gate net.connectors net t i n gate) (omega arith) (omega arith)) in
+    let change = rw own at (changes net t i n (inflow net t n i) (outflow net t n i) scene.sound has (λ gate. inflow-gate net t i n gate) (omega arith) (omega arith)) in
     let after = small net (t + 1) i (moved_row net i row (inflow net t n i) (outflow net t n i)) scene.sound (omega (arith, scene.before)) has
     (moved_row-in_bounds net t i row (inflow net t n i) (outflow net t n i) scene.sound scene.before has (scene.own p within) change) in
     let now = small net t i row scene.sound (omega (arith, scene.before)) has (scene.own p within) in
@@ -91,7 +91,7 @@ can_change net t cells halo ties rows put all p scene within is =
 -- the rows are those of the recurrences
 pub rows_changed-is : (net : Network) (t : ℕ) (cells : List ℕ) (rows : List Row) (all : List Change) (n : ℕ → ℕ) →
     ((p : ℕ) → p < length cells → IsChangeOf net t n (slice_index cells p) (change_at all p)) → rows_changed net t cells rows all ≡ rows_after net t n cells rows
-unfolding rows_changed rows_after row_by
+unfolding rows_changed rows_after next_row
 rows_changed-is net t cells rows all n is =
     map_range_same
     (λ p. moved_row net (slice_index cells p) (row_at rows p) (enters_in_all net t (slice_index cells p) (change_at all p)) (change_at all p).leaves)

@@ -1,23 +1,24 @@
 -- After all its connectors each of a region's cells has the change of the recurrences.
 use Rattle.std.specs.Prelude.{All, ◌⊎◌, Bool, Option, map, slice_index, if◌then◌else◌}
 use Rattle.std.specs.List.{Contains, list_any}
-use Rattle.std.proofs.Common.{◌≡◌, ℕ, zero, suc, ◌<◌, ◌+◌, inl, inr, true, false, List, [], ◌∷◌, length, get_or, refl, sym, ap, ◌∙◌, arith}
+use Rattle.std.proofs.Common.{◌≡◌, ℕ, ◌<◌, ◌+◌, inl, inr, true, false, List, [], length, get_or, refl, sym, ap, ◌∙◌, arith}
 use Rattle.std.proofs.lemmas.Bool.{cases_Bool, cases_lt}
 use Rattle.std.proofs.lemmas.List.{get_or-map, get_or_default, length-map}
 use Rattle.std.proofs.lemmas.List.Elements.{Contains-get_or}
 use Rattle.std.proofs.lemmas.List.Folds.{Any-from_list_any}
-use Rattle.network_file.specs.Connectors.{cells_of, connector_at, leads_into, leads_out_of, touches}
+use Rattle.network_file.specs.Connectors.{connector_at, leads_into, leads_out_of, touches}
 use Rattle.network_file.specs.Network.{Network}
 use Rattle.network_file.specs.declared.connector.Connector.{Connector}
-use Rattle.network_file.specs.declared.connector.Connector.TheVariants.{Link, Merge, Diverge}
-use Rattle.flow_model.specs.Bounds.{AreHeldInBounds, IsHeldInBounds}
-use Rattle.flow_model.specs.Flows.{entering, flow_between, flow_of, leaving}
+use Rattle.network_file.specs.declared.connector.Connector.TheVariants.{Link}
+use Rattle.flow_model.specs.Bounds.{IsHeldInBounds}
+use Rattle.flow_model.specs.Flows.{entering, flow_of, leaving}
 use Rattle.flow_model.specs.declared.carried.Flow.{Flow}
 use Rattle.flow_model.specs.declared.row.Row.{Row}
 use Rattle.flow_model.proofs.CellFlows.{inflow-by, inflow-none, outflow-by, outflow-none}
-use Rattle.flow_model.proofs.CellKinds.{sound_connector}
+use Rattle.network_file.proofs.NetworkFacts.{connector_at-sound}
 use Rattle.flow_model.proofs.Locality.{leads_into-touches, leads_out_of-touches}
 use Rattle.region_cut.specs.ConnectorCells.{three_cells}
+use Rattle.place_rows.proofs.Parting.{flow_between-three, three_in_bounds}
 use Rattle.region_step.specs.Advance.{known}
 use Rattle.region_step.specs.Apart.{AreApart}
 use Rattle.plain_region.specs.Carrying.{CanCarry, IsChangeOf, IsScene, IsThere, carried_of, change_at, held_at, moved_by}
@@ -38,30 +39,6 @@ place-there net t cells halo ties rows put i (Own p) scene (there, is) =
 place-there net t cells halo ties rows put i (Halo p) scene (there, is) =
     (omega (arith, scene.put_each, there), rw is at (scene.around p there))
 
-three_in_bounds : (net : Network) (t : ℕ) (connector : Connector) (a b c : ℕ) → IsHeldInBounds net t (slice_index (three_cells connector) 0) a →
-    IsHeldInBounds net t (slice_index (three_cells connector) 1) b → IsHeldInBounds net t (slice_index (three_cells connector) 2) c →
-    AreHeldInBounds net t (cells_of connector) (a ∷ b ∷ c ∷ [])
-three_in_bounds net t (Link up down) a b c first second third = record { each = at }
-  where
-    at : (j : ℕ) → j < 2 → IsHeldInBounds net t (slice_index (up ∷ down ∷ []) j) (slice_index (a ∷ b ∷ c ∷ []) j)
-    at zero within = first
-    at (suc zero) within = second
-    at (suc (suc j)) within = absurd (omega arith)
-three_in_bounds net t (Merge up1 up2 down p1 p2) a b c first second third = record { each = at }
-  where
-    at : (j : ℕ) → j < 3 → IsHeldInBounds net t (slice_index (up1 ∷ up2 ∷ down ∷ []) j) (slice_index (a ∷ b ∷ c ∷ []) j)
-    at zero within = first
-    at (suc zero) within = second
-    at (suc (suc zero)) within = third
-    at (suc (suc (suc j))) within = absurd (omega arith)
-three_in_bounds net t (Diverge up down1 down2 b1 b2) a b c first second third = record { each = at }
-  where
-    at : (j : ℕ) → j < 3 → IsHeldInBounds net t (slice_index (up ∷ down1 ∷ down2 ∷ []) j) (slice_index (a ∷ b ∷ c ∷ []) j)
-    at zero within = first
-    at (suc zero) within = second
-    at (suc (suc zero)) within = third
-    at (suc (suc (suc j))) within = absurd (omega arith)
-
 pub can_carry : (net : Network) (t : ℕ) (cells halo : List ℕ) (ties : List Tie) (rows : List Row) (put : List (Option ℕ)) (tie : Tie) →
     IsScene net t cells halo ties rows put → IsTie net cells halo tie → CanCarry net t tie rows put
 can_carry net t cells halo ties rows put tie scene tied =
@@ -74,14 +51,6 @@ can_carry net t cells halo ties rows put tie scene tied =
       places = λ m few. (at m few).0;
       held = three_in_bounds net t connector _ _ _ ((at 0 (omega arith)).1) ((at 1 (omega arith)).1) ((at 2 (omega arith)).1);
     }
-
-flow_between-three : (net : Network) (t : ℕ) (connector : Connector) (n : ℕ → ℕ) →
-    flow_between net t connector (n (slice_index (three_cells connector) 0) ∷ n (slice_index (three_cells connector) 1) ∷ n (slice_index (three_cells connector) 2) ∷ []) ≡
-    flow_of net t n connector
-unfolding flow_between
-flow_between-three net t (Link up down) n = refl
-flow_between-three net t (Merge up1 up2 down p1 p2) n = refl
-flow_between-three net t (Diverge up down1 down2 b1 b2) n = refl
 
 carried-is : (net : Network) (t : ℕ) (cells halo : List ℕ) (rows : List Row) (put : List (Option ℕ)) (tie : Tie) → AreApart cells halo → IsTie net cells halo tie →
     carried_of net t tie rows put ≡ flow_of net t (known cells halo rows put) (connector_at net.connectors tie.connector)
@@ -180,7 +149,7 @@ changed-more net t cells halo ties rows put j tie changes scene within here long
     let number : slice_index numbers j ≡ tie.connector = get_or-map (λ tie. tie.connector) ties j tie 0 within ∙ ap (λ tie. tie.connector) here in
     let same : connector_at net.connectors (slice_index numbers j) ≡ connector = ap (connector_at net.connectors) number in
     let flow : carried_of net t tie rows put ≡ flow_of net t n connector = carried-is net t cells halo rows put tie scene.apart tied in
-    let fits = sound_connector net tie.connector scene.sound tied.there in (
+    let fits = connector_at-sound net tie.connector scene.sound tied.there in (
       length-moved_by connector tie (carried_of net t tie rows put) changes ∙ long,
       λ p inside.
           let by = moved_by-at cells halo connector tie (carried_of net t tie rows put) changes p scene.apart long inside fits.up_apart fits.down_apart tied.places in

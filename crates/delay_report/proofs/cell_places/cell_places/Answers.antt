@@ -9,7 +9,7 @@ use Rattle.region_cut.specs.Cuttings.{region_at, region_count}
 use Rattle.region_cut.proofs.Anys.{finds}
 use Rattle.region_cut.proofs.Membership.{place-in, region_at-there}
 use Rattle.region_step.proofs.Ground.{ground}
-use Rattle.delay_report.specs.Places.{IsPlaceOf}
+use Rattle.delay_report.specs.Places.{IsCellPlace}
 use Rattle.delay_report.proofs.cell_places.cell_places.Goals as goal
 
 pub cells-cells-requires : goal.cells-cells-requires
@@ -44,20 +44,20 @@ loop-i-preserved c =
     let there : i < length c.args.net.now.cells = omega (arith, c.loop-i-test.true, c.len-i-end.ensures, c.net.inside.cells.ok.0, cells) in
     let stands = place-in (list_at c.args.chart.now.cells (region_at cut i)) i lists.apart.rising (lists.has i there refl) in
     let found = rw (c.cells-cells.ensures.list, c.region_of.ensures) at c.place.ensures in
-    let placed : IsPlaceOf c.args.chart.now i c.place.result = rw found (record { inside = stands.0; cell = stands.1 }) in
+    let placed : IsCellPlace c.args.chart.now i c.place.result = rw found (record { inside = stands.0; cell = stands.1 }) in
     let more : c.push.new.self.items ≡ c.loop-i.places.items ++ c.place.result ∷ [] = c.in_ok-push.ensures.items in
     record {
       one_each = omega (arith, ap length more, length-append c.loop-i.places.items (c.place.result ∷ []), c.loop-i.invariant.one_each);
       each = λ k within. elim (cases_lt k i) [
         | inl before ↦
-            subst (IsPlaceOf c.args.chart.now k)
+            subst (IsCellPlace c.args.chart.now k)
             (sym (ap (λ items. slice_index items k) more ∙ get_or_append_left c.loop-i.places.items (c.place.result ∷ []) 0 k (omega (arith, before, c.loop-i.invariant.one_each))))
             (c.loop-i.invariant.each k before)
         | inr last ↦
             let here : k ≡ length c.loop-i.places.items = omega (arith, within, last, c.loop-i.invariant.one_each) in
             let same : k ≡ i = omega (arith, within, last) in
-            subst (IsPlaceOf c.args.chart.now k)
+            subst (IsCellPlace c.args.chart.now k)
             (sym (ap (λ items. slice_index items k) more ∙ ap (slice_index (c.loop-i.places.items ++ c.place.result ∷ [])) here ∙ get_or-append_seam c.loop-i.places.items c.place.result [] 0))
-            (subst (λ j. IsPlaceOf c.args.chart.now j c.place.result) (sym same) placed)
+            (subst (λ j. IsCellPlace c.args.chart.now j c.place.result) (sym same) placed)
       ];
     }

@@ -1,5 +1,5 @@
 use Rattle.std.proofs.lemmas.List.{take_all}
-use Rattle.delay_report.specs.Report.{delay_of}
+use Rattle.flow_model.specs.State.{delay_of}
 use Rattle.delay_report.proofs.delay.delay.Goals as goal
 
 pub returns-clause-sum : goal.returns-clause-sum

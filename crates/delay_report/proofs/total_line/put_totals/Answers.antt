@@ -4,7 +4,8 @@ use Rattle.network_file.specs.Network.{IsNetwork}
 use Rattle.network_file.proofs.NetworkFacts.{few_cells}
 use Rattle.flow_ledger.specs.Books.{books_of, entered_of, inside_of, left_of}
 use Rattle.line_fields.specs.Fields.{amount_field}
-use Rattle.delay_report.specs.Report.{delay_of, totals}
+use Rattle.flow_model.specs.State.{delay_of}
+use Rattle.delay_report.specs.Report.{totals}
 use Rattle.delay_report.proofs.total_line.put_totals.Goals as goal
 
 four : (text a b c d : List ℕ) → (((text ++ a) ++ b) ++ c) ++ d ≡ text ++ (((a ++ b) ++ c) ++ d)
