@@ -165,6 +165,11 @@ def chain_of(report: Report, begin: str | None = None, end: str | None = None, r
     return _driven(report, cells)
 
 
+def cell_before(report: Report, place: str) -> str:
+    """The cell that ends at a place, which is written as those of `chain_of`."""
+    return _cell_at(report, place, "--to")
+
+
 def _driven(report: Report, cells: Sequence[str]) -> list[str]:
     """The cells of a chain in which vehicles drive or wait: an exit is left out."""
     kinds = report.need_network().kinds

@@ -1,0 +1,1 @@
+"""A study against what detectors saw: how near it comes, the values by which it comes nearest, and a lane's diagram."""

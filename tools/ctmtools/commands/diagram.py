@@ -1,0 +1,43 @@
+"""ctm-tools diagram"""
+
+from __future__ import annotations
+
+from pathlib import Path
+
+import click
+
+from ..calibration.diagram import fit, read_states
+from ..problem import Problem
+
+EPILOG = """\b
+Examples:
+  ctm-tools diagram detector.csv
+  ctm-tools diagram detector.csv --lanes 3 -o a7.png
+
+The file has the columns flow (vehicles/h) and density (vehicles/km), or flow and speed (km/h). What is told are keys of a
+study's [lane]."""
+
+
+@click.command(epilog=EPILOG)
+@click.argument("detector", metavar="FILE.csv", type=click.Path())
+@click.option("--lanes", default=1.0, show_default=True, type=click.FloatRange(0.1), help="Of how many lanes its flows are.")
+@click.option("-o", "--output", metavar="FILE.png|svg|pdf", type=click.Path(), help="Where the plot goes.")
+def command(detector: str, lanes: float, output: str | None) -> None:
+    """Fit the triangle of flow and density to a detector's data, and plot both."""
+    from ..plots.calibration import triangle
+    from ..plots.figure import ENDINGS, save
+
+    picture = Path(output or Path(detector).stem + "-diagram.png")
+    if picture.suffix.lower() not in ENDINGS:
+        raise Problem(f"{picture}: a picture's name ends with {', '.join(ENDINGS)}")
+    states = read_states(detector, lanes)
+    try:
+        found = fit(states)
+    except Problem as problem:
+        raise Problem(f"{detector}: {problem}") from None
+    click.echo(f"free_flow_speed = {found.speed:.4g}  # km/h\nwave_speed = {found.wave:.4g}  # km/h\n"
+               f"jam_density = {found.jam:.4g}  # vehicles/km\nsaturation_flow = {found.capacity:.5g}  # vehicles/h")
+    click.echo(f"\n{found.rows} rows, {found.queued} of them of queued traffic; misses {found.rmse:,.0f} vehicles/h in the root mean "
+               "square")
+    save(triangle(states, found, f"{Path(detector).stem}: flow and density"), picture)
+    click.echo(f"\n{picture}")

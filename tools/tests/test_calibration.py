@@ -1,0 +1,133 @@
+"""Studies against detectors: what a run with known values passed finds these values again; triangles of known states."""
+
+import numpy
+import pandas
+import pytest
+
+from ctmtools import Problem, run
+from ctmtools.calibration.diagram import fit, read_states
+from ctmtools.calibration.fitting import by_place, calibrate, distance, geh, range_of
+from ctmtools.calibration.observed import modelled, read_observed
+
+from .corridor import HEAD
+
+STUDY = HEAD.format(end="08:00") + """
+[roads.m]
+length = 2
+lanes = 2
+sections = [{ from = 1, lanes = 1 }]
+[gates.g]
+into = "m"
+demand = [["06:00", "06:20", 1500], ["06:20", "07:00", 2700], ["07:00", "08:00", 900]]
+[exits.x]
+from = "m"
+"""
+
+
+def study(tmp_path, flow=2160, name="s.toml"):
+    path = tmp_path / name
+    path.write_text(STUDY.replace("saturation_flow = 2160", f"saturation_flow = {flow}"))
+    return path
+
+
+def seen(tmp_path, report, places=("m.0.5", "m.1.5"), speeds=True):
+    """A file of what detectors would have seen of a report, in quarters of an hour."""
+    rows = ["place,start,end,flow" + ",speed" * speeds]
+    for place in places:
+        cell = {"m.0.5": "m2", "m.1.5": "m6"}[place]
+        for quarter in range(8):
+            steps = slice(90 * quarter, 90 * (quarter + 1))
+            flow, held = (frame[cell].to_numpy()[steps].mean() for frame in (report.flow, report.held))
+            start, end = (f"{6 + minutes // 60:02d}:{minutes % 60:02d}" for minutes in (15 * quarter, 15 * quarter + 15))
+            rows.append(f"{place},{start},{end},{flow * 360:.3f}" + f",{90 * flow / held:.3f}" * speeds)
+    path = tmp_path / "seen.csv"
+    path.write_text("\n".join(rows) + "\n")
+    return path
+
+
+def test_the_values_of_a_known_run_are_found(tmp_path, recording_program):
+    known = run(study(tmp_path, 1930, "known.toml"))
+    observed = read_observed(seen(tmp_path, known))
+    found = calibrate(study(tmp_path), observed, [range_of("lane.saturation_flow=1700:2200")], most=40)
+    assert found.values["lane.saturation_flow"] == pytest.approx(1930, abs=5)
+    assert found.distance < 0.002 < found.before and found.runs <= 42
+    rows = by_place(found.modelled, observed)
+    assert list(rows.index) == ["m.0.5", "m.1.5"] and (rows.geh < 0.2).all() and (rows.below_5 == 1).all()
+
+
+def test_what_the_model_passes_where_a_detector_stands(tmp_path, recording_program):
+    report = run(study(tmp_path))
+    (tmp_path / "two.csv").write_text("Place,Start,End,Flow\nm.1.5,06:30,07:00,2000\nm.0.5,07:30,08:00,900\n")
+    observed = read_observed(tmp_path / "two.csv")
+    found = modelled(report, observed)
+    # One lane passes 2,160 of the 2,700 vehicles/h; half an hour after the peak all 900 pass freely.
+    assert found.flow.tolist() == pytest.approx([2160, 900], abs=1) and found.speed.tolist() == pytest.approx([90, 90], abs=0.5)
+    # Off by 160 of 2,000 and by none; the mean of the observed is 1,450.
+    assert distance(found, observed) == pytest.approx(160 / 1450 / 2 ** 0.5, abs=1e-3)
+
+
+def test_geh():
+    # The root of 2 · 100² / 1,900 and of 2 · 10² / 10; no flow is no miss.
+    found = geh(pd([1000.0, 10.0, 0.0]), pd([900.0, 0.0, 0.0]))
+    assert found.tolist() == pytest.approx([(20000 / 1900) ** 0.5, 20 ** 0.5, 0])
+
+
+def pd(values):
+    return pandas.Series(values)
+
+
+@pytest.mark.parametrize("text, wanted", [
+    ("place,start,end\nm.1,06:00,07:00\n", "has no column flow"), ("place,start,end,flow\n", "has no rows"),
+    ("place,start,end,flow\nm.1,06:00,07:00,x\n", "line 2: expected a flow"),
+    ("place,start,end,flow\nm.1,06:00,06:00,5\n", "line 2: expected a flow, 0 or more, and an end after"),
+    ("place,start,end,flow\nm.1,soon,06:00,5\n", "line 2, start: expected a clock time")])
+def test_mistakes_in_the_file_of_detectors(tmp_path, text, wanted):
+    (tmp_path / "d.csv").write_text(text)
+    with pytest.raises(Problem) as found:
+        read_observed(tmp_path / "d.csv")
+    assert wanted in str(found.value)
+
+
+@pytest.mark.parametrize("text", ["lane.wave_speed", "lane.wave_speed=5", "=1:2", "lane.wave_speed=3:2", "a=x:y"])
+def test_mistakes_in_ranges(text):
+    with pytest.raises(Problem, match="expected KEY=LOW:HIGH"):
+        range_of(text)
+
+
+def test_the_command(tool, tmp_path, recording_program):
+    path = seen(tmp_path, run(study(tmp_path, 2000, "known.toml")), speeds=False)
+    status, out, err = tool("calibrate", study(tmp_path), "--observed", path, "--vary", "lane.saturation_flow=1800:2200", "--runs", 12)
+    assert status == 0 and out.startswith("lane.saturation_flow = 20") or out.startswith("lane.saturation_flow = 199")
+    assert "m.1.5" in out and (tmp_path / "s-calibration.png").stat().st_size > 5000
+    path.write_text("place,start,end,flow\nq.1,06:00,07:00,5\n")
+    status, out, err = tool("calibrate", study(tmp_path), "--observed", path, "--vary", "lane.saturation_flow=1800:2200")
+    assert status == 2 and "q.1 is no place of the study" in err and err.count("\n") == 1
+
+
+def states(noise=0.0, seed=3):
+    """Flow and speed of a lane on a triangle of 100 km/h, 20 km/h and 150 vehicles/km, whose top is 2,500 vehicles/h."""
+    drawn = numpy.random.default_rng(seed)
+    density = numpy.concatenate([drawn.uniform(2, 25, 200), drawn.uniform(25, 120, 80)])
+    flow = numpy.minimum(100 * density, 20 * (150 - density)) * (1 + noise * drawn.standard_normal(len(density)))
+    return flow, density
+
+
+@pytest.mark.parametrize("noise, off", [(0, 0.002), (0.05, 0.04)])
+def test_the_triangle_of_known_states_is_found(tmp_path, noise, off):
+    flow, density = states(noise)
+    (tmp_path / "d.csv").write_text("Flow,Speed\n" + "".join(f"{3 * q:.4f},{q / k:.6f}\n" for q, k in zip(flow, density)))
+    found = fit(read_states(tmp_path / "d.csv", lanes=3))
+    assert (found.speed, found.wave, found.jam, found.capacity) == pytest.approx((100, 20, 150, 2500), rel=off)
+    assert found.rows == 280 and found.queued == pytest.approx(80, abs=6 if noise else 1)
+
+
+def test_the_command_of_the_diagram(tool, tmp_path):
+    flow, density = states()
+    pandas.DataFrame({"flow": flow, "density": density}).to_csv(tmp_path / "d.csv", index=False)
+    status, out, err = tool("diagram", "d.csv")
+    assert status == 0 and "saturation_flow = 2500  # vehicles/h" in out and (tmp_path / "d-diagram.png").exists()
+    pandas.DataFrame({"flow": flow[:200], "density": density[:200] / 2}).to_csv(tmp_path / "free.csv", index=False)
+    free = tool("diagram", "free.csv")
+    assert free[0] == 2 and "too few for a wave speed" in free[2]
+    (tmp_path / "none.csv").write_text("flow,occupancy\n1,2\n")
+    assert "needs the columns flow and density, or flow and speed" in tool("diagram", "none.csv")[2]
