@@ -6,6 +6,7 @@ for each combination of varied values. `read_report(path)` gives a report that s
 
 Of a report, `states(report)` is the tidy table of occupancy (vehicles), flow (vehicles/h), density (vehicles/km) and
 speed (km/h) over time, `totals(report)` its delays (vehicle-hours) by cell, `queues_of(report)` its queues,
+`travel_times(report, chain_of(report, road="m"), every=900)` the travel times along a chain of cells,
 `compare(first, second)` what two of them differ by, and `plot(report, kind)` a picture.
 """
 
@@ -28,13 +29,16 @@ if TYPE_CHECKING:
     from .report.states import queues_of as queues_of
     from .report.states import states as states
     from .report.states import totals as totals
+    from .report.travel import chain_of as chain_of
+    from .report.travel import travel_times as travel_times
     from .study.reading import read_study as read_study
 
 # Where each public name is at home; it is loaded when it is first asked for.
 HOMES = {"Network": "network_file.network", "Problem": "problem", "Report": "report.reading", "build": "interface",
-         "compare": "report.comparing", "plot": "interface", "queues_of": "report.states",
-         "read_network": "network_file.network", "read_report": "report.reading", "read_study": "study.reading",
-         "run": "interface", "states": "report.states", "sweep": "interface", "totals": "report.states"}
+         "chain_of": "report.travel", "compare": "report.comparing", "plot": "interface",
+         "queues_of": "report.states", "read_network": "network_file.network", "read_report": "report.reading",
+         "read_study": "study.reading", "run": "interface", "states": "report.states", "sweep": "interface",
+         "totals": "report.states", "travel_times": "report.travel"}
 __all__ = sorted(HOMES)
 
 

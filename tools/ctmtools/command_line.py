@@ -14,8 +14,12 @@ from .problem import Problem, one_line
 PROGRAM = "ctm-tools"
 COMMANDS = {"build": "Make the network file of a study.", "run": "Run a study or a network, and print its page.",
             "lint": "Explain the first fault of a network file, or warn.",
-            "table": "Write a report as a tidy table, CSV.", "plot": "Draw a report.",
-            "compare": "Compare two reports.", "sweep": "Run a study over varied values."}
+            "table": "Write a report as a tidy table, CSV.",
+            "travel-time": "Tell the travel times along a road or a route.", "plot": "Draw a report.",
+            "import": "Make a study of another program's network.",
+            "report": "Make a page for a browser of a report, or of two.",
+            "export": "Write a report in the format of another program.", "compare": "Compare two reports.", "sweep": "Run a study over varied values."}
+MODULES = {"export": "exporting", "import": "importing", "travel-time": "travel_time"}  # of commands whose names aren't those of their modules
 PACKAGES = {"click": "python3-click", "pandas": "python3-pandas", "numpy": "python3-numpy",
             "matplotlib": "python3-matplotlib", "networkx": "python3-networkx", "distributed": "python3-distributed"}
 EPILOG = """\b
@@ -39,7 +43,7 @@ class Commands(click.Group):
         """The command of a name, or None."""
         if name not in COMMANDS:
             return None
-        command: click.Command = importlib.import_module(f".commands.{name}", __package__).command
+        command: click.Command = importlib.import_module(f".commands.{MODULES.get(name, name)}", __package__).command
         return command
 
     def format_commands(self, context: click.Context, formatter: click.HelpFormatter) -> None:

@@ -21,6 +21,7 @@ class Units:
     `step` is the length of a step in seconds and `start` the clock time of step 0 in seconds after midnight, each None
     where it isn't known. `cells` has for each road cell `road`, `from_km`, `to_km`, `lanes`, `free_flow_kmh`,
     `wave_kmh`; `roads` has for each road its cells in the direction of travel, and `points` where they are given.
+    `cycles` has the cycle in steps of each signal that the network has as limits, by the cell or the gate of its stop line.
     """
 
     title: str = ""
@@ -30,6 +31,7 @@ class Units:
     cells: dict[str, dict[str, Any]] = field(default_factory=dict)
     roads: dict[str, list[str]] = field(default_factory=dict)
     points: dict[str, list[Any]] = field(default_factory=dict)
+    cycles: dict[str, int] = field(default_factory=dict)
 
     @property
     def known(self) -> bool:
@@ -82,7 +84,8 @@ def read_units(path: str | Path) -> Units:
     try:
         values = json.loads(path.read_text())
         return Units(values.get("title", ""), values.get("step_seconds"), values.get("start_seconds"),
-                     values.get("network"), values.get("cells", {}), values.get("roads", {}), values.get("points", {}))
+                     values.get("network"), values.get("cells", {}), values.get("roads", {}), values.get("points", {}),
+                     values.get("cycles", {}))
     except (OSError, ValueError, AttributeError) as error:
         raise Problem(f"{path}: no units file: {error}") from None
 
@@ -91,7 +94,7 @@ def write_units(path: str | Path, units: Units) -> None:
     """Writes the units to a file, with a line for each cell."""
     cells = ",\n".join(f"    {json.dumps(name)}: {json.dumps(row)}" for name, row in units.cells.items())
     head = {"title": units.title, "step_seconds": units.step, "start_seconds": units.start, "network": units.network,
-            "roads": units.roads, "points": units.points}
+            "roads": units.roads, "points": units.points, "cycles": units.cycles}
     lines = [f"  {json.dumps(key)}: {json.dumps(value)}" for key, value in head.items() if value not in (None, {}, "")]
     if cells:
         lines.append('  "cells": {\n' + cells + "\n  }")

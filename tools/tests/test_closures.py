@@ -4,6 +4,7 @@ import plain_model
 import pytest
 
 from ctmtools import Problem
+from ctmtools.report.queues import queues_in
 from ctmtools.report.reading import report_of
 
 from .corridor import corridor
@@ -58,6 +59,25 @@ def test_closures_overlap_where_both_are(tmp_path):
     assert limits(made) == [["m2", "60", "240", "12"], ["m3", "0", "60", "12"], ["m3", "60", "240", "6"],
                             ["m3", "240", "360", "12"], ["m4", "0", "360", "12"]]
     assert len(made.remarks) == 1 and "from km 0.5 to 0.75" in made.remarks[0]
+
+
+def test_no_part_of_a_road_is_told_twice(tmp_path):
+    wide = WORKS.replace("0.5", "0.25").replace("0.75", "1")
+    shoulder = '[[openings]]\nroad = "m"\nfrom = 0.5\nto = 0.75\nlanes = 1\n'
+    told = corridor(tmp_path, 2 * wide + shoulder, lanes=3).remarks[1:]
+    both, left = "closures[1] and closures[2] overlap on road m from km", "06:00 to 07:00: 1 of 3 lanes and"
+    assert told == [f"{both} 0.25 to 0.5, {left} 2,160 vehicles/h are left",
+                    f"{both} 0.75 to 1, {left} 2,160 vehicles/h are left",
+                    "closures[1] and closures[2] and openings[1] overlap on road m from km 0.5 to 0.75, 06:00 to 07:00: "
+                    "1 of 3 lanes and 1 opened and 4,320 vehicles/h are left"]
+
+
+@pytest.mark.parametrize("part, told", [
+    (CRASH.replace("06:40", "07:30"), "closures[1].end: 07:30 is behind the study's end, 07:00, and is cut there"),
+    (SHOULDER.replace("06:30", "07:10"), "openings[1].end: 07:10 is behind the study's end, 07:00, and is cut there"),
+    (CRASH.replace("06:40", "07:00"), None)])
+def test_an_end_behind_the_studys_end_is_told(tmp_path, part, told):
+    assert [line for line in corridor(tmp_path, part).remarks if "behind" in line] == ([told] if told else [])
 
 
 def test_limits_of_a_gate_that_overlap(tmp_path):
@@ -143,6 +163,17 @@ def test_within_a_road_who_waits_waits_up_to_a_step_longer(tmp_path):
                    for start in ("", 'start = "06:05"\n'))
     # In each of 25 reds of 6 steps 2 vehicles come in a step, and the green clears them.
     assert 0.9 * 25 * 12 < made - exact <= 25 * 12
+
+
+def test_the_queue_at_a_signal_that_runs_for_a_time_is_one(tmp_path):
+    signal = '[[signals]]\nroad = "m"\nat = 0.5\ncycle = 120\ngreen = 60\nstart = "06:05"\n'
+    made = corridor(tmp_path, signal, demand='[["06:00", "06:39:30", 720]]')
+    assert made.units.cycles == {"m2": 12}
+    report = report_of(plain_model.report(made.text.encode(), 1))
+    report.network, report.units = made.network, made.units
+    queue, = queues_in(report)
+    # It is red in each even minute from 06:06 on, for the last time with vehicles before it at 06:38.
+    assert (queue.origin, queue.start, queue.spells) == ("m2", 36, 17)
 
 
 def test_plans_of_a_signal_by_time_of_day(tmp_path):

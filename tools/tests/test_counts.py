@@ -74,6 +74,28 @@ def test_commas_of_thousands_are_told(tmp_path):
     assert 'expected a count, found "1,000"; write it without the comma of thousands' in problem(tmp_path, rows)
 
 
+def test_a_count_that_may_be_one_or_a_thousand_is_refused(tmp_path):
+    rows = QUARTERS.replace("360", "1.000")
+    assert 'line 5, n: "1.000" may be 1 or a number of thousands; write it without the point, or say decimal = "."' in \
+        problem(tmp_path, rows)
+    # With a decimal sign that is said it is one in 15 min, 4 vehicles/h, or a mistake.
+    assert demands(counted(tmp_path, rows, 'decimal = "."')) == [*FLOWS[:3], ["270", "360", "0.011111"]]
+    assert "write it without the point of thousands" in problem(tmp_path, rows, 'decimal = ","')
+    assert "write it without the point of thousands" in problem(tmp_path, QUARTERS.replace("360", "1.000.000"))
+    comma = rows.replace(",", ";").replace("1.000", "360,000")
+    assert demands(counted(tmp_path, comma, 'separator = ";", decimal = ","')) == FLOWS
+    assert demands(counted(tmp_path, QUARTERS.replace("360", "360.0"))) == FLOWS
+
+
+def test_columns_in_capitals_are_known(tmp_path):
+    rows = TWO_DAYS.replace("time,n", "Date,TIME,N").replace("2019 ", "2019,")
+    assert "has several days, 04/12/2019, 05/12/2019; choose one by date" in problem(tmp_path, rows)
+    assert demands(counted(tmp_path, rows, 'date = "04/12/2019"')) == FLOWS
+    stations = "Station,Time,n\n" + "".join(f"a,{row}\n" for row in QUARTERS.splitlines()[1:])
+    assert demands(counted(tmp_path, stations, 'station = "a"')) == FLOWS
+    assert "has no station b" in problem(tmp_path, stations, 'station = "b"')
+
+
 def test_rows_that_dont_agree_on_the_interval_are_refused(tmp_path):
     rows = "time,n\n06:00,1\n06:15,1\n06:35,1\n06:45,1\n"
     assert "don't agree on the interval: 10 min from line 4 on, 15 min from line 2 on; say interval" in problem(tmp_path, rows)

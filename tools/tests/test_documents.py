@@ -21,6 +21,10 @@ LEFT_OUT = {
     "man -l docs/ctm.1": "it needs man",
     "dask-scheduler --port 8786": "it needs a cluster",
     "dask-worker tcp://HOST:8786": "it needs a cluster",
+    "./ctm-tools import sumo town.net.xml --routes town.rou.xml --until \"1 h\" -o town.toml": "its files are a user's",
+    "./ctm-tools import gmns town -o town.toml": "its files are a user's",
+    "./ctm-tools import sumo NET.net.xml": "its files are a user's",
+    "./ctm-tools report a.report b.report -o ab.html": "its files are a user's",
     "./ctm-tools sweep study.toml --vary demand=0.8:1.2:0.01 --dask tcp://HOST:8786": "it needs a cluster",
 }
 

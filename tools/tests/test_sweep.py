@@ -48,9 +48,10 @@ def test_changes_of_a_study():
 
 def test_a_run_is_measured(plain):
     measured = measure(task(plain, **{"signals.offset": Fraction(40)}))
+    # 21 cells of 10 s with the gate, and 6.75 vehicle-hours of 1,080 vehicles.
     assert measured == {"delay_vehicle_hours": pytest.approx(6.75), "longest_queue_km": pytest.approx(0.125),
                         "most_waiting_vehicles": pytest.approx(18), "served_vehicles": 1080, "inside_vehicles": 0,
-                        "rounded": "", "error": ""}
+                        "travel_time_min": pytest.approx((210 + 22.5) / 60, abs=0.01), "rounded": "", "error": ""}
     assert "length of road c: 2.5 km asked, 2.5375 km modelled and" in measure(task(plain, step=Fraction(7)))["rounded"]
     assert measure(task(plain, **{"demand": Fraction(2)}))["served_vehicles"] > 1080
     assert "no such key" in measure(task(plain, **{"signals.ofset": 40}))["error"]

@@ -45,5 +45,14 @@ def test_another_end_is_told(tool, saved):
     assert told == ["warning: A is of 360 steps of 10 s, 06:00 to 07:00, B of 720 steps of 10 s, 06:00 to 08:00"]
 
 
+def test_other_lanes_and_speeds_are_told(tool, saved):
+    one = saved("one")
+    lines = tool("compare", one, saved("wide", lanes=3))[1].splitlines()
+    assert lines[2] == "4 cells have another number of lanes in A and in B, as m1: 2 in A, 3 in B"
+    lines = tool("compare", one, saved("slow", head=HEAD.replace("= 18", "= 15")))[1].splitlines()
+    assert lines[2] == "4 cells have another wave speed in A and in B, as m1: 18 km/h in A, 15 km/h in B"
+    assert "another" not in tool("compare", one, saved("same"))[1]
+
+
 def test_nothing_is_told_of_reports_that_are_alike(tool, saved):
     assert not warnings(tool("compare", saved("one"), saved("other", lanes=3))[1])

@@ -3,25 +3,25 @@ use Rattle.std.specs.Prelude.{Option, Some, None}
 use Rattle.std.proofs.Common.{◌≡◌, ℕ, ◌<◌, ◌≤◌, refl, sym, ◌∙◌, arith}
 use Rattle.timelines.specs.Courses.{IsSteady}
 use Rattle.signal_plan.specs.declared.bounds.TheConstants.{MOST_STEPS}
-use Rattle.connector_courses.specs.Courses.{AreInForce, AreKept, HaveCome, cell_most, limits_at, limits_in, moved_to}
+use Rattle.connector_courses.specs.Courses.{AreInForce, AreKept, HaveCome, cell_most, limits_of_courses, limits_in, moved_to}
 use Rattle.connector_courses.specs.Weights.{AreWeights, weights_at}
 use Rattle.connector_courses.specs.declared.courses.Courses.{Courses}
 use Rattle.connector_courses.specs.declared.limits.Limits.{Limits}
 
 pub limits-are : (courses : Courses) (limits : Limits) (t : ℕ) → limits.first ≡ cell_most courses.first t → limits.second ≡ cell_most courses.second t →
-    limits.third ≡ cell_most courses.third t → limits.weights ≡ weights_at courses.weights t → limits ≡ limits_at courses t
-unfolding limits_at
+    limits.third ≡ cell_most courses.third t → limits.weights ≡ weights_at courses.weights t → limits ≡ limits_of_courses courses t
+unfolding limits_of_courses
 limits-are courses limits t first second third weights = rw (← first, ← second, ← third, ← weights) refl
 
 pub limits-same : (courses : Courses) (s t : ℕ) → cell_most courses.first s ≡ cell_most courses.first t →
     cell_most courses.second s ≡ cell_most courses.second t → cell_most courses.third s ≡ cell_most courses.third t →
-    weights_at courses.weights s ≡ weights_at courses.weights t → limits_at courses s ≡ limits_at courses t
-unfolding limits_at
+    weights_at courses.weights s ≡ weights_at courses.weights t → limits_of_courses courses s ≡ limits_of_courses courses t
+unfolding limits_of_courses
 limits-same courses s t first second third weights = rw (first, second, third, weights) refl
 
 -- the steps that were come to have no part in them
-pub limits-moved : (courses : Courses) (t s : ℕ) → limits_at (moved_to courses t) s ≡ limits_at courses s
-unfolding limits_at cell_most weights_at
+pub limits-moved : (courses : Courses) (t s : ℕ) → limits_of_courses (moved_to courses t) s ≡ limits_of_courses courses s
+unfolding limits_of_courses cell_most weights_at
 limits-moved courses t s = refl
 
 pub weights-moved : (courses : Courses) (t : ℕ) → AreWeights courses.weights → AreWeights (moved_to courses t).weights
@@ -38,7 +38,7 @@ come-moved courses t = record {
 }
 
 -- what is in force once they have come to step t
-pub in_force-moved : (courses : Courses) (limits : Limits) (t until : ℕ) → limits ≡ limits_at courses t → IsSteady (limits_at courses) t until → t < until →
+pub in_force-moved : (courses : Courses) (limits : Limits) (t until : ℕ) → limits ≡ limits_of_courses courses t → IsSteady (limits_of_courses courses) t until → t < until →
     AreWeights courses.weights → AreInForce (moved_to courses t) limits t until
 in_force-moved courses limits t until is steady later weights = record {
   steady = λ s from within. limits-moved courses t s ∙ steady s from within ∙ sym is;

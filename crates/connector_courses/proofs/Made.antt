@@ -8,8 +8,9 @@ use Rattle.network_file.specs.Connectors.{connector_at}
 use Rattle.network_file.specs.Network.{IsNetwork, IsSoundConnector, Network}
 use Rattle.network_file.specs.declared.connector.Connector.{Connector}
 use Rattle.network_file.specs.declared.connector.Connector.TheVariants.{Link, Merge, Diverge}
-use Rattle.flow_model.specs.Flows.{flow_between}
-use Rattle.flow_model.proofs.CellKinds.{read_connector, sound_connector}
+use Rattle.flow_model.specs.Between.{flow_between}
+use Rattle.network_file.proofs.NetworkFacts.{connector_at-sound}
+use Rattle.flow_model.proofs.CellKinds.{read_connector}
 use Rattle.connector_courses.specs.Courses.{limits_by}
 use Rattle.connector_courses.specs.Flows.{ConnectorValues, carried_by, flow_at, limits_of}
 use Rattle.connector_courses.specs.Following.{IsCourseOf, IsMadeOf}
@@ -106,7 +107,7 @@ pub read-as : (net : Network) (items : List Connector) (k : ℕ) (read connector
     k < length net.connectors → read ≡ get_or items k read → read ≡ connector → IsRead net k connector
 read-as net items k read connector network same has is_read matched =
     let is = read_connector items net.connectors k read same has is_read ∙ matched in
-    record { network = network; is = is; sound = subst (IsSoundConnector net.cells) is (sound_connector net k network has) }
+    record { network = network; is = is; sound = subst (IsSoundConnector net.cells) is (connector_at-sound net k network has) }
 
 -- what is made of it is its course
 pub made-read : (net : Network) (k : ℕ) (connector : Connector) (Made : ConnectorValues → Type 0) (result : Result ConnectorValues NoMemory) →

@@ -8,7 +8,7 @@ use Rattle.merge_rule.specs.Merge.{merge_of}
 use Rattle.merge_rule.proofs.MergeFacts.{first_flow-room, second_flow-room}
 use Rattle.flow_model.specs.Flows.{diverge_carries, link_carries, merge_carries}
 use Rattle.flow_model.specs.declared.carried.Flow.{Flow}
-use Rattle.connector_courses.specs.Courses.{AreInForce, AreKept, limits_at, limits_in}
+use Rattle.connector_courses.specs.Courses.{AreInForce, AreKept, limits_of_courses, limits_in}
 use Rattle.connector_courses.specs.Flows.{ConnectorValues, carried_by, flow_at, limits_of, no_flow}
 use Rattle.connector_courses.specs.Weights.{weights_at}
 use Rattle.connector_courses.specs.declared.courses.Courses.{Courses}
@@ -53,8 +53,8 @@ unfolding flow_at limits_in
 flow-stays course s t n never = rw never refl
 
 -- the weights of a step are those of its limits
-pub weights-of : (courses : Courses) (s : ℕ) → (limits_at courses s).weights ≡ weights_at courses.weights s
-unfolding limits_at
+pub weights-of : (courses : Courses) (s : ℕ) → (limits_of_courses courses s).weights ≡ weights_at courses.weights s
+unfolding limits_of_courses
 weights-of courses s = refl
 
 pub weights-in : (courses : Courses) (limits : Limits) (step until : ℕ) → AreInForce courses limits step until → weights_at courses.weights step ≡ limits.weights
@@ -62,6 +62,6 @@ weights-in courses limits step until has = sym (weights-of courses step) ∙ ap 
 
 -- what a connector carries by its courses
 pub flow-some : (course : ConnectorValues) (courses : Courses) (s : ℕ) (n : List ℕ) → course.courses ≡ Some courses →
-    flow_at course s n ≡ carried_by course.rule (limits_at courses s) course.second_space course.third_space n
+    flow_at course s n ≡ carried_by course.rule (limits_of_courses courses s) course.second_space course.third_space n
 unfolding flow_at limits_in
 flow-some course courses s n some = rw some refl

@@ -32,8 +32,8 @@ sends_second Merging = true
 sends_second Diverging = false
 
 -- what bounds the flow in step t
-unfoldable pub limits_at : Courses → (t : ℕ) → Limits
-limits_at courses t = record {
+unfoldable pub limits_of_courses : Courses → (t : ℕ) → Limits
+limits_of_courses courses t = record {
   first = cell_most courses.first t;
   second = cell_most courses.second t;
   third = cell_most courses.third t;
@@ -68,7 +68,7 @@ moved_to courses t = record {
 
 -- these limits are in force from the step on until another
 pub record AreInForce (courses : Courses) (limits : Limits) (step until : ℕ) : Type 0 where
-  pub steady : (t : ℕ) → step ≤ t → t < until → limits_at courses t ≡ limits
+  pub steady : (t : ℕ) → step ≤ t → t < until → limits_of_courses courses t ≡ limits
   pub later : step < until
   pub come : HaveCome courses step
   pub weights : AreWeights courses.weights
@@ -81,4 +81,4 @@ AreKept (Some courses) limits step until = AreInForce courses limits step until
 -- what bounds the flow in step t by the courses that are kept, or by limits that never change
 unfoldable pub limits_in : Option Courses → Limits → (t : ℕ) → Limits
 limits_in None limits t = limits
-limits_in (Some courses) limits t = limits_at courses t
+limits_in (Some courses) limits t = limits_of_courses courses t

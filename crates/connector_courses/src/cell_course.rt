@@ -11,12 +11,12 @@ use timelines::{Now, Timeline, light};
 #[derive(Debug, Drop)]
 pub(crate) struct CellCourse {
     pub(crate) capacity: Timeline,
-    /// That of a cell that sends.
+    /// The course of a cell that sends.
     pub(crate) signal: Option<Signal>,
 }
 
 impl CellCourse {
-    /// That of a cell that sends, or of one that receives.
+    /// The course of a cell that sends, or of one that receives.
     pub(crate) fn new(
         alloc: Global,
         plan: &Plan,

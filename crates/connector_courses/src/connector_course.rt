@@ -57,7 +57,7 @@ impl Model for ConnectorCourse {
 impl ConnectorCourse {
     ghost use Rattle.connector_courses.specs.Flows.{flow_at, no_flow};
 
-    /// That of connector `k`, at step 0.
+    /// The course of connector `k`, at step 0.
     pub fn new(alloc: Global, net: &Net, k: u32) -> Result<ConnectorCourse, NoMemory>
         requires has_connector { k < length net.now.connectors }
         ensures course { IfOk result (IsCourseOf net.now (connector_at net.now.connectors k)) }
@@ -160,7 +160,7 @@ impl ConnectorCourse {
     }
 }
 
-// That of a connector of these cells that carries by this rule with these weights.
+// The course of a connector of these cells that carries by this rule with these weights.
 fn made_of(
     alloc: Global,
     net: &Net,

@@ -1,6 +1,6 @@
 ghost use Rattle.std.specs.Prelude.{◌≡◌, ◌≤◌, ◌<◌, ℕ, All, IfOk, length};
 ghost use Rattle.timelines.specs.Courses.{IsSteady};
-ghost use Rattle.connector_courses.specs.Courses.{HaveCome, limits_at, limits_by, moved_to, sends_second};
+ghost use Rattle.connector_courses.specs.Courses.{HaveCome, limits_of_courses, limits_by, moved_to, sends_second};
 ghost use Rattle.connector_courses.specs.Weights.{AreWeights};
 
 use crate::cell_course::CellCourse;
@@ -23,7 +23,7 @@ pub(crate) struct Courses {
 }
 
 impl Courses {
-    /// Those of a connector of these cells that carries by this rule with these weights.
+    /// What bounds the flow of a connector of these cells that carries by this rule with these weights.
     pub(crate) fn new(
         alloc: Global,
         plan: &Plan,
@@ -34,7 +34,7 @@ impl Courses {
         requires cells { All (λ i. i < length plan.now.cells) cells }
         requires step { weights.first.step ≡ 0 }
         requires step_second { weights.second.step ≡ 0 }
-        ensures limits { IfOk result (λ courses. (t : ℕ) → limits_at courses t ≡ limits_by plan.now rule cells weights t) }
+        ensures limits { IfOk result (λ courses. (t : ℕ) → limits_of_courses courses t ≡ limits_by plan.now rule cells weights t) }
         ensures weights { IfOk result (λ courses. courses.weights ≡ weights) }
         ensures step { IfOk result (λ courses. HaveCome courses 0) }
     {
@@ -52,8 +52,8 @@ impl Courses {
         requires forward { HaveCome self.old t }
         requires in_time { t ≤ MOST_STEPS }
         requires weights { AreWeights self.old.weights }
-        ensures value { result.value ≡ limits_at self.old t }
-        ensures steady { IsSteady (limits_at self.old) t result.until }
+        ensures value { result.value ≡ limits_of_courses self.old t }
+        ensures steady { IsSteady (limits_of_courses self.old) t result.until }
         ensures later { t < result.until }
         ensures moved { self.new ≡ moved_to self.old t }
     {

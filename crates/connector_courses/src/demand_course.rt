@@ -31,7 +31,7 @@ impl Model for DemandCourse {
 impl DemandCourse {
     ghost use Rattle.timelines.specs.Courses.{value_at};
 
-    /// That of a cell, at step 0.
+    /// The demand of a cell, at step 0.
     pub fn new(alloc: Global, plan: &Plan, cell: u32) -> Result<DemandCourse, NoMemory>
         requires has_cell { cell < length plan.now.cells }
         ensures demand { IfOk result (λ course. (t : ℕ) → value_at course t ≡ demand_at plan.now cell t) }

@@ -30,7 +30,7 @@ impl Model for WeightPair {
 }
 
 impl WeightPair {
-    /// These two.
+    /// The pair of these two.
     pub(crate) fn new(first: u32, second: u32) -> WeightPair
         requires { AreBoth (first, second) }
         ensures { result ≡ (first, second) }
@@ -42,7 +42,7 @@ impl WeightPair {
         }
     }
 
-    /// These two, with the factor that is there where they are the same.
+    /// The pair of these two, with the factor that is there where they are the same.
     pub(crate) fn renewed(self, now: (u32, u32)) -> WeightPair
         requires { AreBoth now }
         ensures { result ≡ now }

@@ -1,21 +1,18 @@
 -- Sums over the cells of each connector, as sums over all cells.
 use Rattle.std.specs.Prelude.{All, count_by, eqb, sum_by, if◌then◌else◌, ◌==◌}
-use Rattle.std.specs.List.{AllByRecursion, IsDistinct, list_any, range_with_len}
-use Rattle.std.proofs.Common.{◌≡◌, inl, inr, ℕ, Bool, true, false, ◌+◌, ◌<◌, ◌≤◌, ◌*◌, List, [], ◌∷◌, arith, refl, sym, subst, ap, ◌∙◌}
+use Rattle.std.specs.List.{IsDistinct, list_any, range_with_len}
+use Rattle.std.proofs.Common.{◌≡◌, inl, inr, ℕ, Bool, true, false, ◌+◌, ◌<◌, ◌≤◌, ◌*◌, List, [], ◌∷◌, arith, sym, subst, ap, ◌∙◌}
 use Rattle.std.proofs.lemmas.Bool.{cases_Bool, cases_eq, eq-eqb, ne_eqb}
 use Rattle.std.proofs.lemmas.List.Elements.{All-head, All-tail}
 use Rattle.std.proofs.lemmas.List.FromFn.{get_or-range_with_len, length-range_with_len}
 use Rattle.std.proofs.lemmas.List.Sums.{sum_by-cons}
 use Rattle.signal_plan.proofs.Sums.{count_by-cons, sum_by-same, sum_by-swap, sum_by-zero, sum_by_range_one, sum_by_splits}
+use Rattle.flow_model.proofs.Connectors.{absent}
 
 -- the numbers below n are below n
 pub All-below : (n : ℕ) → All (λ i. i < n) (range_with_len 0 n)
 All-below n = λ k d within.
     let inside : k < n = omega (arith, length-range_with_len 0 n) in omega (arith, get_or-range_with_len 0 n k d inside)
-
-absent : (cell : ℕ) (cells : List ℕ) → AllByRecursion (λ c. eqb cell c ≡ false) cells → list_any (eqb cell) cells ≡ false
-absent cell [] apart = refl
-absent cell (c ∷ cells) apart = rw apart.0 (absent cell cells apart.1)
 
 -- the part of cell i in a list of distinct cells, and in the rest of the list
 part-cons : (f : ℕ → ℕ) (cell i : ℕ) (cells : List ℕ) → list_any (eqb cell) cells ≡ false →

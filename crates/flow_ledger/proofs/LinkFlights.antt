@@ -10,7 +10,7 @@ use Rattle.network_file.specs.Network.{IsNetwork, IsSoundConnector, Network}
 use Rattle.network_file.specs.declared.connector.Connector.{Connector}
 use Rattle.network_file.specs.declared.connector.Connector.TheVariants.{Link}
 use Rattle.network_file.proofs.NetworkFacts.{connector_at-sound}
-use Rattle.flow_model.specs.Flows.{entering, flow_between, flow_of, inflow, leaving, outflow}
+use Rattle.flow_model.specs.Flows.{entering, flow_of, inflow, leaving, outflow}
 use Rattle.flow_model.specs.State.{occupancy, state_at}
 use Rattle.flow_model.specs.declared.row.Row.{Row}
 use Rattle.flow_model.proofs.CellFlows.{inflow-by, outflow-by}
@@ -35,7 +35,7 @@ leaves-link net m k up down sound there is =
 
 enters-link : (net : Network) (m k up down : ℕ) → IsNetwork net → k < length net.connectors → connector_at net.connectors k ≡ Link up down →
     enters net m down ≡ carried net m up down
-unfolding carried flow_between
+unfolding carried flow_of
 enters-link net m k up down sound there is =
     let n : ℕ → ℕ = occupancy (state_at net m) in
     let own : (down == down) ≡ true = eq-eqb down down refl in

@@ -4,7 +4,7 @@ use Rattle.std.proofs.Common.{◌≡◌, ℕ, zero, suc, add-one, false, ◌+◌
 use Rattle.network_file.specs.Cells.{is_gate_at}
 use Rattle.network_file.specs.Connectors.{leads_into, leads_out_of}
 use Rattle.network_file.specs.Network.{Network}
-use Rattle.flow_model.specs.Rows.{row_by}
+use Rattle.flow_model.specs.Rows.{next_row}
 use Rattle.flow_model.specs.State.{occupancy, state_at}
 use Rattle.flow_model.specs.declared.row.Row.{Row}
 use Rattle.flow_model.proofs.CellFlows.{inflow-none, outflow-none}
@@ -22,11 +22,11 @@ come-zero net i has = let here = cell_at net.cells i has in ap (λ (row : Row). 
 
 -- a step adds what leaves in it, and what enters
 pub gone-next : (net : Network) (t i : ℕ) → i < length net.cells → gone_of (state_at net (t + 1)) i ≡ gone_of (state_at net t) i + leaves net t i
-unfolding row_by
+unfolding next_row
 gone-next net t i has = ap (λ (row : Row). row.gone) (row_at-state_at-next net t i has)
 
 pub come-next : (net : Network) (t i : ℕ) → i < length net.cells → come_of (state_at net (t + 1)) i ≡ come_of (state_at net t) i + enters net t i
-unfolding row_by
+unfolding next_row
 come-next net t i has = ap (λ (row : Row). row.come) (row_at-state_at-next net t i has)
 
 -- nothing goes out of a cell that no connector leads out of

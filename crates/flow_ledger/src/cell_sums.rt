@@ -19,7 +19,7 @@ pub(crate) struct CellSums {
 }
 
 impl CellSums {
-    /// Those over all cells.
+    /// The sums over all cells.
     pub(crate) fn of(net: &Net, rows: &[Row]) -> CellSums
         requires one_each { length rows.now ≡ length net.now.cells }
         ensures inside { result.inside ≡ inside_of net.now rows.now }

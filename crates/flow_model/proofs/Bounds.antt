@@ -7,10 +7,10 @@ use Rattle.signal_plan.specs.declared.bounds.TheConstants.{MOST_STEPS}
 use Rattle.signal_plan.proofs.Laws.{demand_from_more}
 use Rattle.network_file.specs.Cells.{is_gate_at, is_exit_at}
 use Rattle.network_file.specs.Network.{Network, IsNetwork, IsSoundCell}
-use Rattle.network_file.specs.declared.limits.TheConstants.{MOST_CAPACITY}
+use Rattle.network_file.specs.declared.limits.TheConstants.{MOST_CAPACITY, MOST_ROOM}
 use Rattle.flow_model.specs.Flows.{inflow, outflow}
 use Rattle.flow_model.specs.Rows.{moved_row}
-use Rattle.flow_model.specs.Bounds.{is_road_at, most_at, IsHeldInBounds, IsRowInBounds}
+use Rattle.flow_model.specs.Bounds.{is_road_at, room_parts_at, IsHeldInBounds, IsRowInBounds}
 use Rattle.flow_model.specs.declared.row.Row.{Row}
 use Rattle.flow_model.proofs.CellKinds.{cell_at, All-at, kinds_at, road_at-alone, exit_at-no_gate}
 use Rattle.flow_model.proofs.CellLimits.{sending_at-le-held, sending_at-le-capacity, receiving_at-le-capacity, capacity_at-le, add-receiving_at-le-most}
@@ -23,7 +23,7 @@ pub record IsChange (net : Network) (t i n enters leaves : ℕ) : Type 0 where
   pub exit : is_exit_at net.cells i ≡ true → leaves ≡ 0
   pub demand : is_gate_at net.cells i ≡ true → enters ≡ demand_at net.plan i t
   pub received : is_gate_at net.cells i ≡ false → enters ≤ MOST_CAPACITY
-  pub room : is_road_at net.cells i ≡ true → n ≤ most_at net.cells i → n + enters ≤ most_at net.cells i
+  pub room : is_road_at net.cells i ≡ true → n ≤ room_parts_at net.cells i → n + enters ≤ room_parts_at net.cells i
 
 -- no more than a whole step brings and takes is such a change
 pub changes : (net : Network) (t i : ℕ) (n : ℕ → ℕ) (enters leaves : ℕ) → IsNetwork net → i < length net.cells →
@@ -43,9 +43,9 @@ changes net t i n enters leaves sound has demand brings takes =
           omega (arith, inflow-le net t i n sound no_gate, add-receiving_at-le-most net t i (n i) sound has road within);
     }
 
--- the room of a road is at most what passes a cell in a step
-most_at-le : (net : Network) (i : ℕ) → IsNetwork net → i < length net.cells → most_at net.cells i ≤ MOST_CAPACITY
-most_at-le net i sound has =
+-- the room of a cell is within its limit
+room_parts_at-le : (net : Network) (i : ℕ) → IsNetwork net → i < length net.cells → room_parts_at net.cells i ≤ MOST_ROOM
+room_parts_at-le net i sound has =
     let here = cell_at net.cells i has in
     rw here.1 ((All-at IsSoundCell net.cells i here.0 here.1 sound.sound.sound_cells).room)
 
@@ -53,7 +53,7 @@ most_at-le net i sound has =
 pub held-le : (net : Network) (t i n : ℕ) → IsNetwork net → i < length net.cells → is_exit_at net.cells i ≡ false →
     IsHeldInBounds net t i n → n ≤ MOST_PARTS
 held-le net t i n sound has no_exit bounds = elim (kinds_at net.cells i has) [
-  | inl road ↦ omega (arith, bounds.road road, most_at-le net i sound has)
+  | inl road ↦ omega (arith, bounds.road road, room_parts_at-le net i sound has)
   | inr other ↦ elim other [ inl gate ↦ omega (arith, bounds.gate gate) | inr exit ↦ absurd cc ]
 ]
 
@@ -91,7 +91,7 @@ pub small : (net : Network) (t i : ℕ) (row : Row) → IsNetwork net → t ≤ 
     IsRowInBounds net t i row → IsSmall row
 small net t i row sound within has bounds = elim (kinds_at net.cells i has) [
   | inl road ↦ record {
-    n = omega (arith, bounds.held.road road, most_at-le net i sound has, sound.few_steps);
+    n = omega (arith, bounds.held.road road, room_parts_at-le net i sound has, sound.few_steps);
     come = omega (arith, bounds.road_come road, sound.few_steps);
     gone = omega (arith, bounds.gone, sound.few_steps);
     wait = omega (arith, bounds.wait, sound.few_steps);

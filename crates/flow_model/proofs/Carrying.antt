@@ -1,85 +1,46 @@
 -- A connector carries its flow, one move after the other: what leaves each cell upstream, and then what enters each cell downstream.
 use Rattle.std.specs.Prelude.{All, map, if◌then◌else◌, ◌==◌}
-use Rattle.std.proofs.Common.{◌≡◌, inl, inr, ℕ, zero, suc, add-zero, ◌+◌, ◌<◌, ◌≤◌, true, false, List, [], ◌∷◌, ◌++◌, length, get_or, take, set, arith, refl, sym, ap, subst, ◌∙◌}
-use Rattle.std.proofs.lemmas.Bool.{cases_Bool, eq-eqb}
-use Rattle.std.proofs.lemmas.List.{get_or-map, get_or_append_left, length-append, take_all, take_more}
+use Rattle.std.proofs.Common.{◌≡◌, ℕ, zero, suc, ◌+◌, ◌<◌, ◌≤◌, true, false, List, [], ◌∷◌, length, get_or, take, set, arith, refl, sym, ap, subst, ◌∙◌}
+use Rattle.std.proofs.lemmas.Bool.{eq-eqb}
+use Rattle.std.proofs.lemmas.List.{get_or-map, get_or_append_left, length-append, take_all}
 use Rattle.std.proofs.lemmas.List.Elements.{All-append, All-weaker}
-use Rattle.std.proofs.lemmas.List.Sums.{sum_by_push, sum_by-take-le}
 use Rattle.signal_plan.specs.Demand.{demand_at}
 use Rattle.network_file.specs.Cells.{is_exit_at, is_gate_at}
-use Rattle.network_file.specs.Connectors.{upstream_of, downstream_of, cells_of, leads_into, connector_at}
-use Rattle.network_file.specs.Network.{Network, IsNetwork, IsSoundConnector}
+use Rattle.network_file.specs.Connectors.{upstream_of, downstream_of, cells_of, connector_at}
+use Rattle.network_file.specs.Network.{Network, IsNetwork}
 use Rattle.network_file.specs.declared.connector.Connector.{Connector}
 use Rattle.network_file.specs.declared.connector.Connector.TheVariants.{Link, Merge, Diverge}
 use Rattle.flow_model.specs.Bounds.{AreHeldInBounds, AreInBounds, IsHeldInBounds}
-use Rattle.flow_model.specs.Flows.{flow_between, flow_of, sent_by, received_by, amount_for, leaving, entering, left_by, entered_by, outflow, inflow}
-use Rattle.flow_model.specs.Rows.{row_less, row_more}
-use Rattle.flow_model.specs.State.{row_at, occupancy, rows_moved, rows_by}
-use Rattle.flow_model.specs.Moves.{CanLeave, CanEnter}
+use Rattle.flow_model.specs.Between.{flow_between}
+use Rattle.flow_model.specs.Flows.{flow_of, sent_by, received_by, amount_beside, leaving, entering, outflow, inflow}
+use Rattle.flow_model.specs.State.{row_at, occupancy, next_rows}
+use Rattle.flow_model.specs.Moves.{CanLeave, CanEnter, row_less, row_more, with_connectors}
 use Rattle.flow_model.specs.declared.row.Row.{Row}
 use Rattle.flow_model.specs.declared.carried.Flow.{Flow}
-use Rattle.flow_model.proofs.CellKinds.{sound_connector}
-use Rattle.flow_model.proofs.Connectors.{entering-other, at_listed, get_or-append_behind}
-use Rattle.flow_model.proofs.Flows.{entered_by-gate}
+use Rattle.network_file.proofs.NetworkFacts.{connector_at-sound}
+use Rattle.flow_model.proofs.Connectors.{entering-other, get_or-append_behind}
+use Rattle.flow_model.proofs.FirstConnectors.{inflow-more, inflow-with_connectors-le, outflow-more, outflow-with_connectors-le}
+use Rattle.flow_model.proofs.Flows.{inflow-gate, leads_into-gate}
 use Rattle.flow_model.proofs.Bounds.{IsChange, changes}
-use Rattle.flow_model.proofs.Moves.{rows_moved-same, rows_moved-less, rows_moved-more}
-
--- one connector more
-
-pub left_by-push : (connectors : List Connector) (connector : Connector) (net : Network) (t : ℕ) (n : ℕ → ℕ) (i : ℕ) →
-    left_by (connectors ++ connector ∷ []) net t n i ≡ left_by connectors net t n i + leaving i connector (flow_of net t n connector)
-unfolding left_by
-left_by-push connectors connector net t n i = sum_by_push (λ c. leaving i c (flow_of net t n c)) connectors connector
-
--- no connector leads into a gate
-pub leads_into-gate : (net : Network) (i : ℕ) (connector : Connector) → IsSoundConnector net.cells connector →
-    is_gate_at net.cells i ≡ true → leads_into i connector ≡ false
-leads_into-gate net i connector sound gate = elim (cases_Bool (leads_into i connector)) [
-  | inl into ↦
-      let no_gate = (at_listed (λ j. (j < length net.cells) × (is_gate_at net.cells j ≡ false)) i (downstream_of connector) into sound.down).1 in cc
-  | inr other ↦ other
-]
-
-pub entered_by-push : (connectors : List Connector) (connector : Connector) (net : Network) (t : ℕ) (n : ℕ → ℕ) (i : ℕ) →
-    IsSoundConnector net.cells connector →
-    entered_by (connectors ++ connector ∷ []) net t n i ≡ entered_by connectors net t n i + entering i connector (flow_of net t n connector)
-unfolding entered_by
-entered_by-push connectors connector net t n i sound = elim (cases_Bool (is_gate_at net.cells i)) [
-  | inl gate ↦
-      let none = entering-other i connector (flow_of net t n connector) (leads_into-gate net i connector sound gate) in
-      rw (gate, none) (sym (add-zero (demand_at net.plan i t)))
-  | inr other ↦ rw other (sum_by_push (λ c. entering i c (flow_of net t n c)) connectors connector)
-]
-
--- the first connectors take and bring no more than all
-pub left_by-take-le : (net : Network) (t : ℕ) (n : ℕ → ℕ) (i k : ℕ) → left_by (take k net.connectors) net t n i ≤ outflow net t n i
-unfolding left_by
-left_by-take-le net t n i k = sum_by-take-le (λ c. leaving i c (flow_of net t n c)) net.connectors k
-
-pub entered_by-take-le : (net : Network) (t : ℕ) (n : ℕ → ℕ) (i k : ℕ) → entered_by (take k net.connectors) net t n i ≤ inflow net t n i
-unfolding entered_by
-entered_by-take-le net t n i k = elim (cases_Bool (is_gate_at net.cells i)) [
-  | inl gate ↦ rw gate (omega arith)
-  | inr other ↦ rw other (sum_by-take-le (λ c. entering i c (flow_of net t n c)) net.connectors k)
-]
+use Rattle.flow_model.proofs.Moves.{next_rows-with_connectors, rows_moved, rows_moved-same, rows_moved-less, rows_moved-more}
 
 -- one cell more of a connector
 
-amount_for-more : (i : ℕ) (cells amounts : List ℕ) (j : ℕ) → j < length cells → j < length amounts →
-    amount_for i (take (j + 1) cells) amounts ≡
-    amount_for i (take j cells) amounts + (if i == get_or cells j 0 then get_or amounts j 0 else 0)
-amount_for-more i [] amounts j within there = absurd (omega arith)
-amount_for-more i (cell ∷ cells) [] j within there = absurd (omega arith)
-amount_for-more i (cell ∷ cells) (amount ∷ amounts) zero within there = omega arith
-amount_for-more i (cell ∷ cells) (amount ∷ amounts) (suc j) within there =
+amount_beside-more : (i : ℕ) (cells amounts : List ℕ) (j : ℕ) → j < length cells → j < length amounts →
+    amount_beside i (take (j + 1) cells) amounts ≡
+    amount_beside i (take j cells) amounts + (if i == get_or cells j 0 then get_or amounts j 0 else 0)
+amount_beside-more i [] amounts j within there = absurd (omega arith)
+amount_beside-more i (cell ∷ cells) [] j within there = absurd (omega arith)
+amount_beside-more i (cell ∷ cells) (amount ∷ amounts) zero within there = omega arith
+amount_beside-more i (cell ∷ cells) (amount ∷ amounts) (suc j) within there =
     let next : suc j + 1 ≡ suc (j + 1) = omega arith in
-    rw next (omega (arith, amount_for-more i cells amounts j (omega arith) (omega arith)))
+    rw next (omega (arith, amount_beside-more i cells amounts j (omega arith) (omega arith)))
 
-amount_for-take-le : (i : ℕ) (cells amounts : List ℕ) (j : ℕ) → amount_for i (take j cells) amounts ≤ amount_for i cells amounts
-amount_for-take-le i cells amounts zero = omega arith
-amount_for-take-le i [] amounts (suc j) = omega arith
-amount_for-take-le i (cell ∷ cells) [] (suc j) = omega arith
-amount_for-take-le i (cell ∷ cells) (amount ∷ amounts) (suc j) = omega (arith, amount_for-take-le i cells amounts j)
+amount_beside-take-le : (i : ℕ) (cells amounts : List ℕ) (j : ℕ) → amount_beside i (take j cells) amounts ≤ amount_beside i cells amounts
+amount_beside-take-le i cells amounts zero = omega arith
+amount_beside-take-le i [] amounts (suc j) = omega arith
+amount_beside-take-le i (cell ∷ cells) [] (suc j) = omega arith
+amount_beside-take-le i (cell ∷ cells) (amount ∷ amounts) (suc j) = omega (arith, amount_beside-take-le i cells amounts j)
 
 -- connector k carries its flow of step t, from these rows
 pub record IsCarried (net : Network) (t k : ℕ) (rows : List Row) (flow : Flow) : Type 0 where
@@ -92,70 +53,68 @@ pub record IsCarried (net : Network) (t k : ℕ) (rows : List Row) (flow : Flow)
 -- what has left and entered cell i when so many of the connector's moves are made
 abbrev pub left_so_far : Network → (t k : ℕ) → List Row → Flow → (outs i : ℕ) → ℕ
 left_so_far net t k rows flow outs i =
-    left_by (take k net.connectors) net t (occupancy rows) i +
-    amount_for i (take outs (upstream_of (connector_at net.connectors k))) (sent_by flow)
+    outflow (with_connectors net k) t (occupancy rows) i +
+    amount_beside i (take outs (upstream_of (connector_at net.connectors k))) (sent_by flow)
 
 abbrev pub entered_so_far : Network → (t k : ℕ) → List Row → Flow → (ins i : ℕ) → ℕ
 entered_so_far net t k rows flow ins i =
-    entered_by (take k net.connectors) net t (occupancy rows) i +
-    amount_for i (take ins (downstream_of (connector_at net.connectors k))) (received_by flow)
+    inflow (with_connectors net k) t (occupancy rows) i +
+    amount_beside i (take ins (downstream_of (connector_at net.connectors k))) (received_by flow)
 
 -- the rows then
 abbrev pub rows_so_far : Network → (t k : ℕ) → List Row → Flow → (outs ins : ℕ) → List Row
 rows_so_far net t k rows flow outs ins = rows_moved net rows (entered_so_far net t k rows flow ins) (left_so_far net t k rows flow outs)
 
 left_with : (net : Network) (t k i : ℕ) (rows : List Row) (flow : Flow) → IsCarried net t k rows flow →
-    left_by (take (k + 1) net.connectors) net t (occupancy rows) i ≡
-    left_by (take k net.connectors) net t (occupancy rows) i + leaving i (connector_at net.connectors k) flow
-left_with net t k i rows flow carried =
-    ap (λ cs. left_by cs net t (occupancy rows) i) (take_more net.connectors k (Link 0 0) carried.there) ∙
-    (rw (← carried.is) at (left_by-push (take k net.connectors) (connector_at net.connectors k) net t (occupancy rows) i))
+    outflow (with_connectors net (k + 1)) t (occupancy rows) i ≡
+    outflow (with_connectors net k) t (occupancy rows) i + leaving i (connector_at net.connectors k) flow
+left_with net t k i rows flow carried = rw (← carried.is) at (outflow-more net t (occupancy rows) i k carried.there)
 
 entered_with : (net : Network) (t k i : ℕ) (rows : List Row) (flow : Flow) → IsCarried net t k rows flow →
-    entered_by (take (k + 1) net.connectors) net t (occupancy rows) i ≡
-    entered_by (take k net.connectors) net t (occupancy rows) i + entering i (connector_at net.connectors k) flow
-entered_with net t k i rows flow carried =
-    ap (λ cs. entered_by cs net t (occupancy rows) i) (take_more net.connectors k (Link 0 0) carried.there) ∙
-    (rw (← carried.is) at (entered_by-push (take k net.connectors) (connector_at net.connectors k) net t (occupancy rows) i
-    (sound_connector net k carried.sound carried.there)))
+    inflow (with_connectors net (k + 1)) t (occupancy rows) i ≡
+    inflow (with_connectors net k) t (occupancy rows) i + entering i (connector_at net.connectors k) flow
+entered_with net t k i rows flow carried = rw (← carried.is) at (inflow-more net t (occupancy rows) i k carried.sound carried.there)
 
 -- no more has moved than in the whole step
 is_change : (net : Network) (t k i outs ins : ℕ) (rows : List Row) (flow : Flow) → IsCarried net t k rows flow → i < length net.cells →
     IsChange net t i (occupancy rows i) (entered_so_far net t k rows flow ins i) (left_so_far net t k rows flow outs i)
 is_change net t k i outs ins rows flow carried has =
     let connector : Connector = connector_at net.connectors k in
-    let fits = sound_connector net k carried.sound carried.there in
-    let brought = amount_for-take-le i (downstream_of connector) (received_by flow) ins in
+    let fits = connector_at-sound net k carried.sound carried.there in
+    let brought = amount_beside-take-le i (downstream_of connector) (received_by flow) ins in
     changes net t i (occupancy rows) (entered_so_far net t k rows flow ins i) (left_so_far net t k rows flow outs i) carried.sound has
     (λ gate.
     let none = entering-other i connector flow (leads_into-gate net i connector fits gate) in
-    omega (arith, entered_by-gate (take k net.connectors) net t i (occupancy rows) gate))
-    (omega (arith, entered_with net t k i rows flow carried, entered_by-take-le net t (occupancy rows) i (k + 1)))
+    let demand : inflow (with_connectors net k) t (occupancy rows) i ≡ demand_at net.plan i t = inflow-gate (with_connectors net k) t i (occupancy rows) gate in
+    omega (arith, demand))
+    (omega (arith, entered_with net t k i rows flow carried, inflow-with_connectors-le net t (occupancy rows) i (k + 1)))
     (omega (
       arith,
       left_with net t k i rows flow carried,
-      left_by-take-le net t (occupancy rows) i (k + 1),
-      amount_for-take-le i (upstream_of connector) (sent_by flow) outs,
+      outflow-with_connectors-le net t (occupancy rows) i (k + 1),
+      amount_beside-take-le i (upstream_of connector) (sent_by flow) outs,
     ))
 
 -- before its first move
 pub carrying-begins : (net : Network) (t k : ℕ) (rows now : List Row) (flow : Flow) →
-    now ≡ rows_by (take k net.connectors) net t rows → now ≡ rows_so_far net t k rows flow 0 0
+    now ≡ next_rows (with_connectors net k) t rows → now ≡ rows_so_far net t k rows flow 0 0
 carrying-begins net t k rows now flow is =
-    is ∙ rows_moved-same net rows (entered_by (take k net.connectors) net t (occupancy rows)) (left_by (take k net.connectors) net t (occupancy rows))
+    is ∙ next_rows-with_connectors net t k rows ∙
+    rows_moved-same net rows (inflow (with_connectors net k) t (occupancy rows)) (outflow (with_connectors net k) t (occupancy rows))
     (entered_so_far net t k rows flow 0) (left_so_far net t k rows flow 0) (λ i. omega arith) (λ i. omega arith)
 
 -- after its last
 pub carrying-ends : (net : Network) (t k outs ins : ℕ) (rows now : List Row) (flow : Flow) → IsCarried net t k rows flow →
     length (upstream_of (connector_at net.connectors k)) ≤ outs → length (downstream_of (connector_at net.connectors k)) ≤ ins →
-    now ≡ rows_so_far net t k rows flow outs ins → now ≡ rows_by (take (k + 1) net.connectors) net t rows
+    now ≡ rows_so_far net t k rows flow outs ins → now ≡ next_rows (with_connectors net (k + 1)) t rows
 carrying-ends net t k outs ins rows now flow carried all_out all_in is =
     let up : List ℕ = upstream_of (connector_at net.connectors k) in
     let down : List ℕ = downstream_of (connector_at net.connectors k) in
     is ∙ rows_moved-same net rows (entered_so_far net t k rows flow ins) (left_so_far net t k rows flow outs)
-    (entered_by (take (k + 1) net.connectors) net t (occupancy rows)) (left_by (take (k + 1) net.connectors) net t (occupancy rows))
-    (λ i. omega (arith, entered_with net t k i rows flow carried, ap (λ cells. amount_for i cells (received_by flow)) (take_all ins down all_in)))
-    (λ i. omega (arith, left_with net t k i rows flow carried, ap (λ cells. amount_for i cells (sent_by flow)) (take_all outs up all_out)))
+    (inflow (with_connectors net (k + 1)) t (occupancy rows)) (outflow (with_connectors net (k + 1)) t (occupancy rows))
+    (λ i. omega (arith, entered_with net t k i rows flow carried, ap (λ cells. amount_beside i cells (received_by flow)) (take_all ins down all_in)))
+    (λ i. omega (arith, left_with net t k i rows flow carried, ap (λ cells. amount_beside i cells (sent_by flow)) (take_all outs up all_out))) ∙
+    sym (next_rows-with_connectors net t (k + 1) rows)
 
 -- one move out: of the cell upstream of this place
 pub moves-out : (net : Network) (t k j ins cell parts : ℕ) (rows now : List Row) (flow : Flow) → IsCarried net t k rows flow →
@@ -166,9 +125,9 @@ pub moves-out : (net : Network) (t k j ins cell parts : ℕ) (rows now : List Ro
 moves-out net t k j ins cell parts rows now flow carried within few place parts_is is =
     let up : List ℕ = upstream_of (connector_at net.connectors k) in
     let cell_is : cell ≡ get_or up j 0 = place ∙ get_or_append_left up (downstream_of (connector_at net.connectors k)) 0 j within in
-    let has : cell < length net.cells = rw cell_is ((sound_connector net k carried.sound carried.there).up j 0 within).0 in
+    let has : cell < length net.cells = rw cell_is ((connector_at-sound net k carried.sound carried.there).up j 0 within).0 in
     let more : (i : ℕ) → left_so_far net t k rows flow j i + (if i == cell then parts else 0) ≡ left_so_far net t k rows flow (j + 1) i =
-    λ i. rw (cell_is, parts_is) (omega (arith, amount_for-more i up (sent_by flow) j within few)) in
+    λ i. rw (cell_is, parts_is) (omega (arith, amount_beside-more i up (sent_by flow) j within few)) in
     let own : (cell == cell) ≡ true = eq-eqb cell cell refl in
     let own_parts : (if cell == cell then parts else 0) ≡ parts = ap (λ b. if b then parts else 0) own in
     let after : left_so_far net t k rows flow j cell + parts ≡ left_so_far net t k rows flow (j + 1) cell = omega (arith, more cell) in
@@ -191,9 +150,9 @@ moves-in net t k outs j cell parts rows now flow carried within few place parts_
     let up : List ℕ = upstream_of (connector_at net.connectors k) in
     let down : List ℕ = downstream_of (connector_at net.connectors k) in
     let cell_is : cell ≡ get_or down j 0 = place ∙ get_or-append_behind up down j in
-    let has : cell < length net.cells = rw cell_is ((sound_connector net k carried.sound carried.there).down j 0 within).0 in
+    let has : cell < length net.cells = rw cell_is ((connector_at-sound net k carried.sound carried.there).down j 0 within).0 in
     let more : (i : ℕ) → entered_so_far net t k rows flow j i + (if i == cell then parts else 0) ≡ entered_so_far net t k rows flow (j + 1) i =
-    λ i. rw (cell_is, parts_is) (omega (arith, amount_for-more i down (received_by flow) j within few)) in
+    λ i. rw (cell_is, parts_is) (omega (arith, amount_beside-more i down (received_by flow) j within few)) in
     let own : (cell == cell) ≡ true = eq-eqb cell cell refl in
     let own_parts : (if cell == cell then parts else 0) ≡ parts = ap (λ b. if b then parts else 0) own in
     let after : entered_so_far net t k rows flow j cell + parts ≡ entered_so_far net t k rows flow (j + 1) cell = omega (arith, more cell) in
@@ -211,7 +170,7 @@ cells_there : (net : Network) (k : ℕ) → IsNetwork net → k < length net.con
     All (λ i. i < length net.cells) (cells_of (connector_at net.connectors k))
 cells_there net k sound there =
     let connector : Connector = connector_at net.connectors k in
-    let fits = sound_connector net k sound there in
+    let fits = connector_at-sound net k sound there in
     All-append (λ i. i < length net.cells) (upstream_of connector) (downstream_of connector)
     (All-weaker (λ i. (i < length net.cells) × (is_exit_at net.cells i ≡ false)) (λ i. i < length net.cells) (λ i both. both.0) (upstream_of connector) fits.up)
     (All-weaker (λ i. (i < length net.cells) × (is_gate_at net.cells i ≡ false)) (λ i. i < length net.cells) (λ i both. both.0) (downstream_of connector) fits.down)
@@ -235,10 +194,18 @@ three n (Diverge up down1 down2 b1 b2) ups downs up_long down_long all = refl
 two : (net : Network) (t : ℕ) (n : ℕ → ℕ) (connector : Connector) → length (upstream_of connector) ≡ 1 → length (downstream_of connector) ≡ 1 →
     let cells = cells_of connector in
     flow_of net t n connector ≡ flow_between net t connector (n (get_or cells 0 0) ∷ n (get_or cells 1 0) ∷ 0 ∷ [])
-unfolding flow_between
+unfolding flow_between flow_of
 two net t n (Link up down) up_long down_long = refl
 two net t n (Merge up1 up2 down p1 p2) up_long down_long = absurd (omega arith)
 two net t n (Diverge up down1 down2 b1 b2) up_long down_long = absurd (omega arith)
+
+three_flow : (net : Network) (t : ℕ) (n : ℕ → ℕ) (connector : Connector) (ups downs : ℕ) → length (upstream_of connector) ≡ ups →
+    length (downstream_of connector) ≡ downs → ups + downs ≡ 3 → let cells = cells_of connector in
+    flow_between net t connector (n (get_or cells 0 0) ∷ n (get_or cells 1 0) ∷ n (get_or cells 2 0) ∷ []) ≡ flow_of net t n connector
+unfolding flow_between flow_of
+three_flow net t n (Link up down) ups downs up_long down_long all = absurd (omega arith)
+three_flow net t n (Merge up1 up2 down p1 p2) ups downs up_long down_long all = refl
+three_flow net t n (Diverge up down1 down2 b1 b2) ups downs up_long down_long all = refl
 
 pub three_held : (net : Network) (t k ups downs : ℕ) (cells : List ℕ) (rows : List Row) → IsNetwork net → k < length net.connectors →
     AreInBounds net t rows → cells_of (connector_at net.connectors k) ≡ cells → length (upstream_of (connector_at net.connectors k)) ≡ ups →
@@ -279,7 +246,7 @@ three_carried net t k ups downs cells rows flow sound before there bounds is up_
       before = before;
       there = there;
       bounds = bounds;
-      is = (rw (← is) at flow_is) ∙ ap (flow_between net t connector) (sym (three (occupancy rows) connector ups downs up_long down_long all));
+      is = (rw (← is) at flow_is) ∙ three_flow net t (occupancy rows) connector ups downs up_long down_long all;
     }
 
 pub two_carried : (net : Network) (t k : ℕ) (cells : List ℕ) (rows : List Row) (flow : Flow) → IsNetwork net → t < net.steps →

@@ -9,17 +9,17 @@ use Rattle.network_file.specs.Connectors.{upstream_of, downstream_of, connector_
 use Rattle.network_file.specs.Network.{Network, IsNetwork}
 use Rattle.network_file.specs.declared.connector.Connector.{Connector}
 use Rattle.network_file.specs.declared.connector.Connector.TheVariants.{Link, Merge, Diverge}
-use Rattle.flow_model.specs.Flows.{flow_between, flow_of, leaving, entering, left_by, entered_by, outflow, inflow}
+use Rattle.flow_model.specs.Flows.{flow_of, leaving, entering, outflow, inflow}
 use Rattle.flow_model.specs.declared.carried.Flow.{Flow}
 use Rattle.signal_plan.proofs.Sums.{sum_by-one, sum_by-no, sum_by-same}
-use Rattle.flow_model.proofs.CellKinds.{sound_connector}
-use Rattle.flow_model.proofs.Connectors.{leaving-other, entering-other, flow_between-conserved}
+use Rattle.network_file.proofs.NetworkFacts.{connector_at-sound}
+use Rattle.flow_model.proofs.Connectors.{leaving-other, entering-other, flow_of-conserved}
 
 -- by its one connector
 pub outflow-by : (net : Network) (t k i : ℕ) (n : ℕ → ℕ) → IsNetwork net → k < length net.connectors →
     leads_out_of i (connector_at net.connectors k) ≡ true →
     outflow net t n i ≡ leaving i (connector_at net.connectors k) (flow_of net t n (connector_at net.connectors k))
-unfolding left_by
+unfolding outflow
 outflow-by net t k i n sound there out =
     sum_by-one (λ c. leaving i c (flow_of net t n c)) (leads_out_of i) net.connectors k (Link 0 0)
     (λ c other. leaving-other i c (flow_of net t n c) other) (sound.sound.one_out i) there out
@@ -27,7 +27,7 @@ outflow-by net t k i n sound there out =
 pub inflow-by : (net : Network) (t k i : ℕ) (n : ℕ → ℕ) → IsNetwork net → k < length net.connectors →
     leads_into i (connector_at net.connectors k) ≡ true → is_gate_at net.cells i ≡ false →
     inflow net t n i ≡ entering i (connector_at net.connectors k) (flow_of net t n (connector_at net.connectors k))
-unfolding entered_by
+unfolding inflow
 inflow-by net t k i n sound there into no_gate =
     rw no_gate (
     sum_by-one (λ c. entering i c (flow_of net t n c)) (leads_into i) net.connectors k (Link 0 0)
@@ -36,13 +36,13 @@ inflow-by net t k i n sound there into no_gate =
 
 -- or by none
 pub outflow-none : (net : Network) (t i : ℕ) (n : ℕ → ℕ) → list_any (leads_out_of i) net.connectors ≡ false → outflow net t n i ≡ 0
-unfolding left_by
+unfolding outflow
 outflow-none net t i n none =
     sum_by-no (λ c. leaving i c (flow_of net t n c)) (leads_out_of i) net.connectors (λ c other. leaving-other i c (flow_of net t n c) other) none
 
 pub inflow-none : (net : Network) (t i : ℕ) (n : ℕ → ℕ) → list_any (leads_into i) net.connectors ≡ false → is_gate_at net.cells i ≡ false →
     inflow net t n i ≡ 0
-unfolding entered_by
+unfolding inflow
 inflow-none net t i n none no_gate =
     rw no_gate (
     sum_by-no (λ c. entering i c (flow_of net t n c)) (leads_into i) net.connectors (λ c other. entering-other i c (flow_of net t n c) other) none
@@ -69,7 +69,7 @@ own_amount a b amount other apart =
 sent_in_all : (net : Network) (t : ℕ) (n : ℕ → ℕ) (connector : Connector) → IsDistinct eqb (upstream_of connector) →
     sum_by (λ i. leaving i connector (flow_of net t n connector)) (upstream_of connector) ≡
     (flow_of net t n connector).out1 + (flow_of net t n connector).out2
-unfolding IsDistinct flow_between
+unfolding IsDistinct flow_of
 sent_in_all net t n (Link up down) apart = let own : (up == up) ≡ true = eq-eqb up up refl in rw own (omega arith)
 sent_in_all net t n (Merge up1 up2 down p1 p2) apart =
     let flow : Flow = flow_of net t n (Merge up1 up2 down p1 p2) in
@@ -79,7 +79,7 @@ sent_in_all net t n (Diverge up down1 down2 b1 b2) apart = let own : (up == up) 
 received_in_all : (net : Network) (t : ℕ) (n : ℕ → ℕ) (connector : Connector) → IsDistinct eqb (downstream_of connector) →
     sum_by (λ i. entering i connector (flow_of net t n connector)) (downstream_of connector) ≡
     (flow_of net t n connector).in1 + (flow_of net t n connector).in2
-unfolding IsDistinct flow_between
+unfolding IsDistinct flow_of
 received_in_all net t n (Link up down) apart = let own : (down == down) ≡ true = eq-eqb down down refl in rw own (omega arith)
 received_in_all net t n (Merge up1 up2 down p1 p2) apart = let own : (down == down) ≡ true = eq-eqb down down refl in rw own (omega arith)
 received_in_all net t n (Diverge up down1 down2 b1 b2) apart =
@@ -96,7 +96,7 @@ pub connector-conserves : (net : Network) (t k : ℕ) (n : ℕ → ℕ) → IsNe
     sum_by (inflow net t n) (downstream_of (connector_at net.connectors k))
 connector-conserves net t k n sound there =
     let connector : Connector = connector_at net.connectors k in
-    let fits = sound_connector net k sound there in
+    let fits = connector_at-sound net k sound there in
     let flow : Flow = flow_of net t n connector in
     let up : List ℕ = upstream_of connector in
     let down : List ℕ = downstream_of connector in
@@ -104,5 +104,5 @@ connector-conserves net t k n sound there =
     (λ i out. outflow-by net t k i n sound there out) (listed up) in
     let received = sum_by-same (λ i. (list_any (eqb i) down ≡ true) × (is_gate_at net.cells i ≡ false)) (inflow net t n) (λ i. entering i connector flow) down
     (λ i into. inflow-by net t k i n sound there into.0 into.1) (λ j d within. (listed down j d within, (fits.down j d within).1)) in
-    sent ∙ sent_in_all net t n connector fits.up_apart ∙ flow_between-conserved net t connector _ ∙
+    sent ∙ sent_in_all net t n connector fits.up_apart ∙ flow_of-conserved net t n connector ∙
     sym (received ∙ received_in_all net t n connector fits.down_apart)

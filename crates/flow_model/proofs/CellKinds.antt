@@ -6,7 +6,6 @@ use Rattle.std.proofs.lemmas.List.{get_or_default}
 use Rattle.std.proofs.lemmas.Option.{slice_get_cases, slice_get_within, get_or_from_slice_get}
 use Rattle.network_file.specs.Cells.{is_road, is_gate, is_exit, is_gate_at, is_exit_at}
 use Rattle.network_file.specs.Connectors.{connector_at}
-use Rattle.network_file.specs.Network.{Network, IsNetwork, IsSoundConnector}
 use Rattle.network_file.specs.declared.cell.Cell.{Cell}
 use Rattle.network_file.specs.declared.connector.Connector.{Connector}
 use Rattle.network_file.specs.declared.connector.Connector.TheVariants.{Link}
@@ -76,8 +75,3 @@ pub read_connector : (items connectors : List Connector) (k : ℕ) (connector : 
     connector ≡ get_or items k connector → connector_at connectors k ≡ connector
 read_connector items connectors k connector same has read =
     get_or_default connectors k (Link 0 0) connector has ∙ sym (read ∙ ap (λ cs. get_or cs k connector) same)
-
--- the connector of a number is between cells that are there
-pub sound_connector : (net : Network) (k : ℕ) → IsNetwork net → k < length net.connectors →
-    IsSoundConnector net.cells (connector_at net.connectors k)
-sound_connector net k sound has = sound.sound.sound_connectors k (Link 0 0) has

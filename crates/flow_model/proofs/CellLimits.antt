@@ -2,7 +2,7 @@
 use Rattle.std.proofs.Common.{◌≡◌, ℕ, ◌+◌, ◌<◌, ◌≤◌, true, length, arith}
 use Rattle.std.proofs.lemmas.List.Elements.{All-weaker}
 use Rattle.ordinary_link.specs.Receiving.{receiving_flow}
-use Rattle.ordinary_link.specs.Space.{IsRoomFor}
+use Rattle.ordinary_link.specs.Space.{IsRoomHolding}
 use Rattle.ordinary_link.proofs.Bounds.{sending_flow-le-held, sending_flow-le-capacity, receiving_flow-le-capacity, add-receiving_flow-le-most}
 use Rattle.signal_plan.specs.Capacity.{capacity_at}
 use Rattle.signal_plan.specs.Green.{green_at}
@@ -16,7 +16,7 @@ use Rattle.network_file.specs.declared.cell.Cell.{Cell}
 use Rattle.network_file.specs.declared.cell.Kind.{Kind}
 use Rattle.network_file.specs.declared.cell.Kind.TheVariants.{Road, Gate, Exit}
 use Rattle.flow_model.specs.Limits.{room_by, room_at, sending_at, receiving_at}
-use Rattle.flow_model.specs.Bounds.{is_road_at, most_at}
+use Rattle.flow_model.specs.Bounds.{is_road_at, room_parts_at}
 use Rattle.flow_model.proofs.CellKinds.{cell_at, All-at}
 
 pub sending_at-le-held : (net : Network) (t i n : ℕ) → sending_at net t i n ≤ n
@@ -40,7 +40,7 @@ capacity_at-le net t i sound has =
 
 -- a road's room is one that the flow rules can take
 pub road_room : (cell : Cell) (n : ℕ) → IsSoundCell cell → n ≤ cell.room →
-    IsRoomFor n (record { most = cell.room; num = cell.num; den = cell.den })
+    IsRoomHolding n (record { most = cell.room; num = cell.num; den = cell.den })
 road_room cell n sound within =
     record { within = within; positive = sound.positive; ratio = sound.ratio; small = sound.small }
 
@@ -56,7 +56,7 @@ road_receives cell n q sound road within = of_kind cell.kind road
 
 -- a road keeps within its room, whatever it receives
 pub add-receiving_at-le-most : (net : Network) (t i n : ℕ) → IsNetwork net → i < length net.cells →
-    is_road_at net.cells i ≡ true → n ≤ most_at net.cells i → n + receiving_at net t i n ≤ most_at net.cells i
+    is_road_at net.cells i ≡ true → n ≤ room_parts_at net.cells i → n + receiving_at net t i n ≤ room_parts_at net.cells i
 unfolding receiving_at
 add-receiving_at-le-most net t i n sound has road within =
     let here = cell_at net.cells i has in

@@ -19,7 +19,8 @@ use Rattle.network_file.specs.declared.connector.Connector.{Connector}
 use Rattle.network_file.specs.declared.connector.Connector.TheVariants.{Link, Merge, Diverge}
 use Rattle.flow_model.specs.Limits.{sending_at, receiving_at}
 use Rattle.flow_model.specs.FlowLaw.{SendsAtMost, ReceivesAtMost}
-use Rattle.flow_model.specs.Flows.{flow_between, flow_of, sent_by, received_by, amount_for, leaving, entering}
+use Rattle.flow_model.specs.Between.{flow_between}
+use Rattle.flow_model.specs.Flows.{flow_of, sent_by, received_by, amount_beside, leaving, entering}
 use Rattle.flow_model.specs.declared.carried.Flow.{Flow}
 
 -- the weights of a merge are not both 0
@@ -83,39 +84,54 @@ flow_between-receives net t (Diverge up down1 down2 b1 b2) n sound (suc zero) wi
     (receiving_at net t down2 (slice_index n 2)) (shares_at net.plan up t (b1, b2)).0 (shares_at net.plan up t (b1, b2)).1
 flow_between-receives net t (Diverge up down1 down2 b1 b2) n sound (suc (suc j)) within = absurd (omega arith)
 
--- the part of a cell
+-- the same where cell i holds n i
+pub flow_between-map : (net : Network) (t : ℕ) (n : ℕ → ℕ) (connector : Connector) →
+    flow_between net t connector (map n (cells_of connector)) ≡ flow_of net t n connector
+unfolding flow_between flow_of
+flow_between-map net t n (Link up down) = refl
+flow_between-map net t n (Merge up1 up2 down p1 p2) = refl
+flow_between-map net t n (Diverge up down1 down2 b1 b2) = refl
+
+pub flow_of-conserved : (net : Network) (t : ℕ) (n : ℕ → ℕ) (connector : Connector) →
+    let flow = flow_of net t n connector in
+    flow.out1 + flow.out2 ≡ flow.in1 + flow.in2
+flow_of-conserved net t n connector =
+    subst (λ (flow : Flow). flow.out1 + flow.out2 ≡ flow.in1 + flow.in2) (flow_between-map net t n connector)
+    (flow_between-conserved net t connector (map n (cells_of connector)))
+
+-- what stands beside a cell
 
 pub or_none : (a b : Bool) → (a || b) ≡ false → (a ≡ false) × (b ≡ false)
 or_none true b none = cc
 or_none false b none = (refl, none)
 
--- a cell that isn't one of these has no part
-pub amount_for-other : (i : ℕ) (cells amounts : List ℕ) → list_any (eqb i) cells ≡ false → amount_for i cells amounts ≡ 0
-amount_for-other i [] amounts none = refl
-amount_for-other i (cell ∷ cells) [] none = refl
-amount_for-other i (cell ∷ cells) (amount ∷ amounts) none =
+-- beside a cell that isn't one of these stands nothing
+pub amount_beside-other : (i : ℕ) (cells amounts : List ℕ) → list_any (eqb i) cells ≡ false → amount_beside i cells amounts ≡ 0
+amount_beside-other i [] amounts none = refl
+amount_beside-other i (cell ∷ cells) [] none = refl
+amount_beside-other i (cell ∷ cells) (amount ∷ amounts) none =
     let both = or_none (eqb i cell) (list_any (eqb i) cells) none in
     let here : (if i == cell then amount else 0) ≡ 0 = ap (λ b. if b then amount else 0) both.0 in
-    omega (arith, amount_for-other i cells amounts both.1)
+    omega (arith, amount_beside-other i cells amounts both.1)
 
-absent : (cell : ℕ) (cells : List ℕ) → AllByRecursion (λ c. eqb cell c ≡ false) cells → list_any (eqb cell) cells ≡ false
+pub absent : (cell : ℕ) (cells : List ℕ) → AllByRecursion (λ c. eqb cell c ≡ false) cells → list_any (eqb cell) cells ≡ false
 absent cell [] apart = refl
 absent cell (c ∷ cells) apart = rw apart.0 (absent cell cells apart.1)
 
 -- where each of them that is the cell has at most `m`, and they differ, it has at most `m`
-pub amount_for-le : (i m : ℕ) (cells amounts : List ℕ) → IsDistinct eqb cells →
+pub amount_beside-le : (i m : ℕ) (cells amounts : List ℕ) → IsDistinct eqb cells →
     ((j : ℕ) → j < length cells → get_or cells j 0 ≡ i → get_or amounts j 0 ≤ m) →
-    amount_for i cells amounts ≤ (if list_any (eqb i) cells then m else 0)
+    amount_beside i cells amounts ≤ (if list_any (eqb i) cells then m else 0)
 unfolding IsDistinct
-amount_for-le i m [] amounts apart each = omega arith
-amount_for-le i m (cell ∷ cells) [] apart each = omega arith
-amount_for-le i m (cell ∷ cells) (amount ∷ amounts) apart each = elim (cases_Bool (eqb i cell)) [
+amount_beside-le i m [] amounts apart each = omega arith
+amount_beside-le i m (cell ∷ cells) [] apart each = omega arith
+amount_beside-le i m (cell ∷ cells) (amount ∷ amounts) apart each = elim (cases_Bool (eqb i cell)) [
   | inl here ↦
       let same : i ≡ cell = eqb-true i cell here in
-      let others = amount_for-other i cells amounts (rw same (absent cell cells apart.0)) in
+      let others = amount_beside-other i cells amounts (rw same (absent cell cells apart.0)) in
       rw (here, others) (omega (arith, each 0 (omega arith) (sym same)))
   | inr other ↦
-      rw other (omega (arith, amount_for-le i m cells amounts apart.1 (λ j within. each (suc j) (omega arith))))
+      rw other (omega (arith, amount_beside-le i m cells amounts apart.1 (λ j within. each (suc j) (omega arith))))
 ]
 
 -- what a cell upstream or downstream holds, among what all the cells hold
@@ -142,9 +158,11 @@ pub leaving-le : (net : Network) (t i : ℕ) (n : ℕ → ℕ) (connector : Conn
 leaving-le net t i n connector sound =
     let up : List ℕ = upstream_of connector in
     let down : List ℕ = downstream_of connector in
-    amount_for-le i (sending_at net t i (n i)) up (sent_by (flow_of net t n connector)) sound.up_apart
-    (λ j within here.
-    rw (here, held_up n up down i j within here) at (flow_between-sends net t connector (map n (cells_of connector)) sound j within))
+    let sends : SendsAtMost net t connector (map n (cells_of connector)) (flow_of net t n connector) =
+    subst (SendsAtMost net t connector (map n (cells_of connector))) (flow_between-map net t n connector)
+    (flow_between-sends net t connector (map n (cells_of connector)) sound) in
+    amount_beside-le i (sending_at net t i (n i)) up (sent_by (flow_of net t n connector)) sound.up_apart
+    (λ j within here. rw (here, held_up n up down i j within here) at (sends j within))
 
 -- what enters it
 pub entering-le : (net : Network) (t i : ℕ) (n : ℕ → ℕ) (connector : Connector) → IsSoundConnector net.cells connector →
@@ -152,9 +170,11 @@ pub entering-le : (net : Network) (t i : ℕ) (n : ℕ → ℕ) (connector : Con
 entering-le net t i n connector sound =
     let up : List ℕ = upstream_of connector in
     let down : List ℕ = downstream_of connector in
-    amount_for-le i (receiving_at net t i (n i)) down (received_by (flow_of net t n connector)) sound.down_apart
-    (λ j within here.
-    rw (here, held_down n up down i j within here) at (flow_between-receives net t connector (map n (cells_of connector)) sound j within))
+    let receives : ReceivesAtMost net t connector (map n (cells_of connector)) (flow_of net t n connector) =
+    subst (ReceivesAtMost net t connector (map n (cells_of connector))) (flow_between-map net t n connector)
+    (flow_between-receives net t connector (map n (cells_of connector)) sound) in
+    amount_beside-le i (receiving_at net t i (n i)) down (received_by (flow_of net t n connector)) sound.down_apart
+    (λ j within here. rw (here, held_down n up down i j within here) at (receives j within))
 
 -- what holds of all these cells holds of the one that is listed
 pub at_listed : (P : ℕ → Type 0) (i : ℕ) (cells : List ℕ) → list_any (eqb i) cells ≡ true → All P cells → P i
@@ -166,7 +186,7 @@ at_listed P i (cell ∷ cells) listed all = elim (cases_Bool (eqb i cell)) [
 
 -- a connector that doesn't lead out of a cell takes nothing from it, and one that doesn't lead into it brings it nothing
 pub leaving-other : (i : ℕ) (connector : Connector) (flow : Flow) → leads_out_of i connector ≡ false → leaving i connector flow ≡ 0
-leaving-other i connector flow none = amount_for-other i (upstream_of connector) (sent_by flow) none
+leaving-other i connector flow none = amount_beside-other i (upstream_of connector) (sent_by flow) none
 
 pub entering-other : (i : ℕ) (connector : Connector) (flow : Flow) → leads_into i connector ≡ false → entering i connector flow ≡ 0
-entering-other i connector flow none = amount_for-other i (downstream_of connector) (received_by flow) none
+entering-other i connector flow none = amount_beside-other i (downstream_of connector) (received_by flow) none

@@ -3,6 +3,7 @@ pub mod CellLimits
 pub mod Connectors
 pub mod Flows
 pub mod Bounds
+pub mod FirstConnectors
 pub mod Moves
 pub mod Carrying
 pub mod States

@@ -9,11 +9,12 @@ use Rattle.network_file.specs.Cells.{is_gate_at}
 use Rattle.network_file.specs.Connectors.{upstream_of, downstream_of, cells_of, leads_out_of, leads_into, touches, are_joined}
 use Rattle.network_file.specs.Network.{Network}
 use Rattle.network_file.specs.declared.connector.Connector.{Connector}
-use Rattle.flow_model.specs.Flows.{flow_between, flow_of, leaving, entering, left_by, entered_by, outflow, inflow}
-use Rattle.flow_model.specs.Rows.{row_by, next_row}
+use Rattle.flow_model.specs.Between.{flow_between}
+use Rattle.flow_model.specs.Flows.{flow_of, leaving, entering, outflow, inflow}
+use Rattle.flow_model.specs.Rows.{next_row}
 use Rattle.flow_model.specs.declared.row.Row.{Row}
 use Rattle.signal_plan.proofs.Sums.{sum_by-same}
-use Rattle.flow_model.proofs.Connectors.{leaving-other, entering-other}
+use Rattle.flow_model.proofs.Connectors.{leaving-other, entering-other, flow_between-map}
 
 or_left : (a b : Bool) → a ≡ true → (a || b) ≡ true
 or_left true b left = refl
@@ -34,7 +35,9 @@ map_agree n m (cell ∷ cells) agree =
 
 flow_of-agree : (net : Network) (t : ℕ) (n m : ℕ → ℕ) (connector : Connector) → ((j : ℕ) → touches j connector ≡ true → n j ≡ m j) →
     flow_of net t n connector ≡ flow_of net t m connector
-flow_of-agree net t n m connector agree = ap (flow_between net t connector) (map_agree n m (cells_of connector) agree)
+flow_of-agree net t n m connector agree =
+    sym (flow_between-map net t n connector) ∙ ap (flow_between net t connector) (map_agree n m (cells_of connector) agree) ∙
+    flow_between-map net t m connector
 
 -- a cell that a connector leads out of or into is one of its own
 pub leads_out_of-touches : (i : ℕ) (connector : Connector) → leads_out_of i connector ≡ true → touches i connector ≡ true
@@ -64,7 +67,7 @@ agrees_all net i n m agree = λ k d within own j other.
 
 pub outflow-local : (net : Network) (t i : ℕ) (n m : ℕ → ℕ) → ((j : ℕ) → are_joined net.connectors i j ≡ true → n j ≡ m j) →
     outflow net t n i ≡ outflow net t m i
-unfolding left_by Agrees
+unfolding outflow Agrees
 outflow-local net t i n m agree =
     sum_by-same (Agrees i n m) (λ c. leaving i c (flow_of net t n c)) (λ c. leaving i c (flow_of net t m c)) net.connectors
     (λ c here. elim (cases_Bool (leads_out_of i c)) [
@@ -75,7 +78,7 @@ outflow-local net t i n m agree =
 
 pub inflow-local : (net : Network) (t i : ℕ) (n m : ℕ → ℕ) → ((j : ℕ) → are_joined net.connectors i j ≡ true → n j ≡ m j) →
     inflow net t n i ≡ inflow net t m i
-unfolding entered_by Agrees
+unfolding inflow Agrees
 inflow-local net t i n m agree =
     ap (λ brought. if is_gate_at net.cells i then demand_at net.plan i t else brought)
     (sum_by-same (Agrees i n m) (λ c. entering i c (flow_of net t n c)) (λ c. entering i c (flow_of net t m c)) net.connectors
@@ -87,5 +90,5 @@ inflow-local net t i n m agree =
 
 pub next_row-local : (net : Network) (t i : ℕ) (n m : ℕ → ℕ) (row : Row) → ((j : ℕ) → are_joined net.connectors i j ≡ true → n j ≡ m j) →
     next_row net t n i row ≡ next_row net t m i row
-unfolding row_by
+unfolding next_row
 next_row-local net t i n m row agree = rw (inflow-local net t i n m agree, outflow-local net t i n m agree) refl

@@ -1,15 +1,17 @@
 -- One move of a step: so much leaves a row, or so much enters it.
-use Rattle.std.specs.Prelude.{if◌then◌else◌, ◌==◌}
-use Rattle.std.proofs.Common.{◌≡◌, inl, inr, ℕ, add-zero, zero-add, ◌+◌, ◌-◌, ◌<◌, ◌≤◌, ◌^◌, true, false, List, length, set, arith, sym, ap, ◌∙◌}
+use Rattle.std.specs.Prelude.{map, if◌then◌else◌, ◌==◌}
+use Rattle.std.specs.List.{range_with_len}
+use Rattle.std.proofs.Common.{◌≡◌, inl, inr, ℕ, add-zero, zero-add, ◌+◌, ◌-◌, ◌<◌, ◌≤◌, ◌^◌, true, false, List, length, set, arith, refl, sym, ap, ◌∙◌}
 use Rattle.std.proofs.lemmas.Bool.{cases_Bool, cases_eq, eq-eqb, ne_eqb}
 use Rattle.std.proofs.lemmas.List.{length-set, get_or-set_same, get_or-set_other, ext_get_or}
 use Rattle.std.proofs.lemmas.List.FromFn.{length-map-range_with_len, get_or-map-range_with_len}
 use Rattle.network_file.specs.Cells.{is_exit_at}
 use Rattle.network_file.specs.Network.{Network, IsNetwork}
 use Rattle.flow_model.specs.Bounds.{IsRowInBounds, AreInBounds}
-use Rattle.flow_model.specs.Rows.{empty_row, moved_row, row_less, row_more}
-use Rattle.flow_model.specs.State.{row_at, occupancy, rows_moved}
-use Rattle.flow_model.specs.Moves.{CanLeave, CanEnter}
+use Rattle.flow_model.specs.Flows.{inflow, outflow}
+use Rattle.flow_model.specs.Rows.{empty_row, moved_row, next_row}
+use Rattle.flow_model.specs.State.{row_at, occupancy, next_rows}
+use Rattle.flow_model.specs.Moves.{CanLeave, CanEnter, row_less, row_more, with_connectors}
 use Rattle.flow_model.specs.declared.row.Row.{Row}
 use Rattle.flow_model.proofs.Bounds.{IsChange, moved_row-in_bounds, small}
 
@@ -69,7 +71,22 @@ moves_in net t i row enters leaves parts sound before has bounds change =
       done = cc;
     }
 
--- all rows
+-- all rows after so much entered each cell and so much left it
+unfoldable pub rows_moved : Network → List Row → (enters leaves : ℕ → ℕ) → List Row
+rows_moved net rows enters leaves =
+    map (λ i. moved_row net i (row_at rows i) (enters i) (leaves i)) (range_with_len 0 (length net.cells))
+
+-- they are so after a step, and after the first connectors carried their flows in it
+pub next_rows-moved : (net : Network) (t : ℕ) (rows : List Row) →
+    next_rows net t rows ≡ rows_moved net rows (inflow net t (occupancy rows)) (outflow net t (occupancy rows))
+unfolding next_rows next_row rows_moved
+next_rows-moved net t rows = refl
+
+pub next_rows-with_connectors : (net : Network) (t k : ℕ) (rows : List Row) →
+    next_rows (with_connectors net k) t rows ≡
+    rows_moved net rows (inflow (with_connectors net k) t (occupancy rows)) (outflow (with_connectors net k) t (occupancy rows))
+unfolding next_rows next_row rows_moved
+next_rows-with_connectors net t k rows = refl
 
 pub length-rows_moved : (net : Network) (rows : List Row) (enters leaves : ℕ → ℕ) → length (rows_moved net rows enters leaves) ≡ length net.cells
 unfolding rows_moved

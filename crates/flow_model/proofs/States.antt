@@ -3,45 +3,56 @@ use Rattle.std.specs.Prelude.{map, slice_get}
 use Rattle.std.specs.Prelude.{Some}
 use Rattle.std.specs.Option.{option_map}
 use Rattle.std.proofs.lemmas.Option.{slice_get_within, get_or_from_slice_get, slice_get-map}
-use Rattle.std.proofs.Common.{◌≡◌, ℕ, zero, suc, add-one, ◌+◌, [], take, ◌<◌, ◌≤◌, List, length, get_or, arith, refl, sym, ap, ◌∙◌}
-use Rattle.std.proofs.lemmas.List.{length-map, take_all}
+use Rattle.std.proofs.Common.{◌≡◌, ℕ, zero, suc, add-one, ◌+◌, ◌<◌, ◌≤◌, List, length, get_or, arith, refl, sym, ap, ◌∙◌}
+use Rattle.std.proofs.lemmas.List.{length-map}
 use Rattle.std.proofs.lemmas.List.Sums.{get_or-le-sum_by}
 use Rattle.signal_plan.specs.Total.{demand_from}
 use Rattle.signal_plan.proofs.Laws.{demand_from-le-total_demand}
 use Rattle.network_file.specs.Network.{Network, IsNetwork, IsSoundCell}
 use Rattle.fixed_flow.specs.declared.amount.TheConstants.{MOST_PARTS}
 use Rattle.network_file.specs.declared.cell.Cell.{Cell}
-use Rattle.flow_model.specs.Flows.{inflow, outflow, entered_by, left_by}
-use Rattle.flow_model.specs.Rows.{empty_row, first_row, next_row, row_by, begun_row}
-use Rattle.flow_model.specs.State.{row_at, occupancy, rows_by, next_rows, state_at}
+use Rattle.flow_model.specs.Flows.{inflow, outflow}
+use Rattle.flow_model.specs.Moves.{begun_row, with_connectors}
+use Rattle.flow_model.specs.Rows.{empty_row, first_row, next_row}
+use Rattle.flow_model.specs.State.{row_at, occupancy, next_rows, state_at}
 use Rattle.flow_model.specs.Bounds.{IsRowInBounds, AreInBounds, KeepsRooms}
 use Rattle.flow_model.specs.declared.row.Row.{Row}
 use Rattle.flow_model.proofs.CellKinds.{cell_at, All-at, road_at-there}
-use Rattle.flow_model.proofs.Flows.{entered_by-gate}
+use Rattle.flow_model.proofs.FirstConnectors.{inflow-all, outflow-all}
+use Rattle.flow_model.proofs.Flows.{inflow-gate}
 use Rattle.flow_model.proofs.Bounds.{changes, moved_row-in_bounds}
-use Rattle.flow_model.proofs.Moves.{length-rows_moved, row_at-rows_moved, rows_moved-from_each}
+use Rattle.flow_model.proofs.Moves.{length-rows_moved, next_rows-moved, next_rows-with_connectors, row_at-rows_moved, rows_moved-from_each, rows_moved-same}
 
 -- one row for each cell
 
 pub length-next_rows : (net : Network) (t : ℕ) (rows : List Row) → length (next_rows net t rows) ≡ length net.cells
-length-next_rows net t rows = length-rows_moved net rows (inflow net t (occupancy rows)) (outflow net t (occupancy rows))
+length-next_rows net t rows =
+    ap length (next_rows-moved net t rows) ∙ length-rows_moved net rows (inflow net t (occupancy rows)) (outflow net t (occupancy rows))
 
 pub row_at-next_rows : (net : Network) (t i : ℕ) (rows : List Row) → i < length net.cells →
     row_at (next_rows net t rows) i ≡ next_row net t (occupancy rows) i (row_at rows i)
-unfolding row_by
-row_at-next_rows net t i rows has = row_at-rows_moved net rows (inflow net t (occupancy rows)) (outflow net t (occupancy rows)) i has
+unfolding next_row
+row_at-next_rows net t i rows has =
+    ap (λ all. row_at all i) (next_rows-moved net t rows) ∙
+    row_at-rows_moved net rows (inflow net t (occupancy rows)) (outflow net t (occupancy rows)) i has
 
 -- the rows before all connectors
-pub rows_by-none : (net : Network) (t : ℕ) (rows now : List Row) → length now ≡ length net.cells →
-    ((i : ℕ) → i < length net.cells → row_at now i ≡ begun_row net t i (row_at rows i)) → now ≡ rows_by [] net t rows
-unfolding entered_by left_by
-rows_by-none net t rows now long each = rows_moved-from_each net rows now (entered_by [] net t (occupancy rows)) (left_by [] net t (occupancy rows)) long each
+pub begun-with_connectors : (net : Network) (t : ℕ) (rows now : List Row) → length now ≡ length net.cells →
+    ((i : ℕ) → i < length net.cells → row_at now i ≡ begun_row net t i (row_at rows i)) → now ≡ next_rows (with_connectors net 0) t rows
+unfolding inflow outflow
+begun-with_connectors net t rows now long each =
+    rows_moved-from_each net rows now (inflow (with_connectors net 0) t (occupancy rows)) (outflow (with_connectors net 0) t (occupancy rows)) long each ∙
+    sym (next_rows-with_connectors net t 0 rows)
 
 -- after all connectors the step is done
-pub rows_by-done : (net : Network) (t k : ℕ) (rows now : List Row) → length net.connectors ≤ k →
-    now ≡ rows_by (take k net.connectors) net t rows → now ≡ next_rows net t rows
-rows_by-done net t k rows now past is =
-    is ∙ ap (λ connectors. rows_by connectors net t rows) (take_all k net.connectors past)
+pub next_rows-all : (net : Network) (t k : ℕ) (rows now : List Row) → length net.connectors ≤ k →
+    now ≡ next_rows (with_connectors net k) t rows → now ≡ next_rows net t rows
+next_rows-all net t k rows now past is =
+    let n : ℕ → ℕ = occupancy rows in
+    is ∙ next_rows-with_connectors net t k rows ∙
+    rows_moved-same net rows (inflow (with_connectors net k) t n) (outflow (with_connectors net k) t n) (inflow net t n) (outflow net t n)
+    (λ i. inflow-all net t n i k past) (λ i. outflow-all net t n i k past) ∙
+    sym (next_rows-moved net t rows)
 
 -- the recurrence
 pub state_at-next : (net : Network) (t : ℕ) → state_at net (t + 1) ≡ next_rows net t (state_at net t)
@@ -70,11 +81,11 @@ row_at-state_at-next net t i has =
 
 pub next_row-in_bounds : (net : Network) (t i : ℕ) (n : ℕ → ℕ) (row : Row) → IsNetwork net → t < net.steps →
     i < length net.cells → IsRowInBounds net t i row → n i ≡ row.n → IsRowInBounds net (t + 1) i (next_row net t n i row)
-unfolding row_by
+unfolding next_row
 next_row-in_bounds net t i n row sound before has bounds own =
     moved_row-in_bounds net t i row _ _ sound before has bounds
     (rw own at (changes net t i n (inflow net t n i) (outflow net t n i) sound has
-    (λ gate. entered_by-gate net.connectors net t i n gate) (omega arith) (omega arith)))
+    (λ gate. inflow-gate net t i n gate) (omega arith) (omega arith)))
 
 pub next_rows-in_bounds : (net : Network) (t : ℕ) (rows : List Row) → IsNetwork net → t < net.steps → AreInBounds net t rows →
     AreInBounds net (t + 1) (next_rows net t rows)

@@ -14,9 +14,9 @@ use Rattle.flow_model.specs.declared.row.Row.{Row}
 abbrev pub is_road_at : List Cell → ℕ → Bool
 is_road_at cells i = option_map_or (λ cell. is_road cell.kind) (slice_get cells i) false
 
--- the room of the cell of this number
-abbrev pub most_at : List Cell → ℕ → ℕ
-most_at cells i = option_map_or (λ cell. cell.room) (slice_get cells i) 0
+-- the room of the cell of this number, in parts
+abbrev pub room_parts_at : List Cell → ℕ → ℕ
+room_parts_at cells i = option_map_or (λ cell. cell.room) (slice_get cells i) 0
 
 -- what the cell of this number holds at step 0
 abbrev pub first_at : List Cell → ℕ → ℕ
@@ -25,7 +25,7 @@ first_at cells i = option_map_or (λ cell. cell.first) (slice_get cells i) 0
 -- an occupancy of cell i that is in bounds at step t
 pub record IsHeldInBounds (net : Network) (t i n : ℕ) : Type 0 where
   -- a road never holds more than its room
-  pub road : is_road_at net.cells i ≡ true → n ≤ most_at net.cells i
+  pub road : is_road_at net.cells i ≡ true → n ≤ room_parts_at net.cells i
   -- what a gate holds and its demand still to come
   pub gate : is_gate_at net.cells i ≡ true → n + demand_from net.plan i t net.steps ≤ MOST_PARTS
   pub exit : is_exit_at net.cells i ≡ true → n ≤ t * MOST_CAPACITY
@@ -54,4 +54,4 @@ pub record AreInBounds (net : Network) (t : ℕ) (rows : List Row) : Type 0 wher
 
 -- no road holds more than its room
 pub record KeepsRooms (net : Network) (rows : List Row) : Type 0 where
-  pub each : (i : ℕ) → is_road_at net.cells i ≡ true → occupancy rows i ≤ most_at net.cells i
+  pub each : (i : ℕ) → is_road_at net.cells i ≡ true → occupancy rows i ≤ room_parts_at net.cells i

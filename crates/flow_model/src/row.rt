@@ -1,6 +1,6 @@
 ghost use Rattle.std.specs.Prelude.{◌≡◌, ◌+◌, ◌<◌, ◌≤◌, ◌^◌, length};
 ghost use Rattle.flow_model.specs.Bounds.{IsRowInBounds};
-ghost use Rattle.flow_model.specs.Rows.{begun_row, row_less, row_more};
+ghost use Rattle.flow_model.specs.Moves.{begun_row, row_less, row_more};
 
 use network_file::{Kind, Net};
 
@@ -20,7 +20,7 @@ pub struct Row {
 impl Row {
     /// The row of a cell as step `t` begins, before any connector carries its flow: the demand of a gate is in, and
     /// all that the cell holds is counted as waiting.
-    pub fn begun(self, net: &Net, t: u64, cell: u32) -> Row
+    pub(crate) fn begun(self, net: &Net, t: u64, cell: u32) -> Row
         requires has_cell { cell < length net.now.cells }
         requires in_time { t < net.now.steps }
         requires in_bounds { IsRowInBounds net.now t cell self }
@@ -46,7 +46,7 @@ impl Row {
     }
 
     /// So many parts leave in this step. They were counted as waiting, and don't wait.
-    pub fn leave(&mut self, parts: u64)
+    pub(crate) fn leave(&mut self, parts: u64)
         requires held { parts ≤ self.old.n }
         requires waiting { parts ≤ self.old.wait }
         requires fits { self.old.gone + parts < 2 ^ 64 }
@@ -58,7 +58,7 @@ impl Row {
     }
 
     /// So many parts enter in this step.
-    pub fn enter(&mut self, parts: u64)
+    pub(crate) fn enter(&mut self, parts: u64)
         requires fits { self.old.n + parts < 2 ^ 64 }
         requires all_fit { self.old.come + parts < 2 ^ 64 }
         ensures { self.new ≡ row_more self.old parts }

@@ -1,10 +1,9 @@
-ghost use Rattle.std.specs.Prelude.{◌≡◌, ℕ, ◌+◌, ◌<◌, ◌≤◌, [], length, slice_set, take};
+ghost use Rattle.std.specs.Prelude.{◌≡◌, ℕ, ◌+◌, ◌<◌, ◌≤◌, length, slice_set};
 ghost use Rattle.network_file.specs.Network.{IsNetwork};
 ghost use Rattle.network_file.specs.Connectors.{cells_of, connector_at, downstream_of, upstream_of};
 ghost use Rattle.flow_model.specs.Bounds.{AreInBounds, KeepsRooms};
-ghost use Rattle.flow_model.specs.Moves.{CanEnter, CanLeave};
-ghost use Rattle.flow_model.specs.Rows.{row_less, row_more};
-ghost use Rattle.flow_model.specs.State.{next_rows, row_at, rows_by, state_at};
+ghost use Rattle.flow_model.specs.Moves.{CanEnter, CanLeave, row_less, row_more, with_connectors};
+ghost use Rattle.flow_model.specs.State.{next_rows, row_at, state_at};
 
 use crate::connector_flow::flow;
 use crate::row::Row;
@@ -50,7 +49,7 @@ fn begin(net: &Net, t: u64, old: &[Row], new: &mut [Row])
     requires one_each { length new.old ≡ length net.now.cells }
     requires in_time { t < net.now.steps }
     requires in_bounds { AreInBounds net.now t old.now }
-    ensures { new.new ≡ rows_by [] net.now t old.now }
+    ensures { new.new ≡ next_rows (with_connectors net.now 0) t old.now }
 {
     for i in 0..net.cells.len() {
         new[i] = old[i].begun(net, t, i as u32);
@@ -62,8 +61,8 @@ fn carry(net: &Net, t: u64, k: u32, old: &[Row], new: &mut [Row])
     requires has_connector { k < length net.now.connectors }
     requires in_time { t < net.now.steps }
     requires in_bounds { AreInBounds net.now t old.now }
-    requires before { new.old ≡ rows_by (take k net.now.connectors) net.now t old.now }
-    ensures { new.new ≡ rows_by (take (k + 1) net.now.connectors) net.now t old.now }
+    requires before { new.old ≡ next_rows (with_connectors net.now k) t old.now }
+    ensures { new.new ≡ next_rows (with_connectors net.now (k + 1)) t old.now }
 {
     match net.connectors[k as usize] {
         Connector::Link { up, down } => carry_link(net, t, k, [up, down], old, new),
@@ -90,8 +89,8 @@ fn carry_link(net: &Net, t: u64, k: u32, cells: [u32; 2], old: &[Row], new: &mut
     requires downstream { length (downstream_of (connector_at net.now.connectors k)) ≡ 1 }
     requires in_time { t < net.now.steps }
     requires in_bounds { AreInBounds net.now t old.now }
-    requires before { new.old ≡ rows_by (take k net.now.connectors) net.now t old.now }
-    ensures { new.new ≡ rows_by (take (k + 1) net.now.connectors) net.now t old.now }
+    requires before { new.old ≡ next_rows (with_connectors net.now k) t old.now }
+    ensures { new.new ≡ next_rows (with_connectors net.now (k + 1)) t old.now }
 {
     let [up, down] = cells;
     let carried = flow(net, t, k, [old[up as usize].n, old[down as usize].n, 0]);
@@ -108,8 +107,8 @@ fn carry_merge(net: &Net, t: u64, k: u32, cells: [u32; 3], old: &[Row], new: &mu
     requires downstream { length (downstream_of (connector_at net.now.connectors k)) ≡ 1 }
     requires in_time { t < net.now.steps }
     requires in_bounds { AreInBounds net.now t old.now }
-    requires before { new.old ≡ rows_by (take k net.now.connectors) net.now t old.now }
-    ensures { new.new ≡ rows_by (take (k + 1) net.now.connectors) net.now t old.now }
+    requires before { new.old ≡ next_rows (with_connectors net.now k) t old.now }
+    ensures { new.new ≡ next_rows (with_connectors net.now (k + 1)) t old.now }
 {
     let [up1, up2, down] = cells;
     let n = [
@@ -132,8 +131,8 @@ fn carry_diverge(net: &Net, t: u64, k: u32, cells: [u32; 3], old: &[Row], new: &
     requires downstream { length (downstream_of (connector_at net.now.connectors k)) ≡ 2 }
     requires in_time { t < net.now.steps }
     requires in_bounds { AreInBounds net.now t old.now }
-    requires before { new.old ≡ rows_by (take k net.now.connectors) net.now t old.now }
-    ensures { new.new ≡ rows_by (take (k + 1) net.now.connectors) net.now t old.now }
+    requires before { new.old ≡ next_rows (with_connectors net.now k) t old.now }
+    ensures { new.new ≡ next_rows (with_connectors net.now (k + 1)) t old.now }
 {
     let [up, down1, down2] = cells;
     let n = [

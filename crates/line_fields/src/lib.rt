@@ -1,7 +1,7 @@
 //! The fields of the lines on standard output (docs/FORMAT.md): counts, amounts and the row of a cell.
 //!
-//! Each call appends to a text. After want of memory what stood there stands still, and a part of the field may follow
-//! it.
+//! Each call appends to a text. Where memory is refused what stood there stands still, and a part of the field may
+//! follow it.
 #![tactic(auto)]
 
 mod amounts;

@@ -20,11 +20,11 @@ has_off_ramp size i = i % 8 == 6 && nat_lt (i + 1) size
 abbrev pub has_signal : (i : ℕ) → Bool
 has_signal i = i % 8 == 0 && nat_lt 0 i
 
--- those of the first main cells that have an on-ramp
+-- which of so many first main cells have an on-ramp
 abbrev pub on_ramps : (count : ℕ) → List ℕ
 on_ramps count = filter has_on_ramp (main_cells count)
 
--- those of the first main cells that have a signal
+-- which of so many first main cells have a signal
 abbrev pub signals : (count : ℕ) → List ℕ
 signals count = filter has_signal (main_cells count)
 

@@ -13,7 +13,7 @@ pub(crate) struct Draws {
 }
 
 impl Draws {
-    /// Those of a seed, from the first on.
+    /// The draws of a seed, from the first one on.
     #[tactic(auto, unfolding(crate::specs::Draws::state_after))]
     pub(crate) fn new(seed: u32) -> Draws
         ensures { result.state ≡ state_after seed 0 }

@@ -1,9 +1,9 @@
-//! A network from a number (docs/FORMAT.md, "A made network").
+//! A network that two numbers make (docs/FORMAT.md, "A made network").
 //!
-//! A size and a seed make the file of a corridor with ramps, signals and an incident, byte for byte. It is for trials
-//! of any size: the same two numbers make the same file everywhere. `making` has the call, and the lines at the head of
-//! the file; the others are put, in their order, by `cells`, `connectors`, `demands`, `signals` and `incident`. `draws`
-//! has the numbers that these draw, and `features` says which main cells have ramps and signals.
+//! A size and a seed give the file of a corridor with ramps, signals and an incident, byte for byte the same everywhere.
+//! It is for trials of any size. `making` has the call and writes the lines at the head of the file; the other lines are
+//! written, in their order, by `cells`, `connectors`, `demands`, `signals` and `incident`. `draws`
+//! has the random numbers that they use, and `features` says which main cells have ramps and signals.
 #![tactic(auto)]
 
 mod cells;

@@ -25,7 +25,7 @@ pub enum NetRefusal {
 }
 
 /// Why a draft did not take a record.
-#[derive(Clone, Copy, Debug, PartialEq, Eq)]
+#[derive(Clone, Copy)]
 pub(crate) enum RecordRefusal {
     Fault(Code),
     NoMemory,

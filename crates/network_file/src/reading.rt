@@ -1,7 +1,7 @@
 ghost use Rattle.std.specs.Prelude.{◌≡◌, ◌≤◌, Ok, IfErr, IfOk, length};
 ghost use Rattle.csv.specs.Records.{fields_of};
 ghost use Rattle.network_file.specs.Answers.{Answers, IsFaultOf};
-ghost use Rattle.network_file.specs.Reading.{network_in_all, network_of, regions_of};
+ghost use Rattle.network_file.specs.Reading.{network_in_all, network_of, cutting_of_draft};
 ghost use Rattle.network_file.specs.Refused.{IsRefusal};
 
 use crate::code::Code;
@@ -79,10 +79,10 @@ fn complete(alloc: Global, draft: NetDraft) -> Result<Net, RecordRefusal>
 }
 
 /// The cutting that the region records of a draft make; without any there is none.
-#[tactic(auto, unfolding(crate::specs::Reading::regions_of))]
+#[tactic(auto, unfolding(crate::specs::Reading::cutting_of_draft))]
 fn cutting(alloc: Global, draft: &NetDraft) -> Result<Vec<u32>, RecordRefusal>
-    ensures value { IfOk result (λ regions. regions_of draft.now ≡ Ok regions.items) }
-    ensures refusal { IfErr result (λ refusal. IsFaultOf refusal (regions_of draft.now)) }
+    ensures value { IfOk result (λ regions. cutting_of_draft draft.now ≡ Ok regions.items) }
+    ensures refusal { IfErr result (λ refusal. IsFaultOf refusal (cutting_of_draft draft.now)) }
 {
     if draft.regions.is_empty() {
         return Ok(Vec::new(alloc));

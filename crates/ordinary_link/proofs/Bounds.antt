@@ -3,7 +3,7 @@ use Rattle.std.specs.Prelude.{Option, Some, None}
 use Rattle.std.proofs.Common.{ℕ, ◌≤◌, ◌+◌, Bool, true, false, arith}
 use Rattle.ordinary_link.specs.declared.space.Room.{Room}
 use Rattle.ordinary_link.specs.Sending.{sending_flow}
-use Rattle.ordinary_link.specs.Space.{space_flow, IsRoomFor}
+use Rattle.ordinary_link.specs.Space.{space_flow, IsRoomHolding}
 use Rattle.ordinary_link.specs.Receiving.{receiving_flow}
 use Rattle.ordinary_link.specs.LinkFlow.{link_flow_of}
 
@@ -19,10 +19,10 @@ pub receiving_flow-le-capacity : (n q : ℕ) (room : Option Room) → receiving_
 receiving_flow-le-capacity n q None = omega arith
 receiving_flow-le-capacity n q (Some room) = omega arith
 
-pub add-space_flow-le-most : (n : ℕ) (room : Room) → IsRoomFor n room → n + space_flow n room ≤ room.most
+pub add-space_flow-le-most : (n : ℕ) (room : Room) → IsRoomHolding n room → n + space_flow n room ≤ room.most
 add-space_flow-le-most n room fits = grind arith
 
-pub add-receiving_flow-le-most : (n q : ℕ) (room : Room) → IsRoomFor n room →
+pub add-receiving_flow-le-most : (n q : ℕ) (room : Room) → IsRoomHolding n room →
     n + receiving_flow n q (Some room) ≤ room.most
 add-receiving_flow-le-most n q room fits = omega (arith, add-space_flow-le-most n room fits)
 

@@ -7,7 +7,7 @@ abbrev pub space_flow : ℕ → Room → ℕ
 space_flow n room = room.num * (room.most - n) / room.den
 
 -- the road can hold `n` parts, and its ratio A/B has 1 ≤ A ≤ B ≤ 1,000
-pub record IsRoomFor (n : ℕ) (room : Room) : Type 0 where
+pub record IsRoomHolding (n : ℕ) (room : Room) : Type 0 where
   pub within : n ≤ room.most
   pub positive : 1 ≤ room.num
   pub ratio : room.num ≤ room.den

@@ -3,6 +3,10 @@
 //!
 //! All amounts are in parts, millionths of a vehicle, and every quotient is rounded down to whole
 //! parts. No call takes memory.
+//!
+//! `send_row`, `link_row` and `step_row` do the same for many cells at once. No crate uses them: regions
+//! step by one loop over their places, which is faster (docs/DECISIONS.md). They stand for a caller that
+//! keeps its cells in columns.
 #![tactic(auto)]
 
 mod link;

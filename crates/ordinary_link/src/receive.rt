@@ -1,6 +1,6 @@
 ghost use Rattle.std.specs.Prelude.{◌≡◌, ◌≤◌, ◌+◌};
 ghost use Rattle.std.specs.Option.{ForSome};
-ghost use Rattle.ordinary_link.specs.Space.{IsRoomFor};
+ghost use Rattle.ordinary_link.specs.Space.{IsRoomHolding};
 ghost use Rattle.ordinary_link.specs.Receiving.{receiving_flow};
 
 use crate::space::{MOST_PARTS, Room};
@@ -8,7 +8,7 @@ use crate::space::{MOST_PARTS, Room};
 /// What a cell that holds `n` parts can receive in a step whose capacity is `q` parts: `R` of
 /// Daganzo (1995). A cell without a room receives up to its capacity, however much it holds.
 pub fn receiving(n: u64, q: u64, room: Option<Room>) -> u64
-    requires fits { ForSome room (IsRoomFor n) }
+    requires fits { ForSome room (IsRoomHolding n) }
     requires amount { ForSome room (λ r. r.most ≤ MOST_PARTS) }
     ensures flow { result ≡ receiving_flow n q room }
     ensures capacity { result ≤ q }

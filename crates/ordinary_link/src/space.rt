@@ -1,5 +1,5 @@
 ghost use Rattle.std.specs.Prelude.{◌≡◌, ◌≤◌, ◌+◌};
-ghost use Rattle.ordinary_link.specs.Space.{space_flow, IsRoomFor};
+ghost use Rattle.ordinary_link.specs.Space.{space_flow, IsRoomHolding};
 
 /// The most parts that a road may have room for: 10,000,000 vehicles.
 pub const MOST_PARTS: u64 = 10_000_000_000_000;
@@ -22,7 +22,7 @@ pub struct Room {
 impl Room {
     // A ratio of 1 needs no division, the dearest part of a step.
     pub(crate) fn space_flow(self, n: u64) -> u64
-        requires fits { IsRoomFor n self }
+        requires fits { IsRoomHolding n self }
         requires amount { self.most ≤ MOST_PARTS }
         ensures flow { result ≡ space_flow n self }
         ensures in_room { n + result ≤ self.most }

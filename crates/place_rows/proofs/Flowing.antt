@@ -15,11 +15,11 @@ use Rattle.network_file.specs.Connectors.{connector_at, leads_into, leads_out_of
 use Rattle.network_file.specs.Network.{IsNetwork, Network}
 use Rattle.network_file.specs.declared.connector.Connector.{Connector}
 use Rattle.network_file.specs.declared.connector.Connector.TheVariants.{Link}
-use Rattle.flow_model.specs.Flows.{entered_by, entering, flow_of, inflow, leaving, left_by, outflow}
+use Rattle.flow_model.specs.Flows.{entering, flow_of, inflow, leaving, outflow}
 use Rattle.ordinary_link.specs.LinkFlow.{link_flow_of}
 use Rattle.flow_model.specs.Limits.{receiving_at, room_at, sending_at}
-use Rattle.flow_model.proofs.Carrying.{leads_into-gate}
-use Rattle.flow_model.proofs.CellKinds.{sound_connector}
+use Rattle.flow_model.proofs.Flows.{leads_into-gate}
+use Rattle.network_file.proofs.NetworkFacts.{connector_at-sound}
 use Rattle.flow_model.proofs.CellFlows.{inflow-by, outflow-by}
 use Rattle.flow_model.proofs.Connectors.{entering-other, leaving-other}
 use Rattle.flow_model.proofs.Locality.{leads_into-touches, leads_out_of-touches}
@@ -48,12 +48,12 @@ sum-places f xs d =
     sym (sum-map f xs) ∙ ap sum same ∙ sum-map at (range_with_len 0 n)
 
 outflow-sum : (net : Network) (t i : ℕ) (n : ℕ → ℕ) → outflow net t n i ≡ sum_by (out_by net t n i) (range_with_len 0 (length net.connectors))
-unfolding left_by
+unfolding outflow
 outflow-sum net t i n = sum-places (λ c. leaving i c (flow_of net t n c)) net.connectors (Link 0 0)
 
 inflow-sum : (net : Network) (t i : ℕ) (n : ℕ → ℕ) → is_gate_at net.cells i ≡ false →
     inflow net t n i ≡ sum_by (in_by net t n i) (range_with_len 0 (length net.connectors))
-unfolding entered_by
+unfolding inflow
 inflow-sum net t i n no_gate = rw no_gate (sum-places (λ c. entering i c (flow_of net t n c)) net.connectors (Link 0 0))
 
 one_of : (a b : ℕ) → list_any (eqb a) (b ∷ []) ≡ true → a ≡ b
@@ -293,7 +293,7 @@ odd-gate : (net : Network) (t i : ℕ) (n : ℕ → ℕ) (cells connectors : Lis
 odd-gate net t i n cells connectors sound around gate =
     let none : (k : ℕ) → k < length net.connectors → in_by net t n i k ≡ 0 = λ k below.
     entering-other i (connector_at net.connectors k) (flow_of net t n (connector_at net.connectors k))
-    (leads_into-gate net i (connector_at net.connectors k) (sound_connector net k sound below) gate) in
+    (leads_into-gate net i (connector_at net.connectors k) (connector_at-sound net k sound below) gate) in
     odd-all net cells connectors (in_by net t n i) around (λ k below. inl (none k below))
     ∙ sum_by-zero (in_by net t n i) (range_with_len 0 (length net.connectors))
     (λ m d inside. let is = none (get_or (range_with_len 0 (length net.connectors)) m d) (in_range (length net.connectors) m d inside) in omega arith)
@@ -312,7 +312,7 @@ in-gate net t n cells connectors places (suc q) sound around has within gate =
             let here = join net cells connectors q around joined in
             let connector : Connector = connector_at net.connectors here.number in
             let into : leads_into (slice_index cells (q + 1)) connector ≡ true = rw here.at.is (leads_into-link (slice_index cells q) (slice_index cells (q + 1))) in
-            let never = leads_into-gate net (slice_index cells (q + 1)) connector (sound_connector net here.number sound here.there) (rw next at gate) in
+            let never = leads_into-gate net (slice_index cells (q + 1)) connector (connector_at-sound net here.number sound here.there) (rw next at gate) in
             cc
         | inr apart ↦ most-none net t n cells connectors places q has (omega arith) apart
       ],

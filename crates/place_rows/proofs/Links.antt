@@ -10,7 +10,7 @@ use Rattle.network_file.specs.declared.connector.Connector.{Connector}
 use Rattle.network_file.specs.declared.connector.Connector.TheVariants.{Link, Merge, Diverge}
 use Rattle.signal_plan.specs.Capacity.{capacity_at}
 use Rattle.signal_plan.specs.Green.{green_at}
-use Rattle.flow_model.specs.Flows.{entering, flow_between, flow_of, leaving}
+use Rattle.flow_model.specs.Flows.{entering, flow_of, leaving}
 use Rattle.flow_model.specs.Limits.{receiving_at, room_at, sending_at}
 use Rattle.place_sweep.specs.Places.{carried}
 use Rattle.place_sweep.specs.Space.{HasSpace, IsSpaceOf}
@@ -18,7 +18,7 @@ use Rattle.place_sweep.specs.declared.place.Place.{Place}
 use Rattle.place_sweep.proofs.Flows.{link_flow-is}
 use Rattle.timelines.specs.Courses.{most_between}
 use Rattle.region_cut.proofs.Anys.{first_of_both, second_of_both, found}
-use Rattle.place_rows.specs.Chains.{HasNoNext, IsNext, is_chained, is_link}
+use Rattle.place_rows.specs.Chains.{HasNoNext, IsNextAt, is_chained, is_link}
 
 -- it is that link
 pub record IsLinkAt (cells : List ℕ) (p : ℕ) (connector : Connector) : Type 0 where
@@ -38,7 +38,7 @@ link-is cells p (Link up down) linked =
 link-is cells p (Merge up1 up2 down p1 p2) linked = cc
 link-is cells p (Diverge up down1 down2 b1 b2) linked = cc
 
-pub next-link : (cells : List ℕ) (up down p : ℕ) → IsNext cells up down p → is_link cells p (Link up down) ≡ true
+pub next-link : (cells : List ℕ) (up down p : ℕ) → IsNextAt cells up down p → is_link cells p (Link up down) ≡ true
 next-link cells up down p has =
     let a = eq-eqb (slice_index cells p) up has.first in
     let b = eq-eqb (slice_index cells (p + 1)) down has.next in
@@ -68,12 +68,12 @@ not_chained cells connector none = elim (cases_Bool (is_chained cells connector)
 -- what a link carries leaves its cell upstream and enters the one downstream
 pub leaving-link : (up down : ℕ) (net : Network) (t : ℕ) (n : ℕ → ℕ) →
     leaving up (Link up down) (flow_of net t n (Link up down)) ≡ link_flow_of (sending_at net t up (n up)) (receiving_at net t down (n down))
-unfolding flow_between
+unfolding flow_of
 leaving-link up down net t n = let own = eq-eqb up up refl in rw own (omega arith)
 
 pub entering-link : (up down : ℕ) (net : Network) (t : ℕ) (n : ℕ → ℕ) →
     entering down (Link up down) (flow_of net t n (Link up down)) ≡ link_flow_of (sending_at net t up (n up)) (receiving_at net t down (n down))
-unfolding flow_between
+unfolding flow_of
 entering-link up down net t n = let own = eq-eqb down down refl in rw own (omega arith)
 
 -- the same between two places with what their cells hold and the most of the link

@@ -11,7 +11,8 @@ use Rattle.network_file.specs.Network.{Network}
 use Rattle.network_file.specs.declared.connector.Connector.{Connector}
 use Rattle.network_file.specs.declared.connector.Connector.TheVariants.{Link, Merge, Diverge}
 use Rattle.flow_model.specs.Bounds.{AreHeldInBounds, IsHeldInBounds}
-use Rattle.flow_model.specs.Flows.{entering, flow_between, flow_of, leaving}
+use Rattle.flow_model.specs.Between.{flow_between}
+use Rattle.flow_model.specs.Flows.{entering, flow_of, leaving}
 use Rattle.flow_model.specs.declared.carried.Flow.{Flow}
 use Rattle.place_sweep.specs.Parts.{parts_at}
 use Rattle.place_sweep.specs.declared.part.Part.{Part}
@@ -75,10 +76,10 @@ pub held-seen : (n : ℕ → ℕ) (cells halo : List ℕ) (places : List Place) 
 held-seen n cells halo places put i (Own p) seen (there, is) = sym (seen.own p there) ∙ ap n is
 held-seen n cells halo places put i (Halo j) seen (there, is) = sym (seen.around j there) ∙ ap n is
 
-flow_between-three : (net : Network) (t : ℕ) (connector : Connector) (n : ℕ → ℕ) →
+pub flow_between-three : (net : Network) (t : ℕ) (connector : Connector) (n : ℕ → ℕ) →
     flow_between net t connector (n (slice_index (three_cells connector) 0) ∷ n (slice_index (three_cells connector) 1) ∷ n (slice_index (three_cells connector) 2) ∷ []) ≡
     flow_of net t n connector
-unfolding flow_between
+unfolding flow_between flow_of
 flow_between-three net t (Link up down) n = refl
 flow_between-three net t (Merge up1 up2 down p1 p2) n = refl
 flow_between-three net t (Diverge up down1 down2 b1 b2) n = refl
@@ -104,7 +105,7 @@ spot-there net t cells halo ties places put i (Own p) scene (there, is) =
 spot-there net t cells halo ties places put i (Halo p) scene (there, is) =
     (omega (arith, scene.put_each, there), rw is at (scene.around p there))
 
-three_in_bounds : (net : Network) (t : ℕ) (connector : Connector) (a b c : ℕ) → IsHeldInBounds net t (slice_index (three_cells connector) 0) a →
+pub three_in_bounds : (net : Network) (t : ℕ) (connector : Connector) (a b c : ℕ) → IsHeldInBounds net t (slice_index (three_cells connector) 0) a →
     IsHeldInBounds net t (slice_index (three_cells connector) 1) b → IsHeldInBounds net t (slice_index (three_cells connector) 2) c →
     AreHeldInBounds net t (cells_of connector) (a ∷ b ∷ c ∷ [])
 three_in_bounds net t (Link up down) a b c first second third = record { each = at }

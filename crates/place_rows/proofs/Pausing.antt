@@ -8,7 +8,7 @@ use Rattle.std.proofs.lemmas.List.FromFn.{get_or-map-range_with_len, length-map-
 use Rattle.signal_plan.proofs.Sums.{sum_by-zero}
 use Rattle.network_file.specs.Connectors.{connector_at}
 use Rattle.network_file.specs.Network.{IsNetwork, Network}
-use Rattle.flow_model.specs.Flows.{amount_for, entering, flow_of, inflow, leaving, outflow}
+use Rattle.flow_model.specs.Flows.{amount_beside, entering, flow_of, inflow, leaving, outflow}
 use Rattle.flow_model.specs.Limits.{room_at}
 use Rattle.flow_model.specs.State.{rows_after}
 use Rattle.flow_model.specs.Rows.{empty_row, next_row}
@@ -25,10 +25,10 @@ use Rattle.timelines.specs.Followed.{AreFollowed}
 use Rattle.timelines.specs.declared.followed.FollowedLink.{FollowedLink}
 use Rattle.place_rows.specs.Carrying.{IsSpotOf, IsThere, IsTie, held_at, spot_at, three_held}
 use Rattle.place_rows.specs.Chains.{most_out}
-use Rattle.place_rows.specs.Gates.{AreKept, demand_into}
+use Rattle.place_rows.specs.Gates.{AreGatesKept, demand_into}
 use Rattle.place_rows.specs.Moves.{ArePartsOf, IsScene, IsSeen, in_by, out_by}
 use Rattle.place_rows.specs.Pausing.{AreIdle, IsIdleUntil}
-use Rattle.place_rows.specs.Placed.{AreInBounds, ArePlaced, CanAdvance, PlacedCells, WaitThrough}
+use Rattle.place_rows.specs.Placed.{ArePlacesInBounds, ArePlaced, CanAdvance, PlacedCells, WaitThrough}
 use Rattle.place_rows.specs.Rows.{IsOf, origin_at, row_of, rows_of}
 use Rattle.place_rows.specs.Waiting.{waited}
 use Rattle.place_rows.specs.declared.gate_place.GatePlace.{GatePlace}
@@ -43,16 +43,16 @@ use Rattle.place_rows.proofs.Whole.{IsMoved, held-sum, length-rows_after, length
 
 -- where nothing is carried nothing leaves a cell and nothing enters it
 
-amount_for-nothing : (i : ℕ) (cells : List ℕ) → amount_for i cells (0 ∷ 0 ∷ []) ≡ 0
-amount_for-nothing i [] = refl
-amount_for-nothing i (a ∷ []) = none (i == a)
+amount_beside-nothing : (i : ℕ) (cells : List ℕ) → amount_beside i cells (0 ∷ 0 ∷ []) ≡ 0
+amount_beside-nothing i [] = refl
+amount_beside-nothing i (a ∷ []) = none (i == a)
   where
     none : (b : Bool) → (if b then 0 else 0) + 0 ≡ 0
     none true = refl
     none false = refl
-amount_for-nothing i (a ∷ b ∷ cells) = both (i == a) (i == b) cells
+amount_beside-nothing i (a ∷ b ∷ cells) = both (i == a) (i == b) cells
   where
-    both : (a b : Bool) (cells : List ℕ) → (if a then 0 else 0) + ((if b then 0 else 0) + amount_for i cells []) ≡ 0
+    both : (a b : Bool) (cells : List ℕ) → (if a then 0 else 0) + ((if b then 0 else 0) + amount_beside i cells []) ≡ 0
     both true true [] = refl
     both true false [] = refl
     both false true [] = refl
@@ -126,11 +126,11 @@ still-flow net t n cells halo ties places put until k tie scene seen come idle b
 
 none-out : (net : Network) (t i : ℕ) (n : ℕ → ℕ) (k : ℕ) → flow_of net t n (connector_at net.connectors k) ≡ no_flow → out_by net t n i k ≤ 0
 none-out net t i n k none =
-    let is = ap (leaving i (connector_at net.connectors k)) none ∙ amount_for-nothing i _ in omega (arith, is)
+    let is = ap (leaving i (connector_at net.connectors k)) none ∙ amount_beside-nothing i _ in omega (arith, is)
 
 none-in : (net : Network) (t i : ℕ) (n : ℕ → ℕ) (k : ℕ) → flow_of net t n (connector_at net.connectors k) ≡ no_flow → in_by net t n i k ≤ 0
 none-in net t i n k none =
-    let is = ap (entering i (connector_at net.connectors k)) none ∙ amount_for-nothing i _ in omega (arith, is)
+    let is = ap (entering i (connector_at net.connectors k)) none ∙ amount_beside-nothing i _ in omega (arith, is)
 
 parts_at-nothing : (p : ℕ) → parts_at [] p ≡ 0
 parts_at-nothing p = parts_at-none p []
@@ -148,7 +148,7 @@ none-demanded t p gates none = sum_by-zero (demand_into t p) gates (λ k d withi
 -- nothing leaves a cell that waits through step t, and nothing enters it
 
 pub still : (net : Network) (t : ℕ) (n : ℕ → ℕ) (cells halo connectors : List ℕ) (placed : PlacedCells) (put : List (Option ℕ)) → IsNetwork net → t < net.steps →
-    ArePlaced net cells halo connectors t placed → AreInBounds net cells halo t placed put → IsSeen n cells halo placed.places put → WaitThrough t placed put →
+    ArePlaced net cells halo connectors t placed → ArePlacesInBounds net cells halo t placed put → IsSeen n cells halo placed.places put → WaitThrough t placed put →
     (p : ℕ) → p < length cells → (outflow net t n (slice_index cells p) ≡ 0) × (inflow net t n (slice_index cells p) ≡ 0)
 still net t n cells halo connectors placed put sound before has bounds seen wait =
     let idle : AreIdle placed.places placed.links placed.ties put placed.pause.until =
@@ -197,7 +197,7 @@ waits-step place enters leaves none none_out =
     rw (n, gone) refl
 
 cell-waits : (net : Network) (t : ℕ) (n : ℕ → ℕ) (cells halo connectors : List ℕ) (placed : PlacedCells) (put : List (Option ℕ)) → IsNetwork net → t < net.steps →
-    ArePlaced net cells halo connectors t placed → AreInBounds net cells halo t placed put → IsSeen n cells halo placed.places put → WaitThrough t placed put →
+    ArePlaced net cells halo connectors t placed → ArePlacesInBounds net cells halo t placed put → IsSeen n cells halo placed.places put → WaitThrough t placed put →
     (p : ℕ) → p < length cells →
     (row_of (origin_at placed.origins p) (waited 1 (place_at placed.places p)) ≡ next_row net t n (slice_index cells p) (row_of (origin_at placed.origins p) (place_at placed.places p))) ×
     IsOf net (slice_index cells p) (origin_at placed.origins p) (waited 1 (place_at placed.places p))
@@ -281,7 +281,7 @@ followed-waited most places links t has = record {
 }
 
 pub placed-waited : (net : Network) (cells : List ℕ) (t : ℕ) (placed : PlacedCells) (put : List (Option ℕ)) (gates : List GatePlace) (before : List ℕ) → IsNetwork net →
-    t < net.steps → WaitThrough t placed put → AreKept t placed.gates gates → length before ≡ length placed.before →
+    t < net.steps → WaitThrough t placed put → AreGatesKept t placed.gates gates → length before ≡ length placed.before →
     ((p : ℕ) → p < length placed.places → slice_index before p ≡ (place_at placed.places p).n) →
     (can : CanAdvance net cells t placed put) → ArePlaced net cells can.halo can.connectors (t + 1) (waiting placed gates before)
 placed-waited net cells t placed put gates before sound in_time wait kept long noted can =
@@ -336,7 +336,7 @@ abbrev pub awake : PlacedCells → List GatePlace → PlacedCells
 awake placed gates = record placed { gates = gates; pause = record placed.pause { owed = 0; until = 0 } }
 
 pub placed-awake : (net : Network) (cells halo connectors : List ℕ) (t : ℕ) (placed : PlacedCells) (gates : List GatePlace) →
-    ArePlaced net cells halo connectors t placed → AreKept t placed.gates gates → ArePlaced net cells halo connectors t (awake placed gates)
+    ArePlaced net cells halo connectors t placed → AreGatesKept t placed.gates gates → ArePlaced net cells halo connectors t (awake placed gates)
 placed-awake net cells halo connectors t placed gates has kept = record {
   around = has.around;
   known = has.known;
@@ -359,7 +359,7 @@ placed-awake net cells halo connectors t placed gates has kept = record {
 }
 
 pub advance-awake : (net : Network) (cells : List ℕ) (t : ℕ) (placed : PlacedCells) (gates : List GatePlace) (put : List (Option ℕ)) →
-    AreKept t placed.gates gates → CanAdvance net cells t placed put → CanAdvance net cells t (awake placed gates) put
+    AreGatesKept t placed.gates gates → CanAdvance net cells t placed put → CanAdvance net cells t (awake placed gates) put
 advance-awake net cells t placed gates put kept can = record {
   halo = can.halo;
   connectors = can.connectors;
@@ -371,14 +371,14 @@ advance-awake net cells t placed gates put kept can = record {
 
 -- what a step says of them it says of the cells as they were
 pub rows-awake : (net : Network) (cells : List ℕ) (t : ℕ) (old mid new : PlacedCells) (gates : List GatePlace) (put : List (Option ℕ)) → mid ≡ awake old gates →
-    AreKept t old.gates gates → ((can : CanAdvance net cells t mid put) → rows_of new.origins new.places ≡ rows_after net t can.n cells (rows_of mid.origins mid.places)) →
+    AreGatesKept t old.gates gates → ((can : CanAdvance net cells t mid put) → rows_of new.origins new.places ≡ rows_after net t can.n cells (rows_of mid.origins mid.places)) →
     (can : CanAdvance net cells t old put) → rows_of new.origins new.places ≡ rows_after net t can.n cells (rows_of old.origins old.places)
 unfolding advance-awake
 rows-awake net cells t old mid new gates put is kept =
     rw is (λ rows can. rows (advance-awake net cells t old gates put kept can))
 
 pub places-awake : (net : Network) (cells : List ℕ) (t : ℕ) (old mid new : PlacedCells) (gates : List GatePlace) (put : List (Option ℕ)) → mid ≡ awake old gates →
-    AreKept t old.gates gates → ((can : CanAdvance net cells t mid put) → ArePlaced net cells can.halo can.connectors (t + 1) new) →
+    AreGatesKept t old.gates gates → ((can : CanAdvance net cells t mid put) → ArePlaced net cells can.halo can.connectors (t + 1) new) →
     (can : CanAdvance net cells t old put) → ArePlaced net cells can.halo can.connectors (t + 1) new
 unfolding advance-awake
 places-awake net cells t old mid new gates put is kept =

@@ -9,7 +9,7 @@ use Rattle.signal_plan.proofs.Sums.{sum_by-same}
 use Rattle.signal_plan.specs.Demand.{demand_at}
 use Rattle.network_file.specs.Network.{Network}
 use Rattle.place_rows.specs.Carrying.{AreCarried, IsCarried, IsTie}
-use Rattle.place_rows.specs.Gates.{AreAsked, AreKept, IsGateOf, IsKept, demand_into}
+use Rattle.place_rows.specs.Gates.{AreAsked, AreGatesKept, IsGateOf, IsGateKept, demand_into}
 use Rattle.place_rows.specs.Moves.{AreTied, demand_for}
 use Rattle.place_rows.specs.declared.gate_place.GatePlace.{GatePlace}
 use Rattle.place_rows.specs.declared.tie.Tie.{Tie}
@@ -105,11 +105,11 @@ demands-into net t cells p gates all =
 
 -- gates that are kept
 
-pub kept-none : (t : ℕ) (gates : List GatePlace) → All (λ gate. gate.course.step ≤ t) gates → AreKept t gates gates
+pub kept-none : (t : ℕ) (gates : List GatePlace) → All (λ gate. gate.course.step ≤ t) gates → AreGatesKept t gates gates
 kept-none t gates come = record { long = refl; each = λ k d within. record { place = refl; demand = λ s. refl; step = come k d within } }
 
-pub kept-set : (t : ℕ) (old new : List GatePlace) (m : ℕ) (gate : GatePlace) → AreKept t old new → m < length old →
-    ((d : GatePlace) → IsKept t (get_or old m d) gate) → AreKept t old (set new m gate)
+pub kept-set : (t : ℕ) (old new : List GatePlace) (m : ℕ) (gate : GatePlace) → AreGatesKept t old new → m < length old →
+    ((d : GatePlace) → IsGateKept t (get_or old m d) gate) → AreGatesKept t old (set new m gate)
 kept-set t old new m gate kept within is = record {
   long = length-set new m gate ∙ kept.long;
   each = λ k d inside. elim (cases_eq k m) [
@@ -118,10 +118,10 @@ kept-set t old new m gate kept within is = record {
   ];
 }
 
-pub gates-kept : (t : ℕ) (old new : List GatePlace) → AreKept t old new → map (λ gate. gate.place) new ≡ map (λ gate. gate.place) old
+pub gates-kept : (t : ℕ) (old new : List GatePlace) → AreGatesKept t old new → map (λ gate. gate.place) new ≡ map (λ gate. gate.place) old
 gates-kept t old new all = map-same (λ gate. gate.place) old new all.long (λ k d within. (all.each k d within).place)
 
-pub demands-kept : (net : Network) (cells : List ℕ) (t : ℕ) (old new : List GatePlace) → AreKept t old new → All (IsGateOf net cells t) old →
+pub demands-kept : (net : Network) (cells : List ℕ) (t : ℕ) (old new : List GatePlace) → AreGatesKept t old new → All (IsGateOf net cells t) old →
     All (IsGateOf net cells t) new
 demands-kept net cells t old new all gates = λ k d within.
     let inside : k < length old = omega (arith, all.long) in

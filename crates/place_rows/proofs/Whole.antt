@@ -17,13 +17,13 @@ use Rattle.network_file.specs.Network.{IsNetwork, Network}
 use Rattle.flow_model.specs.Bounds.{IsHeldInBounds, IsRowInBounds}
 use Rattle.flow_model.specs.Flows.{inflow, outflow}
 use Rattle.flow_model.specs.Limits.{room_at, room_by}
-use Rattle.flow_model.specs.Rows.{empty_row, moved_row, next_row, row_by}
+use Rattle.flow_model.specs.Rows.{empty_row, moved_row, next_row}
 use Rattle.flow_model.specs.State.{row_at, rows_after}
 use Rattle.flow_model.specs.declared.row.Row.{Row}
 use Rattle.flow_model.proofs.Bounds.{IsChange, IsSmall, changes, moved_row-in_bounds, small}
 use Rattle.flow_model.proofs.CellKinds.{cell_at}
 use Rattle.flow_model.proofs.CellLimits.{capacity_at-le}
-use Rattle.flow_model.proofs.Flows.{entered_by-gate}
+use Rattle.flow_model.proofs.Flows.{inflow-gate}
 use Rattle.place_sweep.specs.Parts.{parts_at}
 use Rattle.place_sweep.specs.Places.{link_in, link_out, place_at}
 use Rattle.place_sweep.specs.Space.{HasSpace, IsSpaceOf}
@@ -33,7 +33,7 @@ use Rattle.place_sweep.specs.declared.place.Place.{Place}
 use Rattle.place_sweep.specs.declared.space.TheConstants.{BOUNDLESS}
 use Rattle.place_sweep.proofs.Flows.{held-fits}
 use Rattle.place_rows.specs.Chains.{AreAround, most_out, odd_ones}
-use Rattle.place_rows.specs.Placed.{AreInBounds, ArePlaced, CanAdvance, PlacedCells}
+use Rattle.place_rows.specs.Placed.{ArePlacesInBounds, ArePlaced, CanAdvance, PlacedCells}
 use Rattle.timelines.specs.Followed.{AreFollowed, IsThere}
 use Rattle.timelines.specs.declared.followed.FollowedLink.{FollowedLink}
 use Rattle.region_cut.proofs.Ranges.{Contains-filter_range}
@@ -115,7 +115,7 @@ moved net t n cells connectors ties places outs carried ins sound around has num
             let none = in-gate net t n cells connectors places p sound around has within gate in
             let brings : (if is_gate_at net.cells i then demand_at net.plan i t else 0) ≡ demand_at net.plan i t =
             ap (λ b. if b then demand_at net.plan i t else 0) gate in
-            let whole = entered_by-gate net.connectors net t i n gate in
+            let whole = inflow-gate net t i n gate in
             let first = none.0 in
             let second = none.1 in
             omega arith
@@ -151,7 +151,7 @@ pub record IsReady (net : Network) (t : ℕ) (n : ℕ → ℕ) (i : ℕ) (origin
   pub after : IsSmall (moved_row net i (row_of origin place) (inflow net t n i) (outflow net t n i))
 
 pub ready : (net : Network) (t : ℕ) (n : ℕ → ℕ) (cells halo connectors : List ℕ) (placed : PlacedCells) (put : List (Option ℕ)) (p : ℕ) →
-    IsNetwork net → t < net.steps → ArePlaced net cells halo connectors t placed → AreInBounds net cells halo t placed put →
+    IsNetwork net → t < net.steps → ArePlaced net cells halo connectors t placed → ArePlacesInBounds net cells halo t placed put →
     IsSeen n cells halo placed.places put → p < length cells →
     IsReady net t n (slice_index cells p) (origin_at placed.origins p) (place_at placed.places p)
 ready net t n cells halo connectors placed put p sound before has bounds seen within =
@@ -164,7 +164,7 @@ ready net t n cells halo connectors placed put p sound before has bounds seen wi
     subst (IsRowInBounds net t i) (row_at-rows_of placed.origins placed.places p (omega (arith, has.origin_each))) (bounds.own p within) in
     let change : IsChange net t i place.n (inflow net t n i) (outflow net t n i) =
     subst (λ x. IsChange net t i x (inflow net t n i) (outflow net t n i)) held
-    (changes net t i n (inflow net t n i) (outflow net t n i) sound there (λ gate. entered_by-gate net.connectors net t i n gate) (omega arith) (omega arith)) in
+    (changes net t i n (inflow net t n i) (outflow net t n i) sound there (λ gate. inflow-gate net t i n gate) (omega arith) (omega arith)) in
     let next : IsRowInBounds net (t + 1) i (moved_row net i (row_of origin place) (inflow net t n i) (outflow net t n i)) =
     moved_row-in_bounds net t i (row_of origin place) (inflow net t n i) (outflow net t n i) sound before there row change in
     record {
@@ -192,7 +192,7 @@ held-sum net t n i origin place is other =
 
 -- the places of cells in bounds, once each has the most of its link
 pub has-places : (net : Network) (t : ℕ) (n : ℕ → ℕ) (cells halo connectors : List ℕ) (placed : PlacedCells) (places : List Place) (put : List (Option ℕ)) →
-    IsNetwork net → t < net.steps → ArePlaced net cells halo connectors t placed → AreInBounds net cells halo t placed put →
+    IsNetwork net → t < net.steps → ArePlaced net cells halo connectors t placed → ArePlacesInBounds net cells halo t placed put →
     IsSeen n cells halo placed.places put → length places ≡ length placed.places →
     ((p : ℕ) → p < length placed.places → place_at places p ≡ record (place_at placed.places p) { most = most_out net cells connectors p t }) →
     HasPlaces net t n cells connectors places
@@ -215,7 +215,7 @@ has-places net t n cells halo connectors placed places put sound before has boun
 
 -- they can be taken through the step
 pub can_step : (net : Network) (t : ℕ) (n : ℕ → ℕ) (cells halo connectors : List ℕ) (placed : PlacedCells) (places : List Place) (put : List (Option ℕ)) (outs ins : List Part) →
-    IsNetwork net → t < net.steps → ArePlaced net cells halo connectors t placed → AreInBounds net cells halo t placed put →
+    IsNetwork net → t < net.steps → ArePlaced net cells halo connectors t placed → ArePlacesInBounds net cells halo t placed put →
     IsSeen n cells halo placed.places put → length places ≡ length placed.places →
     ((p : ℕ) → p < length placed.places → place_at places p ≡ record (place_at placed.places p) { most = most_out net cells connectors p t }) →
     IsMoved net t n cells places outs ins → All (λ part. part.place < length cells) outs → All (λ part. part.place < length cells) ins →
@@ -268,7 +268,7 @@ pub row-after : (net : Network) (t : ℕ) (n : ℕ → ℕ) (i : ℕ) (origin : 
     IsReady net t n i origin place → fresh ≡ record place { most = most } → after ≡ stepped fresh enters leaves →
     enters ≡ inflow net t n i → leaves ≡ outflow net t n i →
     (row_of origin after ≡ next_row net t n i (row_of origin place)) × IsOf net i origin after
-unfolding row_by
+unfolding next_row
 row-after net t n i origin place fresh after most enters leaves is fresh_is after_is came went =
     let fits = held-sum net t n i origin place is in
     let row = row-stepped net t i origin place (inflow net t n i) (outflow net t n i) is.is_of is.change fits in
@@ -336,7 +336,7 @@ seen-fresh net t n cells halo connectors placed fresh put has seen most = record
 
 -- the scene of the other connectors
 pub scene-fresh : (net : Network) (t : ℕ) (n : ℕ → ℕ) (cells halo connectors : List ℕ) (placed : PlacedCells) (fresh : List Place) (put : List (Option ℕ)) →
-    IsNetwork net → t < net.steps → ArePlaced net cells halo connectors t placed → AreInBounds net cells halo t placed put →
+    IsNetwork net → t < net.steps → ArePlaced net cells halo connectors t placed → ArePlacesInBounds net cells halo t placed put →
     IsSeen n cells halo placed.places put → length fresh ≡ length placed.places →
     ((p : ℕ) → p < length placed.places → place_at fresh p ≡ record (place_at placed.places p) { most = most_out net cells connectors p t }) →
     IsScene net t cells halo placed.ties fresh put
@@ -364,7 +364,7 @@ gates-there net cells halo connectors t placed has = λ k d within.
 
 pub steps-moved : (net : Network) (cells halo connectors : List ℕ) (t : ℕ) (n : ℕ → ℕ) (placed : PlacedCells) (fresh : List Place)
     (outs carried ins : List Part) (put : List (Option ℕ)) →
-    IsNetwork net → t < net.steps → ArePlaced net cells halo connectors t placed → AreInBounds net cells halo t placed put →
+    IsNetwork net → t < net.steps → ArePlaced net cells halo connectors t placed → ArePlacesInBounds net cells halo t placed put →
     IsSeen n cells halo placed.places put → length fresh ≡ length placed.places →
     ((p : ℕ) → p < length placed.places → place_at fresh p ≡ record (place_at placed.places p) { most = most_out net cells connectors p t }) →
     ArePartsOf net t n cells placed.ties outs carried →
@@ -380,7 +380,7 @@ steps-moved net cells halo connectors t n placed fresh outs carried ins put soun
 -- each cell after the step
 pub cell-after : (net : Network) (cells halo connectors : List ℕ) (t : ℕ) (n : ℕ → ℕ) (placed : PlacedCells) (fresh : List Place) (links : List FollowedLink)
     (outs carried ins : List Part) (after : List Place) (put : List (Option ℕ)) (p : ℕ) →
-    IsNetwork net → t < net.steps → ArePlaced net cells halo connectors t placed → AreInBounds net cells halo t placed put →
+    IsNetwork net → t < net.steps → ArePlaced net cells halo connectors t placed → ArePlacesInBounds net cells halo t placed put →
     IsSeen n cells halo placed.places put → AreSteps net cells halo connectors t n placed fresh links outs carried ins after → p < length cells →
     (row_of (origin_at placed.origins p) (place_at after p) ≡
     next_row net t n (slice_index cells p) (row_of (origin_at placed.origins p) (place_at placed.places p))) ×
@@ -397,7 +397,7 @@ cell-after net cells halo connectors t n placed fresh links outs carried ins aft
 -- the rows after the step
 pub rows-after : (net : Network) (cells halo connectors : List ℕ) (t : ℕ) (n : ℕ → ℕ) (placed : PlacedCells) (fresh : List Place) (links : List FollowedLink)
     (outs carried ins : List Part) (after : List Place) (put : List (Option ℕ)) →
-    IsNetwork net → t < net.steps → ArePlaced net cells halo connectors t placed → AreInBounds net cells halo t placed put →
+    IsNetwork net → t < net.steps → ArePlaced net cells halo connectors t placed → ArePlacesInBounds net cells halo t placed put →
     IsSeen n cells halo placed.places put → AreSteps net cells halo connectors t n placed fresh links outs carried ins after →
     rows_of placed.origins after ≡ rows_after net t n cells (rows_of placed.origins placed.places)
 rows-after net cells halo connectors t n placed fresh links outs carried ins after put sound before has bounds seen steps =
@@ -435,7 +435,7 @@ follows-later most fresh after links t long same followed = record {
 
 pub placed-after : (net : Network) (cells halo connectors : List ℕ) (t : ℕ) (n : ℕ → ℕ) (placed : PlacedCells) (fresh : List Place) (links : List FollowedLink)
     (outs carried ins : List Part) (after : List Place) (before_list : List ℕ) (ties : List Tie) (gates : List GatePlace) (pause : Pause) (seen_list : List (Option ℕ)) (room room_in : ℕ) (put : List (Option ℕ)) →
-    IsNetwork net → t < net.steps → ArePlaced net cells halo connectors t placed → AreInBounds net cells halo t placed put →
+    IsNetwork net → t < net.steps → ArePlaced net cells halo connectors t placed → ArePlacesInBounds net cells halo t placed put →
     IsSeen n cells halo placed.places put → AreSteps net cells halo connectors t n placed fresh links outs carried ins after →
     length before_list ≡ length placed.before → AreCarried t placed.ties ties → AreAsked t placed.gates gates → IsPauseOf after before_list links ties seen_list (t + 1) pause → length seen_list ≡ length halo → placed.room ≤ room → placed.room_in ≤ room_in →
     ArePlaced net cells halo connectors (t + 1) (record {
@@ -487,10 +487,10 @@ placed-after net cells halo connectors t n placed fresh links outs carried ins a
 -- no sum of a place is too large after the step
 pub settled-after : (net : Network) (cells halo connectors : List ℕ) (t : ℕ) (n : ℕ → ℕ) (placed : PlacedCells) (fresh : List Place) (links : List FollowedLink)
     (outs carried ins : List Part) (after : List Place) (before_list : List ℕ) (put : List (Option ℕ)) →
-    IsNetwork net → t < net.steps → ArePlaced net cells halo connectors t placed → AreInBounds net cells halo t placed put →
+    IsNetwork net → t < net.steps → ArePlaced net cells halo connectors t placed → ArePlacesInBounds net cells halo t placed put →
     IsSeen n cells halo placed.places put → AreSteps net cells halo connectors t n placed fresh links outs carried ins after →
     length before_list ≡ length placed.before → AreSettled placed.origins after before_list
-unfolding row_by
+unfolding next_row
 settled-after net cells halo connectors t n placed fresh links outs carried ins after before_list put sound before has bounds seen steps long = record {
   one_each = steps.long_after ∙ steps.renewed.long ∙ has.one_each ∙ sym has.origin_each;
   before_each = long ∙ has.before_each ∙ sym has.origin_each;

@@ -15,14 +15,14 @@ is_link cells p (Merge up1 up2 down p1 p2) = false
 is_link cells p (Diverge up down1 down2 b1 b2) = false
 
 -- the first of two cells stands at p, and the other behind it
-pub record IsNext (cells : List ℕ) (up down p : ℕ) : Type 0 where
+pub record IsNextAt (cells : List ℕ) (up down p : ℕ) : Type 0 where
   pub within : p + 1 < length cells
   pub first : slice_index cells p ≡ up
   pub next : slice_index cells (p + 1) ≡ down
 
 -- or nowhere
 abbrev pub HasNoNext : (cells : List ℕ) → (up down : ℕ) → Type 0
-HasNoNext cells up down = (p : ℕ) → IsNext cells up down p → ⊥
+HasNoNext cells up down = (p : ℕ) → IsNextAt cells up down p → ⊥
 
 -- it is a link from one of these cells to the next
 abbrev pub is_chained : (cells : List ℕ) → Connector → Bool

@@ -29,12 +29,12 @@ pub record IsGateOf (net : Network) (cells : List ℕ) (t : ℕ) (gate : GatePla
   pub step : gate.course.step ≤ t
 
 -- a gate whose place and demand are as they were, asked for no step past t
-pub record IsKept (t : ℕ) (old new : GatePlace) : Type 0 where
+pub record IsGateKept (t : ℕ) (old new : GatePlace) : Type 0 where
   pub place : new.place ≡ old.place
   pub demand : (s : ℕ) → value_at new.course s ≡ value_at old.course s
   pub step : new.course.step ≤ t
 
 -- so are all
-pub record AreKept (t : ℕ) (old new : List GatePlace) : Type 0 where
+pub record AreGatesKept (t : ℕ) (old new : List GatePlace) : Type 0 where
   pub long : length new ≡ length old
-  pub each : (k : ℕ) (d : GatePlace) → k < length old → IsKept t (slice_index_or old k d) (slice_index_or new k d)
+  pub each : (k : ℕ) (d : GatePlace) → k < length old → IsGateKept t (slice_index_or old k d) (slice_index_or new k d)

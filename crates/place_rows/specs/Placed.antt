@@ -64,7 +64,7 @@ pub record ArePlaced (net : Network) (cells halo connectors : List ℕ) (t : ℕ
   pub room_in : 2 * length placed.ties + length placed.gates ≤ placed.room_in
 
 -- the rows are in bounds, and so is what was put for each cell of the halo
-pub record AreInBounds (net : Network) (cells halo : List ℕ) (t : ℕ) (placed : PlacedCells) (put : List (Option ℕ)) : Type 0 where
+pub record ArePlacesInBounds (net : Network) (cells halo : List ℕ) (t : ℕ) (placed : PlacedCells) (put : List (Option ℕ)) : Type 0 where
   pub own : (p : ℕ) → p < length cells → IsRowInBounds net t (slice_index cells p) (row_at (rows_of placed.origins placed.places) p)
   pub put_each : length put ≡ length halo
   pub around : (j : ℕ) → j < length halo → IsHeldInBounds net t (slice_index halo j) (unwrap_or (slice_index_or put j None) 0)
@@ -75,7 +75,7 @@ pub record CanAdvance (net : Network) (cells : List ℕ) (t : ℕ) (placed : Pla
   pub connectors : List ℕ
   pub n : ℕ → ℕ
   pub laid : ArePlaced net cells halo connectors t placed
-  pub bounds : AreInBounds net cells halo t placed put
+  pub bounds : ArePlacesInBounds net cells halo t placed put
   pub seen : IsSeen n cells halo placed.places put
 
 -- nothing moves among the cells in step t: their pause isn't over, their halo holds what was seen, and no gate demands anything

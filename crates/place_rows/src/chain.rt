@@ -1,6 +1,6 @@
 ghost use Rattle.std.specs.Prelude.{◌≡◌, ◌<◌, ◌^◌, ◌≤◌, ◌+◌, false, true, MatchOption, length};
 ghost use Rattle.std.specs.List.Sorted.{IsStrictlyIncreasing};
-ghost use Rattle.place_rows.specs.Chains.{HasNoNext, IsNext, is_chained, is_link};
+ghost use Rattle.place_rows.specs.Chains.{HasNoNext, IsNextAt, is_chained, is_link};
 
 use network_file::Connector;
 
@@ -21,7 +21,7 @@ pub fn chained(cells: &[u32], connector: Connector) -> Option<u32>
 fn next_place(cells: &[u32], up: u32, down: u32) -> Option<u32>
     requires increasing { IsStrictlyIncreasing cells.now }
     requires few { length cells.now < 2 ^ 32 }
-    ensures { MatchOption result (HasNoNext cells.now up down) (IsNext cells.now up down) }
+    ensures { MatchOption result (HasNoNext cells.now up down) (IsNextAt cells.now up down) }
 {
     let Ok(p) = cells.binary_search(&up) else {
         return None;

@@ -1,7 +1,7 @@
 ghost use Rattle.std.specs.Prelude.{◌≡◌, ◌+◌, ◌<◌, ◌≤◌, [], ◌∷◌, ◌++◌, ℕ, All, IsTrue, length, sum_by, vec_capacity};
 ghost use Rattle.place_sweep.specs.Parts.{parts_at};
 ghost use Rattle.timelines.specs.Courses.{value_at};
-ghost use Rattle.place_rows.specs.Gates.{AreAsked, AreKept, asked, demand_into, demand_part};
+ghost use Rattle.place_rows.specs.Gates.{AreAsked, AreGatesKept, asked, demand_into, demand_part};
 
 use crate::carry::put_part;
 use crate::gate_place::GatePlace;
@@ -42,7 +42,7 @@ fn put_demand(t: u64, gate: &mut GatePlace, ins: &mut Vec<Part>)
 pub(crate) fn nothing_demanded(t: u64, gates: &mut [GatePlace]) -> bool
     requires in_time { t ≤ MOST_STEPS }
     requires step { All (λ gate. gate.course.step ≤ t) gates.old }
-    ensures gates { AreKept t gates.old gates.new }
+    ensures gates { AreGatesKept t gates.old gates.new }
     ensures nothing { IsTrue result → All (λ gate. value_at gate.course t ≡ 0) gates.old }
 {
     for m in 0..gates.len() {

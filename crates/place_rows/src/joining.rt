@@ -10,7 +10,7 @@ use std::alloc::Global;
 use timelines::{FollowedLink, LinkCourse};
 
 /// Joins the `p`-th place to the next by the link between their cells, from step `t` on. Where the most of the link
-/// changes it is followed. After want of memory the place may be joined already.
+/// changes it is followed. Where memory is refused the place may be joined already.
 pub(crate) fn join_next(
     alloc: Global,
     net: &Net,

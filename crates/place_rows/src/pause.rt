@@ -23,14 +23,14 @@ pub(crate) struct Pause {
 }
 
 impl Pause {
-    /// That of cells among which something may move.
+    /// The pause of cells among which something may move.
     pub(crate) const NONE: Pause = Pause {
         owed: 0,
         until: 0,
         mover: 0,
     };
 
-    /// That of cells with these places and connectors as they are now, looked for from a place on.
+    /// The pause of cells with these places and connectors as they are now, looked for from a place on.
     pub(crate) fn of(
         mover: usize,
         places: &[Place],

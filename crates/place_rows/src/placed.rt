@@ -3,7 +3,7 @@ ghost use Rattle.flow_model.specs.Bounds.{IsRowInBounds};
 ghost use Rattle.flow_model.specs.State.{occupancy, row_at, rows_after};
 ghost use Rattle.place_sweep.specs.Places.{place_at};
 ghost use Rattle.place_rows.specs.Carrying.{IsThere, spot_at};
-ghost use Rattle.place_rows.specs.Gates.{AreKept};
+ghost use Rattle.place_rows.specs.Gates.{AreGatesKept};
 ghost use Rattle.place_rows.specs.Pausing.{AreIdle};
 ghost use Rattle.place_rows.specs.Placed.{AreCells, ArePlaced, CanAdvance, WaitThrough};
 ghost use Rattle.place_rows.specs.Rows.{origin_at, rows_of};
@@ -189,7 +189,7 @@ impl PlacedRows {
         requires step { All (λ gate. gate.course.step ≤ t) self.old.gates }
         requires seen { length self.old.seen ≡ length put.now }
         ensures only_gates { self.new ≡ record self.old { gates = self.new.gates } }
-        ensures gates { AreKept t self.old.gates self.new.gates }
+        ensures gates { AreGatesKept t self.old.gates self.new.gates }
         ensures waits { IsTrue result → WaitThrough t self.old put.now }
     {
         t < self.pause.until

@@ -1,6 +1,6 @@
 ghost use Rattle.std.specs.Prelude.{◌≡◌, ◌≤◌, ◌<◌, ◌+◌, ◌*◌, ◌/◌, ◌^◌};
 ghost use Rattle.std.specs.Option.{ForSome};
-ghost use Rattle.ordinary_link.specs.Space.{IsRoomFor};
+ghost use Rattle.ordinary_link.specs.Space.{IsRoomHolding};
 ghost use Rattle.place_sweep.specs.Space.{IsSpaceOf, let_in};
 
 use ordinary_link::{MOST_PARTS, Room};
@@ -20,7 +20,7 @@ pub struct Space {
 impl Space {
     /// The space of a place with this room, or of one without a room.
     pub fn of(room: Option<Room>) -> Space
-        requires ratio { ForSome room (IsRoomFor 0) }
+        requires ratio { ForSome room (IsRoomHolding 0) }
         requires amount { ForSome room (λ r. r.most ≤ MOST_PARTS) }
         ensures { IsSpaceOf result room }
     {
@@ -35,7 +35,7 @@ impl Space {
 
     // The space of a road. `2^64 - 1` stands for a ratio of 1, which takes one part of the product.
     fn of_road(room: Room) -> Space
-        requires ratio { IsRoomFor 0 room }
+        requires ratio { IsRoomHolding 0 room }
         requires amount { room.most ≤ MOST_PARTS }
         ensures { IsSpaceOf result (Some room) }
     {

@@ -1,6 +1,6 @@
 ghost use Rattle.std.specs.Prelude.{◌≡◌, ◌≤◌};
 ghost use Rattle.std.specs.Option.{ForSome};
-ghost use Rattle.ordinary_link.specs.Space.{IsRoomFor};
+ghost use Rattle.ordinary_link.specs.Space.{IsRoomHolding};
 ghost use Rattle.place_sweep.specs.Space.{HasSpace};
 
 use super::*;
@@ -8,7 +8,7 @@ use ordinary_link::{MOST_PARTS, Room};
 
 // A place that holds `n` parts, whose link to the next carries at most `most`.
 fn place(n: u64, most: u64, room: Option<Room>) -> Place
-    requires ratio { ForSome room (IsRoomFor 0) }
+    requires ratio { ForSome room (IsRoomHolding 0) }
     requires amount { ForSome room (λ r. r.most ≤ MOST_PARTS) }
     requires held { HasSpace n 0 room }
     ensures n { result.n ≡ n }

@@ -22,7 +22,7 @@ IsPlaceOf cells halo i (Halo p) = (p < length halo) × (slice_index halo p ≡ i
 abbrev pub place_at : Tie → (m : ℕ) → Place
 place_at tie m = slice_index_or tie.cells m (Own 0)
 
--- the tie is that of a connector of the network: each place is that of its cell
+-- the tie belongs to a connector of the network: each of its places is where a cell of the connector stands
 pub record IsTie (net : Network) (cells halo : List ℕ) (tie : Tie) : Type 0 where
   pub there : tie.connector < length net.connectors
   pub places : (m : ℕ) → m < 3 → IsPlaceOf cells halo (slice_index (three_cells (connector_at net.connectors tie.connector)) m) (place_at tie m)

@@ -19,7 +19,7 @@ use std::mem;
 #[derive(Debug, Drop)]
 pub(crate) struct CellRows {
     rows: Vec<Row>,
-    // Those of a step before, over which the next step is written.
+    // The rows of a step before, over which the next step is written.
     last: Vec<Row>,
     changes: Vec<Change>,
 }
@@ -39,7 +39,7 @@ impl CellRows {
     ghost use Rattle.region_step.specs.Advance.{known};
     ghost use Rattle.plain_region.specs.Carrying.{IsScene};
 
-    /// Those of these cells, by what all cells of a start hold.
+    /// The rows of these cells at a start.
     pub(crate) fn new(
         alloc: Global,
         rows: &[Row],

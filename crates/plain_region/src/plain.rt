@@ -156,7 +156,7 @@ impl PlainRegion {
     }
 
     /// Takes the region through its step, by its own rows and by what was told of its halo; nothing is told of its halo
-    /// then. After want of memory for its notes it is as it was.
+    /// then. Where there is no memory for its notes, the region stays as it was.
     pub fn advance(&mut self, net: &Net, chart: &Chart) -> Result<(), NoMemory>
         requires opened { IsIn net.now chart.now self.old }
         requires in_time { self.old.state.step < net.now.steps }

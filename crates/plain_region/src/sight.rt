@@ -4,8 +4,8 @@ ghost use Rattle.plain_region.specs.Carrying.{held_at, IsThere};
 use crate::place::Place;
 use flow_model::Row;
 
-/// What a region sees of the cells around it as its step begins: its own by their rows, those of its halo by what was
-/// put there.
+/// What a region sees of the cells around it as its step begins: of its own cells the rows, and of those
+/// in its halo what it was told they hold.
 #[derive(Clone, Copy)]
 pub(crate) struct Sight<'a> {
     pub(crate) rows: &'a [Row],

@@ -10,8 +10,8 @@ use no_memory::NoMemory;
 use region_cut::{place, three_cells};
 use std::alloc::Global;
 
-/// A connector that touches the region, with the places of its cells in the order of its fields; that of a link
-/// downstream stands twice.
+/// A connector that touches the region, with the places of its cells in the order of its fields. Of a link
+/// the place of the cell downstream stands twice.
 #[derive(Clone, Copy, Debug)]
 pub(crate) struct Tie {
     pub(crate) connector: u32,

@@ -22,7 +22,7 @@ pub(crate) struct Wiring {
 }
 
 impl Wiring {
-    /// That of region `r`.
+    /// The wiring of region `r`.
     pub(crate) fn new(alloc: Global, net: &Net, chart: &Chart, r: u32) -> Result<Wiring, NoMemory>
         requires chart { chart.now ≡ chart_of net.now chart.now.cut }
         requires there { r < region_count chart.now.cut }

@@ -42,7 +42,7 @@ impl Model for Chart {
 }
 
 impl Chart {
-    /// The chart of a network that is cut so. After want of memory the cutting is gone.
+    /// The chart of a network that is cut so. Where memory is refused the cutting is gone.
     pub fn new(alloc: Global, net: &Net, cut: Cut) -> Result<Chart, NoMemory>
         requires { length cut ≡ length net.now.cells }
         ensures chart { IfOk result (λ chart. chart ≡ chart_of net.now cut) }

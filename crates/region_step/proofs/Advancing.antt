@@ -14,7 +14,7 @@ use Rattle.region_cut.specs.Chart.{ChartLists, chart_of, list_at}
 use Rattle.region_cut.specs.Cuttings.{region_count}
 use Rattle.place_sweep.specs.Places.{place_at}
 use Rattle.place_rows.specs.Moves.{IsSeen}
-use Rattle.place_rows.specs.Placed.{AreInBounds, ArePlaced, CanAdvance, PlacedCells}
+use Rattle.place_rows.specs.Placed.{ArePlacesInBounds, ArePlaced, CanAdvance, PlacedCells}
 use Rattle.place_rows.specs.Rows.{rows_of}
 use Rattle.place_rows.proofs.Whole.{length-rows_after, row_at-rows_after, row_at-rows_of}
 use Rattle.region_step.specs.Advance.{HasHaloPut, HasRowsInBounds, advanced, known, next_rows_of}
@@ -29,7 +29,7 @@ use Rattle.region_step.proofs.Room.{recorded_after-next}
 -- what its step stands on, by what was read from it
 
 bounds_of : (net : Network) (chart : ChartLists) (region : RegionValue) → IsIn net chart region → HasRowsInBounds net chart region.state → HasHaloPut net chart region.state →
-    AreInBounds net (list_at chart.cells region.state.number) (halo_cells chart region.state.number) region.state.step region.layout.placed region.state.put
+    ArePlacesInBounds net (list_at chart.cells region.state.number) (halo_cells chart region.state.number) region.state.step region.layout.placed region.state.put
 bounds_of net chart region inside bounds halo =
     let cells : List ℕ = list_at chart.cells region.state.number in
     record {

@@ -15,5 +15,5 @@ pub record IsComeInBounds (net : Network) (t i : ℕ) (row : Row) : Type 0 where
   pub exit : is_exit_at net.cells i ≡ true → (row.come ≡ row.n) × (row.gone ≡ 0) × (row.wait ≡ 0)
 
 -- what cell i holds, what came and what went
-abbrev pub IsBalanced : Network → (i : ℕ) → Row → Type 0
-IsBalanced net i row = is_exit_at net.cells i ≡ false → row.n + row.gone ≡ first_at net.cells i + row.come
+abbrev pub IsRowBalanced : Network → (i : ℕ) → Row → Type 0
+IsRowBalanced net i row = is_exit_at net.cells i ≡ false → row.n + row.gone ≡ first_at net.cells i + row.come

@@ -12,7 +12,7 @@ pub record StartLists : Type 0 where
   pub steps : List ℕ
   -- the row of each cell at its region's step
   pub rows : List Row
-  -- what each cell held a step before; of border cells alone it is used
+  -- what each cell held a step before; only that of border cells is used
   pub earlier : List ℕ
 
 -- the step at which a cell's region starts

@@ -1,6 +1,6 @@
 ghost use Rattle.std.specs.Prelude.{◌≡◌, ◌+◌, ◌<◌, ◌≤◌, ◌↔◌, IsTrue, length};
 ghost use Rattle.flow_model.specs.Bounds.{IsHeldInBounds, IsRowInBounds};
-ghost use Rattle.region_step.specs.Fitting.{IsBalanced, IsComeInBounds};
+ghost use Rattle.region_step.specs.Fitting.{IsRowBalanced, IsComeInBounds};
 ghost use Rattle.region_step.specs.Start.{IsEarlierInBounds};
 
 use fixed_flow::MOST_PARTS;
@@ -69,7 +69,7 @@ fn is_come_in_bounds(net: &Net, t: u64, i: u32, row: &Row) -> bool
 // Whether cell `i`, if it is no exit, holds what it held at first and what came, less what went.
 fn is_balanced(net: &Net, i: u32, row: &Row) -> bool
     requires there { i < length net.now.cells }
-    ensures { IsTrue result ↔ IsBalanced net.now i row.now }
+    ensures { IsTrue result ↔ IsRowBalanced net.now i row.now }
 {
     let cell = &net.cells[i as usize];
     cell.kind == Kind::Exit

@@ -19,7 +19,7 @@ pub struct Start {
     pub steps: Vec<u64>,
     /// The row of each cell at its region's step.
     pub rows: Vec<Row>,
-    /// What each cell held one step before, in parts. It is used of border cells alone.
+    /// What each cell held one step before, in parts. Only that of border cells is used.
     pub earlier: Vec<u64>,
 }
 
@@ -119,14 +119,14 @@ fn is_cell_in_bounds(start: &Start, net: &Net, chart: &Chart, i: u32) -> bool
     requires in_time { All (λ s. s ≤ net.now.steps) start.now.steps }
     ensures { IsTrue result ↔ IsCellInBounds net.now chart.now.cut start.now i }
 {
-    let step = step_of(&start.steps, chart, i);
+    let step = cell_step(&start.steps, chart, i);
     let row = start.rows[i as usize];
     let earlier = start.earlier[i as usize];
     is_row_in_bounds(net, step, i, &row) && is_earlier_in_bounds(net, step, i, earlier)
 }
 
 // The step of a cell's region.
-fn step_of(steps: &[u64], chart: &Chart, i: u32) -> u64
+fn cell_step(steps: &[u64], chart: &Chart, i: u32) -> u64
     requires there { i < length chart.now.cut }
     requires one_each { length steps.now ≡ region_count chart.now.cut }
     ensures step { result ≡ slice_index steps.now (region_at chart.now.cut i) }

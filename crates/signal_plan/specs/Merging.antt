@@ -3,7 +3,7 @@ use Rattle.std.specs.Prelude.{ℕ, ◌≡◌, ◌<◌, ◌≤◌, ◌⊎◌, Lis
 use Rattle.signal_plan.specs.declared.change.Change.{Change}
 use Rattle.signal_plan.specs.Changes.{in_force}
 
--- the change at this place, if there is one, is at the step or past it
+-- the change at this place, if there is one, is at the step or later
 abbrev pub IsLeft : {X : Type 0} → List (Change X) → (at step : ℕ) → Type 0
 IsLeft changes at step = (c : _) → at < length changes → step ≤ (slice_index_or changes at c).step
 

@@ -35,7 +35,7 @@ pub record TurnRecord : Type 0 where
   pub b1 : ℕ
   pub b2 : ℕ
 
--- what a plan says: the capacity Q of each cell, and the records of each kind in the order that they were put
+-- what a plan says: the capacity Q of each cell, and the records of each kind in the order in which they were put
 pub record PlanRecords : Type 0 where
   pub cells : List ℕ
   pub signals : List SignalRecord

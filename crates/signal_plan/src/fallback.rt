@@ -5,7 +5,7 @@ use crate::change::Change;
 use no_memory::NoMemory;
 use std::alloc::Global;
 
-/// The changes with `own` in force where these say nothing.
+/// These changes, with `own` in force where they say nothing.
 pub(crate) fn with_fallback<T: Copy>(
     alloc: Global,
     changes: &[Change<Option<T>>],

@@ -19,8 +19,8 @@ fn next_step<T: Copy>(older: &[Change<T>], i: usize, newer: &[Change<T>], j: usi
     }
 }
 
-/// The place behind the change at `at` and its value, where it is at this step, and else the place and
-/// the value before.
+/// Passes the change at `at` where it is at this step: the place after it, and its value. Otherwise place
+/// and value stay.
 fn advance<T: Copy>(changes: &[Change<T>], at: usize, value: T, step: u64) -> (usize, T)
     requires rising { IsRising changes.now }
     requires within { at ≤ length changes.now }

@@ -19,8 +19,8 @@ use Rattle.flow_ledger.specs.UnevenSteps.{StandAt}
 use Rattle.flow_ledger.proofs.FlightLaws.{flight-at_one_step}
 use Rattle.region_cut.specs.Cuttings.{region_at}
 use Rattle.region_cut.proofs.Ranges.{filter_range_more}
-use Rattle.snapshot.specs.RunLaws.{step_of}
-use Rattle.snapshot.specs.ShotText.{crosses}
+use Rattle.region_cut.specs.Joins.{crosses}
+use Rattle.snapshot.specs.RunLaws.{cell_step}
 use Rattle.snapshot.specs.Shots.{flights_crossing}
 
 -- the cells of a connector that crosses no border are of one region
@@ -41,13 +41,13 @@ one-region cut connector i j inside first second = elim (cases_eq (region_at cut
 ]
 
 -- nothing is under way there
-pub nothing-inside : (net : Network) (cut steps : List ℕ) (rows : List Row) (k : ℕ) → IsNetwork net → StandAt net (step_of cut steps) rows → k < length net.connectors →
+pub nothing-inside : (net : Network) (cut steps : List ℕ) (rows : List Row) (k : ℕ) → IsNetwork net → StandAt net (cell_step cut steps) rows → k < length net.connectors →
     crosses cut (connector_at net.connectors k) ≡ false → flight_of net rows k ≡ pos 0
 nothing-inside net cut steps rows k sound stand there inside =
     let connector : Connector = connector_at net.connectors k in
     let cells : List ℕ = cells_of connector in
     let first : ℕ = get_or cells 0 0 in
-    flight-at_one_step net rows k sound there (step_of cut steps) (step_of cut steps first) stand
+    flight-at_one_step net rows k sound there (cell_step cut steps) (cell_step cut steps first) stand
     (λ m d within.
     let starts : Contains cells first = Contains-get_or cells 0 0 (omega (arith, within)) in
     ap (λ r. slice_index steps r) (one-region cut connector (get_or cells m d) first inside (Contains-get_or cells m d within) starts))
@@ -83,7 +83,7 @@ flights-before net cut rows (suc k) few inside =
     let next : k + 1 ≡ suc k = omega arith in
     subst (IsAllOf net cut rows) next (flights-more net cut rows k there (inside k there) (flights-before net cut rows k (omega (arith, few)) inside))
 
-pub flights-crossing : (net : Network) (cut steps : List ℕ) (rows : List Row) → IsNetwork net → StandAt net (step_of cut steps) rows →
+pub flights-crossing : (net : Network) (cut steps : List ℕ) (rows : List Row) → IsNetwork net → StandAt net (cell_step cut steps) rows →
     flights_crossing net cut rows ≡ (books_of net rows).flight
 unfolding flights_crossing books_of flights_of
 flights-crossing net cut steps rows sound stand =

@@ -26,7 +26,7 @@ use Rattle.region_step.specs.Start.{Fits, IsTrueStart, StartLists, zero_start}
 use Rattle.region_step.proofs.Grids.{are_the_recurrences, stay_in_bounds}
 use Rattle.region_step.proofs.StartLaws.{zero_start-lawful, zero_start-true, zeros}
 use Rattle.snapshot.specs.Rooms.{IsRoomFor, RoomValue}
-use Rattle.snapshot.specs.RunLaws.{step_of}
+use Rattle.snapshot.specs.RunLaws.{cell_step}
 use Rattle.snapshot.specs.RunLaws.{AreRowsAt}
 use Rattle.snapshot.specs.Shots.{KeepsBooks, AreShots, IsShotBetween, goal_of, rows_at, shot_of}
 use Rattle.snapshot.specs.Snapshots.{IsSnapshot}
@@ -37,23 +37,23 @@ use Rattle.snapshot.proofs.RunLaws.{stand_at}
 
 pub length-rows_at : (net : Network) (cut steps : List ℕ) → length (rows_at net cut steps) ≡ length net.cells
 unfolding rows_at
-length-rows_at net cut steps = length-map-range_with_len (λ i. row_at (state_at net (step_of cut steps i)) i) 0 (length net.cells)
+length-rows_at net cut steps = length-map-range_with_len (λ i. row_at (state_at net (cell_step cut steps i)) i) 0 (length net.cells)
 
-pub row_at-rows_at : (net : Network) (cut steps : List ℕ) (i : ℕ) → i < length net.cells → row_at (rows_at net cut steps) i ≡ row_at (state_at net (step_of cut steps i)) i
+pub row_at-rows_at : (net : Network) (cut steps : List ℕ) (i : ℕ) → i < length net.cells → row_at (rows_at net cut steps) i ≡ row_at (state_at net (cell_step cut steps i)) i
 unfolding rows_at
-row_at-rows_at net cut steps i there = get_or-map-range_with_len (λ i. row_at (state_at net (step_of cut steps i)) i) 0 (length net.cells) i i empty_row there (omega arith)
+row_at-rows_at net cut steps i there = get_or-map-range_with_len (λ i. row_at (state_at net (cell_step cut steps i)) i) 0 (length net.cells) i i empty_row there (omega arith)
 
 -- each is of the step of its region
-pub rows_at-stand : (net : Network) (cut steps : List ℕ) → AreLawful net cut steps → StandAt net (step_of cut steps) (rows_at net cut steps)
+pub rows_at-stand : (net : Network) (cut steps : List ℕ) → AreLawful net cut steps → StandAt net (cell_step cut steps) (rows_at net cut steps)
 rows_at-stand net cut steps lawful = record {
   in_time = λ i there. lawful.in_time (region_at cut i) 0 (omega (arith, region_at-there cut i, lawful.one_each));
   each = λ i there. row_at-rows_at net cut steps i there;
 }
 
 -- so the books balance
-pub books-kept : (net : Network) (cut steps : List ℕ) (rows : List Row) → IsNetwork net → StandAt net (step_of cut steps) rows → KeepsBooks net cut rows
+pub books-kept : (net : Network) (cut steps : List ℕ) (rows : List Row) → IsNetwork net → StandAt net (cell_step cut steps) rows → KeepsBooks net cut rows
 books-kept net cut steps rows sound stand = record {
-  balanced = books-law net rows sound (step_of cut steps) stand;
+  balanced = books-law net rows sound (cell_step cut steps) stand;
   none_within = λ k there one. nothing-inside net cut steps rows k sound stand there one;
   in_flight = flights-crossing net cut steps rows sound stand;
 }
@@ -69,7 +69,7 @@ shot-between net cut from to steps sound lawful between =
       rooms = record {
         each = λ i road.
             let there = road_at-there net.cells i road in
-            let bounds = (state_at-in_bounds net sound (step_of cut steps i) (stand.in_time i there)).each i there in
+            let bounds = (state_at-in_bounds net sound (cell_step cut steps i) (stand.in_time i there)).each i there in
             omega (arith, ap (λ row. row.n) (stand.each i there), bounds.held.road road);
       };
     }
@@ -83,7 +83,7 @@ shown-rows net chart room sound one_each fits shows =
     ext_get_or empty_row room.rows (rows_at net cut room.steps) (fits.rows ∙ one_each ∙ sym (length-rows_at net cut room.steps))
     (λ i within.
     let there : i < length net.cells = omega (arith, within, fits.rows, one_each) in
-    shows.rows i there ∙ recurrences (step_of cut room.steps i) i there (omega (arith, zeros (region_count cut) (region_at cut i))) ∙
+    shows.rows i there ∙ recurrences (cell_step cut room.steps i) i there (omega (arith, zeros (region_count cut) (region_at cut i))) ∙
     sym (row_at-rows_at net cut room.steps i there))
 
 -- the text of the first shots, `count` of `shots` that are taken in all
@@ -142,7 +142,7 @@ snapshot-rows net cut start room from true_start shows = record {
 }
 
 pub snapshot-stand : (net : Network) (cut : List ℕ) (start : StartLists) (room : RoomValue) → IsNetwork net → AreLawful net cut start.steps → IsTrueStart net cut start → IsSnapshot net cut start room →
-    StandAt net (step_of cut room.steps) room.rows
+    StandAt net (cell_step cut room.steps) room.rows
 snapshot-stand net cut start room sound from true_start shows = stand_at net cut start room.steps room.rows sound (snapshot-rows net cut start room from true_start shows)
 
 -- and no road past its room

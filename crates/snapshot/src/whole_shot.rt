@@ -14,7 +14,7 @@ use no_memory::NoMemory;
 use region_cut::Chart;
 
 /// Appends shot `number` of a room (docs/FORMAT.md, "The shots"): its books, the step of each region, the flight of each
-/// connector between regions, and the row of each cell. After want of memory the text is as it was.
+/// connector between regions, and the row of each cell. Where memory is refused the text is as it was.
 pub fn shot_text(
     net: &Net,
     chart: &Chart,

@@ -15,7 +15,7 @@ pub most-is : (link : LinkValues) (t q_up q_down : ℕ) (green : Bool) → q_up 
 unfolding most_at
 most-is link t q_up q_down green up down light = rw (up, down, light) refl
 
--- the step that was come to has no part in it
+-- it does not depend on the step to which the link was followed
 pub most-moved : (link : LinkValues) (up down : Course) (s t : ℕ) → up ≡ record link.up { step = t } → down ≡ record link.down { step = t } →
     most_at (record { up = up; down = down; signal = link.signal; step = up.step }) s ≡ most_at link s
 unfolding most_at

@@ -8,7 +8,7 @@ use Rattle.signal_plan.specs.Green.{green_at, shows_green}
 use Rattle.signal_plan.specs.Records.{PlanRecords, SignalRecord}
 use Rattle.signal_plan.specs.declared.change.Change.{Change}
 
--- a value by its changes, and the step that was come to
+-- a value by its changes, and the step to which it was followed
 pub record Course : Type 0 where
   pub start : ℕ
   pub changes : List (Change ℕ)
@@ -18,7 +18,7 @@ pub record Course : Type 0 where
 abbrev pub value_at : Course → (t : ℕ) → ℕ
 value_at course t = in_force course.start course.changes t
 
--- what changes the most that a link carries, and the step that was come to
+-- what the most that a link carries depends on, and the step to which it was followed
 pub record LinkValues : Type 0 where
   pub up : Course
   pub down : Course

@@ -5,7 +5,7 @@ use Rattle.place_sweep.specs.declared.place.Place.{Place}
 use Rattle.timelines.specs.Courses.{IsSteady, most_at}
 use Rattle.timelines.specs.declared.followed.FollowedLink.{FollowedLink}
 
--- the link's place is there, and it has come to no step past t
+-- the link's place is there, and the link was followed to no step past t
 pub record IsThere (places t : ℕ) (link : FollowedLink) : Type 0 where
   pub place : link.place < places
   pub step : link.course.step ≤ t
@@ -25,7 +25,7 @@ pub record IsChanged (old new : FollowedLink) (after : Place) (t : ℕ) : Type 0
   pub most : after.most ≡ most_at old.course t
   pub steady : IsSteady (most_at old.course) t new.until
 
--- link m follows the most of place p, which has that of step t until the link's next change
+-- link m follows the most of place p, and until the link's next change the place has the most of each step
 pub record IsFollowed (most : ℕ → ℕ → ℕ) (place : Place) (links : List FollowedLink) (t p m : ℕ) : Type 0 where
   pub there : m < length links
   pub its : (d : FollowedLink) → (slice_index_or links m d).place ≡ p

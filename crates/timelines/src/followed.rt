@@ -14,17 +14,17 @@ pub struct FollowedLink {
     pub place: u32,
     /// The most that it carries doesn't change before this step.
     pub until: u64,
-    /// The most that it carries.
+    /// The course of the most that it carries.
     pub course: LinkCourse,
 }
 
-/// Writes the changes that are due at step `t`: each place has the most that its link carries then.
+/// Writes the changes that are due at step `t`: each place then has the most that its link carries in that step.
 pub fn refresh(links: &mut [FollowedLink], places: &mut [Place], t: u64)
     requires there { All (IsThere (length places.old) t) links.old }
     requires in_time { t ≤ MOST_STEPS }
     ensures there { All (IsThere (length places.old) t) links.new }
 
-    // Where the links follow what each place's link carries, each place has the most of step t, and they follow it on.
+    // Where the links follow `most`, each place has the most of step t, and the links still follow it.
     ensures most { (most : ℕ → ℕ → ℕ) → AreFollowed most places.old links.old t → (p : ℕ) → p < length places.old →
         place_at places.new p ≡ record (place_at places.old p) { most = most p t } }
     ensures followed { (most : ℕ → ℕ → ℕ) → AreFollowed most places.old links.old t → AreFollowed most places.new links.new t }
@@ -35,7 +35,7 @@ pub fn refresh(links: &mut [FollowedLink], places: &mut [Place], t: u64)
     }
 }
 
-// Where the link changes by step `t`, its place has the most of that step.
+// Where the link changes by step `t`, its place gets the most of that step.
 fn refresh_link(link: &mut FollowedLink, place: &mut Place, t: u64)
     requires step { link.old.course.step ≤ t }
     requires in_time { t ≤ MOST_STEPS }

@@ -1,5 +1,5 @@
 //! Values that change from step to step, followed forward: what is in force at a step, and up to which step it stays so.
-//! Where nothing changes nothing is asked of the plan.
+//! As long as nothing changes, the plan is not asked.
 #![tactic(auto)]
 
 mod followed;

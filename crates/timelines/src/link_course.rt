@@ -31,7 +31,7 @@ impl Model for LinkCourse {
 impl LinkCourse {
     ghost use Rattle.timelines.specs.Courses.{IsSteady, most_at, most_between};
 
-    /// That of the link from one cell to another, at step 0.
+    /// The course of the link from one cell to another, at step 0.
     pub fn new(alloc: Global, plan: &Plan, up: u32, down: u32) -> Result<LinkCourse, NoMemory>
         requires has_up { up < length plan.now.cells }
         requires has_down { down < length plan.now.cells }
@@ -47,7 +47,7 @@ impl LinkCourse {
         })
     }
 
-    /// Whether the link never carries more or less at most.
+    /// Whether the most that the link carries never changes.
     pub fn is_constant(&self) -> bool
         ensures { IsTrue result → (s t : ℕ) → most_at self.now s ≡ most_at self.now t }
     {

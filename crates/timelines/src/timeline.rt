@@ -33,7 +33,7 @@ impl Timeline {
     ghost use Rattle.std.specs.Prelude.{◌^◌};
     ghost use Rattle.timelines.specs.Courses.{IsSteady, value_at};
 
-    /// That of a value with these changes, at step 0.
+    /// The timeline of a value with these changes, at step 0.
     pub fn new(start: u64, changes: Vec<Change<u64>>) -> Timeline
         requires { IsRising changes.items }
         ensures { result ≡ record { start = start; changes = changes.items; step = 0 } }

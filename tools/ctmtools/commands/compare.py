@@ -2,13 +2,16 @@
 
 from __future__ import annotations
 
+from collections.abc import Iterator
+
 import click
+import pandas
 
 from ..files import write
-from ..report.comparing import compare, totals
+from ..report.comparing import compare, totals, travel
 from ..report.page import table, told
 from ..report.reading import read_report
-from ..report.unlike import unlike
+from ..report.unlike import otherwise, unlike
 from .reports import on_reports
 
 EPILOG = """\b
@@ -18,6 +21,8 @@ Examples:
   ctm-tools compare plan-a.report plan-b.report -o cells.csv
 
 With --plot both reports need records, and the cells of the route are those that both have."""
+
+MOST_ROADS = 6  # so many roads are told with their travel time
 
 
 @click.command(epilog=EPILOG)
@@ -31,7 +36,7 @@ With --plot both reports need records, and the cells of the route are those that
 @on_reports
 def command(first: str, second: str, rows: int, output: str | None, picture: str | None, road: str | None,
             units: str | None, network: str | None) -> None:
-    """Compare two reports: delay and served vehicles in all and cell by cell, the greatest changes first.
+    """Compare two reports: delay and served vehicles in all and cell by cell, and travel times, the greatest changes first.
 
     A cell's delay counts where vehicles waited, so a shorter queue shows at the cells that it no longer reaches.
     """
@@ -41,6 +46,8 @@ def command(first: str, second: str, rows: int, output: str | None, picture: str
     click.echo(f"A  {one.title} ({first})\nB  {two.title} ({second})")
     for line in unlike(one, two):
         click.echo(f"warning: {line}")
+    for line in otherwise(one, two):
+        click.echo(line)
     click.echo()
     lines = [("", "A", "B", "B - A", "")]
     for name, row in sums.iterrows():
@@ -49,6 +56,8 @@ def command(first: str, second: str, rows: int, output: str | None, picture: str
         lines.append((name + (f", {unit}" if name == "delay" else ", vehicles"), told(row["first"]),
                       told(row["second"]), signed(row.rise), change))
     click.echo("\n".join(table(lines, right=(1, 2, 3, 4))))
+    for line in _travel(travel(one, two)):
+        click.echo(line)
     changed = frame[(frame.delay_rise.abs() >= 0.005) | (frame.gone_rise.abs() >= 0.005)]
     if changed.empty:
         click.echo("\nNo cell differs.")
@@ -68,6 +77,17 @@ def command(first: str, second: str, rows: int, output: str | None, picture: str
 
         save(draw(one, two, road), target(two, "difference", picture))
         click.echo(f"\n{picture}")
+
+
+def _travel(frame: pandas.DataFrame) -> Iterator[str]:
+    """The roads whose mean travel time differs."""
+    changed = frame[frame.rise.abs() >= 0.005]
+    if changed.empty:
+        return
+    yield f"\nMean travel time from end to end in min, {min(MOST_ROADS, len(changed))} of {len(changed)} roads that differ:\n"
+    rows = [(road, told(row["first"]), told(row["second"]), signed(row.rise))
+            for road, row in changed[:MOST_ROADS].iterrows()]
+    yield from table([("road", "A", "B", "B - A"), *rows], right=(1, 2, 3))
 
 
 def _told(value: float) -> str:

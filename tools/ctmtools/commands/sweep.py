@@ -46,7 +46,8 @@ def command(source: str, varied: tuple[str, ...], jobs: int | None, address: str
             over: tuple[str, ...], every: int | None, rows: int) -> None:
     """Build and run a study with every combination of varied values, and tell them, the least delay first.
 
-    Each row has the total delay, the longest queue and the vehicles served; a run that failed says why.
+    Each row has the total delay, the longest queue, the vehicles served and the mean travel time along the longest route
+    from a gate; a run that failed says why.
     """
     variations = [variation(text) for text in varied]
     drawn = _drawn(over, variations)
@@ -92,13 +93,13 @@ def _tell(sweep: Sweep, rows: int, folder: Path, drawn: Sequence[str]) -> None:
     """Prints the best rows, and writes the table and the plot."""
     frame, keys = sweep.results.frame(), sweep.keys
     same = frame.rounded.iloc[0] if len(frame) > 1 and frame.rounded.nunique() == 1 else ""
-    lines = [(*keys, "delay (vehicle-hours)", "longest queue (km)", "most waiting", "served", "inside", "")]
+    lines = [(*keys, "delay (vehicle-hours)", "longest queue (km)", "most waiting", "served", "inside", "travel time (min)", "")]
     for _, row in frame.head(rows).iterrows():
-        figures = ("",) * 5 if row.error else (told(row.delay_vehicle_hours), kilometre(row.longest_queue_km),
+        figures = ("",) * 6 if row.error else (told(row.delay_vehicle_hours), kilometre(row.longest_queue_km),
                                                f"{row.most_waiting_vehicles:,.0f}", told(row.served_vehicles),
-                                               told(row.inside_vehicles))
+                                               told(row.inside_vehicles), told(row.travel_time_min))
         lines.append((*(shown(row[key]) for key in keys), *figures, _remark(row, same)))
-    click.echo("\n".join(table(lines, right=range(len(keys) + 5))))
+    click.echo("\n".join(table(lines, right=range(len(keys) + 6))))
     if len(frame) > rows:
         click.echo(f"  and {len(frame) - rows} more rows")
     if same:

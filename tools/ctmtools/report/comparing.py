@@ -5,6 +5,7 @@ from __future__ import annotations
 import pandas
 
 from .reading import Report
+from .travel import road_times
 
 
 def compare(first: Report, second: Report) -> pandas.DataFrame:
@@ -44,3 +45,18 @@ def totals(first: Report, second: Report) -> pandas.DataFrame:
     frame = pandas.DataFrame(rows)
     frame["rise"] = frame["second"] - frame["first"]
     return frame
+
+
+def travel(first: Report, second: Report) -> pandas.DataFrame:
+    """The mean travel time in minutes of each road of both reports, of those who arrived, the greatest changes first.
+
+    Reports without records, or whose steps aren't known, have none.
+    """
+    rows = {}
+    for name, report in (("first", first), ("second", second)):
+        times = road_times(report) if report.recorded and report.units.step is not None else []
+        rows[name] = pandas.Series({time.road: time.mean * (report.units.step or 0) / 60 for time in times}, dtype=float)
+    frame = pandas.DataFrame(rows).dropna()
+    frame["rise"] = frame["second"] - frame["first"]
+    frame.index.name = "road"
+    return frame.loc[frame.rise.abs().sort_values(ascending=False, kind="stable").index]

@@ -6,10 +6,13 @@ from collections.abc import Container, Iterator, Sequence
 
 from .queues import CYCLES, SHORT, SHORT_STEPS, SLOW, Queue, is_short, queues_in
 from .reading import Report
+from .travel import road_times
 
 MOST_QUEUES = 12  # so many queues have a row, the most costly
 MOST_JOINED = 3  # of the parts that joined a queue so many are told
 MOST_STANDING = 8  # of the queues that still stand at the end so many are told
+MOST_ROADS = 6  # so many roads are told with their travel time, those with the greatest delay
+HELD_UP = 1.005  # a road is told from so many times its travel time at free flow on
 
 
 def page(report: Report) -> Iterator[str]:
@@ -28,6 +31,7 @@ def page(report: Report) -> Iterator[str]:
     yield ""
     if report.recorded:
         yield from _queues(report, queues)
+        yield from _travel(report)
     else:
         yield "No queues are told, since the run has no records."
     yield ""
@@ -64,6 +68,26 @@ def _queues(report: Report, queues: list[Queue]) -> Iterator[str]:
         yield "  clearing, as far as it ever reached, with all of its delay."
     for queue in rows:
         yield from _joined(report, queue)
+
+
+def _travel(report: Report) -> Iterator[str]:
+    """The travel times of the roads on which it is longest beside that at free flow."""
+    step = report.units.step
+    roads = [time for time in road_times(report) if time.mean >= HELD_UP * time.free] if step is not None else []
+    if step is None or not roads:
+        return
+    yield ""
+    yield "Travel time from end to end, of those who have arrived:"
+    yield ""
+    rows: list[tuple[str, ...]] = [("road", "km", "at free flow", "mean", "longest",
+                                    "of who set out at")]
+    for time in roads[:MOST_ROADS]:
+        kilometres = report.units.cells[report.units.roads[time.road][-1]]["to_km"]
+        rows.append((time.road, kilometre(kilometres), *(_lasting(step * steps) for steps in
+                     (time.free, time.mean, time.most)), clock(report, int(time.entered))))
+    yield from table(rows, right=(1, 2, 3, 4))
+    if len(roads) > MOST_ROADS:
+        yield f"  and {len(roads) - MOST_ROADS} more roads with less delay for each vehicle"
 
 
 def _seen(report: Report) -> str:

@@ -103,13 +103,13 @@ def is_short(report: Report, queue: Queue) -> bool:
 
 
 def cycle_of(report: Report, cell: str) -> int:
-    """The cycle of a cell's signal in steps, 0 in a network without signals.
+    """The cycle of a cell's signal in steps, also of one that runs for a part of the time; 0 without signals.
 
     Where the cell has no signal, traffic comes to it as others let it go, so the longest cycle of them is given.
     """
     signals = report.need_network().signals
-    own = signals.cycle[signals.cell == cell]
-    return int((own if len(own) else signals.cycle).max()) if len(signals) else 0
+    cycles = {**report.units.cycles, **dict(zip(signals.cell, signals.cycle))}
+    return int(cycles[cell] if cell in cycles else max(cycles.values(), default=0))
 
 
 def course(report: Report, queue: Queue) -> pandas.DataFrame:

@@ -99,7 +99,8 @@ def times(units: Units, steps: Sequence[float] | numpy.ndarray) -> pandas.Series
     if units.step is None:
         return pandas.Series(steps).astype("Int64" if pandas.isna(steps).any() else int)
     seconds = (units.start or 0) + numpy.asarray(steps, dtype=float) * units.step
-    return pandas.Series(DAY_ZERO + pandas.to_timedelta(seconds, unit="s").round("ms"))
+    with numpy.errstate(invalid="ignore"):  # what is lacking
+        return pandas.Series(DAY_ZERO + pandas.to_timedelta(seconds, unit="s").round("ms"))
 
 
 def _places(units: Units, cells: Sequence[str]) -> pandas.DataFrame:

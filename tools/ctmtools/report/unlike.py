@@ -1,4 +1,4 @@
-"""Where two reports are of other cells, other places or other times, so that a comparison isn't of like with like."""
+"""Where two reports are of other cells, places or times, so that they aren't like with like, or of other lanes or speeds."""
 
 from __future__ import annotations
 
@@ -8,6 +8,7 @@ from typing import Any
 from .reading import Report
 
 MOST_NAMED = 3  # cells of each sort that a line names
+TERMS = {"lanes": ("number of lanes", ""), "free_flow_kmh": ("free-flow speed", " km/h"), "wave_kmh": ("wave speed", " km/h")}
 
 
 def unlike(first: Report, second: Report) -> Iterator[str]:
@@ -17,6 +18,18 @@ def unlike(first: Report, second: Report) -> Iterator[str]:
     spans = [_span(report) for report in (first, second)]
     if spans[0] != spans[1]:
         yield f"A is of {spans[0]}, B of {spans[1]}"
+
+
+def otherwise(first: Report, second: Report) -> Iterator[str]:
+    """A line for each of lanes and speeds in which cells of one place differ, A and B: what one compares, mostly."""
+    for key, (what, unit) in TERMS.items():
+        other = [(cell, row[key], second.units.cells[cell][key]) for cell, row in first.units.cells.items()
+                 if cell in second.units.cells and _place(row) == _place(second.units.cells[cell])
+                 and row.get(key) != second.units.cells[cell].get(key)]
+        if other:
+            cell, one, two = other[0]
+            yield (f"{len(other)} cell{'s have' if len(other) > 1 else ' has'} another {what} in A and in B, as {cell}: "
+                   f"{one:g}{unit} in A, {two:g}{unit} in B")
 
 
 def _cells(first: Report, second: Report) -> Iterator[str]:

@@ -4,7 +4,7 @@ from __future__ import annotations
 
 import csv
 from collections.abc import Sequence
-from dataclasses import dataclass
+from dataclasses import dataclass, replace
 from pathlib import Path
 from typing import Any
 
@@ -45,6 +45,7 @@ def rows_of(path: Path, separator: str, choice: Choice, passes_midnight: bool) -
     Where the study passes midnight, the rows of the next day are taken too.
     """
     table, names = _table(path, separator)
+    choice = _as_written(choice, names)
     for column in (choice.time_column, choice.column):
         _need_column(path, names, column)
     table = _of_station(path, names, table, choice)
@@ -72,6 +73,16 @@ def _table(path: Path, separator: str) -> tuple[Table, list[str]]:
     if not rows:
         raise Problem(f"{path}: has no rows of counts")
     return rows, names
+
+
+def _as_written(choice: Choice, names: Sequence[str]) -> Choice:
+    """The choice with its columns as the file writes them, where these differ by capitals alone."""
+    def written(column: str) -> str:
+        alike = [name for name in names if name.casefold() == column.casefold()]
+        return column if column in names or len(set(alike)) != 1 else alike[0]
+
+    return replace(choice, column=written(choice.column), time_column=written(choice.time_column),
+                   station_column=written(choice.station_column), date_column=written(choice.date_column))
 
 
 def _need_column(path: Path, names: Sequence[str], column: str) -> None:

@@ -29,9 +29,12 @@ Placed = list[tuple[Fraction, Row]]  # each row with its seconds after the study
 
 @dataclass(frozen=True)
 class Reading:
-    """How the numbers of a file are read: the decimal sign, what a count is of, its interval, and what gaps are."""
+    """How the numbers of a file are read: the decimal sign, what a count is of, its interval, and what gaps are.
 
-    decimal: str
+    The decimal sign is None where the study doesn't say it; then it is a point.
+    """
+
+    decimal: str | None
     per: str
     interval: Fraction | None
     missing: str
@@ -54,7 +57,7 @@ def flows_of_counts(table: Entries, times: Times) -> list[Flow]:
                     table.take("station_column", word, "station"), table.take("date", _date, None),
                     table.take("date_column", word, "date"))
     separator = table.take("separator", word, ",")
-    reading = Reading(table.take("decimal", word, "."), _one_of(table, "per", ("interval", "hour")),
+    reading = Reading(table.take("decimal", word, None), _one_of(table, "per", ("interval", "hour")),
                       table.take("interval", duration, None), _one_of(table, "missing", MISSING))
     table.done()
     if len(separator) != 1:
@@ -142,14 +145,22 @@ def _counts(path: Path, column: str, placed: Placed, reading: Reading, interval:
     return found
 
 
-def _number(text: str, decimal: str, key: str) -> Fraction:
-    try:
-        counted = Fraction(text.strip().replace(decimal, "."))
-    except (ValueError, ZeroDivisionError):
-        thousands = re.fullmatch(r"\d{1,3}(,\d{3})+", text.strip())
-        hint = "; say decimal = \",\" in the study" if "," in text and decimal != "," else ""
-        hint = "; write it without the comma of thousands" if thousands else hint
-        raise Problem(f"{key}: expected a count, found \"{text}\"{hint}") from None
+def _number(text: str, decimal: str | None, key: str) -> Fraction:
+    """The number that a text spells; one that may have a sign of thousands needs a decimal sign that is said."""
+    written, sign = text.strip(), decimal or "."
+    other = "," if sign == "." else "."
+    point = re.escape(sign)
+    number = re.fullmatch(rf"[+-]?(?:[0-9]+(?:{point}[0-9]*)?|{point}[0-9]+)(?:[eE][+-]?[0-9]+)?", written)
+    thousands = re.fullmatch(r"[1-9][0-9]{0,2}(?:([.,])[0-9]{3})(?:\1[0-9]{3})*", written)
+    if thousands and decimal is None and number:
+        raise Problem(f"{key}: \"{written}\" may be {float(written):g} or a number of thousands; write it without "
+                      "the point, or say decimal = \".\" in the study")
+    if not number:
+        hint = f"; say decimal = \"{other}\" in the study" if other in written and decimal is None else ""
+        sort = {".": "point", ",": "comma"}[thousands[1]] if thousands else ""
+        hint = f"; write it without the {sort} of thousands" if thousands else hint
+        raise Problem(f"{key}: expected a count, found \"{text}\"{hint}")
+    counted = Fraction(written.replace(sign, "."))
     if counted < 0:
         raise Problem(f"{key}: a count isn't negative, found \"{text}\"")
     return counted

@@ -17,8 +17,10 @@ from .plan import Closure, Exit, Gate, Opening, Study
 from .rounding import told
 from .scale import Scale
 
-# The cells in which changes overlap, with these, by the places of the changes, their time and the section.
-Overlaps = dict[tuple[str, str, tuple[str, int]], list[tuple[RoadCell, list[Change]]]]
+# The stretches of road in which changes overlap, each as its cells with these changes, by the places of the changes,
+# their time and the section.
+Stretches = list[list[tuple[RoadCell, list[Change]]]]
+Overlaps = dict[tuple[str, str, tuple[str, int]], Stretches]
 Span = tuple[int, int, list[Change]]  # the steps from and to which some changes hold
 
 
@@ -55,13 +57,14 @@ class Limits:
         for name in [*self.study.gates, *self.study.exits]:
             for begin, end, holding in self._overlapping(name):
                 yield f"{_places(holding)} overlap {self._clock(begin, end)}: {_flow(least(holding))} are left"
-        for (places, span, _), cells in self._overlapping_cells().items():
-            section, holding = cells[0][0].section, cells[0][1]
-            own, opened = lanes_left(section, holding)
-            beside = f" and {told(opened)} opened" if opened else ""
-            yield (f"{places} overlap on road {cells[0][0].road} from km {told(cells[0][0].start)} to "
-                   f"{told(cells[-1][0].end)}, {span}: {told(own)} of {section.lanes} lanes{beside} and "
-                   f"{_flow(flow_left(section, holding))} are left")
+        for (places, span, _), stretches in self._overlapping_cells().items():
+            for cells in stretches:
+                section, holding = cells[0][0].section, cells[0][1]
+                own, opened = lanes_left(section, holding)
+                beside = f" and {told(opened)} opened" if opened else ""
+                yield (f"{places} overlap on road {cells[0][0].road} from km {told(cells[0][0].start)} to "
+                       f"{told(cells[-1][0].end)}, {span}: {told(own)} of {section.lanes} lanes{beside} and "
+                       f"{_flow(flow_left(section, holding))} are left")
 
     def _nodes(self) -> None:
         """The limits that gates and exits say."""
@@ -113,12 +116,15 @@ class Limits:
         return [span for span in spans(works) if len(span[2]) > 1]
 
     def _overlapping_cells(self) -> Overlaps:
-        """The overlaps on roads: for each, by its places, its time and its section, the cells that have it."""
+        """The overlaps on roads: by their places, their time and their section the stretches of cells that have them."""
         found: Overlaps = {}
         for cell in self._cells():
             for begin, end, holding in self._overlapping(cell.name):
                 key = _places(holding), self._clock(begin, end), (cell.road, id(cell.section))
-                found.setdefault(key, []).append((cell, holding))
+                stretches = found.setdefault(key, [])
+                if not stretches or stretches[-1][-1][0].end != cell.start:
+                    stretches.append([])
+                stretches[-1].append((cell, holding))
         return found
 
     def _clock(self, begin: int, end: int) -> str:

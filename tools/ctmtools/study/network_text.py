@@ -155,7 +155,7 @@ class Builder:
             yield f"exit,{exit_.name},{amount_text(capacity)}"
 
     def _units(self) -> Units:
-        units = Units(self.study.title, float(self.study.step), float(self.study.start))
+        units = Units(self.study.title, float(self.study.step), float(self.study.start), cycles=self.signals.cycles)
         for road, row in self.layout.cells.items():
             units.roads[road] = [cell.name for cell in row]
             if self.study.roads[road].points:

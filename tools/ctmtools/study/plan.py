@@ -114,6 +114,42 @@ class Signal:
     place: str
 
 
+Matrix = list[list[Fraction]]  # a row for each approach, with a number for each way out
+
+
+@dataclass
+class Phase:
+    """A green of a junction: its start after that of the cycle and its length in s, and the movements that have it.
+
+    A movement is the numbers of its approach and of its way out.
+    """
+
+    start: Fraction
+    green: Fraction
+    movements: list[tuple[int, int]]
+
+
+@dataclass
+class Crossing:
+    """A junction of several approaches and ways out, with turning shares, those by time, priorities and phases.
+
+    `priorities` and `lanes` are those of each movement, where they are said. The cycle begins `offset` s after the study's
+    start; with a cycle of None there is no signal. Where `within` is true its cells are taken off the approaches.
+    """
+
+    sources: list[str]
+    into: list[str]
+    shares: Matrix
+    turns: list[tuple[Fraction, Fraction, Matrix]]
+    priorities: Matrix | None
+    lanes: Matrix | None
+    cycle: Fraction | None
+    offset: Fraction
+    phases: list[Phase]
+    within: bool
+    place: str
+
+
 @dataclass
 class RoadPart:
     """A part of a road between two km and two times, and where the study says it."""
@@ -165,5 +201,6 @@ class Study:
     signals: list[Signal]
     closures: list[Closure]
     openings: list[Opening]
+    crossings: list[Crossing]
     path: Path
     remarks: list[str] = field(default_factory=list)

@@ -11,6 +11,8 @@ from ..given import read_as
 from ..problem import Problem, one_line
 from ..units import DAY
 from .counts import flows_of_counts
+from .crossing_cells import expand
+from .crossings import crossing
 from .entries import Entries, Reader, list_of
 from .plan import Closure, Diverge, Exit, Flow, Gate, Merge, Opening, Road, RoadPart, Section, Signal, Study, Turn
 from .quantities import clock, density, duration, flow, length, number, shown, speed, title, whole, word
@@ -54,7 +56,7 @@ def study_of(values: dict[str, Any], path: Path) -> Study:
 def _study(entries: Entries, path: Path) -> Study:
     start = entries.take("start", clock, Fraction(0))
     study = Study(entries.take("title", title, path.stem), entries.take("step", duration), start,
-                  _duration_of(entries, start), {}, {}, {}, [], [], [], [], [], [], path)
+                  _duration_of(entries, start), {}, {}, {}, [], [], [], [], [], [], [], path)
     if study.step == 0:
         raise Problem("step: must be above 0")
     times = Times(study)
@@ -73,9 +75,12 @@ def _study(entries: Entries, path: Path) -> Study:
     study.signals = [signal for table in entries.list("signals") for signal in _signals(table, times)]
     study.closures = [_closure(table, times) for table in entries.list("closures")]
     study.openings = [_opening(table, times) for table in entries.list("openings")]
+    study.remarks += entries.take("notes", list_of(title), [])
+    study.crossings = [crossing(table, times) for table in entries.list("junctions")]
     entries.done()
     if not study.roads and not study.gates:
         raise Problem("roads: is missing")
+    expand(study)
     return study
 
 

@@ -41,6 +41,7 @@ class Signals:
         self.records: list[str] = []
         self.remarks: dict[str, None] = {}
         self.lines: dict[str, list[tuple[Phases, str]]] = {}  # for each stop line the signals there so far
+        self.cycles: dict[str, int] = {}  # for each stop line of signals whose red is made of limits the longest cycle
         for signal in study.signals:
             self._put(signal)
 
@@ -53,6 +54,7 @@ class Signals:
         if phases.begin == 0 and phases.end >= self.scale.steps:
             self.records.append(f"signal,{cell},{phases.cycle},{-phases.first % phases.cycle},0,{phases.green}")
             return
+        self.cycles[cell] = max(phases.cycle, self.cycles.get(cell, 0))
         barrier = self._barrier(cell, signal)
         for begin, end in phases.reds():
             self.limits.add(barrier, Change(begin, end, signal.place, red=True))

@@ -53,4 +53,7 @@ class Times:
                           f"{self.clock(self.duration)}")
         if end <= begin:
             raise Problem(f"{end_key}: the end isn't after the start")
+        if end > self.duration:
+            self.remarks.append(f"{end_key}: {self.clock(end)} is behind the study's end, {self.clock(self.duration)}, "
+                                "and is cut there")
         return begin, end

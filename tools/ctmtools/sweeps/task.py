@@ -8,9 +8,12 @@ from fractions import Fraction
 from pathlib import Path
 from typing import Any
 
+import numpy
+
 from ..problem import Problem, one_line
 from ..report.queues import queues_in
 from ..report.reading import Report
+from ..report.travel import chain_of, trips
 from ..running import run
 from ..study.network_text import build
 from ..study.plan import Study
@@ -18,7 +21,8 @@ from ..study.reading import study_of
 from ..study.rounding import Rounding
 from .variations import changed
 
-MEASURES = ("delay_vehicle_hours", "longest_queue_km", "most_waiting_vehicles", "served_vehicles", "inside_vehicles")
+MEASURES = ("delay_vehicle_hours", "longest_queue_km", "most_waiting_vehicles", "served_vehicles", "inside_vehicles",
+            "travel_time_min")
 
 
 @dataclass(frozen=True)
@@ -36,14 +40,15 @@ def measure(task: Task) -> dict[str, Any]:
     """The measures of a task's run, by name, and what went wrong, which is an empty text where nothing did.
 
     Delay is in vehicle-hours, the longest queue in km of whole cells, most waiting are the vehicles that waited at once
-    in one queue, on roads and in gates, and the rest is in vehicles at the end.
+    in one queue, on roads and in gates, the travel time is the mean of the longest route from a gate, with the wait in it,
+    of those who have arrived, and the rest is in vehicles at the end.
     """
     try:
         if not Path(task.program).exists():
             raise Problem(f"there is no program {task.program} on this machine")
         built = build(study(task))
         _, report = run(built.text.encode(), "the built network", built.units, task.every, 1, task.program)
-        values = (report.units.hours(report.total.delay), *_greatest(report), report.total.left, report.total.inside)
+        values = (report.units.hours(report.total.delay), *_greatest(report), report.total.left, report.total.inside, _travel_time(report))
         return {**dict(zip(MEASURES, map(float, values))), "rounded": rounded(built.rounding), "error": ""}
     except Problem as problem:
         return failed(problem)
@@ -68,6 +73,12 @@ def _greatest(report: Report) -> tuple[float, float]:
     queues = queues_in(report)
     return (max((queue.longest_reach for queue in queues), default=0.0),
             max((queue.most for queue in queues), default=0.0))
+
+
+def _travel_time(report: Report) -> float:
+    """The mean travel time in minutes along the longest route, of those who have arrived; lacking where there are none."""
+    found = trips(report, chain_of(report))
+    return found.of(~numpy.isnan(found.steps)).mean * (report.units.step or 0) / 60
 
 
 def study(task: Task) -> Study:

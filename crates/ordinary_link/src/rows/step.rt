@@ -1,5 +1,5 @@
 ghost use Rattle.std.specs.Prelude.{◌≡◌, ℕ, ◌+◌, ◌-◌, ◌^◌, ◌<◌, ◌≤◌, false, length, slice_index, slice_index_or};
-ghost use Rattle.ordinary_link.specs.Waiting.{waited};
+ghost use Rattle.ordinary_link.specs.Waiting.{wait_after};
 
 use crate::rows::add::{add_lanes, add_rest};
 use crate::rows::hold::{hold_lanes, hold_rest};
@@ -27,12 +27,12 @@ pub fn step_row(
     requires comes { (i : ℕ) → i < length n.old → slice_index come.old i + slice_index enter.now i < 2 ^ 64 }
     requires goes { (i : ℕ) → i < length n.old → slice_index gone.old i + slice_index out.now i < 2 ^ 64 }
     requires waiting { (i : ℕ) → i < length n.old
-        → waited (slice_index wait.old i) (slice_index n.old i) (slice_index out.now i) (slice_index_or waits.now i false) < 2 ^ 64 }
+        → wait_after (slice_index wait.old i) (slice_index n.old i) (slice_index out.now i) (slice_index_or waits.now i false) < 2 ^ 64 }
     ensures held { (i : ℕ) → i < length n.new → slice_index n.new i ≡ slice_index n.old i + slice_index enter.now i - slice_index out.now i }
     ensures came { (i : ℕ) → i < length come.new → slice_index come.new i ≡ slice_index come.old i + slice_index enter.now i }
     ensures went { (i : ℕ) → i < length gone.new → slice_index gone.new i ≡ slice_index gone.old i + slice_index out.now i }
     ensures stayed { (i : ℕ) → i < length wait.new
-        → slice_index wait.new i ≡ waited (slice_index wait.old i) (slice_index n.old i) (slice_index out.now i) (slice_index_or waits.now i false) }
+        → slice_index wait.new i ≡ wait_after (slice_index wait.old i) (slice_index n.old i) (slice_index out.now i) (slice_index_or waits.now i false) }
     ensures n_len { length n.new ≡ length n.old }
     ensures come_len { length come.new ≡ length come.old }
     ensures gone_len { length gone.new ≡ length gone.old }

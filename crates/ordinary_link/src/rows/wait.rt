@@ -1,6 +1,6 @@
 ghost use Rattle.std.specs.Prelude.{◌≡◌, ℕ, ◌+◌, ◌^◌, ◌<◌, ◌≤◌, false, length, slice_index, slice_index_or};
 ghost use Rattle.ordinary_link.specs.Row.{Sets};
-ghost use Rattle.ordinary_link.specs.Waiting.{waited};
+ghost use Rattle.ordinary_link.specs.Waiting.{wait_after};
 
 use crate::rows::marks::mark_lanes;
 use std::simd::prelude::*;
@@ -13,9 +13,9 @@ pub(crate) fn wait_lanes(at: usize, n: &[u64], out: &[u64], waits: &[bool], wait
     requires room { at + 8 ≤ length wait.old }
     requires within { (i : ℕ) → at ≤ i → i < length wait.old → slice_index out.now i ≤ slice_index n.now i }
     requires sums { (i : ℕ) → at ≤ i → i < length wait.old
-        → waited (slice_index wait.old i) (slice_index n.now i) (slice_index out.now i) (slice_index_or waits.now i false) < 2 ^ 64 }
+        → wait_after (slice_index wait.old i) (slice_index n.now i) (slice_index out.now i) (slice_index_or waits.now i false) < 2 ^ 64 }
     ensures { Sets at (at + 8)
-        (λ i. waited (slice_index wait.old i) (slice_index n.now i) (slice_index out.now i) (slice_index_or waits.now i false))
+        (λ i. wait_after (slice_index wait.old i) (slice_index n.now i) (slice_index out.now i) (slice_index_or waits.now i false))
         wait.old wait.new }
 {
     let none = u64x8::splat(0);
@@ -32,9 +32,9 @@ pub(crate) fn wait_rest(at: usize, n: &[u64], out: &[u64], waits: &[bool], wait:
     requires waits_len { length waits.now ≡ length wait.old }
     requires within { (i : ℕ) → at ≤ i → i < length wait.old → slice_index out.now i ≤ slice_index n.now i }
     requires sums { (i : ℕ) → at ≤ i → i < length wait.old
-        → waited (slice_index wait.old i) (slice_index n.now i) (slice_index out.now i) (slice_index_or waits.now i false) < 2 ^ 64 }
+        → wait_after (slice_index wait.old i) (slice_index n.now i) (slice_index out.now i) (slice_index_or waits.now i false) < 2 ^ 64 }
     ensures { Sets at (length wait.old)
-        (λ i. waited (slice_index wait.old i) (slice_index n.now i) (slice_index out.now i) (slice_index_or waits.now i false))
+        (λ i. wait_after (slice_index wait.old i) (slice_index n.now i) (slice_index out.now i) (slice_index_or waits.now i false))
         wait.old wait.new }
 {
     for i in at..wait.len() {

@@ -1,5 +1,5 @@
 use Rattle.std.proofs.Common.{refl, ap, sym, subst, ◌∙◌, arith}
-use Rattle.connector_courses.specs.Courses.{AreInForce, limits_at, limits_by, limits_in}
+use Rattle.connector_courses.specs.Courses.{AreInForce, limits_of_courses, limits_by, limits_in}
 use Rattle.connector_courses.specs.Weights.{AreWeights}
 use Rattle.connector_courses.proofs.Bounding.{in_force-moved, limits-moved}
 use Rattle.connector_courses.proofs.connector_course.made_of.Goals as goal
@@ -28,7 +28,7 @@ unfolding limits_in
 returns c = record {
   rule_is = refl;
   limits = λ t before.
-      ap (λ courses. limits_at courses t) (c.in_ok-new.ensures.ok ∙ c.move_to-now.ensures.moved) ∙ limits-moved c.in_ok-courses.courses 0 t
+      ap (λ courses. limits_of_courses courses t) (c.in_ok-new.ensures.ok ∙ c.move_to-now.ensures.moved) ∙ limits-moved c.in_ok-courses.courses 0 t
       ∙ c.in_ok-courses.ensures.limits t ∙ ap (λ net. limits_by net.plan c.args.rule c.args.cells c.args.weights t) c.net.view_is;
   second = c.space_of-second_space.ensures;
   third = c.space_of-third_space.ensures;

@@ -1,5 +1,5 @@
 use Rattle.std.proofs.Common.{◌≡◌, ℕ, ◌<◌}
-use Rattle.flow_model.specs.Rows.{begun_row}
+use Rattle.flow_model.specs.Moves.{begun_row}
 use Rattle.flow_model.specs.State.{row_at}
 use Rattle.flow_model.proofs.step.begin.Given as goal
 

@@ -1,11 +1,11 @@
 use Rattle.std.specs.Prelude.{MatchOption, Option, Some, None}
 use Rattle.std.proofs.Common.{◌≡◌, ℕ, List, true, false, refl}
 use Rattle.network_file.specs.declared.connector.Connector.TheVariants.{Link, Merge, Diverge}
-use Rattle.place_rows.specs.Chains.{HasNoNext, IsNext, is_chained, is_link}
+use Rattle.place_rows.specs.Chains.{HasNoNext, IsNextAt, is_chained, is_link}
 use Rattle.place_rows.proofs.Links.{next-link, next-none, not_chained}
 use Rattle.place_rows.proofs.chain.chained.Goals as goal
 
-next : (cells : List ℕ) (up down : ℕ) (result : Option ℕ) → MatchOption result (HasNoNext cells up down) (IsNext cells up down) →
+next : (cells : List ℕ) (up down : ℕ) (result : Option ℕ) → MatchOption result (HasNoNext cells up down) (IsNextAt cells up down) →
     MatchOption result (is_chained cells (Link up down) ≡ false) (λ p. is_link cells p (Link up down) ≡ true)
 next cells up down None none = next-none cells up down none
 next cells up down (Some p) has = next-link cells up down p has

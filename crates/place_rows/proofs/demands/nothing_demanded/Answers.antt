@@ -3,14 +3,14 @@ use Rattle.std.proofs.Common.{◌≡◌, ℕ, ◌<◌, List, length, get_or, set
 use Rattle.std.proofs.lemmas.List.{get_or_default, take_all}
 use Rattle.std.proofs.lemmas.List.Elements.{All-more}
 use Rattle.timelines.specs.Courses.{value_at}
-use Rattle.place_rows.specs.Gates.{AreKept, asked}
+use Rattle.place_rows.specs.Gates.{AreGatesKept, asked}
 use Rattle.place_rows.specs.declared.gate_place.GatePlace.{GatePlace}
 use Rattle.place_rows.proofs.Ties.{kept-none, kept-set}
 use Rattle.place_rows.proofs.demands.nothing_demanded.Goals as goal
 
 -- one more of them is asked
-kept-asked : (t : ℕ) (first gates : List GatePlace) (m : ℕ) (gate d0 : GatePlace) → AreKept t first gates → m < length first → gate ≡ asked t (get_or gates m d0) →
-    AreKept t first (set gates m gate)
+kept-asked : (t : ℕ) (first gates : List GatePlace) (m : ℕ) (gate d0 : GatePlace) → AreGatesKept t first gates → m < length first → gate ≡ asked t (get_or gates m d0) →
+    AreGatesKept t first (set gates m gate)
 kept-asked t first gates m gate d0 kept within is =
     kept-set t first gates m gate kept within (λ d.
     let one = kept.each m d0 within in

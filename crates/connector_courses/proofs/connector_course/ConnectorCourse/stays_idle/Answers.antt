@@ -1,7 +1,7 @@
 use Rattle.std.specs.Option.{option_map}
 use Rattle.std.specs.Prelude.{Option, Some, None}
 use Rattle.std.proofs.Common.{◌≡◌, ◌≤◌, ◌+◌, ℕ, sym, ap, subst, ◌∙◌}
-use Rattle.connector_courses.specs.Courses.{AreInForce, AreKept, limits_at, limits_in}
+use Rattle.connector_courses.specs.Courses.{AreInForce, AreKept, limits_of_courses, limits_in}
 use Rattle.connector_courses.specs.Flows.{flow_at, limits_of}
 use Rattle.connector_courses.specs.Weights.{weights_at}
 use Rattle.connector_courses.specs.declared.courses.Courses.{Courses}
@@ -32,9 +32,9 @@ least-requires-clause-now c =
 pub returns-in-Some : goal.returns-in-Some
 returns-in-Some c = λ yes s.
     let courses : Courses = c.in-Some.courses.value in
-    let least : c.least.result ≤ (limits_at courses s).weights.0 + (limits_at courses s).weights.1 =
+    let least : c.least.result ≤ (limits_of_courses courses s).weights.0 + (limits_of_courses courses s).weights.1 =
     rw (weights-of courses s) (rw c.deref.ensures at (c.least.ensures s)) in
     let some : c.args.self.now.courses ≡ Some courses =
     sym (ap (λ course. course.courses) c.self.view_is) ∙ ap (option_map (λ own. own.value)) c.in-Some.is in
     flow-some c.args.self.now courses s c.args.n some
-    ∙ rw (ap (λ one. one.rule) c.self.view_is) at (c.sends_nothing.ensures yes (limits_at courses s) c.args.self.now.second_space c.args.self.now.third_space least)
+    ∙ rw (ap (λ one. one.rule) c.self.view_is) at (c.sends_nothing.ensures yes (limits_of_courses courses s) c.args.self.now.second_space c.args.self.now.third_space least)

@@ -1,5 +1,5 @@
 use Rattle.std.proofs.Common.{ap, ◌≡◌, ◌<◌, ◌≤◌, ◌^◌, ℕ, ◌+◌, ◌-◌, ◌∙◌, Bool, true, false, if◌then◌else◌, List, length, arith, slice_index, slice_index_or}
-use Rattle.ordinary_link.specs.Waiting.{waited}
+use Rattle.ordinary_link.specs.Waiting.{wait_after}
 use Rattle.ordinary_link.proofs.Places.{Sets-stored}
 use Rattle.ordinary_link.proofs.Lanes.{loaded, length-loaded, slice_index-loaded}
 use Rattle.ordinary_link.proofs.MarkLanes.{where_set, length-where_set, slice_index-where_set}
@@ -10,16 +10,16 @@ use Rattle.ordinary_link.proofs.rows.wait.wait_lanes.Goals as goal
 abbrev next : ℕ → List ℕ → List ℕ → List ℕ → List ℕ → List ℕ
 next at wait n out marks = added (loaded at wait) (where_set marks (taken_off (loaded at n) (loaded at out)))
 
-waited_is : (wait n out more : ℕ) (waits : Bool) → out ≤ n → more ≡ (if waits then n - out else 0) → wait + more ≡ waited wait n out waits
+waited_is : (wait n out more : ℕ) (waits : Bool) → out ≤ n → more ≡ (if waits then n - out else 0) → wait + more ≡ wait_after wait n out waits
 waited_is wait n out more true within is = omega arith
 waited_is wait n out more false within is = omega arith
 
 lane : (at : ℕ) (wait n out marks : List ℕ) (k : ℕ) (waits : Bool) → at + 8 ≤ length wait → length n ≡ length wait → length out ≡ length wait
     → length marks ≡ 8 → k < 8 → slice_index marks k ≡ (if waits then 1 else 0)
     → slice_index out (at + k) ≤ slice_index n (at + k) → slice_index n (at + k) < 2 ^ 64
-    → waited (slice_index wait (at + k)) (slice_index n (at + k)) (slice_index out (at + k)) waits < 2 ^ 64
+    → wait_after (slice_index wait (at + k)) (slice_index n (at + k)) (slice_index out (at + k)) waits < 2 ^ 64
     → slice_index (next at wait n out marks) k
-    ≡ waited (slice_index wait (at + k)) (slice_index n (at + k)) (slice_index out (at + k)) waits
+    ≡ wait_after (slice_index wait (at + k)) (slice_index n (at + k)) (slice_index out (at + k)) waits
 lane at wait n out marks k waits room n_len out_len m8 lt mark within small fits =
     let wait8 = length-loaded at wait room in
     let n8 = length-loaded at n (omega arith) in

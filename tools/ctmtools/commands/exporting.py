@@ -1,0 +1,48 @@
+"""ctm-tools export"""
+
+from __future__ import annotations
+
+import json
+from pathlib import Path
+
+import click
+
+from ..files import write
+from ..problem import Problem
+from ..report.reading import read_report
+from .importing import seconds
+from .reports import on_reports
+
+EPILOG = """\b
+Examples:
+  ctm-tools export geojson bottleneck.report -o bottleneck.geojson
+  ctm-tools export geojson bottleneck.report --every "15 min" -o quarters.geojson"""
+
+
+@click.group("export", epilog=EPILOG)
+def command() -> None:
+    """Write a report in the format of another program."""
+
+
+@command.command("geojson", epilog="""\b
+Example:
+  ctm-tools export geojson bottleneck.report --every "15 min" -o quarters.geojson
+
+A line for each cell, with its road, kilometres and lanes, the vehicles that went out of it and its delay. With --every a
+line for each cell and each such time, with flow, density, speed and delay, and begin and end, by which QGIS's temporal
+controller shows them one after the other. Coordinates are those of the study's points, in metres; a schematic map is in
+kilometres.""")
+@click.argument("report", metavar="REPORT", type=click.Path())
+@click.option("-o", "--output", metavar="FILE.geojson", type=click.Path(), help="Where it goes.")
+@click.option("--every", metavar="TIME", help="The state in each such time, as \"15 min\"; it needs records.")
+@on_reports
+def geojson(report: str, output: str | None, every: str | None, units: str | None, network: str | None) -> None:
+    """Write the cells with their flow, density and delay as GeoJSON, for QGIS."""
+    from ..exports.geojson import collection
+
+    target = output or Path(report).stem + ".geojson"
+    if Path(target).suffix.lower() not in (".geojson", ".json"):
+        raise Problem(f"{target}: its name ends with .geojson or .json")
+    made = collection(read_report(report, units, network), seconds(every, "--every") if every else None)
+    write(target, json.dumps(made) + "\n")
+    click.echo(f"{target}: {len(made['features']):,} lines")

@@ -1,0 +1,110 @@
+"""ctm-tools import"""
+
+from __future__ import annotations
+
+from pathlib import Path
+
+import click
+
+from ..files import write
+from ..imports.streets import Streets
+from ..imports.study_file import Terms, study_text
+from ..imports.traffic import traffic_of
+from ..problem import Problem
+from ..study.quantities import clock, duration
+
+EPILOG = """\b
+Examples:
+  ctm-tools import sumo town.net.xml --routes town.rou.xml -o town.toml
+  ctm-tools import sumo town.net.xml --routes cars.rou.xml --routes lorries.rou.xml --until "1 h" --step 2
+
+What can't be kept is told, and stands in the study's notes, which `build` and `run` tell too. A network of OpenStreetMap
+comes by SUMO's netconvert: netconvert --osm-files town.osm -o town.net.xml."""
+
+
+@click.group("import", epilog=EPILOG)
+def command() -> None:
+    """Make a study of another program's network."""
+
+
+@command.command("sumo", epilog="""\b
+Example:
+  ctm-tools import sumo town.net.xml --routes town.rou.xml --until "1 h" -o town.toml
+
+Edges with the lanes for cars, connections, fixed-time signals; of the route files vehicles, trips and flows, which give
+demand and turning shares by --interval. Streets on which nobody drives are left out.""")
+@click.argument("network", metavar="NET.net.xml", type=click.Path())
+@click.option("--routes", metavar="FILE.rou.xml", type=click.Path(), multiple=True,
+              help="A file of vehicles, trips or flows; may be given again.")
+@click.option("-o", "--output", metavar="STUDY.toml", type=click.Path(), help="Where the study goes.")
+@click.option("--step", default="2 s", show_default=True, metavar="TIME", help="The length of a step.")
+@click.option("--start", default="00:00", show_default=True, metavar="TIME", help="The clock time of SUMO's second 0.")
+@click.option("--until", default="1 h", show_default=True, metavar="TIME", help="Until when vehicles come.")
+@click.option("--after", default="30 min", show_default=True, metavar="TIME", help="How long the study goes on then.")
+@click.option("--interval", default="15 min", show_default=True, metavar="TIME",
+              help="The spans by which demand and shares change.")
+@click.option("--headway", default=1.4, show_default=True, metavar="SECONDS", type=click.FloatRange(0.5, 5),
+              help="Between two vehicles that follow each other; with 7.5 m a vehicle it gives each lane's capacity.")
+def sumo(network: str, routes: tuple[str, ...], output: str | None, step: str, start: str, until: str, after: str,
+         interval: str, headway: float) -> None:
+    """Make a study of a network of SUMO, and of its routes."""
+    from ..imports.sumo import read_network
+    from ..imports.sumo_trips import read_trips
+
+    clock(start, "--start")
+    times = {name: seconds(text, name) for name, text in (("--step", step), ("--until", until), ("--interval", interval))}
+    found = read_network(network)
+    for path in routes:
+        read_trips(found, path, times["--until"])
+    if routes and not found.trips:
+        raise Problem(f"{routes[0]}: no vehicle comes in the first {until}")
+    lasting = times["--until"] + seconds(after, "--after", least=0)
+    terms = Terms(times["--step"], start, lasting, headway=headway)
+    put(found, terms, times["--interval"], times["--until"], output or Path(network).name.split(".")[0] + ".toml")
+
+
+def seconds(text: str, key: str, least: float = 0.1) -> float:
+    """A length of time in seconds; a bare number is of seconds."""
+    try:
+        found = float(text)
+    except ValueError:
+        found = float(duration(text, key))
+    if found < least:
+        raise Problem(f"{key}: must be {least:g} s or more")
+    return found
+
+
+def put(found: Streets, terms: Terms, interval: float, until: float, target: str) -> None:
+    """Writes the study, and tells what is in it and what isn't kept."""
+    if Path(target).suffix.lower() != ".toml":
+        raise Problem(f"{target}: a study's name ends with .toml")
+    traffic = traffic_of(found, interval, until)
+    text = study_text(found, traffic, terms)
+    write(target, text)
+    vehicles = sum(trip.vehicles for trip in found.trips)
+    click.echo(f"{target}: {len(traffic.streets)} streets, {len(found.programs)} signals, {vehicles:,.6g} vehicles")
+    for line in text.split("notes = [", 1)[1].split("\n]", 1)[0].splitlines()[1:] if "notes = [" in text else []:
+        click.echo(f"  {line.strip()[1:-2]}")
+
+
+@command.command("gmns", epilog="""\b
+Example:
+  ctm-tools import gmns town -o town.toml
+
+Of the folder are read node.csv, link.csv, movement.csv, signal_timing_plan.csv, signal_timing_phase.csv,
+signal_phase_mvmt.csv, signal_coordination.csv and the units of config.csv (else km and km/h). Demand is no part of GMNS: it
+comes from demand.csv with the columns link_id, start, end (s) and flow (vehicles/h), turning shares from a column `share`
+of movement.csv, else by lanes.""")
+@click.argument("folder", metavar="FOLDER", type=click.Path())
+@click.option("-o", "--output", metavar="STUDY.toml", type=click.Path(), help="Where the study goes.")
+@click.option("--step", default="2 s", show_default=True, metavar="TIME", help="The length of a step.")
+@click.option("--start", default="00:00", show_default=True, metavar="TIME", help="The clock time of second 0.")
+@click.option("--until", default="1 h", show_default=True, metavar="TIME", help="How long the study is.")
+def gmns(folder: str, output: str | None, step: str, start: str, until: str) -> None:
+    """Make a study of a network in GMNS, a folder of CSV files."""
+    from ..imports.gmns import read_folder
+
+    clock(start, "--start")
+    lasting = seconds(until, "--until")
+    found = read_folder(folder)
+    put(found, Terms(seconds(step, "--step"), start, lasting), lasting, lasting, output or found.title + ".toml")

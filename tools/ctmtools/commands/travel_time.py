@@ -1,0 +1,95 @@
+"""ctm-tools travel-time"""
+
+from __future__ import annotations
+
+import click
+import pandas
+
+from ..files import write
+from ..problem import Problem
+from ..report.page import table, told, where
+from ..report.reading import Report, read_report
+from ..report.travel import chain_of, travel_times
+from ..study.quantities import duration
+from .reports import on_reports
+
+EPILOG = """\b
+Examples:
+  ctm-tools travel-time bottleneck.report
+  ctm-tools travel-time bottleneck.report --road m --every "15 min"
+  ctm-tools travel-time bottleneck.report --from m.0 --to m.5 --every "15 min" --plot travel.png
+
+A place is ROAD.KM, the nearest boundary of cells; or a gate, with the wait in it, or an exit. The way between two
+places is that of the fewest cells. In a row are those who set out in its time: how many, and the mean, the least and
+the most time that they need. Columns of the CSV: entered, vehicles, mean, least, most, free, delay (min), speed (km/h),
+step; where the units aren't known, places are cells and times are steps."""
+
+
+@click.command("travel-time", epilog=EPILOG)
+@click.argument("report", metavar="REPORT", type=click.Path())
+@click.option("--road", metavar="ROAD", help="The road from its beginning to its end; else the longest route.")
+@click.option("--from", "begin", metavar="PLACE", help="Where the route begins.")
+@click.option("--to", "end", metavar="PLACE", help="Where it ends.")
+@click.option("--every", metavar="TIME", help="A row for each such time, as \"15 min\"; else one for all.")
+@click.option("-o", "--output", metavar="FILE.csv", type=click.Path(), help="Write the rows there.")
+@click.option("--plot", "picture", metavar="FILE.png|svg|pdf", type=click.Path(),
+              help="Draw the travel time of each who sets out, over time.")
+@on_reports
+def command(report: str, road: str | None, begin: str | None, end: str | None, every: str | None, output: str | None,
+            picture: str | None, units: str | None, network: str | None) -> None:
+    """Tell the travel times along a road or a route, by the time of setting out.
+
+    They come from the curves of arrival and departure, since who comes first leaves first. With each step recorded
+    they are exact for the model.
+    """
+    read = read_report(report, units, network)
+    cells = chain_of(read, begin, end, road)
+    frame = travel_times(read, cells, _seconds(read, every))
+    for line in told_times(read, cells, frame):
+        click.echo(line)
+    if output:
+        write(output, frame.to_csv(index=False, float_format="%.6g"))
+    if picture:
+        from ..plots.figure import save, target
+        from ..plots.travel import draw
+
+        save(draw(read, begin, end, road), target(read, "travel-time", picture))
+        click.echo(f"\n{picture}")
+
+
+def _seconds(report: Report, every: str | None) -> float | None:
+    """The length of a row in seconds, or in steps where the units aren't known."""
+    if every is None:
+        return None
+    try:
+        bare = float(every)
+    except ValueError:
+        if not report.units.known:
+            raise Problem(f"--every {every}: the units aren't known, so say a number of steps") from None
+        bare = float(duration(every, "--every"))
+    if bare < (report.units.step or 1):
+        raise Problem(f"--every {every}: must be a step or more")
+    return bare
+
+
+def told_times(report: Report, cells: list[str], frame: pandas.DataFrame) -> list[str]:
+    """The rows of travel times, below a line on the way."""
+    unit = frame.attrs["units"]["mean"]
+    head = f"{report.title}: from {where(report, cells[0], True)} to {where(report, cells[-1])}"
+    if frame.empty:
+        return [head, "", "Nobody sets out there."]
+    rows: list[tuple[str, ...]] = [("set out from", "vehicles", f"mean, {unit}", "least", "most", "km/h")]
+    for row in frame.itertuples():
+        clock = report.units.clock(row.step) if report.units.known else f"{row.step:g}"
+        rows.append((clock, told(row.vehicles), *map(_figure, (row.mean, row.least, row.most, row.speed))))
+    free = f"{told(frame['free'].iloc[0])} {unit} at free flow, {len(cells)} steps"
+    return [f"{head}, {free}", "", *table(rows, right=range(1, 6))] + _late(frame)
+
+
+def _figure(value: float) -> str:
+    return told(value) if value == value else "-"
+
+
+def _late(frame: pandas.DataFrame) -> list[str]:
+    late = int(frame["mean"].isna().sum())
+    return [f"  - where not all have arrived by the end, in {late} row{'s'[:late > 1]}"] if late else []

@@ -1,0 +1,1 @@
+"""Networks of other programs as studies: what is read of their files, and the study that is written of it."""

@@ -1,0 +1,367 @@
+"""The study that a street network of another program becomes, as TOML."""
+
+from __future__ import annotations
+
+import re
+from collections.abc import Iterator, Sequence
+from dataclasses import dataclass
+from math import floor
+
+import networkx
+
+from ..study.rounding import told
+from .streets import Movement, Street, Streets, Way
+from .traffic import EXIT, GATE, Traffic
+
+LONGEST_NAME = 12  # letters, so that a movement's cell has a name that a network file allows
+CHANGED = 0.01  # shares of a span that differ by less are those of the whole time
+MOST_ARMS = 16
+
+
+@dataclass(frozen=True)
+class Terms:
+    """What a study needs beside the network: seconds of a step, the clock time of 0, the time, and the lanes' terms.
+
+    `gap` are the metres of a standing vehicle, `headway` the seconds between two that follow each other.
+    """
+
+    step: float
+    start: str
+    duration: float
+    gap: float = 7.5
+    headway: float = 1.4
+
+    @property
+    def wave(self) -> float:
+        """The wave speed in km/h."""
+        return self.gap / self.headway * 3.6
+
+    def saturation(self, speed: float) -> float:
+        """The vehicles/h that a lane passes at a speed in km/h, just below the top of the triangle of flow and density."""
+        return floor(3600 / (self.headway + self.gap / (speed / 3.6))) - 1
+
+
+def study_text(found: Streets, traffic: Traffic, terms: Terms) -> str:
+    """The text of the study file."""
+    return "\n".join(Writer(found, traffic, terms).lines()) + "\n"
+
+
+class Writer:
+    """Writes the study: streets that follow each other as one road, and what joins roads at the nodes."""
+
+    def __init__(self, found: Streets, traffic: Traffic, terms: Terms) -> None:
+        self.found, self.traffic, self.terms = found, traffic, terms
+        self.into: dict[str, list[str]] = {}
+        self.out_of: dict[str, list[str]] = {}
+        for one, two in traffic.ways():
+            self.out_of.setdefault(one, []).append(two)
+            self.into.setdefault(two, []).append(one)
+        self.joints = self._joints()
+        self.chains = self._chains()
+        self.names = self._names()
+
+    def lines(self) -> Iterator[str]:
+        """The lines of the study."""
+        terms, notes = self.terms, self._notes()
+        yield f"# Made by ctm-tools import of {self.found.title}."
+        yield f"title = {quoted(self.found.title)}"
+        yield f"step = {terms.step:g}  # s"
+        yield f"start = {quoted(terms.start)}"
+        yield f"duration = {terms.duration:g}  # s"
+        if notes:
+            yield "notes = [  # what of the network isn't kept"
+            yield from (f"  {quoted(note)}," for note in notes)
+            yield "]"
+        yield ""
+        yield "[lane]"
+        yield f"wave_speed = {terms.wave:.6g}  # km/h"
+        yield f"jam_density = {1000 / terms.gap:.6g}  # vehicles/km"
+        yield ""
+        for chain in self.chains:
+            yield from self._road(chain)
+        yield from self._ends()
+        for comes, leaves in self.joints:
+            yield from self._node(comes, leaves)
+
+    def _joints(self) -> list[tuple[list[str], list[str]]]:
+        """What comes and what leaves where movements meet or part, in the order of the network."""
+        graph = networkx.Graph()
+        graph.add_edges_from(((one, "comes"), (two, "leaves")) for one, two in self.traffic.ways())
+        found = []
+        for arms in networkx.connected_components(graph):
+            own = [arm for arm in graph if arm in arms]
+            found.append(([arm for arm, side in own if side == "comes"], [arm for arm, side in own if side == "leaves"]))
+        return found
+
+    def _signalled(self, street: str) -> bool:
+        return street in self.found.streets and self.found.streets[street].end in self.found.programs
+
+    def _follows(self, street: str) -> str | None:
+        """The street that goes on where one ends, where nothing else comes there or leaves."""
+        ways = self.out_of.get(street, [])
+        if len(ways) != 1 or ways[0].startswith(EXIT) or self._signalled(street):
+            return None
+        return ways[0] if self.into[ways[0]] == [street] else None
+
+    def _chains(self) -> list[list[str]]:
+        """The streets as chains that are roads, in the order of their first ones."""
+        behind = {self._follows(street): street for street in self.traffic.streets}
+        chains: list[list[str]] = []
+        seen: set[str] = set()
+        starts = [street for street in self.traffic.streets if street not in behind]
+        for start in [*starts, *self.traffic.streets]:
+            if start in seen:
+                continue
+            chain = [start]
+            seen.add(start)
+            following = self._follows(start)
+            while following is not None and following not in seen:
+                chain.append(following)
+                seen.add(following)
+                following = self._follows(following)
+            chains.append(chain)
+        return chains
+
+    def _names(self) -> dict[str, str]:
+        """The names of roads, gates and exits in the study: for a chain's first and last street that of its road."""
+        names: dict[str, str] = {}
+        taken: set[str] = set()
+        for number, chain in enumerate(self.chains, 1):
+            name = re.sub(r"[^A-Za-z0-9_-]", "_", chain[0])
+            if len(name) > LONGEST_NAME or name in taken:
+                name = f"r{number}"
+            taken.add(name)
+            for street in chain:
+                names[street] = name
+                names[GATE + street], names[EXIT + street] = f"in-{name}", f"out-{name}"
+        return names
+
+    def _road(self, chain: Sequence[str]) -> Iterator[str]:
+        streets = [self.found.streets[street] for street in chain]
+        if list(chain) != [self.names[chain[0]]]:
+            yield f"# {', '.join(chain[:8])}{f' and {len(chain) - 8} more' if len(chain) > 8 else ''}"
+        yield f"[roads.{quoted(self.names[chain[0]])}]"
+        yield f"length = {sum(street.length for street in streets):.6g}  # km"
+        points = [point for street in streets for point in street.points]
+        if len(points) > 1:
+            kept = [point for i, point in enumerate(points) if not i or point != points[i - 1]]
+            yield f"points = [{', '.join(f'[{x:.4g}, {y:.4g}]' for x, y in kept)}]"
+        sections = list(self._sections(streets))
+        if len(sections) == 1:
+            yield from (f"{key} = {value}" for key, value in self._lane(streets[0]))
+        else:
+            yield "sections = ["
+            for start, street in sections:
+                lane = ", ".join(f"{key} = {value}" for key, value in self._lane(street))
+                yield f"  {{ from = {start:.6g}, {lane} }},"
+            yield "]"
+        yield ""
+
+    @staticmethod
+    def _sections(streets: Sequence[Street]) -> Iterator[tuple[float, Street]]:
+        """Where on a road the lanes or the speed change."""
+        start, last = 0.0, None
+        for street in streets:
+            terms = street.lanes, round(street.speed, 3), street.capacity
+            if terms != last:
+                yield start, street
+            last = terms
+            start += street.length
+
+    def _lane(self, street: Street) -> Iterator[tuple[str, str]]:
+        each = street.capacity / street.lanes if street.capacity else self.terms.saturation(street.speed)
+        yield "lanes", str(street.lanes)
+        yield "free_flow_speed", f"{street.speed:.6g}"
+        yield "saturation_flow", f"{each:.6g}"
+
+    def _ends(self) -> Iterator[str]:
+        """The gates with their demand, and the exits."""
+        hour = 3600 / self.traffic.interval
+        for street in self.traffic.streets:
+            if (GATE + street, street) not in self.traffic.moved:
+                continue
+            yield f"[gates.{quoted(self.names[GATE + street])}]"
+            if self.into[street] == [GATE + street]:
+                yield f"into = {quoted(self.names[street])}"
+            else:
+                yield f"capacity = {self._capacity(street):.6g}"
+            rows = self.found.gates.get(street, []) if not self.found.trips else [
+                (span * self.traffic.interval, min((span + 1) * self.traffic.interval, self.terms.duration), vehicles *
+                 hour) for span, vehicles in enumerate(self.traffic.demand(street))]
+            yield f"demand = [{', '.join(self._demand(row) for row in rows if row[2] > 0 and row[0] < row[1])}]"
+            yield ""
+        for street in self.traffic.streets:
+            if (street, EXIT + street) in self.traffic.moved:
+                yield f"[exits.{quoted(self.names[EXIT + street])}]"
+                if self.out_of[street] == [EXIT + street]:
+                    yield f"from = {quoted(self.names[street])}"
+                else:
+                    yield f"capacity = {self._capacity(street):.6g}"
+                yield ""
+
+    def _capacity(self, street: str) -> float:
+        found = self.found.streets[street]
+        return found.capacity or found.lanes * self.terms.saturation(found.speed)
+
+    def _demand(self, row: tuple[float, float, float]) -> str:
+        return f"{{ start = {self._clock(row[0])}, end = {self._clock(row[1])}, flow = {row[2]:.6g} }}"
+
+    def _clock(self, seconds: float) -> str:
+        hours, minutes = map(int, self.terms.start.split(":")[:2])
+        whole = hours * 3600 + minutes * 60 + round(seconds)
+        return quoted(f"{whole // 3600:02d}:{whole // 60 % 60:02d}:{whole % 60:02d}")
+
+    def _node(self, comes: list[str], leaves: list[str]) -> Iterator[str]:
+        """What joins roads, gates and exits at a node: nothing, a merge, a diverge or a junction."""
+        signal = any(self._signalled(street) for street in comes)
+        if len(comes) == len(leaves) == 1:
+            yield from self._straight(comes[0], leaves[0])
+            return
+        if not signal and len(leaves) == 1 and len(comes) == 2:
+            yield "[[merges]]"
+            yield f"from = {self._named(comes)}"
+            yield f"into = {quoted(self.names[leaves[0]])}"
+            yield f"priorities = [{', '.join(f'{self._way((one, leaves[0])).priority:g}' for one in comes)}]"
+            yield ""
+        elif not signal and len(comes) == 1 and len(leaves) == 2:
+            yield "[[diverges]]"
+            yield f"from = {quoted(self.names[comes[0]])}"
+            yield f"into = {self._named(leaves)}"
+            yield from self._shares(comes, leaves, single=True)
+            yield ""
+        else:
+            yield from self._junction(comes, leaves, signal)
+
+    def _straight(self, one: str, two: str) -> Iterator[str]:
+        """A link from a street to the one into which all drive, with the signal between them."""
+        if GATE + two == one or EXIT + one == two or not any(chain[0] == two for chain in self.chains):
+            return  # a gate, an exit, or a road that goes on
+        yield "[[links]]"
+        yield f"from = {quoted(self.names[one])}"
+        yield f"into = {quoted(self.names[two])}"
+        yield ""
+        if self._dark((one, two)):
+            yield from self._closed(self.names[one], 0.999 * sum(self.found.streets[street].length for street in
+                                    next(chain for chain in self.chains if one in chain)))
+        elif self._signalled(one):
+            program = self.found.programs[self.found.streets[one].end]
+            (start, green), _ = self._phases([(one, two)], program.cycle)[0]
+            yield "[[signals]]"
+            yield f"road = {quoted(self.names[one])}"
+            yield f"cycle = {program.cycle:g}"
+            yield f"green = {green:g}"
+            yield f"first_green = {(program.offset + start) % program.cycle:g}"
+            yield ""
+
+    def _dark(self, way: Movement) -> bool:
+        """Whether a movement at a signal is green in no phase."""
+        return self._signalled(way[0]) and way in self.found.ways and not self.found.ways[way].green
+
+    @staticmethod
+    def _closed(road: str, kilometre: float) -> Iterator[str]:
+        """A road, or its end, that nobody passes."""
+        yield from ["[[closures]]  # never green", f"road = {quoted(road)}", f"from = {kilometre:.6g}", "capacity = 0", ""]
+
+    def _named(self, arms: Sequence[str]) -> str:
+        return f"[{', '.join(quoted(self.names[arm]) for arm in arms)}]"
+
+    def _way(self, movement: Movement) -> Way:
+        """A movement between streets; that of a gate or an exit is as wide as its street."""
+        street = movement[1] if movement[0].startswith(GATE) else movement[0]
+        return self.found.ways.get(movement) or Way(self.found.streets[street].lanes, 1)
+
+    def _junction(self, comes: list[str], leaves: list[str], signal: bool) -> Iterator[str]:
+        ways = [[(one, two) if two in self.out_of.get(one, []) else None for two in leaves] for one in comes]
+        yield "[[junctions]]"
+        yield f"from = {self._named(comes)}"
+        yield f"into = {self._named(leaves)}"
+        yield f"lanes = {_matrix([[self._way(way).lanes if way else 0 for way in row] for row in ways])}"
+        yield f"priorities = {_matrix([[self._way(way).priority if way else 0 for way in row] for row in ways])}"
+        yield from self._shares(comes, leaves)
+        if signal:
+            node = next(self.found.streets[one].end for one in comes if one in self.found.streets)
+            program = self.found.programs[node]
+            yield f"cycle = {program.cycle:g}"
+            yield f"offset = {program.offset:g}"
+            phases = [f"  {{ start = {start:g}, green = {green:g}, movements = ["
+                      f"{', '.join(self._named(way) for way in own)}] }}," for (start, green), own in
+                      self._phases([way for row in ways for way in row if way], program.cycle)]
+            yield from ["phases = [", *phases, "]"]
+        yield ""
+        for one, two in (way for row in ways for way in row if way and self._dark(way)):
+            yield from self._closed(f"{self.names[one]}-{self.names[two]}", 0)
+
+    def _phases(self, ways: Sequence[Movement], cycle: float) -> list[tuple[tuple[float, float], list[Movement]]]:
+        """The greens of a node, each from when on, for how long, and the movements that have it."""
+        greens: dict[tuple[float, float], list[Movement]] = {}
+        for way in ways:
+            spans = self._way(way).green or [(0.0, cycle)]
+            start, end = max(spans, key=lambda span: span[1] - span[0])
+            greens.setdefault((start % cycle, min(end - start, cycle)), []).append(way)
+        return sorted(greens.items())
+
+    def _shares(self, comes: list[str], leaves: list[str], single: bool = False) -> Iterator[str]:
+        """The shares of the whole time, and those of the spans in which they differ."""
+        moved = self.traffic.moved
+        whole = [[sum(moved.get((one, two), [])) for two in leaves] for one in comes]
+        yield f"shares = {_numbers(whole[0]) if single else _matrix(_parts(whole))}"
+        rows = []
+        for span in range(self.traffic.spans if self.traffic.spans > 1 else 0):
+            here = [[moved[one, two][span] if (one, two) in moved else 0.0 for two in leaves] for one in comes]
+            own = [row if sum(row) > 0 else all_ for row, all_ in zip(here, whole)]
+            begin, end = (time * self.traffic.interval for time in (span, span + 1))
+            if begin < self.terms.duration and any(_differ(row, all_) for row, all_ in zip(own, whole)):
+                shares = _numbers(own[0]) if single else _matrix(_parts(own))
+                ends = f"start = {self._clock(begin)}, end = {self._clock(min(end, self.terms.duration))}"
+                rows.append(f"  {{ {ends}, shares = {shares} }},")
+        if rows:
+            yield from ["turns = [", *rows, "]"]
+
+    def _notes(self) -> list[str]:
+        """What isn't kept: that of the network, and what is in the making of the study."""
+        notes = [*self.found.notes, "vehicles have no routes of their own: at each junction they turn by the shares of "
+                 "those who drive there in each span"]
+        left = len(self.found.streets) - len(self.traffic.streets)
+        if left:
+            notes.append(f"{left} of {len(self.found.streets)} streets, on which nobody drives, are left out")
+        split = [way for way in self.traffic.ways() if way in self.found.ways and len(self.found.ways[way].green) > 1]
+        if split:
+            notes.append(f"{len(split)} movements are green several times in a cycle, as {split[0][0]} to {split[0][1]}; "
+                         "the longest of them is kept")
+        dark = [way for way in self.traffic.ways() if self._dark(way)]
+        if dark:
+            notes.append(f"{len(dark)} movements at signals are never green in their program, as {dark[0][0]} to "
+                         f"{dark[0][1]}; they are closed, and hold up all behind them")
+        short = [street for chain in self.chains for street in [chain] if sum(self.found.streets[one].length
+                 for one in street) < self._cell(chain[0]) / 2]
+        if short:
+            notes.append(f"{len(short)} roads are shorter than half a cell and become one, as "
+                         f"{told(sum(self.found.streets[one].length for one in short[0]) * 1000)} m at {short[0][0]}")
+        return notes
+
+    def _cell(self, street: str) -> float:
+        return self.found.streets[street].speed * self.terms.step / 3600
+
+
+def _parts(rows: Sequence[Sequence[float]]) -> list[list[float]]:
+    """Shares of each approach, of 100."""
+    return [[100 * value / (sum(row) or 1) for value in row] for row in rows]
+
+
+def _differ(row: Sequence[float], whole: Sequence[float]) -> bool:
+    pairs = zip(_parts([row])[0], _parts([whole])[0])
+    return any(abs(one - two) > 100 * CHANGED for one, two in pairs)
+
+
+def _numbers(row: Sequence[float]) -> str:
+    return f"[{', '.join(f'{value:.6g}' for value in row)}]"
+
+
+def _matrix(rows: Sequence[Sequence[float]]) -> str:
+    return f"[{', '.join(map(_numbers, rows))}]"
+
+
+def quoted(text: str) -> str:
+    """A text of TOML."""
+    escaped = text.replace("\\", "\\\\").replace('"', '\\"')
+    return '"' + "".join(letter if letter.isprintable() else " " for letter in escaped) + '"'

@@ -1,0 +1,207 @@
+"""Travel times along a chain of cells, from the curves of arrival and departure of each cell.
+
+A cell is left in the order in which it was entered, so who enters as the N-th leaves it when N have left. Where each
+step is recorded this is exact for the model; between recorded steps flows are taken as even.
+"""
+
+from __future__ import annotations
+
+from collections.abc import Sequence
+from dataclasses import dataclass
+
+import networkx
+import numpy
+import pandas
+
+from ..problem import Problem
+from .reading import Report
+from .routes import main_route, road_of
+from .states import times
+
+LEAST = 0.01  # vehicles; a recorded step in which fewer enter counts for nothing
+DUST = 1e-6  # vehicles, a part: what rounding may leave
+
+Numbers = numpy.ndarray
+
+
+@dataclass(frozen=True)
+class Trips:
+    """Who enters a chain of cells: how many at which step, and the steps that they need, lacking where they don't arrive."""
+
+    entered: Numbers
+    vehicles: Numbers
+    steps: Numbers
+
+    def of(self, chosen: Numbers) -> Trips:
+        """Those of them that are chosen."""
+        return Trips(self.entered[chosen], self.vehicles[chosen], self.steps[chosen])
+
+    @property
+    def mean(self) -> float:
+        """The mean of the steps over the vehicles; lacking where there are none, or not all arrive."""
+        if not len(self.vehicles) or numpy.isnan(self.steps).any():
+            return float("nan")
+        return float((self.vehicles * self.steps).sum() / self.vehicles.sum())
+
+
+def trips(report: Report, cells: Sequence[str]) -> Trips:
+    """The vehicles that enter the first of the cells, those of each recorded step together, followed to the last one.
+
+    Where cells have merges and diverges between them, who is followed takes the way of the chain.
+    """
+    report.need_records()
+    recorded = numpy.asarray(report.times, dtype=float)
+    arrivals = _arrivals(report, cells[0])
+    vehicles = numpy.diff(arrivals)
+    entered = (recorded[:-1] + recorded[1:]) / 2
+    enough = vehicles >= LEAST
+    entered, vehicles = entered[enough], vehicles[enough]
+    moments = entered
+    for cell in cells:
+        moments = _left(report, cell, moments)
+    return Trips(entered, vehicles, moments - entered)
+
+
+def _arrivals(report: Report, cell: str) -> Numbers:
+    """All vehicles that have come to a cell until each recorded step, with those that stood there at first."""
+    return (report.occupancy[cell] + report.departed[cell]).to_numpy()
+
+
+def _left(report: Report, cell: str, entered: Numbers) -> Numbers:
+    """When those leave a cell that enter it at some moments, in steps; lacking where they don't."""
+    recorded = numpy.asarray(report.times, dtype=float)
+    departed = report.departed[cell].to_numpy()
+    numbers = numpy.interp(entered, recorded, _arrivals(report, cell)) - DUST
+    behind = numpy.searchsorted(departed, numbers)
+    found = numpy.clip(behind, 1, len(departed) - 1)
+    before, after = departed[found - 1], departed[found]
+    with numpy.errstate(invalid="ignore", divide="ignore"):
+        part = numpy.clip((numbers - before) / (after - before), 0, 1)
+    left = numpy.where(behind == 0, recorded[0], recorded[found - 1] + part * numpy.diff(recorded)[found - 1])
+    left = numpy.where(behind == len(departed), numpy.nan, left)
+    # Nobody passes a cell in less than a step, and no moment is known behind the last one.
+    soonest = entered + 1
+    return numpy.where(soonest > recorded[-1], numpy.nan, numpy.fmax(left, soonest) + 0 * left)
+
+
+def travel_times(report: Report, cells: Sequence[str], every: float | None = None) -> pandas.DataFrame:
+    """A row for each span in which vehicles enter a chain of cells: how many, and the time that they need to its end.
+
+    `every` is the length of a span in seconds (in steps where the step isn't known), by default the whole time. The
+    frame has `entered`, when the span begins, `vehicles`, `mean`, `least`, `most`, `free` and `delay` in minutes (or
+    steps), and `speed` in km/h where all lengths are known. What is lacking belongs to a span of which not all have
+    arrived by the end. `frame.attrs["units"]` names the units.
+    """
+    units = report.units
+    found, step = trips(report, cells), units.step
+    width = (report.steps if every is None else every if step is None else every / step)
+    if width <= 0:
+        raise Problem("--every: must be above 0")
+    spans = numpy.floor(found.entered / width).astype(int)
+    scale = 1.0 if step is None else step / 60
+    lengths = [units.length(cell) for cell in cells]
+    length = sum(filter(None, lengths)) if units.known and any(lengths) else numpy.nan
+    rows = []
+    for span in sorted(set(spans.tolist())):
+        own = found.of(spans == span)
+        bounds = (own.steps.min(), own.steps.max()) if own.mean == own.mean else (numpy.nan, numpy.nan)
+        rows.append((span * width, own.vehicles.sum(), own.mean * scale, bounds[0] * scale, bounds[1] * scale))
+    frame = pandas.DataFrame(rows, columns=["entered", "vehicles", "mean", "least", "most"])
+    frame["free"] = len(cells) * scale
+    frame["delay"] = frame["mean"] - frame["free"]
+    frame["speed"] = length / (frame["mean"] / 60) if step is not None else numpy.nan
+    frame["step"] = frame["entered"]
+    frame["entered"] = times(units, frame["step"].to_numpy())
+    unit = "steps" if step is None else "min"
+    frame.attrs["units"] = {"vehicles": "vehicles", **dict.fromkeys(("mean", "least", "most", "free", "delay"), unit),
+                            "speed": "km/h"}
+    return frame
+
+
+@dataclass(frozen=True)
+class RoadTime:
+    """The travel time on a road in steps: at free flow, the mean, the longest, and the step at which who had it entered."""
+
+    road: str
+    free: float
+    mean: float
+    most: float
+    entered: float
+
+
+def road_times(report: Report) -> list[RoadTime]:
+    """The travel times of all roads on which vehicles have driven from end to end, the greatest delay first.
+
+    Those who are still on the road at the end aren't counted. Where the units name no roads there is none.
+    """
+    found = []
+    for road, cells in report.units.roads.items():
+        driven = trips(report, cells)
+        driven = driven.of(~numpy.isnan(driven.steps))
+        if len(driven.steps):
+            most = int(driven.steps.argmax())
+            found.append(RoadTime(road, len(cells), driven.mean, float(driven.steps[most]), float(driven.entered[most])))
+    return sorted(found, key=lambda time: time.free - time.mean)
+
+
+def chain_of(report: Report, begin: str | None = None, end: str | None = None, road: str | None = None) -> list[str]:
+    """The cells from a place to another, those of a road, or, where nothing is said, those of the longest route.
+
+    A place is `ROAD.KM`, a gate or an exit, or the name of a cell where the units name no road.
+    """
+    if road:
+        if begin or end:
+            raise Problem("--road: say either a road or --from and --to")
+        return road_of(report, road)
+    if begin is None and end is None:
+        return _driven(report, main_route(report.need_network()))
+    if begin is None or end is None:
+        raise Problem(f"--{'to' if end is None else 'from'}: is missing; both ends of a route are said")
+    first, last = _cell_at(report, begin, "--from"), _cell_at(report, end, "--to")
+    try:
+        cells = networkx.shortest_path(report.need_network().graph, first, last)
+    except networkx.NetworkXNoPath:
+        raise Problem(f"{report.name}: no way leads from {begin} to {end}") from None
+    return _driven(report, cells)
+
+
+def _driven(report: Report, cells: Sequence[str]) -> list[str]:
+    """The cells of a chain in which vehicles drive or wait: an exit is left out."""
+    kinds = report.need_network().kinds
+    found = [cell for cell in cells if kinds[cell] != "exit"]
+    if not found:
+        raise Problem(f"{report.name}: the route has no cells to drive through")
+    return found
+
+
+def _cell_at(report: Report, place: str, key: str) -> str:
+    """The cell behind a place where a route begins, or before it where one ends."""
+    units, kinds = report.units, report.need_network().kinds
+    for road, cells in units.roads.items():
+        kilometre = _kilometre(place, road)
+        if kilometre is not None:
+            return _on_road(report, road, kilometre, place, key)
+    if place in kinds and (not units.roads or kinds[place] != "road"):
+        return place
+    known = f"a place on a road, as {next(iter(units.roads))}.0.5," if units.roads else "a cell,"
+    raise Problem(f"{key} {place}: there is no such place; it is {known} a gate or an exit")
+
+
+def _kilometre(place: str, road: str) -> float | None:
+    """The kilometre of `ROAD.KM`, or None where the place isn't on the road."""
+    if not place.startswith(f"{road}."):
+        return None
+    try:
+        return float(place[len(road) + 1:])
+    except ValueError:
+        return None
+
+
+def _on_road(report: Report, road: str, kilometre: float, place: str, key: str) -> str:
+    rows = [(cell, report.units.cells[cell]) for cell in report.units.roads[road]]
+    end = rows[-1][1]["to_km"]
+    if not 0 <= kilometre <= end + 1e-9:
+        raise Problem(f"{key} {place}: road {road} has {end:g} km")
+    if key == "--from":
+        return next((cell for cell, row in rows if (row["from_km"] + row["to_km"]) / 2 > kilometre), rows[-1][0])
+    return next((cell for cell, row in reversed(rows) if (row["from_km"] + row["to_km"]) / 2 < kilometre), rows[0][0])

@@ -1,0 +1,174 @@
+"""The junctions of a study file: approaches, ways out, turning shares, priorities, and which movements are green when."""
+
+from __future__ import annotations
+
+from collections.abc import Sequence
+from fractions import Fraction
+from typing import Any
+
+from ..problem import Problem
+from .entries import Entries, Reader, list_of
+from .plan import Crossing, Matrix, Phase
+from .quantities import duration, number, shown, word
+from .times import Times
+
+MOST_ARMS = 16
+
+
+def crossing(table: Entries, times: Times) -> Crossing:
+    """The junction that a table says."""
+    sources, into = _arms(table, "from"), _arms(table, "into")
+    matrix = _matrix(len(sources), len(into))
+    shares, turns = table.take("shares", matrix), _turns(table, times, matrix)
+    priorities = table.take("priorities", _priorities(len(sources), len(into)), None)
+    lanes = table.take("lanes", matrix, None)
+    cycle, offset = table.take("cycle", duration, None), table.take("offset", duration, Fraction(0))
+    pause = table.take("intergreen", duration, Fraction(0))
+    found = Crossing(sources, into, shares, turns, priorities, lanes, cycle, offset, [],
+                     table.take("within", _truth, False), table.place)
+    phases = table.list("phases")
+    table.done()
+    if bool(phases) != (cycle is not None):
+        raise Problem(f"{table.key('phases' if cycle is not None else 'cycle')}: is missing; phases and a cycle go "
+                      "together")
+    _check_shares(table, found)
+    for phase in phases:
+        found.phases.append(_phase(phase, found, pause))
+    found.phases.sort(key=lambda phase: phase.start)
+    _check_phases(table, found)
+    return found
+
+
+def movements(found: Crossing) -> list[tuple[int, int]]:
+    """The movements of a junction: those that have a share at some time."""
+    tables = [found.shares, *(shares for _, _, shares in found.turns)]
+    return [(i, j) for i in range(len(found.sources)) for j in range(len(found.into))
+            if any(shares[i][j] for shares in tables)]
+
+
+def named(found: Crossing, movement: tuple[int, int]) -> str:
+    """A movement as messages say it."""
+    return f"{found.sources[movement[0]]} to {found.into[movement[1]]}"
+
+
+def _arms(table: Entries, name: str) -> list[str]:
+    arms: list[str] = table.take(name, list_of(word))
+    twice = next((arm for arm in arms if arms.count(arm) > 1), None)
+    if twice:
+        raise Problem(f"{table.key(name)}: {twice} stands twice")
+    if not 1 <= len(arms) <= MOST_ARMS:
+        raise Problem(f"{table.key(name)}: expected 1 to {MOST_ARMS} roads, found {len(arms)}")
+    return arms
+
+
+def _matrix(rows: int, columns: int) -> Reader[Matrix]:
+    """A reader of tables of numbers, a row for each approach with a number for each way out."""
+    return list_of(list_of(_weight, columns), rows)
+
+
+def _priorities(rows: int, columns: int) -> Reader[Matrix]:
+    """A reader of priorities: a number for each approach, or for each movement."""
+    def read(value: Any, key: str) -> Matrix:
+        if isinstance(value, list) and value and isinstance(value[0], list):
+            return _matrix(rows, columns)(value, key)
+        return [[weight] * columns for weight in list_of(_weight, rows)(value, key)]
+    return read
+
+
+def _weight(value: Any, key: str) -> Fraction:
+    weight = number(value, key)
+    if weight < 0:
+        raise Problem(f"{key}: expected a number that isn't negative, found {shown(value)}")
+    return weight
+
+
+def _truth(value: Any, key: str) -> bool:
+    if not isinstance(value, bool):
+        raise Problem(f"{key}: expected true or false, found {shown(value)}")
+    return value
+
+
+def _turns(table: Entries, times: Times, matrix: Reader[Matrix]) -> list[tuple[Fraction, Fraction, Matrix]]:
+    turns = []
+    for row in table.list("turns"):
+        begin, end = times.span(row)
+        turns.append((begin, end, row.take("shares", matrix)))
+        row.done()
+    return turns
+
+
+def _check_shares(table: Entries, found: Crossing) -> None:
+    """Refuses an approach from which nobody drives on, and a way out into which nobody drives."""
+    tables = [("shares", found.shares)]
+    tables += [(f"turns[{k}].shares", shares) for k, (_, _, shares) in enumerate(found.turns, 1)]
+    for name, shares in tables:
+        for source, row in zip(found.sources, shares):
+            if not any(row):
+                raise Problem(f"{table.key(name)}: nobody drives on from {source}; one of its shares is above 0")
+    for j, target in enumerate(found.into):
+        if not any(out == j for _, out in movements(found)):
+            raise Problem(f"{table.key('shares')}: nobody drives into {target}; one of its shares is above 0")
+    for i, j in movements(found):
+        for name, numbers in (("priorities", found.priorities), ("lanes", found.lanes)):
+            if numbers and not numbers[i][j]:
+                raise Problem(f"{table.key(name)}: the movement {named(found, (i, j))} has 0, and needs more")
+
+
+def _phase(table: Entries, found: Crossing, pause: Fraction) -> Phase:
+    """A phase; without a start it begins at the end of the one before it and the time between greens."""
+    before = found.phases[-1] if found.phases else None
+    start = table.take("start", duration, before.start + before.green + pause if before else Fraction(0))
+    green = table.take("green", duration)
+    ways = _ways(table, found)
+    table.done()
+    cycle = found.cycle or Fraction(0)
+    said = table.has("start")
+    if not 0 < green <= cycle or start >= cycle or start + green > cycle and not said:
+        raise Problem(f"{table.key('green')}: from {float(start):g} to {float(start + green):g} s is not within the "
+                      f"cycle of {float(cycle):g} s")
+    if not ways:
+        raise Problem(f"{table.place}: no movement is green in it")
+    return Phase(start, green, ways)
+
+
+def _ways(table: Entries, found: Crossing) -> list[tuple[int, int]]:
+    """The movements that are green in a phase: those of some approaches, into some ways out, or those that are named."""
+    sources = table.take("from", list_of(word), found.sources)
+    into = table.take("into", list_of(word), found.into)
+    pairs = table.take("movements", list_of(list_of(word, 2)), None)
+    for name, known, said in (("from", found.sources, [*sources, *(one for one, _ in pairs or [])]),
+                              ("into", found.into, [*into, *(two for _, two in pairs or [])])):
+        strange = next((arm for arm in said if arm not in known), None)
+        if strange:
+            raise Problem(f"{table.key('movements' if pairs else name)}: {strange} isn't of this junction, which has "
+                          f"{', '.join(known)}")
+    return [(i, j) for i, j in movements(found) if found.sources[i] in sources and found.into[j] in into
+            and (pairs is None or [found.sources[i], found.into[j]] in pairs)]
+
+
+def _check_phases(table: Entries, found: Crossing) -> None:
+    if not found.phases:
+        return
+    for movement in movements(found):
+        if not any(movement in phase.movements for phase in found.phases):
+            raise Problem(f"{table.key('phases')}: the movement {named(found, movement)} is green in none")
+        green(found, movement)
+
+
+def green(found: Crossing, movement: tuple[int, int]) -> tuple[Fraction, Fraction]:
+    """From when to when in the cycle a movement is green: its phases follow each other, since a signal has one green."""
+    own = [phase for phase in found.phases if movement in phase.movements]
+    places = [found.phases.index(phase) for phase in own]
+    if not _follow(places, len(found.phases)):
+        raise Problem(f"{found.place}.phases: the movement {named(found, movement)} is green in phases that don't follow "
+                      "each other, and a signal has one green in a cycle")
+    first = next((k for k, place in enumerate(places) if (place - 1) % len(found.phases) not in places), 0)
+    start, cycle = own[first].start, found.cycle or Fraction(0)
+    ends = [phase.start + phase.green + (cycle if phase.start < start else 0) for phase in own]
+    return (Fraction(0), cycle) if len(own) == len(found.phases) > 1 else (start, max(ends))
+
+
+def _follow(places: Sequence[int], count: int) -> bool:
+    """Whether the places stand side by side in a ring of so many."""
+    breaks = sum((place + 1) % count not in places for place in places)
+    return breaks <= 1

@@ -1,0 +1,170 @@
+"""Networks of SUMO as studies: streets, lanes for cars, junctions, signals, and traffic by its routes, worked out on paper."""
+
+import plain_model
+import pytest
+
+from ctmtools import Problem, build, read_study
+from ctmtools.imports.sumo import joined, read_network
+from ctmtools.imports.sumo_trips import read_trips
+from ctmtools.report.reading import report_of
+
+# Two streets, a and b, meet at J, which has a signal, and go on as c and d; c goes on as e. Only bicycles may use f, and
+# one of a's three lanes is for buses.
+NET = """<net version="1.9">
+    <edge id=":J_0" function="internal"><lane id=":J_0_0" index="0" speed="13.9" length="9"/></edge>
+    <edge id="a" from="A" to="J"><lane index="0" speed="12.5" length="250" allow="bus"/>
+        <lane index="1" speed="12.5" length="250"/><lane index="2" speed="12.5" length="250"/></edge>
+    <edge id="b" from="B" to="J"><lane index="0" speed="12.5" length="250"/></edge>
+    <edge id="c" from="J" to="C"><lane index="0" speed="12.5" length="125"/></edge>
+    <edge id="d" from="J" to="D"><lane index="0" speed="12.5" length="250"/></edge>
+    <edge id="e" from="C" to="E"><lane index="0" speed="12.5" length="125"/></edge>
+    <edge id="f" from="C" to="F"><lane index="0" speed="5" length="250" allow="bicycle"/></edge>
+    <edge id="g" from="D" to="G"><lane index="0" speed="12.5" length="250"/></edge>
+    <tlLogic id="J" type="{sort}" programID="0" offset="10">
+        <phase duration="30" state="GGr"/><phase duration="4" state="yyr"/><phase duration="26" state="rrG"/>
+    </tlLogic>
+    <junction id="J" type="traffic_light" x="0" y="0"/><junction id="C" type="priority" x="125" y="0"/>
+    <junction id="A" type="dead_end" x="-250" y="0"/>
+    <connection from="a" to="c" fromLane="1" toLane="0" tl="J" linkIndex="0" state="O"/>
+    <connection from="a" to="d" fromLane="2" toLane="0" tl="J" linkIndex="1" state="O"/>
+    <connection from="b" to="c" fromLane="0" toLane="0" tl="J" linkIndex="2" state="o"/>
+    <connection from="c" to="e" fromLane="0" toLane="0" state="M"/>
+    <connection from="d" to="g" fromLane="0" toLane="0" state="M"/>
+</net>
+"""
+ROUTES = """<routes>
+    <vType id="lorry" length="12"/>
+    <route id="straight" edges="a c e"/>
+    <flow id="1" route="straight" begin="0" end="3600" vehsPerHour="360"/>
+    <flow id="2" begin="900" end="1800" number="90" from="a" to="d"/>
+    <flow id="3" begin="0" end="7200" period="20"><route edges="b c"/></flow>
+    <vehicle id="4" depart="100"><route edges="a d"/></vehicle>
+    <trip id="5" depart="200" from="b" to="e"/>
+    <trip id="6" depart="300" from="d" to="a"/>
+    <vehicle id="7" depart="9000"><route edges="a d"/></vehicle>
+</routes>
+"""
+
+
+@pytest.fixture
+def files(tmp_path):
+    """The files of the network and of its routes."""
+    (tmp_path / "town.net.xml").write_text(NET.format(sort="static"))
+    (tmp_path / "town.rou.xml").write_text(ROUTES)
+    return tmp_path
+
+
+def test_streets_ways_and_signals(files):
+    found = read_network(files / "town.net.xml")
+    assert set(found.streets) == set("abcdeg")
+    a = found.streets["a"]
+    assert (a.lanes, a.speed, a.length, a.seconds) == (2, 45, 0.25, pytest.approx(20))
+    assert a.points == [(-0.25, 0), (0, 0)]
+    assert found.ways["a", "c"].lanes == 1 and found.ways["a", "c"].green == [(0, 30)] and found.ways["b", "c"].green == [(34, 60)]
+    assert (found.programs["J"].cycle, found.programs["J"].offset) == (60, 10)
+    assert found.notes == ["1 edges that cars may not use are left out",
+                           "1 junctions without a signal: where streams meet, giving way is kept as priorities; streams that "
+                           "only cross don't heed each other"]
+
+
+def test_greens_that_follow_each_other_are_one():
+    assert joined([(0, 10), (10, 20), (40, 60)], 60) == [(40, 80)]
+    assert joined([(5, 10), (40, 50)], 60) == [(5, 10), (40, 50)] and joined([(0, 60)], 60) == [(0, 60)]
+
+
+def test_an_actuated_signal_is_told(files):
+    (files / "town.net.xml").write_text(NET.format(sort="actuated"))
+    assert "1 signals are actuated (J); the lengths of their phases are kept as fixed ones" in read_network(files / "town.net.xml").notes
+
+
+def test_trips(files):
+    found = read_network(files / "town.net.xml")
+    read_trips(found, files / "town.rou.xml", 3600)
+    told = {(" ".join(trip.route), trip.begin, trip.end, round(trip.vehicles, 6)) for trip in found.trips}
+    assert told == {("a c e", 0, 3600, 360), ("a d", 900, 1800, 90), ("b c", 0, 3600, 180), ("a d", 100, 100, 1),
+                    ("b c e", 200, 200, 1)}
+    assert "town.rou.xml: 1 vehicles without a way over the network are left out" in found.notes
+    assert "vehicles that take 14.5 m take as much as the others" in found.notes
+
+
+def test_the_study(tool, files):
+    status, out, err = tool("import", "sumo", "town.net.xml", "--routes", "town.rou.xml", "--step", "2", "-o", "town.toml")
+    assert status == 0 and out.splitlines()[0] == "town.toml: 5 streets, 1 signals, 632 vehicles"
+    assert any("1 of 6 streets, on which nobody drives, are left out" in line for line in out.splitlines())
+    made = build(read_study("town.toml"))
+    # A step of 2 s at 12.5 m/s is 25 m: a has 10 cells. Who ends at c leaves there, so that c and e are no one road.
+    assert {road: len(cells) for road, cells in made.units.roads.items()} == {
+        "a": 10, "b": 10, "c": 5, "d": 10, "e": 5, "a-c": 1, "a-d": 1, "b-c": 1}
+    assert [line in made.remarks for line in (line.strip() for line in out.splitlines()[1:])] == [True] * (out.count("\n") - 1)
+    # The cycle of 30 steps begins at 10 s, step 5: a is green from 5 to 20, and b from 22 to 35. Yellow is no green.
+    signals = {line.split(",")[1]: line.split(",")[2:] for line in made.text.splitlines() if line.startswith("signal,")}
+    assert signals == {"a10": ["30", "25", "0", "15"], "b10": ["30", "8", "0", "13"]}
+    lines = [line for line in made.text.splitlines() if line.startswith(("demand,in-a", "turn,a10"))]
+    # Of a come 90 in a quarter of an hour, one more in the first and 90 more in the second.
+    per = {"0": 91, "450": 180, "900": 90, "1350": 90}
+    assert {line.split(",")[2]: float(line.split(",")[4]) for line in lines if line.startswith("demand")} == \
+        pytest.approx({step: count / 450 for step, count in per.items()}, abs=1e-6)
+    # In the first 89 of 90 and a bit drive to c; who departs at 900 s is at J 20 s later.
+    turns = {line.split(",")[2]: [int(part) for part in line.split(",")[4:]] for line in lines if line.startswith("turn")}
+    assert turns["0"][0] / sum(turns["0"]) == pytest.approx(88 / 89, abs=0.002)
+    assert turns["450"][0] / sum(turns["450"]) == pytest.approx(90 / (90 + 90 * 880 / 900), abs=0.002)
+
+
+def test_all_who_come_are_served_where_their_routes_end(tool, files):
+    tool("import", "sumo", "town.net.xml", "--routes", "town.rou.xml", "-o", "town.toml")
+    made = build(read_study("town.toml"))
+    report = report_of(plain_model.report(made.text.encode(), 1))
+    exits = report.cells.come[["out-c", "out-d", "out-e"]].tolist()
+    # 180 end at c, 91 at d, and 361 at e: they turn by shares, so only nearly so.
+    assert report.total.left == pytest.approx(632, abs=0.01) and exits == pytest.approx([180, 91, 361], rel=0.03)
+
+
+def test_a_movement_that_is_never_green_is_closed(tool, files):
+    (files / "town.net.xml").write_text(NET.format(sort="static").replace('"rrG"', '"rrr"'))
+    out = tool("import", "sumo", "town.net.xml", "--routes", "town.rou.xml", "-o", "town.toml")[1]
+    assert "1 movements at signals are never green in their program, as b to c; they are closed" in out
+    made = build(read_study("town.toml"))
+    report = report_of(plain_model.report(made.text.encode(), 1))
+    assert report.cells.gone["b-c1"] == 0 and report.cells.gone["a-c1"] > 300
+
+
+def test_a_movement_at_a_signal_that_it_does_not_control_is_free(tool, files):
+    (files / "town.net.xml").write_text(NET.format(sort="static").replace('toLane="0" tl="J" linkIndex="2"', 'toLane="0"'))
+    out = tool("import", "sumo", "town.net.xml", "--routes", "town.rou.xml", "-o", "town.toml")[1]
+    signals = [line.split(",")[1] for line in build(read_study("town.toml")).text.splitlines() if line.startswith("signal,")]
+    assert "never green" not in out and signals[0] == "a10"
+    green = next(line for line in build(read_study("town.toml")).text.splitlines() if line.startswith("signal,b10"))
+    assert green.split(",")[4:] == ["0", "30"]  # all of the cycle of 30 steps
+
+
+def test_a_merge_a_diverge_and_a_link_have_no_cells_of_their_own(tool, files):
+    net = NET.format(sort="static").replace('tl="J"', "").replace('<connection from="a" to="d" fromLane="2" toLane="0"', "<x")
+    (files / "town.net.xml").write_text(net)
+    tool("import", "sumo", "town.net.xml", "--routes", "town.rou.xml", "-o", "town.toml")
+    made = build(read_study("town.toml"))
+    kinds = [line.split(",") for line in made.text.splitlines()]
+    # a has the right of way, four times as much as b, over which one lane of a's two comes.
+    assert ["merge", "a10", "b10", "c1", "4", "1"] in kinds
+    assert [sorted(row[2:4]) for row in kinds if row[:2] == ["diverge", "c5"]] == [["e1", "out-c"]]
+
+
+def test_without_routes_shares_are_by_lanes(tool, files):
+    out = tool("import", "sumo", "town.net.xml", "-o", "town.toml")[1]
+    assert out.startswith("town.toml: 6 streets, 1 signals, 0 vehicles")
+    study = read_study("town.toml")
+    assert sorted(study.gates) == ["in-a", "in-b"] and sorted(study.exits) == ["out-c", "out-d"]
+    assert study.crossings[0].shares[0] == [50, 50] and not study.gates["in-a"].demand
+
+
+@pytest.mark.parametrize("text, wanted", [("<net>", "no XML"), ("<routes/>", "expected <net>, found <routes>")])
+def test_another_file_is_refused(tmp_path, text, wanted):
+    (tmp_path / "x.net.xml").write_text(text)
+    with pytest.raises(Problem, match=wanted):
+        read_network(tmp_path / "x.net.xml")
+
+
+def test_mistakes_in_the_words(tool, files):
+    assert "a study's name ends with .toml" in tool("import", "sumo", "town.net.xml", "-o", "town.csv")[2]
+    assert "--step: must be 0.1 s or more" in tool("import", "sumo", "town.net.xml", "--step", "0", "-o", "t.toml")[2]
+    (files / "late.rou.xml").write_text('<routes><vehicle depart="9000"><route edges="a d"/></vehicle></routes>')
+    assert "no vehicle comes in the first 1 h" in tool("import", "sumo", "town.net.xml", "--routes", "late.rou.xml")[2]
