@@ -1,3 +1,4 @@
 pub mod Crews
 pub mod Enlisted
+pub mod Near
 pub mod Rounds

@@ -4,11 +4,13 @@
 
 mod charting;
 mod crew;
+mod near;
 mod rounds;
 mod run;
 mod watch;
 mod watched_run;
 
 pub use charting::charted;
+pub use near::room_near;
 pub use run::{last_regions, regions_from};
 pub use watched_run::{Watched, watched_regions};

@@ -1,15 +1,17 @@
-ghost use Rattle.std.specs.Prelude.{◌≡◌, ◌<◌, ◌≤◌, ℕ, IfOk, replicate, slice_index};
+ghost use Rattle.std.specs.Prelude.{◌≡◌, ◌+◌, ◌<◌, ◌≤◌, ℕ, IfOk, [], replicate, slice_index};
 ghost use Rattle.region_cut.specs.Chart.{chart_of};
 ghost use Rattle.region_cut.specs.Cuttings.{region_count};
 ghost use Rattle.region_cut.specs.LawfulSteps.{AreLawful};
 ghost use Rattle.region_step.specs.Standing.{AllStand};
 ghost use Rattle.region_step.specs.Start.{Fits, zero_start};
+ghost use Rattle.region_slots.specs.FieldView.{IsPassOf};
+ghost use Rattle.worker_claim.specs.Driving.{AllReach};
 
 use crate::crew::Crew;
 use network_file::Net;
 use no_memory::NoMemory;
 use region_cut::Chart;
-use region_slots::{Closed, Field, Gate};
+use region_slots::{Closed, Field, Gate, Pass};
 use region_step::{Region, Start};
 use std::alloc::Global;
 use std::thread::Threads;
@@ -61,10 +63,35 @@ pub fn regions_from<R: Threads + Sync, G: Gate>(
 {
     let mut crew = Crew::new(alloc, workers, chart.regions())?;
     let (field, mut pass) = Field::open(alloc, net, chart, start, every, workers + 1)?;
-    crew.enlist(&field, &mut pass);
-    crew.drive(rt, &field, goal, gate);
-    crew.dismiss(&field, &mut pass);
-    finish(&field, &mut pass, goal, gate);
+    take_to(rt, &field, &mut pass, &mut crew, goal, gate);
     let Closed { steps: _, regions } = field.close(pass);
     Ok(regions)
+}
+
+/// Takes all regions to a goal.
+pub(crate) fn take_to<R: Threads + Sync, G: Gate>(
+    rt: &R,
+    field: &Field,
+    pass: &mut Pass,
+    crew: &mut Crew,
+    goal: u64,
+    gate: &G,
+)
+    requires belongs { IsPassOf field.now pass.old }
+    requires seats { pass.old.knows.share ≡ crew.old.workers + 1 }
+    requires whole { pass.old.knows.share ≡ field.now.terms.seats }
+    requires regions { crew.old.regions ≡ region_count field.now.terms.chart.now.cut }
+    requires nobody { crew.old.members ≡ [] }
+    requires in_time { goal ≤ field.now.terms.net.now.steps }
+    requires reach { pass.old.knows.reach ≤ goal }
+    ensures belongs { IsPassOf field.now pass.new }
+    ensures share { pass.new.knows.share ≡ pass.old.knows.share }
+    ensures crew { crew.new ≡ crew.old }
+    ensures reach { pass.new.knows.reach ≤ goal }
+    ensures done { AllReach (region_count field.now.terms.chart.now.cut) goal pass.new.knows }
+{
+    crew.enlist(field, pass);
+    crew.drive(rt, field, goal, gate);
+    crew.dismiss(field, pass);
+    finish(field, pass, goal, gate);
 }

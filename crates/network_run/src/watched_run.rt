@@ -80,7 +80,9 @@ fn watched_from<R: Threads + Sync, G: Gate>(
     let mut crew = Crew::new(alloc, workers, chart.regions())?;
     let mut room = ShotRoom::new(alloc, net, chart)?;
     let (field, pass) = Field::open(alloc, net, chart, start, every, workers + 1)?;
-    watched_field(rt, alloc, net, chart, field, pass, &mut crew, &mut room, shots, gate)
+    watched_field(
+        rt, alloc, net, chart, field, pass, &mut crew, &mut room, shots, gate,
+    )
 }
 
 // The same of a field that is open.
@@ -112,7 +114,9 @@ fn watched_field<R: Threads + Sync, G: Gate>(
         (replicate (region_count chart.now.cut) net.now.steps) watched.regions.items) }
 {
     let mut text = Vec::new(alloc);
-    take_shots(rt, net, chart, &field, &mut pass, crew, room, shots, gate, &mut text)?;
+    take_shots(
+        rt, net, chart, &field, &mut pass, crew, room, shots, gate, &mut text,
+    )?;
     let Closed { steps: _, regions } = field.close(pass);
     Ok(Watched {
         shots: text,
