@@ -1,9 +1,11 @@
 -- What a network says of its cells and connectors, for the crates above.
-use Rattle.std.proofs.Common.{ℕ, ◌≡◌, ◌==◌, ◌<◌, ◌≤◌, ◌^◌, Bool, true, false, List, length, get_or, cond, sym, ap, ◌∙◌, arith}
-use Rattle.std.proofs.lemmas.List.{get_or_default}
+use Rattle.std.proofs.Common.{ℕ, ◌≡◌, ◌==◌, ◌<◌, ◌≤◌, ◌^◌, Bool, true, false, List, [], length, get_or, slice_index_or, cond, sym, ap, ◌∙◌, arith}
+use Rattle.std.proofs.lemmas.List.{get_or-map, get_or_default}
+use Rattle.network_file.specs.Cells.{name_at}
 use Rattle.network_file.specs.Connectors.{connector_at}
 use Rattle.network_file.specs.Formats.{most_records}
 use Rattle.network_file.specs.Network.{IsNetwork, IsSoundConnector, Network}
+use Rattle.network_file.specs.declared.cell.Cell.{Cell}
 use Rattle.network_file.specs.declared.connector.Connector.{Connector}
 use Rattle.network_file.specs.declared.connector.Connector.TheVariants.{Link}
 
@@ -21,6 +23,10 @@ few_cells net sound = omega (arith, few_records net.format, sound.sound.few_cell
 
 pub few_connectors : (net : Network) → IsNetwork net → length net.connectors < 2 ^ 32
 few_connectors net sound = omega (arith, few_records net.format, sound.sound.few_connectors)
+
+-- the name of a cell that was read
+pub name_at-read : (cells : List Cell) (i : ℕ) (cell : Cell) → i < length cells → cell ≡ slice_index_or cells i cell → name_at cells i ≡ cell.name
+name_at-read cells i cell within here = get_or-map (λ c. c.name) cells i cell [] within ∙ ap (λ c. c.name) (sym here)
 
 -- the connector that was read from these items
 pub read_connector : (items connectors : List Connector) (k : ℕ) (connector : Connector) → items ≡ connectors → k < length connectors

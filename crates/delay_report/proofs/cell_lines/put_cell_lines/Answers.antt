@@ -1,6 +1,7 @@
 use Rattle.std.proofs.Common.{◌≡◌, length, rules, append_assoc, arith, refl}
 use Rattle.delay_report.specs.Report.{cell_lines}
-use Rattle.line_fields.proofs.Lines.{lines_of-more, lines_of-none, name_at-read}
+use Rattle.network_file.proofs.NetworkFacts.{name_at-read}
+use Rattle.line_fields.proofs.Lines.{lines_of-more, lines_of-none}
 use Rattle.delay_report.proofs.cell_lines.put_cell_lines.Goals as goal
 
 pub loop-i-init : goal.loop-i-init

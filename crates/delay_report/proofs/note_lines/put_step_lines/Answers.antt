@@ -1,5 +1,6 @@
 use Rattle.std.proofs.Common.{◌≡◌, length, rules, append_assoc, arith, ap, refl, ◌∙◌}
-use Rattle.line_fields.proofs.Lines.{lines_of-more, lines_of-none, name_at-read}
+use Rattle.network_file.proofs.NetworkFacts.{name_at-read}
+use Rattle.line_fields.proofs.Lines.{lines_of-more, lines_of-none}
 use Rattle.delay_report.proofs.note_lines.put_step_lines.Goals as goal
 
 pub loop-i-init : goal.loop-i-init

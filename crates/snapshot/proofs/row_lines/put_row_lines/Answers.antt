@@ -1,6 +1,7 @@
 use Rattle.std.proofs.Common.{◌≡◌, length, rules, append_assoc, arith, refl}
 use Rattle.std.proofs.Transfers.{starts_with_of_append, starts_with_trans}
-use Rattle.line_fields.proofs.Lines.{lines_of-more, lines_of-none, name_at-read}
+use Rattle.network_file.proofs.NetworkFacts.{name_at-read}
+use Rattle.line_fields.proofs.Lines.{lines_of-more, lines_of-none}
 use Rattle.snapshot.specs.ShotText.{row_lines}
 use Rattle.snapshot.proofs.row_lines.put_row_lines.Goals as goal
 
