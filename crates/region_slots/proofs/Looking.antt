@@ -1,7 +1,6 @@
 -- A look at a step word, by itself or of the region just taken, and a region given back.
 use Rattle.std.specs.Prelude.{slice_index, if◌then◌else◌}
-use Rattle.std.proofs.Common.{◌≡◌, ◌≢◌, ℕ, ◌+◌, ◌<◌, ◌≤◌, inl, inr, List, [], ◌∷◌, true, refl, sym, subst, arith}
-use Rattle.std.proofs.lemmas.Bool.{cases_eq}
+use Rattle.std.proofs.Common.{◌≡◌, ◌≢◌, ℕ, ◌+◌, ◌<◌, ◌≤◌, List, [], ◌∷◌, true, refl, sym, subst, arith}
 use mathlib.Core.Option.{none, some}
 use lib.ListN.{get_elem?}
 use Rattle.atomic_table.specs.Table.{Allows, gives, keeps, step, takes}
@@ -16,20 +15,12 @@ use Rattle.border_rows.specs.Words.{step_of}
 use Rattle.border_rows.specs.declared.view.Hold.{Hold}
 use Rattle.border_rows.specs.declared.view.Terms.{Terms}
 use Rattle.border_rows.specs.declared.view.View.{View}
-use Rattle.border_rows.proofs.ClaimKinds.{freed_known-keeps, within-widths}
+use Rattle.border_rows.proofs.ClaimKinds.{freed_known-keeps}
 use Rattle.border_rows.proofs.LookKinds.{found_at-keeps, looked-keeps, steps_of-at}
-use Rattle.border_rows.proofs.PlaceLaws.{steps-differ}
 use Rattle.border_rows.proofs.ViewUpdates.{Contains-elem}
 use Rattle.region_slots.specs.Plays.{Freed, IsRegion, Learned, Looked, Mine}
 use Rattle.region_slots.proofs.Claiming.{same-terms, seen-in-time}
-
--- a step word is of one region
-pub same-step : (terms : Terms) (r q : ℕ) → IsChart terms.chart.now → r < region_count terms.chart.now.cut → q < region_count terms.chart.now.cut →
-    step_place (widths_of terms.chart.now) r ≡ step_place (widths_of terms.chart.now) q → q ≡ r
-same-step terms r q chart within there same = elim (cases_eq q r) [
-  | inl is ↦ is
-  | inr other ↦ absurd (steps-differ (widths_of terms.chart.now) q r (within-widths terms.chart.now q chart there) (within-widths terms.chart.now r chart within) other (sym same))
-]
+use Rattle.region_slots.proofs.Comparing.{same-step}
 
 -- the field and the region that a view's step word is of
 pub one-step : (terms : Terms) (view : View) (r : ℕ) → IsChart terms.chart.now → r < region_count terms.chart.now.cut → view.terms ≡ terms ∷ [] →

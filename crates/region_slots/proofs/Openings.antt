@@ -21,7 +21,7 @@ use Rattle.border_rows.specs.Words.{border_cell}
 use Rattle.border_rows.specs.declared.view.Terms.{Terms}
 use Rattle.border_rows.proofs.ChartWidths.{width_at-widths_of}
 use Rattle.border_rows.proofs.SeatKinds.{IsOpening, opening-stands}
-use Rattle.region_slots.specs.FirstWords.{IsLaidOut}
+use Rattle.region_slots.specs.FirstWords.{AreAllFirstWords}
 use Rattle.region_slots.specs.Opening.{first_view}
 
 -- the border cells of a region have rows in any list of one for each cell
@@ -45,7 +45,7 @@ held-first net cut start i =
     grid_held-started net cut start (start_of start cut i) i (omega arith) ∙ ap (λ row. row.n) (grid_row-start net cut start (start_of start cut i) i (omega arith))
 
 -- words that are laid out and regions that stand where they start are those of a field that opens
-pub laid-opens : (net : Network) (chart : ChartLists) (start : StartLists) (every : ℕ) (words : List ℕ) (regions : List RegionValue) → IsChart chart → IsLaidOut chart start words →
+pub laid-opens : (net : Network) (chart : ChartLists) (start : StartLists) (every : ℕ) (words : List ℕ) (regions : List RegionValue) → IsChart chart → AreAllFirstWords chart start words →
     AllStand net chart start every start.steps regions → IsOpening net chart start every words regions
 laid-opens net chart start every words regions sound laid stand = record {
   long = laid.long;
@@ -65,7 +65,7 @@ laid-opens net chart start every words regions sound laid stand = record {
 
 -- they stand under the rule
 pub laid-stands : (terms : Terms) (words : List ℕ) (regions : List RegionValue) → IsChart terms.chart.now → AreLawful terms.net.now terms.chart.now.cut terms.start.now.steps →
-    IsLaidOut terms.chart.now terms.start.now words → AllStand terms.net.now terms.chart.now terms.start.now terms.every terms.start.now.steps regions → 1 ≤ terms.seats →
+    AreAllFirstWords terms.chart.now terms.start.now words → AllStand terms.net.now terms.chart.now terms.start.now terms.every terms.start.now.steps regions → 1 ≤ terms.seats →
     IsStanding terms (opening words regions (first_view terms))
 laid-stands terms words regions sound lawful laid stand seats =
     opening-stands terms words regions (first_view terms) lawful (laid-opens terms.net.now terms.chart.now terms.start.now terms.every words regions sound laid stand)

@@ -26,7 +26,7 @@ pub record OnlyThose (chart : ChartLists) (before after : List ℕ) (r : ℕ) : 
   pub rows : (q t j : ℕ) → q < region_count chart.cut → q ≢ r → j < width_at (widths_of chart) q → border_word chart after q t j ≡ border_word chart before q t j
 
 -- all words: no region is taken, and those of each are there
-pub record IsLaidOut (chart : ChartLists) (start : StartLists) (words : List ℕ) : Type 0 where
+pub record AreAllFirstWords (chart : ChartLists) (start : StartLists) (words : List ℕ) : Type 0 where
   pub long : length words ≡ words_of (widths_of chart)
   pub free : (r : ℕ) → r < region_count chart.cut → claim_of chart words r ≡ 0
   pub each : (r : ℕ) → r < region_count chart.cut → AreFirstWords chart start words r

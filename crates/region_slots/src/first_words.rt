@@ -2,7 +2,7 @@ ghost use Rattle.std.specs.Prelude.{◌≡◌, ◌<◌, ◌^◌, ℕ, All, IfOk,
 ghost use Rattle.region_cut.specs.Chart.{IsChart, list_at};
 ghost use Rattle.region_cut.specs.Cuttings.{region_count};
 ghost use Rattle.border_rows.specs.Places.{widths_of, words_of};
-ghost use Rattle.region_slots.specs.FirstWords.{AreFirstWords, IsLaidOut, OnlyThose};
+ghost use Rattle.region_slots.specs.FirstWords.{AreFirstWords, AreAllFirstWords, OnlyThose};
 
 use border_rows::Places;
 use no_memory::NoMemory;
@@ -22,7 +22,7 @@ pub(crate) fn first_words(
     requires steps { length start.now.steps ≡ region_count chart.now.cut }
     requires rows { (q : ℕ) → q < region_count chart.now.cut → All (λ i. i < length start.now.rows) (list_at chart.now.border q) }
     requires earlier { length start.now.earlier ≡ length start.now.rows }
-    ensures { IfOk result (λ words. IsLaidOut chart.now start.now words.items) }
+    ensures { IfOk result (λ words. AreAllFirstWords chart.now start.now words.items) }
 {
     let mut words = vec![in alloc; 0; places.words() as usize]?;
     for r in 0..chart.regions() {
