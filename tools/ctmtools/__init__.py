@@ -23,6 +23,7 @@ if TYPE_CHECKING:
     from .network_file.network import Network as Network
     from .network_file.network import read_network as read_network
     from .problem import Problem as Problem
+    from .report.by_road import by_road as by_road
     from .report.comparing import compare as compare
     from .report.reading import Report as Report
     from .report.reading import read_report as read_report
@@ -35,7 +36,7 @@ if TYPE_CHECKING:
 
 # Where each public name is at home; it is loaded when it is first asked for.
 HOMES = {"Network": "network_file.network", "Problem": "problem", "Report": "report.reading", "build": "interface",
-         "chain_of": "report.travel", "compare": "report.comparing", "plot": "interface",
+         "by_road": "report.by_road", "chain_of": "report.travel", "compare": "report.comparing", "plot": "interface",
          "queues_of": "report.states", "read_network": "network_file.network", "read_report": "report.reading",
          "read_study": "study.reading", "run": "interface", "states": "report.states", "sweep": "interface",
          "totals": "report.states", "travel_times": "report.travel"}

@@ -18,10 +18,12 @@ COMMANDS = {"build": "Make the network file of a study.", "run": "Run a study or
             "travel-time": "Tell the travel times along a road or a route.", "plot": "Draw a report.",
             "import": "Make a study of another program's network.",
             "report": "Make a page for a browser of a report, or of two.",
-            "export": "Write a report in the format of another program.", "compare": "Compare two reports.", "sweep": "Run a study over varied values.",
+            "export": "Write a report in the format of another program.", "compare": "Compare two reports.",
+            "sweep": "Run a study over varied values.",
             "calibrate": "Find values by which a study is nearest to detectors.",
             "diagram": "Fit flow and density to a detector's data."}
-MODULES = {"export": "exporting", "import": "importing", "travel-time": "travel_time"}  # of commands whose names aren't those of their modules
+# The modules of commands whose names aren't theirs.
+MODULES = {"export": "exporting", "import": "importing", "travel-time": "travel_time"}
 PACKAGES = {"click": "python3-click", "pandas": "python3-pandas", "numpy": "python3-numpy",
             "matplotlib": "python3-matplotlib", "networkx": "python3-networkx", "distributed": "python3-distributed",
             "scipy": "python3-scipy"}

@@ -11,6 +11,7 @@ from .problem import Problem
 
 SUFFIX = ".units.json"
 DAY = 24 * 3600
+MILE_KM = 1.609344
 Amount = TypeVar("Amount")  # a number, or a series of numbers
 
 
@@ -21,7 +22,8 @@ class Units:
     `step` is the length of a step in seconds and `start` the clock time of step 0 in seconds after midnight, each None
     where it isn't known. `cells` has for each road cell `road`, `from_km`, `to_km`, `lanes`, `free_flow_kmh`,
     `wave_kmh`; `roads` has for each road its cells in the direction of travel, and `points` where they are given.
-    `cycles` has the cycle in steps of each signal that the network has as limits, by the cell or the gate of its stop line.
+    `cycles` has the cycle in steps of each signal that the network has as limits, by the cell or the gate of its stop
+    line.
     """
 
     title: str = ""

@@ -11,7 +11,7 @@ from ctmtools.command_line import COMMANDS
 from .examples import EXAMPLES, TOOLS
 
 STUDIES = sorted(path.stem for path in EXAMPLES.glob("*.toml"))
-PLOTS = ["time-space", "n-curves", "queue", "delay", "map"]
+PLOTS = ["time-space", "n-curves", "queue", "delay", "map", "mfd"]
 
 
 @pytest.mark.parametrize("words", [[], *([name] for name in COMMANDS), *(["plot", name] for name in PLOTS)],

@@ -10,9 +10,11 @@ import pytest
 from .examples import TOOLS
 
 TOP = TOOLS.parent
-COMMANDS_IN = {"README.md": 17, "tools/README.md": 7, "examples/README.md": 10}  # and how many there are at least
+COMMANDS_IN = {"README.md": 17, "tools/README.md": 7, "examples/README.md": 10, "tools/docs/measures.md": 5,
+               "tools/docs/networks.md": 1, "tools/docs/calibration.md": 0}  # and how many there are at least
 PAGES = sorted(str(path.relative_to(TOP)) for path in
-               [*TOP.glob("*.md"), *TOP.glob("docs/*.md"), TOP / "tools/README.md", TOP / "examples/README.md"])
+               [*TOP.glob("*.md"), *TOP.glob("docs/*.md"), *TOP.glob("tools/docs/*.md"), TOP / "tools/README.md",
+                TOP / "examples/README.md"])
 
 # Why a command isn't run here.
 LEFT_OUT = {
@@ -24,6 +26,11 @@ LEFT_OUT = {
     "./ctm-tools import sumo town.net.xml --routes town.rou.xml --until \"1 h\" -o town.toml": "its files are a user's",
     "./ctm-tools import gmns town -o town.toml": "its files are a user's",
     "./ctm-tools import sumo NET.net.xml": "its files are a user's",
+    "./ctm-tools calibrate study.toml --observed det.csv --vary lane.saturation_flow=1800:2400 --vary demand=0.9:1.1":
+        "its files are a user's",
+    "./ctm-tools diagram detector.csv --lanes 3": "its file is a user's",
+    "./ctm-tools calibrate STUDY.toml --observed FILE.csv --vary KEY=LOW:HIGH": "its files are a user's",
+    "./ctm-tools diagram FILE.csv": "its file is a user's",
     "./ctm-tools report a.report b.report -o ab.html": "its files are a user's",
     "./ctm-tools sweep study.toml --vary demand=0.8:1.2:0.01 --dask tcp://HOST:8786": "it needs a cluster",
 }
@@ -84,6 +91,8 @@ def ended(top, program, *words):
 
 @pytest.mark.parametrize("name", COMMANDS_IN)
 def test_the_commands_of_a_document_run(name, top, recording_program):
+    if name.startswith("tools/docs/"):  # they are about the report that the first pages make
+        assert ended(top, recording_program, "./ctm-tools", "run", "examples/bottleneck.toml")[0] == 0
     to_run = [command for command in commands(read(name)) if command not in LEFT_OUT]
     assert len(to_run) >= COMMANDS_IN[name]
     for command in to_run:
@@ -120,6 +129,7 @@ def test_the_links_of_a_document_lead_somewhere(name):
 
 def test_each_document_is_linked_from_the_first_page():
     linked = {str((TOP / link.partition("#")[0]).relative_to(TOP)) for link in re.findall(r"\]\(([^)]+)\)", read("README.md"))}
+    linked |= {f"tools/{link.partition('#')[0]}" for link in re.findall(r"\]\(([^)]+)\)", read("tools/README.md"))}
     assert not set(PAGES) - linked - {"README.md"}
 
 

@@ -16,7 +16,7 @@ LEAST = 8  # rows
 
 @dataclass(frozen=True)
 class Triangle:
-    """A triangle of one lane: km/h, vehicles/h, km/h, vehicles/km, and the root mean square of what it misses in vehicles/h."""
+    """A triangle of one lane, in km/h, vehicles/h and vehicles/km, and what it misses in the root mean square."""
 
     speed: float
     capacity: float
@@ -65,8 +65,8 @@ def fit(states: pandas.DataFrame) -> Triangle:
         return (numpy.minimum(free * density, wave * (most - density)) - flow) / capacity
 
     start = numpy.clip([speed, capacity / (jam - top), jam], [2, 2, jam], [240, 90, jam])
-    found = least_squares(misses, start, loss="soft_l1", f_scale=0.1, bounds=([1, 1, density.max()], [250, 100, 400 + density.max()]),
-                          x_scale=start)
+    bounds = [1, 1, density.max()], [250, 100, 400 + density.max()]
+    found = least_squares(misses, start, loss="soft_l1", f_scale=0.1, bounds=bounds, x_scale=start)
     free, wave, most = map(float, found.x)
     peak = free * wave * most / (free + wave)
     rmse = float(numpy.sqrt((misses(found.x) ** 2).mean()) * capacity)

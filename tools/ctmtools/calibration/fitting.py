@@ -35,7 +35,7 @@ class Range:
 
 @dataclass
 class Fitted:
-    """The values that come nearest, how far they are, that of the study as it stands, and what the model has with them."""
+    """The values that come nearest, how far they and those of the study are, and what the model has with them."""
 
     values: dict[str, float]
     distance: float
@@ -74,7 +74,8 @@ def distance(model: pandas.DataFrame, observed: Observed) -> float:
     return float(numpy.sqrt(numpy.mean(parts)))
 
 
-def calibrate(path: str | Path, observed: Observed, ranges: Sequence[Range], most: int = 80, news: News | None = None) -> Fitted:
+def calibrate(path: str | Path, observed: Observed, ranges: Sequence[Range], most: int = 80,
+              news: News | None = None) -> Fitted:
     """The values within the ranges by which the study comes nearest, after at most so many runs."""
     from scipy.optimize import minimize
 

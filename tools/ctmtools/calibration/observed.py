@@ -18,7 +18,7 @@ NEEDED = ("place", "start", "end", "flow")
 
 @dataclass(frozen=True)
 class Observed:
-    """The rows of a file: place, start and end in seconds after midnight, flow in vehicles/h, speed in km/h or lacking."""
+    """The rows of a file: place, start and end in seconds after midnight, vehicles/h, and km/h where they are known."""
 
     path: Path
     rows: pandas.DataFrame
@@ -73,5 +73,6 @@ def modelled(report: Report, observed: Observed) -> pandas.DataFrame:
             raise Problem(f"{observed.path}: {row.place} has a row that isn't within the study's time")
         flow, held = report.flow[cell].to_numpy()[inside], report.held[cell].to_numpy()[inside]
         length = (units.length(cell) or 0.0) * 3600 / units.step
-        found.append((flow.mean() * 3600 / units.step, length * flow.sum() / held.sum() if held.sum() > 0 else float("nan")))
+        speed = length * flow.sum() / held.sum() if held.sum() > 0 else float("nan")
+        found.append((flow.mean() * 3600 / units.step, speed))
     return pandas.DataFrame(found, columns=["flow", "speed"], index=observed.rows.index)

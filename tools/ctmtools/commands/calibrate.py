@@ -13,11 +13,12 @@ from ..report.page import table, told
 EPILOG = """\b
 Examples:
   ctm-tools calibrate study.toml --observed detectors.csv --vary lane.saturation_flow=1800:2400
-  ctm-tools calibrate study.toml --observed detectors.csv --vary lane.saturation_flow=1800:2400 --vary lane.jam_density=120:160
+  ctm-tools calibrate study.toml --observed det.csv --vary lane.saturation_flow=1800:2400 --vary demand=0.9:1.1
 
-The file of detectors has the columns place (ROAD.KM), start, end (clock times), flow (vehicles/h) and, where it is known,
-speed (km/h). A key is one that `sweep` varies. What is made small is the root mean square of flows and speeds, each by
-its mean. The search, scipy's of Nelder and Mead, ends in the nearest values that it finds, which needn't be the only ones."""
+The file of detectors has the columns place (ROAD.KM), start, end (clock times), flow (vehicles/h) and, where it is
+known, speed (km/h). A key is one that `sweep` varies. What is made small is the root mean square of flows and speeds,
+each by its mean. The search, scipy's of Nelder and Mead, ends in the nearest values that it finds, which needn't be the
+only ones."""
 
 
 @click.command(epilog=EPILOG)

@@ -36,7 +36,7 @@ MOST_ROADS = 6  # so many roads are told with their travel time
 @on_reports
 def command(first: str, second: str, rows: int, output: str | None, picture: str | None, road: str | None,
             units: str | None, network: str | None) -> None:
-    """Compare two reports: delay and served vehicles in all and cell by cell, and travel times, the greatest changes first.
+    """Compare two reports: delay, served vehicles and travel times, the greatest changes first.
 
     A cell's delay counts where vehicles waited, so a shorter queue shows at the cells that it no longer reaches.
     """
@@ -84,7 +84,8 @@ def _travel(frame: pandas.DataFrame) -> Iterator[str]:
     changed = frame[frame.rise.abs() >= 0.005]
     if changed.empty:
         return
-    yield f"\nMean travel time from end to end in min, {min(MOST_ROADS, len(changed))} of {len(changed)} roads that differ:\n"
+    yield (f"\nMean travel time from end to end in min, {min(MOST_ROADS, len(changed))} of {len(changed)} roads that "
+           "differ:\n")
     rows = [(road, told(row["first"]), told(row["second"]), signed(row.rise))
             for road, row in changed[:MOST_ROADS].iterrows()]
     yield from table([("road", "A", "B", "B - A"), *rows], right=(1, 2, 3))

@@ -20,7 +20,8 @@ study's [lane]."""
 
 @click.command(epilog=EPILOG)
 @click.argument("detector", metavar="FILE.csv", type=click.Path())
-@click.option("--lanes", default=1.0, show_default=True, type=click.FloatRange(0.1), help="Of how many lanes its flows are.")
+@click.option("--lanes", default=1.0, show_default=True, type=click.FloatRange(0.1),
+              help="Of how many lanes its flows are.")
 @click.option("-o", "--output", metavar="FILE.png|svg|pdf", type=click.Path(), help="Where the plot goes.")
 def command(detector: str, lanes: float, output: str | None) -> None:
     """Fit the triangle of flow and density to a detector's data, and plot both."""
@@ -37,7 +38,7 @@ def command(detector: str, lanes: float, output: str | None) -> None:
         raise Problem(f"{detector}: {problem}") from None
     click.echo(f"free_flow_speed = {found.speed:.4g}  # km/h\nwave_speed = {found.wave:.4g}  # km/h\n"
                f"jam_density = {found.jam:.4g}  # vehicles/km\nsaturation_flow = {found.capacity:.5g}  # vehicles/h")
-    click.echo(f"\n{found.rows} rows, {found.queued} of them of queued traffic; misses {found.rmse:,.0f} vehicles/h in the root mean "
-               "square")
+    click.echo(f"\n{found.rows} rows, {found.queued} of them of queued traffic; misses {found.rmse:,.0f} vehicles/h in the "
+               "root mean square")
     save(triangle(states, found, f"{Path(detector).stem}: flow and density"), picture)
     click.echo(f"\n{picture}")

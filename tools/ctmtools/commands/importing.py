@@ -92,9 +92,9 @@ Example:
   ctm-tools import gmns town -o town.toml
 
 Of the folder are read node.csv, link.csv, movement.csv, signal_timing_plan.csv, signal_timing_phase.csv,
-signal_phase_mvmt.csv, signal_coordination.csv and the units of config.csv (else km and km/h). Demand is no part of GMNS: it
-comes from demand.csv with the columns link_id, start, end (s) and flow (vehicles/h), turning shares from a column `share`
-of movement.csv, else by lanes.""")
+signal_phase_mvmt.csv, signal_coordination.csv and the units of config.csv (else km and km/h). Demand is no part of
+GMNS: it comes from demand.csv with the columns link_id, start, end (s) and flow (vehicles/h), turning shares from a
+column `share` of movement.csv, else by lanes.""")
 @click.argument("folder", metavar="FOLDER", type=click.Path())
 @click.option("-o", "--output", metavar="STUDY.toml", type=click.Path(), help="Where the study goes.")
 @click.option("--step", default="2 s", show_default=True, metavar="TIME", help="The length of a step.")

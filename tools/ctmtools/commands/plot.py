@@ -24,7 +24,7 @@ steps and cells. time-space, n-curves and queue need records."""
 
 @click.group(epilog=EPILOG)
 def command() -> None:
-    """Draw a report: time-space, n-curves, queue, delay or map.
+    """Draw a report: time-space, n-curves, queue, delay, map or mfd.
 
     The picture goes where -o says, else into this folder under the report's name; its ending says the format.
     """
@@ -65,10 +65,12 @@ Examples:
 @click.option("--road", metavar="ROAD", help="The road to draw; else the longest route from a gate.")
 @click.option("--first", metavar="CELL", help="The first cell of the chain.")
 @click.option("--last", metavar="CELL", help="The last cell of the chain.")
+@click.option("--of", type=click.Choice(["density", "speed", "flow"]), default="density", show_default=True,
+              help="What is shaded.")
 @click.option("--line", "lines", metavar="TEXT", multiple=True, help="Draw a line as theory or observation has it, "
               "`LABEL: TIME KM, TIME KM, ..`; may be given again.")
 def time_space(**named: Any) -> None:
-    """Density over time and place along a chain of cells, in vehicles per km, with queues outlined."""
+    """Density, speed or flow over time and place along a chain of cells, with queues outlined."""
     draw("time-space", **named)
 
 
@@ -115,3 +117,13 @@ Example:
 def network_map(**named: Any) -> None:
     """The network drawn with its delays. It needs no records."""
     draw("map", **named)
+
+
+@command.command("mfd", epilog="""\b
+Example:
+  ctm-tools plot mfd grid.report --interval "5 min\"""")
+@on_picture
+@click.option("--interval", metavar="TIME", help="The span of a point; by default 5 min.")
+def mfd(**named: Any) -> None:
+    """The network's fundamental diagram: mean flow over mean density of all lanes, from span to span."""
+    draw("mfd", **named)

@@ -16,10 +16,10 @@ Examples:
   ctm-tools report bottleneck.report
   ctm-tools report bottleneck.report bottleneck-staggered.report -o staggered.html
 
-The page is one file that needs no network: the map with a slider of time, density or flow over time and place on a road, the
-curves of the cell that is clicked, and a table of roads and gates that is sorted by a click on its heads. Of two reports A and
-B it shows either or B less A. Both need records; their means are over as many steps as keep the page small. It needs Debian's
-node-d3 when it is made, whose script goes into the page."""
+The page is one file that needs no network: the map with a slider of time, density or flow over time and place on a
+road, the curves of the cell that is clicked, and a table of roads and gates that is sorted by a click on its heads. Of
+two reports A and B it shows either or B less A. Both need records; their means are over as many steps as keep the page
+small. It needs Debian's node-d3 when it is made, whose script goes into the page."""
 
 
 @click.command(epilog=EPILOG)

@@ -93,7 +93,8 @@ def _tell(sweep: Sweep, rows: int, folder: Path, drawn: Sequence[str]) -> None:
     """Prints the best rows, and writes the table and the plot."""
     frame, keys = sweep.results.frame(), sweep.keys
     same = frame.rounded.iloc[0] if len(frame) > 1 and frame.rounded.nunique() == 1 else ""
-    lines = [(*keys, "delay (vehicle-hours)", "longest queue (km)", "most waiting", "served", "inside", "travel time (min)", "")]
+    lines = [(*keys, "delay (vehicle-hours)", "longest queue (km)", "most waiting", "served", "inside",
+              "travel time (min)", "")]
     for _, row in frame.head(rows).iterrows():
         figures = ("",) * 6 if row.error else (told(row.delay_vehicle_hours), kilometre(row.longest_queue_km),
                                                f"{row.most_waiting_vehicles:,.0f}", told(row.served_vehicles),

@@ -9,19 +9,25 @@ from typing import Any
 import click
 
 from ..problem import reason
+from ..report.by_road import by_road
 from ..report.reading import read_report
 from ..report.states import states, totals
+from ..study.quantities import duration
 from .reports import on_reports
 
 EPILOG = """\b
 Examples:
   ctm-tools table bottleneck.report -o bottleneck-table.csv
   ctm-tools table bottleneck.report --cell m20 --cell m21
+  ctm-tools table bottleneck.report --by road --interval "15 min" --value-of-time 20
   ctm-tools table bottleneck.report --separator ";" --decimal ","
 
 Columns: time, cell, occupancy (vehicles), flow (vehicles/h), density (vehicles/km), speed (km/h), step, road, from_km,
 to_km, lanes. Flow, density and speed are those from the time to the next one, and empty at the last. Where the units
 aren't known, flow is in vehicles a step, density in vehicles a cell, speed in cells a step, and time is the step.
+With --by road a row for each road and gate, and each --interval: time, step, road, vehicles (that left it), flow, density
+(vehicles/km in a lane), level (of service by density, as the Highway Capacity Manual has it for motorways), speed, delay
+(vehicle-hours), delay_each (s), queue (km); with --value-of-time cost too.
 With --totals: cell, occupancy, come, gone (vehicles), delay (vehicle-hours), road, from_km, to_km, lanes at the end."""
 
 
@@ -29,15 +35,23 @@ With --totals: cell, occupancy, come, gone (vehicles), delay (vehicle-hours), ro
 @click.argument("report", metavar="REPORT", type=click.Path())
 @click.option("-o", "--output", metavar="FILE.csv", type=click.Path(), help="Where it goes; else to standard output.")
 @click.option("--totals", "ends", is_flag=True, help="The cells at the end, one row each; it needs no records.")
+@click.option("--by", type=click.Choice(["cell", "road"]), default="cell", show_default=True, help="What a row is of.")
+@click.option("--interval", metavar="TIME", help="By road: the span of a row, as \"15 min\"; else the whole time.")
+@click.option("--value-of-time", metavar="MONEY", type=click.FloatRange(0), help="By road: what an hour of delay costs.")
 @click.option("--cell", "cells", metavar="CELL", multiple=True, help="These cells alone; may be given again.")
 @click.option("--separator", default=",", show_default=True, help="What stands between fields.")
 @click.option("--decimal", default=".", show_default=True, help="The decimal sign.")
 @on_reports
-def command(report: str, output: str | None, ends: bool, cells: tuple[str, ...], separator: str, decimal: str,
-            units: str | None, network: str | None) -> None:
+def command(report: str, output: str | None, ends: bool, by: str, interval: str | None, value_of_time: float | None,
+            cells: tuple[str, ...], separator: str, decimal: str, units: str | None, network: str | None) -> None:
     """Write a report as a tidy table with a header, for pandas, R and Excel."""
     read = read_report(report, units, network)
-    frame = totals(read) if ends else states(read)
+    if by == "road" and (ends or cells) or by == "cell" and (interval or value_of_time is not None):
+        raise click.UsageError("--interval and --value-of-time go with --by road, --totals and --cell with --by cell")
+    if by == "road":
+        frame = by_road(read, float(duration(interval, "--interval")) if interval else None, value_of_time)
+    else:
+        frame = totals(read) if ends else states(read)
     if cells:
         for cell in cells:
             if cell not in read.cells.index:
@@ -46,7 +60,7 @@ def command(report: str, output: str | None, ends: bool, cells: tuple[str, ...],
     if len(separator) != 1 or len(decimal) != 1 or separator == decimal:
         raise click.UsageError("the separator and the decimal sign are one character each, and differ")
     if not ends and read.units.known:
-        frame["time"] = frame.step.map({step: read.units.clock(step, True) for step in read.times})
+        frame["time"] = frame.step.map(lambda step: read.units.clock(step, True))
     named = ", ".join(f"{column} in {unit}" for column, unit in frame.attrs["units"].items() if column != "time")
     try:
         with _file(output) as file:

@@ -1,4 +1,4 @@
-"""A report as GeoJSON, for QGIS and others: a line for each cell, with what it passed and lost and, by time, its state."""
+"""A report as GeoJSON, for QGIS and others: a line for each cell, with what it passed and lost, in all or by time."""
 
 from __future__ import annotations
 
@@ -10,7 +10,7 @@ import numpy
 from ..plots.layout import lay_out
 from ..problem import Problem
 from ..report.reading import Report
-from ..report.states import DAY_ZERO
+from ..report.states import DAY_ZERO, KNOWN, UNKNOWN
 
 Feature = dict[str, Any]
 
@@ -24,17 +24,18 @@ def features(report: Report, every: float | None = None) -> Iterator[Feature]:
     lines = lay_out(report)
     metres = 1000 if report.units.points else 1
     for cell in report.cells.index:
-        shape = {"type": "LineString", "coordinates": [[round(x * metres, 6), round(y * metres, 6)] for x, y in lines[cell]]}
+        places = [[round(x * metres, 6), round(y * metres, 6)] for x, y in lines[cell]]
+        shape = {"type": "LineString", "coordinates": places}
         for terms in [_whole(report, cell)] if every is None else _spans(report, cell, every):
             yield {"type": "Feature", "geometry": shape, "properties": {**_place(report, cell), **terms}}
 
 
 def collection(report: Report, every: float | None = None) -> dict[str, Any]:
     """The features as a collection, with the units of their properties."""
-    units = report.units
-    named = {"delay": units.delay_unit, "flow": "vehicles/h", "density": "vehicles/km", "speed": "km/h"} if units.known else \
-        {"delay": units.delay_unit, "flow": "vehicles in a step", "density": "vehicles in a cell", "speed": "cells in a step"}
-    return {"type": "FeatureCollection", "name": report.title, "units": named, "features": list(features(report, every))}
+    known = KNOWN if report.units.known else UNKNOWN
+    named = {"delay": report.units.delay_unit, **{name: known[name] for name in ("flow", "density", "speed")}}
+    return {"type": "FeatureCollection", "name": report.title, "units": named,
+            "features": list(features(report, every))}
 
 
 def _place(report: Report, cell: str) -> dict[str, Any]:

@@ -57,11 +57,13 @@ class Reader:
         if left:
             self.found.notes.append(f"{left} links that cars may not use are left out")
 
-    def _street(self, row: dict[str, str], name: str, ends: tuple[str, str], places: dict[str, tuple[float, float]]) -> None:
-        lanes = round(_number(row, "lanes", 1))
-        speed, length = _number(row, "free_speed", 50 / self.speed) * self.speed, _number(row, "length", 0) * self.kilometre
+    def _street(self, row: dict[str, str], name: str, ends: tuple[str, str],
+                places: dict[str, tuple[float, float]]) -> None:
+        lanes, length = round(_number(row, "lanes", 1)), _number(row, "length", 0) * self.kilometre
+        speed = _number(row, "free_speed", 50 / self.speed) * self.speed
         if lanes < 1 or speed <= 0 or length <= 0:
-            raise Problem(f"{self.folder / 'link.csv'}: link {row['link_id']}: lanes, free_speed and length must be above 0")
+            raise Problem(f"{self.folder / 'link.csv'}: link {row['link_id']}: lanes, free_speed and length must be "
+                          "above 0")
         capacity = _number(row, "capacity", 0) * lanes or None
         points = [(x / 1000, y / 1000) for x, y in (places[end] for end in ends if end in places)]
         self.found.streets[name] = Street(name, *ends, length, lanes, speed, points, capacity)
@@ -90,8 +92,8 @@ class Reader:
         plans: dict[str, dict[str, str]] = {}
         for row in self._rows("signal_timing_plan", needed=False):
             if row.get("controller_id", "") in plans:
-                self.found.notes.append(f"signal {row.get('controller_id')}: plan {row['timing_plan_id']} is left out, since "
-                                        "the first one is kept for the whole time")
+                self.found.notes.append(f"signal {row.get('controller_id')}: plan {row['timing_plan_id']} is left out, "
+                                        "since the first one is kept for the whole time")
             plans.setdefault(row.get("controller_id", ""), row)
         offsets = {row.get("timing_plan_id", ""): _number(row, "offset", 0)
                    for row in self._rows("signal_coordination", needed=False)}
@@ -163,7 +165,8 @@ def phase_spans(phases: Rows) -> list[Span]:
         ends = [start]
         for ring in sorted({_number(row, "ring", 1) for row in phases}):
             time = start
-            own = [i for i, row in enumerate(phases) if (_number(row, "barrier", 1), _number(row, "ring", 1)) == (barrier, ring)]
+            own = [i for i, row in enumerate(phases)
+                   if (_number(row, "barrier", 1), _number(row, "ring", 1)) == (barrier, ring)]
             for i in sorted(own, key=lambda i: _number(phases[i], "position", 0)):
                 green = _number(phases[i], "max_green", 0) or _number(phases[i], "min_green", 0)
                 found[i] = time, time + green

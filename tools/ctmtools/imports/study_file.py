@@ -37,7 +37,7 @@ class Terms:
         return self.gap / self.headway * 3.6
 
     def saturation(self, speed: float) -> float:
-        """The vehicles/h that a lane passes at a speed in km/h, just below the top of the triangle of flow and density."""
+        """The vehicles/h that a lane passes at a speed in km/h, just below the top of its triangle."""
         return floor(3600 / (self.headway + self.gap / (speed / 3.6))) - 1
 
 
@@ -260,7 +260,8 @@ class Writer:
     @staticmethod
     def _closed(road: str, kilometre: float) -> Iterator[str]:
         """A road, or its end, that nobody passes."""
-        yield from ["[[closures]]  # never green", f"road = {quoted(road)}", f"from = {kilometre:.6g}", "capacity = 0", ""]
+        yield from ["[[closures]]  # never green", f"road = {quoted(road)}", f"from = {kilometre:.6g}", "capacity = 0",
+                    ""]
 
     def _named(self, arms: Sequence[str]) -> str:
         return f"[{', '.join(quoted(self.names[arm]) for arm in arms)}]"

@@ -156,8 +156,8 @@ def _note_junctions(root: Element, found: Streets) -> None:
     yielding = sum(kinds[kind] for kind in ("priority", "right_before_left", "left_before_right", "allway_stop",
                                             "priority_stop", "zipper"))
     if yielding:
-        found.notes.append(f"{yielding} junctions without a signal: where streams meet, giving way is kept as priorities; "
-                           "streams that only cross don't heed each other")
+        found.notes.append(f"{yielding} junctions without a signal: where streams meet, giving way is kept as "
+                           "priorities; streams that only cross don't heed each other")
     rounds = sum(1 for _ in root.iter("roundabout"))
     if rounds:
         found.notes.append(f"{rounds} roundabouts: who drives round has priority as at other junctions")

@@ -29,7 +29,8 @@ def _note_lengths(found: Streets, root: Element) -> None:
     """Notes vehicles that take another length than the one for all."""
     other = sorted({float(kind.get("length", 5)) + float(kind.get("minGap", 2.5)) for kind in root.iter("vType")} - {7.5})
     if other:
-        found.notes.append(f"vehicles that take {', '.join(f'{length:g}' for length in other[:4])} m take as much as the others")
+        lengths = ", ".join(f"{length:g}" for length in other[:4])
+        found.notes.append(f"vehicles that take {lengths} m take as much as the others")
 
 
 class Reader:

@@ -56,7 +56,8 @@ def data_of(reports: Sequence[Report]) -> dict[str, Any]:
         {"density": "vehicles", "flow": "vehicles in a step", "place": "cell"}
     return {"title": " and ".join(dict.fromkeys(report.title for report in reports)), "subtitle": _subtitle(reports),
             "times": [units.clock(bound, _seconds(units.step)) if units.known else str(int(bound)) for bound in bounds],
-            "clock": _clock(first), "units": known, "cells": [_cell(first, cell, lines[cell], i) for i, cell in enumerate(cells)],
+            "clock": _clock(first), "units": known,
+            "cells": [_cell(first, cell, lines[cell], i) for i, cell in enumerate(cells)],
             "roads": {road: [places[cell] for cell in own] for road, own in roads.items()},
             "first": places[first.cells.wait[[cell for cell in cells if _is_road(first, cell)]].idxmax()],
             "reports": [_states(report, cells, bounds) for report in reports],
@@ -106,14 +107,17 @@ def _is_road(report: Report, cell: str) -> bool:
 
 def _cell(report: Report, cell: str, line: Sequence[tuple[float, float]], number: int) -> dict[str, Any]:
     row = report.units.cells.get(cell, {})
-    found = {"name": cell, "kind": report.need_network().kinds[cell], "line": [[round(x, 4), round(y, 4)] for x, y in line],
+    found = {"name": cell, "kind": report.need_network().kinds[cell],
+             "line": [[round(x, 4), round(y, 4)] for x, y in line],
              "from": round(row.get("from_km", number), 6), "to": round(row.get("to_km", number + 1), 6)}
     return {**found, **({"road": row["road"], "lanes": row["lanes"]} if row else {})}
 
 
 def table_of(reports: Sequence[Report]) -> dict[str, Any]:
-    """A row for each road and each gate: length, delay, vehicles that left it, delay of each, longest queue; of two reports
-    those of B behind those of A, and what B has more."""
+    """A row for each road and each gate: length, delay, vehicles that left it, delay of each, longest queue.
+
+    Of two reports those of B stand behind those of A, and last what B has more.
+    """
     rows = [dict(_rows(report)) for report in reports]
     marks = ["", ""] if len(reports) == 1 else [" A", " B"]
     unit = reports[0].units.delay_unit
@@ -139,8 +143,9 @@ def _rows(report: Report) -> Iterator[tuple[str, list[float]]]:
         lengths = numpy.array([(units.length(cell) or 0.0) if units.known else 1.0 for cell in cells])
         waits, gone = report.cells.wait[cells].sum(), report.cells.gone[cells[-1]]
         reach = (stands[cells].to_numpy() * lengths).sum(axis=1).max() if not road.startswith("gate ") else 0.0
-        yield road, [round(float(number), 6) for number in (
-            0 if road.startswith("gate ") else lengths.sum(), units.hours(waits), gone, waits * second / gone if gone else 0, reach)]
+        whole = 0 if road.startswith("gate ") else lengths.sum()
+        each = waits * second / gone if gone else 0
+        yield road, [round(float(number), 6) for number in (whole, units.hours(waits), gone, each, reach)]
 
 
 def _subtitle(reports: Sequence[Report]) -> str:

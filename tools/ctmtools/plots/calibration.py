@@ -20,8 +20,8 @@ def against(model: pandas.DataFrame, observed: Observed, title: str) -> Figure:
     axes.plot([0, most], [0, most], label="as observed", **style(2))
     for i, place in enumerate(observed.places):
         own = observed.rows.place == place
-        axes.plot(observed.rows.flow[own], model.flow[own], MARKS[i % len(MARKS)], color=SHADES[i % len(SHADES)], markersize=4,
-                  fillstyle="none", label=place)
+        axes.plot(observed.rows.flow[own], model.flow[own], MARKS[i % len(MARKS)], color=SHADES[i % len(SHADES)],
+                  markersize=4, fillstyle="none", label=place)
     axes.set_xlim(0, most)
     axes.set_ylim(0, most)
     axes.set_xlabel("Observed flow (vehicles/h)")

@@ -28,6 +28,7 @@ LOOK = {"font.size": 9.5, "axes.titlesize": 11, "axes.titlelocation": "left", "a
 SHADES = ("#000000", "#b2431f", "#5b7fb0", "#8f9a2c", "#7c5295", "#999999")
 DASHES = ("-", (0, (5, 1.5)), (0, (1.2, 1.2)), (0, (6, 1.5, 1.2, 1.5)), (0, (9, 3)), (0, (3, 1, 1, 1, 1, 1)))
 DENSITY = "magma_r"  # darker is denser, in grey too
+SPEED = "magma"  # darker is slower
 # A rise is dark and a fall light, so that they differ in grey too.
 RISE = LinearSegmentedColormap.from_list("rise", ["#3f8fc9", "#9cc9e8", "#ffffff", "#e58a3a", "#4d1400"])
 DOTS = 120  # an inch

@@ -10,7 +10,8 @@ from matplotlib.figure import Figure
 from ..problem import Problem
 from ..report.reading import Report
 
-PICTURES = {"time-space": "time_space", "n-curves": "curves", "queue": "queue", "delay": "delay", "map": "network_map"}
+PICTURES = {"time-space": "time_space", "n-curves": "curves", "queue": "queue", "delay": "delay", "map": "network_map",
+            "mfd": "fundamental"}
 
 
 def picture(report: Report, kind: str, **options: Any) -> Figure:

@@ -26,7 +26,7 @@ Numbers = numpy.ndarray
 
 @dataclass(frozen=True)
 class Trips:
-    """Who enters a chain of cells: how many at which step, and the steps that they need, lacking where they don't arrive."""
+    """Who enters a chain of cells: how many at which step, and the steps that they need, lacking for who doesn't arrive."""
 
     entered: Numbers
     vehicles: Numbers
@@ -120,7 +120,7 @@ def travel_times(report: Report, cells: Sequence[str], every: float | None = Non
 
 @dataclass(frozen=True)
 class RoadTime:
-    """The travel time on a road in steps: at free flow, the mean, the longest, and the step at which who had it entered."""
+    """The travel time on a road in steps: at free flow, the mean, and the longest, of who entered at a step."""
 
     road: str
     free: float

@@ -1,4 +1,4 @@
-"""Where two reports are of other cells, places or times, so that they aren't like with like, or of other lanes or speeds."""
+"""Where two reports are of other cells, places or times, so that they aren't like with like, or of other lanes."""
 
 from __future__ import annotations
 
@@ -8,7 +8,8 @@ from typing import Any
 from .reading import Report
 
 MOST_NAMED = 3  # cells of each sort that a line names
-TERMS = {"lanes": ("number of lanes", ""), "free_flow_kmh": ("free-flow speed", " km/h"), "wave_kmh": ("wave speed", " km/h")}
+TERMS = {"lanes": ("number of lanes", ""), "free_flow_kmh": ("free-flow speed", " km/h"),
+         "wave_kmh": ("wave speed", " km/h")}
 
 
 def unlike(first: Report, second: Report) -> Iterator[str]:

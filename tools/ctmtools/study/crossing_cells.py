@@ -180,8 +180,8 @@ class Expansion:
         taken = " to ".join(told(steps * step) for steps in ends)
         off = "; the fewest of each approach are taken off its length" if self.crossing.within else ""
         self.study.remarks.append(
-            f"{self.crossing.place}: {_counted(len(self.movements), 'movement')}, {_counted(len(self.made), 'cell')} of its "
-            f"own; driving through takes {taken} s more, a step in each cell{off}")
+            f"{self.crossing.place}: {_counted(len(self.movements), 'movement')}, {_counted(len(self.made), 'cell')} of "
+            f"its own; driving through takes {taken} s more, a step in each cell{off}")
 
 
 def _counted(count: int, what: str) -> str:

@@ -133,8 +133,8 @@ class Phase:
 class Crossing:
     """A junction of several approaches and ways out, with turning shares, those by time, priorities and phases.
 
-    `priorities` and `lanes` are those of each movement, where they are said. The cycle begins `offset` s after the study's
-    start; with a cycle of None there is no signal. Where `within` is true its cells are taken off the approaches.
+    `priorities` and `lanes` are those of each movement, where they are said. The cycle begins `offset` s after the
+    study's start; with a cycle of None there is no signal. Where `within` is true its cells are taken off the approaches.
     """
 
     sources: list[str]

@@ -40,15 +40,16 @@ def measure(task: Task) -> dict[str, Any]:
     """The measures of a task's run, by name, and what went wrong, which is an empty text where nothing did.
 
     Delay is in vehicle-hours, the longest queue in km of whole cells, most waiting are the vehicles that waited at once
-    in one queue, on roads and in gates, the travel time is the mean of the longest route from a gate, with the wait in it,
-    of those who have arrived, and the rest is in vehicles at the end.
+    in one queue, on roads and in gates, the travel time is the mean of the longest route from a gate, with the wait in
+    it, of those who have arrived, and the rest is in vehicles at the end.
     """
     try:
         if not Path(task.program).exists():
             raise Problem(f"there is no program {task.program} on this machine")
         built = build(study(task))
         _, report = run(built.text.encode(), "the built network", built.units, task.every, 1, task.program)
-        values = (report.units.hours(report.total.delay), *_greatest(report), report.total.left, report.total.inside, _travel_time(report))
+        values = (report.units.hours(report.total.delay), *_greatest(report), report.total.left, report.total.inside,
+                  _travel_time(report))
         return {**dict(zip(MEASURES, map(float, values))), "rounded": rounded(built.rounding), "error": ""}
     except Problem as problem:
         return failed(problem)
@@ -76,7 +77,7 @@ def _greatest(report: Report) -> tuple[float, float]:
 
 
 def _travel_time(report: Report) -> float:
-    """The mean travel time in minutes along the longest route, of those who have arrived; lacking where there are none."""
+    """The mean travel time in minutes along the longest route, of those who have arrived; lacking without any."""
     found = trips(report, chain_of(report))
     return found.of(~numpy.isnan(found.steps)).mean * (report.units.step or 0) / 60
 

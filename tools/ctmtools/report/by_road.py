@@ -1,0 +1,111 @@
+"""A report by road and gate, and by spans of time: vehicles, density, speed, delay, queue and level of service."""
+
+from __future__ import annotations
+
+from collections.abc import Sequence
+
+import numpy
+import pandas
+
+from ..problem import Problem
+from ..units import MILE_KM
+from .queues import standing
+from .reading import Report
+from .states import times
+
+# The Highway Capacity Manual's levels of service of a motorway: for each the most vehicles per mile in a lane.
+LEVELS = (("A", 11), ("B", 18), ("C", 26), ("D", 35), ("E", 45))
+
+COLUMNS = ("vehicles", "flow", "density", "speed", "delay", "delay_each", "queue")
+
+
+def level(density: float) -> str:
+    """The level of service of a density in vehicles/km in a lane, A to F; empty where there is none."""
+    if density != density:
+        return ""
+    return next((name for name, most in LEVELS if density * MILE_KM <= most), "F")
+
+
+def bounds_of(report: Report, every: float | None) -> list[int]:
+    """The recorded steps at which spans of so many seconds (or steps) begin, and the last one."""
+    report.need_records()
+    step = report.units.step
+    if every is None:
+        return [int(report.times[0]), int(report.times[-1])]
+    width = every if step is None else every / step
+    if width < report.times[1] - report.times[0]:
+        raise Problem("--interval: is less than the way from record to record")
+    wanted = numpy.arange(0, report.steps + width, width)
+    found = [int(report.times[min(place, len(report.times) - 1)]) for place in numpy.searchsorted(report.times, wanted)]
+    return sorted(set(found))
+
+
+def by_road(report: Report, every: float | None = None, value_of_time: float | None = None) -> pandas.DataFrame:
+    """A row for each span of time and each road or gate.
+
+    `vehicles` have left it and `flow` is that in vehicles/h; `density` is the mean in vehicles/km in a lane and `level`
+    its level of service, `speed` the mean in km/h, over place and time; `delay` is in vehicle-hours and `delay_each` in
+    seconds for each vehicle that left; `queue` is the most km that stood in a queue at once. With a value of time, in
+    money an hour, `cost` is what the delay costs. Where units aren't known there are no roads, and gates alone have rows.
+    """
+    bounds = bounds_of(report, every)
+    units, kinds = report.units, report.need_network().kinds
+    rows = []
+    parts = {**units.roads, **{f"gate {cell}": [cell] for cell, kind in kinds.items() if kind == "gate"}}
+    stands, held, flow = standing(report), report.held, report.flow
+    lasting = numpy.diff(report.times)
+    for begin, end in zip(bounds, bounds[1:]):
+        inside = (report.times[:-1] >= begin) & (report.times[:-1] < end)
+        for name, cells in parts.items():
+            weights = lasting[inside][:, None]
+            stood, went = held[cells].to_numpy()[inside] * weights, flow[cells].to_numpy()[inside] * weights
+            queued = stands[cells].to_numpy()[inside]
+            rows.append((begin, name, *_figures(report, cells, stood, went, queued, end - begin)))
+    frame = pandas.DataFrame(rows, columns=["step", "road", *COLUMNS])
+    frame.insert(0, "time", times(units, frame["step"].to_numpy()))
+    frame.insert(6, "level", [level(density) for density in frame.density] if units.known else "")
+    if value_of_time is not None:
+        if not units.known:
+            raise Problem(f"{report.name}: the units aren't known, so the delay has no cost")
+        frame["cost"] = frame.delay * value_of_time
+    frame.attrs["units"] = {"vehicles": "vehicles", "flow": "vehicles/h" if units.known else "vehicles in a step",
+                            "density": "vehicles/km in a lane", "speed": "km/h", "delay": units.delay_unit, "delay_each":
+                            "s" if units.known else "steps", "queue": "km" if units.known else "cells"}
+    return frame
+
+
+def _figures(report: Report, cells: Sequence[str], stood: numpy.ndarray, went: numpy.ndarray, queued: numpy.ndarray,
+             steps: int) -> tuple[float, ...]:
+    """Vehicles, flow, density, speed, delay, delay of each and queue of some cells in a span."""
+    units = report.units
+    hour, second = (3600 / units.step, units.step) if units.step is not None else (1.0, 1.0)
+    lengths = numpy.array([units.length(cell) or numpy.nan for cell in cells]) if units.known else numpy.ones(len(cells))
+    vehicles, delay = float(went[:, -1].sum()), float(numpy.clip(stood - went, 0, None).sum())
+    is_gate = numpy.isnan(lengths).any()
+    lanes = numpy.array([(units.cells.get(cell) or {}).get("lanes", 1) for cell in cells])
+    density = numpy.nan if is_gate else float(stood.sum() / steps / (lengths * lanes).sum())
+    speed = float((went * lengths).sum() * hour / stood.sum()) if not is_gate and stood.sum() > 0 else numpy.nan
+    reach = 0.0 if is_gate or not len(queued) else float((queued * lengths).sum(axis=1).max())
+    each = delay * second / vehicles if vehicles > 0 else numpy.nan
+    return vehicles, vehicles / steps * hour, density, speed, float(units.hours(delay)), each, reach
+
+
+def network_states(report: Report, every: float | None = None) -> pandas.DataFrame:
+    """The mean flow and density in a lane of all roads over each span: the points of the network's fundamental diagram.
+
+    Both are means over lane-kilometres: vehicle-kilometres an hour, and vehicles, by the lane-kilometres of the network.
+    """
+    units = report.units
+    if not units.known or not units.cells:
+        raise Problem(f"{report.name}: the units aren't known, so the network has no lane-kilometres")
+    bounds, cells = bounds_of(report, every), list(units.cells)
+    lengths = numpy.array([units.length(cell) or 0.0 for cell in cells])
+    total = float((lengths * numpy.array([units.cells[cell]["lanes"] for cell in cells])).sum())
+    lasting, held, flow = numpy.diff(report.times), report.held[cells].to_numpy(), report.flow[cells].to_numpy()
+    rows = []
+    for begin, end in zip(bounds, bounds[1:]):
+        inside = (report.times[:-1] >= begin) & (report.times[:-1] < end)
+        weights = lasting[inside][:, None] / (end - begin)
+        rows.append((begin, (held[inside] * weights).sum() / total,
+                     (flow[inside] * weights * lengths).sum() * 3600 / (units.step or 1) / total))
+    return pandas.DataFrame(rows, columns=["step", "density", "flow"])
