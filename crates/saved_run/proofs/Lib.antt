@@ -6,3 +6,4 @@ pub mod Texts
 pub mod Cuttings
 pub mod Shown
 pub mod Starts
+pub mod Futures

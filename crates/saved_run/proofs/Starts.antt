@@ -52,7 +52,7 @@ cutting-shown net cut room network cutting one_each =
     ap (of_regions (length room.steps)) own ∙ ap (λ t. cond t (Some cut) None) counted
 
 module _ (bytes : List ℕ) (net : Network) (cut : List ℕ) (start : StartLists) (room : RoomValue) (shot : IsShotOf bytes net cut start room) where
-  abbrev shown : StartLists
+  abbrev pub shown : StartLists
   shown = start_in (content_shown cut room bytes)
 
   inside : (i : ℕ) → region_at cut i < region_count cut
@@ -71,7 +71,7 @@ module _ (bytes : List ℕ) (net : Network) (cut : List ℕ) (start : StartLists
   earlier_is i there = shown_at (λ line. line.earlier) cut room i 0 (omega (arith, there, shot.cutting.one_each)) ∙ shot.snapshot.earlier i there
 
   -- what a cell held a step before its step
-  held_before : (i t : ℕ) → i < length net.cells → slice_index room.steps (region_at cut i) ≡ t + 1 → slice_index shown.earlier i ≡ grid_held net cut start t i
+  pub held_before : (i t : ℕ) → i < length net.cells → slice_index room.steps (region_at cut i) ≡ t + 1 → slice_index shown.earlier i ≡ grid_held net cut start t i
   held_before i t there later = earlier_is i there ∙ ap (λ s. grid_before net cut start s i) later ∙ grid_before-next net cut start t i
 
   cell_in_bounds : (i : ℕ) → i < length net.cells → IsCellInBounds net cut shown i

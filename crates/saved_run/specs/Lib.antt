@@ -8,3 +8,4 @@ pub mod Shown
 pub mod Charting
 pub mod Loading
 pub mod Laws
+pub mod Futures
