@@ -1,13 +1,22 @@
--- A cell that a region knows and that is none of its own is one of its halo.
-use Rattle.std.specs.Prelude.{◌==◌}
+-- Which cells a region knows: its own and those of its halo.
+use Rattle.std.specs.Prelude.{◌==◌, slice_index}
 use Rattle.std.specs.List.{Contains, list_any}
-use Rattle.std.proofs.Common.{◌≡◌, ℕ, inl, inr, true, List, refl}
+use Rattle.std.proofs.Common.{◌≡◌, ℕ, ◌<◌, inl, inr, true, List, ap, refl, subst, sym, ◌∙◌}
 use Rattle.std.proofs.lemmas.Bool.{eq-eqb}
+use Rattle.network_file.specs.declared.connector.Connector.{Connector}
 use Rattle.region_cut.proofs.Anys.{finds}
-use Rattle.place_rows.specs.Joining.{IsKnown}
+use Rattle.region_cut.specs.ConnectorCells.{three_cells}
+use Rattle.place_rows.specs.Joining.{AreKnown, IsKnown}
 
 pub listed : (xs : List ℕ) (i : ℕ) → Contains xs i → list_any (λ j. j == i) xs ≡ true
 listed xs i has = finds (λ j. j == i) xs i has (eq-eqb i i refl)
 
+-- a cell that a region knows and that is none of its own is one of its halo
 pub other_known : (cells halo : List ℕ) (i : ℕ) → IsKnown cells halo i → (list_any (λ j. j == i) cells ≡ true → ⊥) → Contains halo i
 other_known cells halo i known none = elim known [ inl own ↦ absurd (none (listed cells i own)) | inr other ↦ other ]
+
+-- a cell of a connector whose cells the region knows, read among its three
+pub known_cell : (cells halo three : List ℕ) (connector read : Connector) (m : ℕ) → AreKnown cells halo connector → connector ≡ read → three ≡ three_cells read → m < 3 →
+    IsKnown cells halo (slice_index three m)
+known_cell cells halo three connector read m known same is few =
+    subst (λ cs. IsKnown cells halo (slice_index cs m)) (ap three_cells same ∙ sym is) (known.each m few)

@@ -1,16 +1,16 @@
 -- After all its connectors each of a region's cells has the change of the recurrences.
 use Rattle.std.specs.Prelude.{All, ◌⊎◌, Bool, Option, map, slice_index, if◌then◌else◌}
 use Rattle.std.specs.List.{Contains, list_any}
-use Rattle.std.proofs.Common.{◌≡◌, ℕ, zero, suc, ◌<◌, ◌+◌, inl, inr, true, false, List, [], ◌∷◌, length, get_or, refl, sym, ap, ◌∙◌, arith}
+use Rattle.std.proofs.Common.{◌≡◌, ℕ, ◌<◌, ◌+◌, inl, inr, true, false, List, [], ◌∷◌, length, get_or, refl, sym, ap, ◌∙◌, arith}
 use Rattle.std.proofs.lemmas.Bool.{cases_Bool, cases_lt}
 use Rattle.std.proofs.lemmas.List.{get_or-map, get_or_default, length-map}
 use Rattle.std.proofs.lemmas.List.Elements.{Contains-get_or}
 use Rattle.std.proofs.lemmas.List.Folds.{Any-from_list_any}
-use Rattle.network_file.specs.Connectors.{cells_of, connector_at, leads_into, leads_out_of, touches}
+use Rattle.network_file.specs.Connectors.{connector_at, leads_into, leads_out_of, touches}
 use Rattle.network_file.specs.Network.{Network}
 use Rattle.network_file.specs.declared.connector.Connector.{Connector}
 use Rattle.network_file.specs.declared.connector.Connector.TheVariants.{Link, Merge, Diverge}
-use Rattle.flow_model.specs.Bounds.{AreHeldInBounds, IsHeldInBounds}
+use Rattle.flow_model.specs.Bounds.{IsHeldInBounds}
 use Rattle.flow_model.specs.Flows.{entering, flow_between, flow_of, leaving}
 use Rattle.flow_model.specs.declared.carried.Flow.{Flow}
 use Rattle.flow_model.specs.declared.row.Row.{Row}
@@ -18,6 +18,7 @@ use Rattle.flow_model.proofs.CellFlows.{inflow-by, inflow-none, outflow-by, outf
 use Rattle.flow_model.proofs.CellKinds.{sound_connector}
 use Rattle.flow_model.proofs.Locality.{leads_into-touches, leads_out_of-touches}
 use Rattle.region_cut.specs.ConnectorCells.{three_cells}
+use Rattle.place_rows.proofs.Parting.{three_in_bounds}
 use Rattle.region_step.specs.Advance.{known}
 use Rattle.region_step.specs.Apart.{AreApart}
 use Rattle.plain_region.specs.Carrying.{CanCarry, IsChangeOf, IsScene, IsThere, carried_of, change_at, held_at, moved_by}
@@ -37,30 +38,6 @@ place-there net t cells halo ties rows put i (Own p) scene (there, is) =
     (omega (arith, scene.row_each, there), rw is at ((scene.own p there).held))
 place-there net t cells halo ties rows put i (Halo p) scene (there, is) =
     (omega (arith, scene.put_each, there), rw is at (scene.around p there))
-
-three_in_bounds : (net : Network) (t : ℕ) (connector : Connector) (a b c : ℕ) → IsHeldInBounds net t (slice_index (three_cells connector) 0) a →
-    IsHeldInBounds net t (slice_index (three_cells connector) 1) b → IsHeldInBounds net t (slice_index (three_cells connector) 2) c →
-    AreHeldInBounds net t (cells_of connector) (a ∷ b ∷ c ∷ [])
-three_in_bounds net t (Link up down) a b c first second third = record { each = at }
-  where
-    at : (j : ℕ) → j < 2 → IsHeldInBounds net t (slice_index (up ∷ down ∷ []) j) (slice_index (a ∷ b ∷ c ∷ []) j)
-    at zero within = first
-    at (suc zero) within = second
-    at (suc (suc j)) within = absurd (omega arith)
-three_in_bounds net t (Merge up1 up2 down p1 p2) a b c first second third = record { each = at }
-  where
-    at : (j : ℕ) → j < 3 → IsHeldInBounds net t (slice_index (up1 ∷ up2 ∷ down ∷ []) j) (slice_index (a ∷ b ∷ c ∷ []) j)
-    at zero within = first
-    at (suc zero) within = second
-    at (suc (suc zero)) within = third
-    at (suc (suc (suc j))) within = absurd (omega arith)
-three_in_bounds net t (Diverge up down1 down2 b1 b2) a b c first second third = record { each = at }
-  where
-    at : (j : ℕ) → j < 3 → IsHeldInBounds net t (slice_index (up ∷ down1 ∷ down2 ∷ []) j) (slice_index (a ∷ b ∷ c ∷ []) j)
-    at zero within = first
-    at (suc zero) within = second
-    at (suc (suc zero)) within = third
-    at (suc (suc (suc j))) within = absurd (omega arith)
 
 pub can_carry : (net : Network) (t : ℕ) (cells halo : List ℕ) (ties : List Tie) (rows : List Row) (put : List (Option ℕ)) (tie : Tie) →
     IsScene net t cells halo ties rows put → IsTie net cells halo tie → CanCarry net t tie rows put

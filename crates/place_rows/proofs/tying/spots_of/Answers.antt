@@ -1,18 +1,12 @@
 use Rattle.std.specs.Prelude.{slice_index, slice_index_or}
-use Rattle.std.proofs.Common.{◌≡◌, ℕ, zero, suc, ◌<◌, List, [], ◌∷◌, ap, arith, subst, sym, ◌∙◌}
+use Rattle.std.proofs.Common.{◌≡◌, ℕ, zero, suc, ◌<◌, [], ◌∷◌, ap, arith, subst, sym, ◌∙◌}
 use Rattle.network_file.specs.Connectors.{connector_at}
-use Rattle.network_file.specs.declared.connector.Connector.{Connector}
 use Rattle.network_file.proofs.NetworkFacts.{read_connector}
 use Rattle.region_cut.specs.ConnectorCells.{three_cells}
 use Rattle.place_rows.specs.Carrying.{IsSpotOf}
 use Rattle.place_rows.specs.declared.spot.Spot.TheVariants.{Own}
-use Rattle.place_rows.specs.Joining.{AreKnown, IsKnown}
+use Rattle.place_rows.proofs.Known.{known_cell}
 use Rattle.place_rows.proofs.tying.spots_of.Goals as goal
-
-known_cell : (cells halo three : List ℕ) (connector read : Connector) (m : ℕ) → AreKnown cells halo connector → connector ≡ read → three ≡ three_cells read → m < 3 →
-    IsKnown cells halo (slice_index three m)
-known_cell cells halo three connector read m known same is few =
-    subst (λ cs. IsKnown cells halo (slice_index cs m)) (ap three_cells same ∙ sym is) (known.each m few)
 
 pub spot_of-requires-clause-known : goal.spot_of-requires-clause-known
 spot_of-requires-clause-known c =

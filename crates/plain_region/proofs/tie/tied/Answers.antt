@@ -1,17 +1,11 @@
 use Rattle.std.specs.Prelude.{slice_index}
-use Rattle.std.proofs.Common.{◌≡◌, ℕ, zero, suc, ◌<◌, List, [], ◌∷◌, ap, arith, subst, sym, ◌∙◌}
+use Rattle.std.proofs.Common.{◌≡◌, ℕ, zero, suc, ◌<◌, [], ◌∷◌, ap, arith, subst, sym, ◌∙◌}
 use Rattle.network_file.specs.Connectors.{connector_at}
-use Rattle.network_file.specs.declared.connector.Connector.{Connector}
 use Rattle.network_file.proofs.NetworkFacts.{read_connector}
 use Rattle.region_cut.specs.ConnectorCells.{three_cells}
 use Rattle.plain_region.specs.Layout.{IsPlaceOf, place_at}
-use Rattle.place_rows.specs.Joining.{AreKnown, IsKnown}
+use Rattle.place_rows.proofs.Known.{known_cell}
 use Rattle.plain_region.proofs.tie.tied.Goals as goal
-
-known_cell : (cells halo three : List ℕ) (connector read : Connector) (m : ℕ) → AreKnown cells halo connector → connector ≡ read → three ≡ three_cells read → m < 3 →
-    IsKnown cells halo (slice_index three m)
-known_cell cells halo three connector read m known same is few =
-    subst (λ cs. IsKnown cells halo (slice_index cs m)) (ap three_cells same ∙ sym is) (known.each m few)
 
 pub place_of-requires-clause-known : goal.place_of-requires-clause-known
 place_of-requires-clause-known c =
