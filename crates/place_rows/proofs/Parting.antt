@@ -105,6 +105,7 @@ spot-there net t cells halo ties places put i (Own p) scene (there, is) =
 spot-there net t cells halo ties places put i (Halo p) scene (there, is) =
     (omega (arith, scene.put_each, there), rw is at (scene.around p there))
 
+-- what the three cells of a connector hold is held in the bounds of each
 pub three_in_bounds : (net : Network) (t : ℕ) (connector : Connector) (a b c : ℕ) → IsHeldInBounds net t (slice_index (three_cells connector) 0) a →
     IsHeldInBounds net t (slice_index (three_cells connector) 1) b → IsHeldInBounds net t (slice_index (three_cells connector) 2) c →
     AreHeldInBounds net t (cells_of connector) (a ∷ b ∷ c ∷ [])
