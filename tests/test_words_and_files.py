@@ -37,7 +37,11 @@ CASES = [
     ("run in the most regions", ["run", "--regions", "512"], CORRIDOR, REPORT),
     ("regions before the mode", ["--regions", "2", "run"], CORRIDOR, REPORT),
     ("regions, and two dashes", ["run", "--regions", "2", "--"], CORRIDOR, REPORT),
+    ("two dashes before the mode", ["--", "run"], CORRIDOR, REPORT),
+    ("two dashes behind the mode", ["run", "--"], CORRIDOR, REPORT),
+    ("regions, two dashes and the mode", ["--regions", "2", "--", "run"], CORRIDOR, REPORT),
     ("regions spelled with zeros", ["run", "--regions", "03"], CORRIDOR, REPORT),
+    ("regions spelled in nine digits", ["run", "--regions", "000000003"], CORRIDOR, REPORT),
     ("fewer regions than in the file", ["run", "--regions", "1"], REGIONS, REPORT),
     ("more regions than in the file", ["run", "--regions", "3"], ONE_REGION, REPORT),
     ("run by one worker", ["run", "--workers", "1"], CORRIDOR, REPORT),
@@ -52,6 +56,7 @@ CASES = [
     ("recorded in three regions", ["run", "--every", "2", "--regions", "3"], CORRIDOR, RECORDED),
     ("recorded at the last step alone and at 0", ["run", "--every", "3"], CORRIDOR, FIRST_AND_LAST),
     ("recorded more seldom than there are steps", ["run", "--every=100000"], CORRIDOR, FIRST_AND_LAST),
+    ("recorded every other step, said before the mode", ["--every=2", "run"], CORRIDOR, RECORDED),
     ("recorded never", ["run", "--every", "0"], CORRIDOR, REPORT),
     ("recorded at the last step alone and at 0, in two regions", ["run", "--every", "3", "--regions", "2"], CORRIDOR,
      FIRST_AND_LAST),
@@ -94,3 +99,9 @@ SAMPLES = [
 def test_made_networks(words, text, run, directory):
     """A read of the directory would be a read fault."""
     hold((0, text, b""), run(words, stdin=directory))
+
+
+def test_a_made_network_of_which_neither_size_nor_seed_is_given(run, directory):
+    text = run(["sample", "--size", "100", "--seed", "1"], stdin=directory)[1]
+    assert text.startswith(lines("sample,100,1,127,101,240"))
+    hold((0, text, b""), run(["sample"], stdin=directory))

@@ -1,6 +1,8 @@
 -- Refusals: their status and their line, and which of them an answer allows.
 use Rattle.std.specs.Prelude.{◌≡◌, ℕ, List, Option, Some, ⊤}
 use Rattle.call_ending.specs.Lines.{read_fault_line, write_fault_line, no_memory_line}
+use Rattle.call_ending.specs.declared.cause.Cause.{Cause}
+use Rattle.call_ending.specs.declared.cause.Cause.TheVariants as cause
 use Rattle.call_ending.specs.declared.refusal.Line.{Line}
 use Rattle.call_ending.specs.declared.refusal.Line.TheVariants.{Fixed, Made}
 use Rattle.call_ending.specs.declared.refusal.Refusal.{Refusal}
@@ -17,21 +19,26 @@ abbrev pub bytes_of : Line → List ℕ
 bytes_of (Fixed line) = line.now
 bytes_of (Made line) = line.items
 
+abbrev pub cause_status : Cause → Status
+cause_status cause.Words = status.Words
+cause_status cause.Network = status.Network
+cause_status cause.TooLarge = status.TooLarge
+
 abbrev pub status_of : Refusal → Status
-status_of (refusal.Told status line) = status
+status_of (refusal.Told by line) = cause_status by
 status_of refusal.ReadFault = status.ReadFault
 status_of refusal.WriteFault = status.WriteFault
 status_of refusal.NoMemory = status.NoMemory
 
 abbrev pub line_of : Refusal → List ℕ
-line_of (refusal.Told status line) = bytes_of line
+line_of (refusal.Told by line) = bytes_of line
 line_of refusal.ReadFault = read_fault_line
 line_of refusal.WriteFault = write_fault_line
 line_of refusal.NoMemory = no_memory_line
 
 -- the refusal is the answer's own, or a read or a request for memory failed on the way to it
 abbrev pub IsRefusalOf : Option Why → (ReadFailed : Type 0) → Refusal → Type 0
-IsRefusalOf why ReadFailed (refusal.Told status line) = why ≡ Some (record { status = status; line = bytes_of line })
+IsRefusalOf why ReadFailed (refusal.Told by line) = why ≡ Some (record { status = cause_status by; line = bytes_of line })
 IsRefusalOf why ReadFailed refusal.ReadFault = ReadFailed
 IsRefusalOf why ReadFailed refusal.WriteFault = ⊥
 IsRefusalOf why ReadFailed refusal.NoMemory = ⊤

@@ -1,18 +1,21 @@
 //! How a call of a program of this repository ends: with its text on standard output, or with one line on standard error
 //! that says why there is none, and with a [`Status`] in either case (docs/FORMAT.md, "Exit status and standard error").
 //!
-//! - A call that has no text to write says why by a [`Refusal`]: it is told a status and a line by the answer itself, or a
-//!   read, a write or a request for memory failed on the way.
+//! - A call that has no text to write says why by a [`Refusal`]: the answer itself has a cause and a line, or a read, a
+//!   write or a request for memory failed on the way.
 //! - [`end`] writes the text, or the line of the refusal, and gives the status. `tell` writes the line alone.
 //! - specs/Ending.antt has the five ways in which a call ends, which contracts of whole calls cite (`HasEnded`).
 //!
-//! A status of a program's own takes one line in [`Status`] and one in its definition (specs/Status.antt).
+//! A status of a program's own takes one line in [`Status`] and one in its definition (specs/Status.antt), and one that
+//! answers have besides in [`Cause`] and its definition (specs/Refusing.antt).
 #![tactic(auto)]
 
+mod cause;
 mod ending;
 mod refusal;
 mod status;
 
+pub use cause::Cause;
 pub use ending::{end, tell};
 pub use refusal::{Line, Refusal};
 pub use status::Status;

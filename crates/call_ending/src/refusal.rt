@@ -1,6 +1,7 @@
 ghost use Rattle.std.specs.Prelude.{◌≡◌};
 ghost use Rattle.call_ending.specs.Refusing.{bytes_of, line_of, status_of};
 
+use crate::cause::Cause;
 use crate::status::Status;
 use no_memory::NoMemory;
 
@@ -26,8 +27,8 @@ impl Line {
 /// Why a call has no text, or why it wasn't written.
 #[derive(Debug, Drop)]
 pub enum Refusal {
-    /// The answer is that there is none: with this status and this line.
-    Told(Status, Line),
+    /// The answer is that there is none: by this cause, with this line.
+    Told(Cause, Line),
     /// A read of the input failed.
     ReadFault,
     /// A write of the text failed.
@@ -42,7 +43,7 @@ impl Refusal {
         ensures { result ≡ status_of self.now }
     {
         match self {
-            Refusal::Told(status, _) => *status,
+            Refusal::Told(cause, _) => cause.status(),
             Refusal::ReadFault => Status::ReadFault,
             Refusal::WriteFault => Status::WriteFault,
             Refusal::NoMemory => Status::NoMemory,

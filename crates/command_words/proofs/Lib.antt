@@ -1,4 +1,5 @@
 pub mod CommandLemmas
 pub mod RefusalLemmas
 pub mod RequestLemmas
+pub mod ValueExamples
 pub mod WordLemmas

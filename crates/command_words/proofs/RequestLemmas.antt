@@ -5,12 +5,12 @@ use Rattle.clap.specs.Words.{Row, fault_of, matches_of}
 use Rattle.command_words.specs.KnownWords.{command}
 use Rattle.command_words.specs.Words.{are_taken, request_in, request_of}
 
--- with no fault it is that of what was found
+-- where there is no fault, the words give what was found
 pub request_of-taken : (words : List (List ℕ)) (found : List Row) → fault_of command words ≡ [] → found ≡ matches_of command words → request_of words ≡ request_in found
 unfolding request_of
 request_of-taken words found none same = rw (none, same) refl
 
--- with a fault there is none
+-- and where there is one, no request
 pub request_of-faulty : (words : List (List ℕ)) → are_taken words ≡ false → request_of words ≡ None
 unfolding request_of
 request_of-faulty words faulty = rw faulty refl

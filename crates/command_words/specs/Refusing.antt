@@ -1,4 +1,4 @@
--- What an error of `clap` comes to.
+-- The refusal for an error of `clap`.
 use Rattle.clap.specs.declared.error.kind.ErrorKind.{ErrorKind}
 use Rattle.clap.specs.declared.error.kind.ErrorKind.TheVariants.{OutOfMemory}
 use Rattle.command_words.specs.declared.refusal.WordsRefusal.{WordsRefusal}

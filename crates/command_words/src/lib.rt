@@ -4,17 +4,17 @@
 //! match read_words(alloc, &words) {
 //!     Ok(request) => ..                    // the mode and six values, each within its range
 //!     Err(WordsRefusal::Refused) => ..     // the program doesn't take the words
-//!     Err(WordsRefusal::NoMemory) => ..    // memory was wanted, of the words nothing is said
+//!     Err(WordsRefusal::NoMemory) => ..    // memory was refused, which says nothing of the words
 //! }
 //! ```
 //!
 //! `clap` reads the words as one simple command: the mode stands alone, and each option is a word behind `--` with one
 //! value. It knows every option in every mode, so that a missing value or a repeated option is refused alike in each.
 //! Then the table `Mode::takes` says which options a mode has, and the table `Setting::terms` which values an option
-//! has: whole numbers of a range, or words. To give a mode one more option takes a line in the first table and one in
-//! its definition (specs/Modes.antt). An option that is wholly new has besides its line in the second table and in its
-//! definition (specs/Settings.antt), its field in `Request`, and its line where `clap` learns it and where its value is
-//! read. What reads a value knows no option: a word is read as its place among the option's words.
+//! has: whole numbers of a range, or words. To give a mode one more option, add a line to the first table and one to its
+//! definition (specs/Modes.antt). A new option also needs a line in the second table and in its definition
+//! (specs/Settings.antt), a field in `Request`, and a line where `clap` learns it and where its value is read. The code
+//! that reads a value is the same for all options: a word is read as its place among the option's words.
 //! No other crate of the repository stands on `clap`.
 #![tactic(auto)]
 
@@ -24,8 +24,6 @@ mod reading;
 mod refusal;
 mod request;
 mod setting;
-#[cfg(test)]
-mod tests;
 mod values;
 
 pub use mode::Mode;

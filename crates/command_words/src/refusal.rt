@@ -12,7 +12,7 @@ use std::alloc::AllocError;
 pub enum WordsRefusal {
     /// The program doesn't take the words. A call for help or for the version is refused like any other.
     Refused,
-    /// Memory was wanted; of the words nothing is said.
+    /// Memory was refused; that says nothing of the words.
     NoMemory,
 }
 
@@ -24,7 +24,7 @@ impl From<AllocError> for WordsRefusal {
     }
 }
 
-/// What an error of `clap` comes to: of its kind only whether memory was wanted.
+/// The refusal for an error of `clap`: of its kind nothing counts but whether memory was refused.
 pub(crate) fn refusal_by(error: &Error) -> WordsRefusal
     ensures { result ≡ refusal_of (kind_of error.now) }
 {

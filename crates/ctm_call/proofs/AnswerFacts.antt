@@ -1,5 +1,5 @@
 -- The answer by its cases, and inputs that a source may have.
-use Rattle.std.proofs.Common.{◌≡◌, ℕ, ◌+◌, ◌<◌, ◌≤◌, Bool, true, false, List, [], Option, Some, None, Result, Ok, Err, IfOk, IfErr, String, Global, IfSome, refl, subst, sym, ◌∙◌, length, replicate, arith, rules}
+use Rattle.std.proofs.Common.{◌≡◌, ℕ, ◌+◌, ◌<◌, ◌≤◌, Bool, true, false, List, [], Option, Some, None, Result, Ok, Err, IfOk, IfErr, String, Global, IfSome, refl, sym, ◌∙◌, length, replicate, arith, rules}
 use Rattle.std.proofs.lemmas.Bool.{false≢true}
 use Rattle.std.proofs.lemmas.List.{length-replicate}
 use Rattle.command_words.specs.declared.request.Request.{Request}
@@ -8,7 +8,7 @@ use Rattle.net_make.specs.Made.{made}
 use Rattle.call_ending.specs.Refusing.{IsRefusalOf, Why}
 use Rattle.call_ending.specs.declared.refusal.Refusal.{Refusal}
 use Rattle.call_ending.specs.declared.refusal.Refusal.TheVariants as refusal
-use Rattle.ctm_call.specs.Answer.{Answer, IsTextBy, IsTextOf, answer_of, answer_to, answer_unless, why_by, why_in}
+use Rattle.ctm_call.specs.Answer.{IsTextBy, IsTextOf, answer_of, answer_to, answer_unless, why_by, why_in}
 use Rattle.ctm_call.specs.Input.{IsInput, IsInputOf, Reads, large_input, most_bytes, most_read, reads_source}
 use Rattle.ctm_call.specs.Task.{Task, task_of}
 use Rattle.ctm_call.specs.Words.{IsOfWords, requested, words_refused}

@@ -1,5 +1,5 @@
 -- A call by the answer that it found and by what came of writing it.
-use Rattle.std.proofs.Common.{◌≡◌, ℕ, List, Option, Result, Ok, Err, IfOk, IfErr, OnOk, String, Global}
+use Rattle.std.proofs.Common.{ℕ, List, Option, Result, Ok, Err, IfOk, IfErr, OnOk, String, Global}
 use Rattle.call_ending.specs.Ending.{HasEnded, HasWritten, IsUnwritten, SinkUse}
 use Rattle.call_ending.specs.Refusing.{IsRefusalOf, line_of, status_of}
 use Rattle.call_ending.specs.declared.refusal.Refusal.{Refusal}

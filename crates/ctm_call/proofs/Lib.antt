@@ -1,3 +1,4 @@
 pub mod AnswerFacts
 pub mod Called
 pub mod UsedCutting
+pub mod WordsStatus

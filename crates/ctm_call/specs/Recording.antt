@@ -1,5 +1,5 @@
 -- How much a run may record.
-use Rattle.std.specs.Prelude.{ℕ, ◌*◌, List, Option, Some, None, length, nat_lt, if◌then◌else◌, codes}
+use Rattle.std.specs.Prelude.{ℕ, ◌*◌, Option, Some, None, length, nat_lt, if◌then◌else◌, codes}
 use Rattle.network_file.specs.Network.{Network}
 use Rattle.delay_report.specs.Report.{recorded_count}
 use Rattle.call_ending.specs.Refusing.{Why}

@@ -1,7 +1,8 @@
-ghost use Rattle.std.specs.Prelude.{◌≡◌, ℕ, List};
+ghost use Rattle.std.specs.Prelude.{◌≡◌, ◌⊎◌, ℕ, List, None};
 ghost use Rattle.ctm_ports.specs.Count.{Rose};
 ghost use Rattle.ctm_ports.specs.ReadEnd.{LosesAtMost};
 ghost use Rattle.call_ending.specs.Ending.{HasEnded, sink_use};
+ghost use Rattle.call_ending.specs.declared.status.Status.TheVariants as status;
 ghost use Rattle.ctm_call.specs.Answer.{IsTextOf, answer_of, why_in};
 ghost use Rattle.ctm_call.specs.Input.{IsInputOf, IsReadWhole, IsUnread, Reads, most_read};
 ghost use Rattle.ctm_call.specs.Words.{requested};
@@ -35,6 +36,11 @@ pub fn ctm<R: Threads + Sync, S: Source, O: Sink, E: Sink, G: Gate>(
         result
         (sink_use (O.taken out.old) (O.taken out.new) (out.new ≡ out.old) (Rose (O.faults out.old) (O.faults out.new)) (Rose (O.wants out.old) (O.wants out.new)))
         (sink_use (E.taken err.old) (E.taken err.new) (err.new ≡ err.old) (Rose (E.faults err.old) (E.faults err.new)) (Rose (E.wants err.old) (E.wants err.new))) }
+
+    // Status Words tells of words that are refused, in every mode, and where they are there is no other status but that memory
+    // was refused.
+    ensures words { result ≡ status.Words → requested words.now ≡ None }
+    ensures refused { requested words.now ≡ None → (result ≡ status.Words) ⊎ (result ≡ status.NoMemory) }
 
     // Where the words are refused or ask for a made network the source is as it was, and else it is read one byte past the
     // longest input at most.

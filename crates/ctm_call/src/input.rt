@@ -1,5 +1,4 @@
-ghost use Rattle.std.specs.Prelude.{◌≡◌, ◌+◌, ◌<◌, ◌≤◌, ◌⊎◌, ℕ, List, IfErr, IfOk, OnOk, Some, length, false, true};
-ghost use Rattle.std.specs.Io.KnownBytes.{IsAtEnd};
+ghost use Rattle.std.specs.Prelude.{◌≡◌, ◌≤◌, ℕ, List, IfErr, IfOk, OnOk, Some, length};
 ghost use Rattle.ctm_ports.specs.Count.{Rose};
 ghost use Rattle.ctm_ports.specs.ReadEnd.{LosesAtMost};
 ghost use Rattle.command_words.specs.Words.{IsInRange};
@@ -8,7 +7,7 @@ ghost use Rattle.call_ending.specs.Refusing.{IsRefusalOf};
 ghost use Rattle.ctm_call.specs.Answer.{answer_to, why_in};
 ghost use Rattle.ctm_call.specs.Input.{IsInput, IsReadWhole, IsUnread, Reads, large_input, most_bytes, most_read, reads_source};
 
-use call_ending::{Line, Refusal, Status};
+use call_ending::{Cause, Line, Refusal};
 use command_words::{Mode, Request};
 use ctm_ports::{ReadEnd, Source, read_up_to};
 use net_make::make;
@@ -66,7 +65,7 @@ fn most_bytes(mode: Mode) -> usize
 fn large_input() -> Refusal
     ensures { IsRefusalOf (Some large_input) ⊥ result }
 {
-    Refusal::Told(Status::TooLarge, Line::Fixed(b"ctm: too large: input\n"))
+    Refusal::Told(Cause::TooLarge, Line::Fixed(b"ctm: too large: input\n"))
 }
 
 // The made network, unless it is longer than an input may be.

@@ -5,7 +5,7 @@ ghost use Rattle.network_file.specs.declared.limits.TheConstants.{MOST_BYTES};
 ghost use Rattle.call_ending.specs.Refusing.{IsRefusalOf, Why};
 ghost use Rattle.ctm_call.specs.NetworkInput.{IsToldOf, network_line, why_of_network};
 
-use call_ending::{Line, Refusal, Status};
+use call_ending::{Cause, Line, Refusal};
 use itoa::Buffer;
 use network_file::{Net, NetFault, NetRefusal};
 use no_memory::NoMemory;
@@ -29,7 +29,7 @@ pub(crate) fn refused(alloc: Global, refusal: NetRefusal) -> Refusal
 {
     match refusal {
         NetRefusal::Fault(fault) => match fault_line(alloc, fault) {
-            Ok(line) => Refusal::Told(Status::Network, Line::Made(line)),
+            Ok(line) => Refusal::Told(Cause::Network, Line::Made(line)),
             Err(NoMemory) => Refusal::NoMemory,
         },
         NetRefusal::NoMemory => Refusal::NoMemory,

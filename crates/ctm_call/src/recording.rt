@@ -2,7 +2,7 @@ ghost use Rattle.std.specs.Prelude.{◌≡◌, Some, nat_lt};
 ghost use Rattle.ctm_call.specs.Recording.{large_record, recorded_values};
 ghost use Rattle.call_ending.specs.Refusing.{IsRefusalOf};
 
-use call_ending::{Line, Refusal, Status};
+use call_ending::{Cause, Line, Refusal};
 use delay_report::recorded_steps;
 use network_file::Net;
 
@@ -20,5 +20,5 @@ pub(crate) fn records_too_much(net: &Net, every: u64) -> bool
 pub(crate) fn large_record() -> Refusal
     ensures { IsRefusalOf (Some large_record) ⊥ result }
 {
-    Refusal::Told(Status::TooLarge, Line::Fixed(b"ctm: too large: record\n"))
+    Refusal::Told(Cause::TooLarge, Line::Fixed(b"ctm: too large: record\n"))
 }

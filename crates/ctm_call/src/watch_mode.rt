@@ -7,7 +7,7 @@ ghost use Rattle.ctm_call.specs.WatchMode.{HasShotsAndReport, IsWatchText, large
 
 use crate::network_input::network_in;
 use crate::recording::{large_record, records_too_much};
-use call_ending::{Line, Refusal, Status};
+use call_ending::{Cause, Line, Refusal};
 use command_words::Request;
 use delay_report::run_report;
 use network_file::Net;
@@ -57,7 +57,7 @@ fn shows_too_much(net: &Net, shots: u32) -> bool
 fn large_shots() -> Refusal
     ensures { IsRefusalOf (Some large_shots) ⊥ result }
 {
-    Refusal::Told(Status::TooLarge, Line::Fixed(b"ctm: too large: shots\n"))
+    Refusal::Told(Cause::TooLarge, Line::Fixed(b"ctm: too large: shots\n"))
 }
 
 // The shots and the report, whatever they show and record.

@@ -1,9 +1,8 @@
-ghost use Rattle.std.specs.Prelude.{◌≡◌, IfErr, IfOk, None, Some};
+ghost use Rattle.std.specs.Prelude.{◌≡◌, IfErr, IfOk, Some};
 ghost use Rattle.command_words.specs.Words.{IsInRange};
-ghost use Rattle.call_ending.specs.Refusing.{IsRefusalOf};
 ghost use Rattle.ctm_call.specs.Words.{IsOfWords, requested};
 
-use call_ending::{Line, Refusal, Status};
+use call_ending::{Cause, Line, Refusal};
 use command_words::{Request, WordsRefusal, read_words};
 use std::alloc::Global;
 
@@ -16,7 +15,7 @@ pub(crate) fn request_of(alloc: Global, words: &[String]) -> Result<Request, Ref
     match read_words(alloc, words) {
         Ok(request) => Ok(request),
         Err(WordsRefusal::Refused) => {
-            Err(Refusal::Told(Status::Words, Line::Fixed(b"ctm: words refused\n")))
+            Err(Refusal::Told(Cause::Words, Line::Fixed(b"ctm: words refused\n")))
         }
         Err(WordsRefusal::NoMemory) => Err(Refusal::NoMemory),
     }

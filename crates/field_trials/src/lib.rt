@@ -1,13 +1,13 @@
 //! Trials of the shared field through its public calls, in one thread and between two: turns and what they wait for, passes
 //! that were shared off, sweeps, shots, crews, and the rows of regions at uneven steps. There is nothing here but tests.
+//!
+//! Each test names a [`Trial`](trial) and a network; `on_field` opens a field of it, and has the trial made.
 #![tactic(auto)]
 
 #[cfg(test)]
-mod crew_tests;
+mod crew_trials;
 #[cfg(test)]
-mod drive_tests;
-#[cfg(test)]
-mod helper_tests;
+mod help_trials;
 #[cfg(test)]
 mod meanwhile;
 #[cfg(test)]
@@ -15,14 +15,16 @@ mod meeting;
 #[cfg(test)]
 mod networks;
 #[cfg(test)]
+mod notes;
+#[cfg(test)]
 mod pause;
 #[cfg(test)]
-mod shot_tests;
+mod shot_trials;
 #[cfg(test)]
-mod turn_tests;
+mod tests;
 #[cfg(test)]
-mod turns;
+mod trial;
+#[cfg(test)]
+mod turn_trials;
 #[cfg(test)]
 mod two_nests;
-#[cfg(test)]
-mod uneven_tests;

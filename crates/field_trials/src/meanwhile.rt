@@ -1,50 +1,61 @@
 ghost use Rattle.std.specs.Prelude.{◌≡◌, ◌<◌, ◌≤◌};
 ghost use Rattle.region_cut.specs.Cuttings.{region_count};
-ghost use Rattle.snapshot.specs.Rooms.{IsRoomFor};
 ghost use Rattle.region_slots.specs.FieldView.{IsPassOf};
+ghost use Rattle.snapshot.specs.Rooms.{IsRoomFor};
 
 use crate::pause::Pause;
-use region_slots::{Field, OpenGate, Pass, Shot, Turn};
+use region_slots::{Field, Pass, Shot, Turn};
 use snapshot::ShotRoom;
-use std::thread::{Threads, join, join_mut};
+use std::thread::{Threads, join_mut};
 
 // A turn that is taken once another holds its region.
 fn turn_meanwhile(field: &Field, pass: &mut Pass, region: u32, goal: u64, pause: &Pause) -> Turn
     requires belongs { IsPassOf field.now pass.old }
     requires there { region < region_count field.now.terms.chart.now.cut }
     requires in_time { goal ≤ field.now.terms.net.now.steps }
+    ensures belongs { IsPassOf field.now pass.new }
 {
     pause.wait_for_turn();
-    let answer = field.turn(pass, region, goal, &OpenGate);
+    let answer = field.turn(pass, region, goal, pause);
     pause.let_go();
     answer
 }
 
-// What a turn on region 0 comes to, and one on another region that another thread takes meanwhile.
-pub(crate) fn turns_at_once<R: Threads + Sync>(
+// What a turn on region 0 comes to, and one on another region that another thread takes meanwhile, and which regions their
+// gate was told to be freed.
+pub(crate) fn turn_during_a_turn<R: Threads + Sync>(
     rt: &R,
     field: &Field,
     pass: &mut Pass,
     other: &mut Pass,
     region: u32,
     goal: u64,
-) -> (Turn, Turn)
+) -> (Turn, Turn, u64)
     requires belongs { IsPassOf field.now pass.old }
     requires also { IsPassOf field.now other.old }
     requires there { region < region_count field.now.terms.chart.now.cut }
     requires in_time { goal ≤ field.now.terms.net.now.steps }
+    ensures belongs { IsPassOf field.now pass.new }
+    ensures also { IsPassOf field.now other.new }
 {
     let pause = Pause::new(0);
     let gate = &pause;
-    join(
-        rt,
-        move || -> Turn
-            requires { IsPassOf field.now pass.now × (goal ≤ field.now.terms.net.now.steps) }
-        { field.turn(pass, 0, goal, gate) },
-        move || -> Turn
-            requires { IsPassOf field.now other.now × (region < region_count field.now.terms.chart.now.cut) × (goal ≤ field.now.terms.net.now.steps) }
-        { turn_meanwhile(field, other, region, goal, gate) },
-    )
+    let mut first = || -> Turn
+        requires { IsPassOf field.now pass.now × (goal ≤ field.now.terms.net.now.steps) }
+        ensures { IsPassOf field.entry.now pass.exit.now }
+    {
+        let (field, goal, gate) = (field, goal, gate);
+        field.turn(pass, 0, goal, gate)
+    };
+    let mut second = || -> Turn
+        requires { IsPassOf field.now other.now × (region < region_count field.now.terms.chart.now.cut) × (goal ≤ field.now.terms.net.now.steps) }
+        ensures { IsPassOf field.entry.now other.exit.now }
+    {
+        let (field, region, goal, gate) = (field, region, goal, gate);
+        turn_meanwhile(field, other, region, goal, gate)
+    };
+    let (one, two) = join_mut(rt, &mut first, &mut second);
+    (one, two, pause.notes.all_freed())
 }
 
 // A shot with one try that is taken once a turn holds its region.
@@ -61,7 +72,7 @@ fn shot_meanwhile(field: &Field, pass: &mut Pass, room: &mut ShotRoom, pause: &P
 }
 
 // What a turn on a region comes to, and a shot with one try that another thread takes while the region is held.
-pub(crate) fn turn_and_shot<R: Threads + Sync>(
+pub(crate) fn shot_during_a_turn<R: Threads + Sync>(
     rt: &R,
     field: &Field,
     pass: &mut Pass,
@@ -75,6 +86,7 @@ pub(crate) fn turn_and_shot<R: Threads + Sync>(
     requires room { IsRoomFor field.now.terms.chart.now room.old }
     requires there { region < region_count field.now.terms.chart.now.cut }
     requires in_time { goal ≤ field.now.terms.net.now.steps }
+    ensures belongs { IsPassOf field.now pass.new }
     ensures also { IsPassOf field.now other.new }
     ensures room { IsRoomFor field.now.terms.chart.now room.new }
 {
@@ -82,6 +94,7 @@ pub(crate) fn turn_and_shot<R: Threads + Sync>(
     let gate = &pause;
     let mut turning = || -> Turn
         requires { IsPassOf field.now pass.now × (region < region_count field.now.terms.chart.now.cut) × (goal ≤ field.now.terms.net.now.steps) }
+        ensures { IsPassOf field.entry.now pass.exit.now }
     {
         let (field, region, goal, gate) = (field, region, goal, gate);
         field.turn(pass, region, goal, gate)

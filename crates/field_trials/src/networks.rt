@@ -11,10 +11,6 @@ pub(crate) const TWO_REGIONS: &[u8] =
     b"ctm,2\nsteps,3\ngate,in,2,0\nroad,a,6,2,1,2,0\nexit,out,2\nlink,in,a\nlink,a,out\n\
 demand,in,0,1,4\nregion,in,0\nregion,a,1\nregion,out,1\n";
 
-// The same in one region.
-pub(crate) const ONE_REGION: &[u8] =
-    b"ctm,1\nsteps,3\ngate,in,2,0\nroad,a,6,2,1,2,0\nexit,out,2\nlink,in,a\nlink,a,out\ndemand,in,0,1,4\n";
-
 // A gate, two roads and an exit, each a region of its own.
 pub(crate) const FOUR_REGIONS: &[u8] =
     b"ctm,2\nsteps,4\ngate,g,2,8\nroad,a,6,2,1,1,0\nroad,b,6,2,1,1,0\nexit,x,2\nlink,g,a\nlink,a,b\nlink,b,x\n\

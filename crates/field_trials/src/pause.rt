@@ -1,12 +1,15 @@
+use crate::notes::Notes;
 use region_slots::Gate;
 use std::sync::atomic::{AtomicU64, Ordering};
 
-// A gate at which a turn that holds a region waits for a while until another turn or a shot was tried.
+// A gate at which a turn that holds a region waits for a while until another turn or a shot was tried. It notes what it is
+// told.
 #[derive(Drop)]
 pub(crate) struct Pause {
     region: u32,
     held: AtomicU64,
     tried: AtomicU64,
+    pub(crate) notes: Notes,
 }
 
 impl Pause {
@@ -15,6 +18,7 @@ impl Pause {
             region,
             held: AtomicU64::new(0),
             tried: AtomicU64::new(0),
+            notes: Notes::new(),
         }
     }
 
@@ -41,13 +45,16 @@ pub(crate) fn wait_for(flag: &AtomicU64) -> bool {
 
 impl Gate for Pause {
     fn held(&self, region: u32, step: u64) {
+        self.notes.held(region, step);
         if region == self.region {
             self.held.store(1, Ordering::SeqCst);
             wait_for(&self.tried);
         }
     }
 
-    fn freed(&self, region: u32, step: u64) {}
+    fn freed(&self, region: u32, step: u64) {
+        self.notes.freed(region, step);
+    }
 
     fn watched(&self, done: bool) {}
 }

@@ -4,7 +4,7 @@
 
 mod worst;
 
-use call_ending::{Line, Refusal, Status, end};
+use call_ending::{Cause, Line, Refusal, end};
 use ctm_ports::{ReadEnd, Source, StdSink, StdSource, read_up_to};
 use delay_report::run_rows;
 use network_file::{MOST_BYTES, Net, NetRefusal};
@@ -34,22 +34,32 @@ fn answer<R: Threads + Sync, S: Source>(
     source: &mut S,
 ) -> Result<Vec<u8>, Refusal> {
     match read_up_to(alloc, source, MOST_BYTES) {
-        ReadEnd::Whole(bytes) => match Net::read(alloc, &bytes) {
-            Ok(net) => Ok(lines(rt, alloc, &net)?),
-            Err(NetRefusal::Fault(_)) => Err(told(
-                Status::Network,
-                b"worst_cells: no network; ctm check tells why\n",
-            )),
-            Err(NetRefusal::NoMemory) => Err(Refusal::NoMemory),
-        },
-        ReadEnd::TooLong => Err(told(Status::TooLarge, b"worst_cells: too large\n")),
+        ReadEnd::Whole(bytes) => lines_of(rt, alloc, &bytes),
+        ReadEnd::TooLong => Err(told(Cause::TooLarge, b"worst_cells: too large\n")),
         ReadEnd::Failed => Err(Refusal::ReadFault),
         ReadEnd::NoMemory => Err(Refusal::NoMemory),
     }
 }
 
-fn told(status: Status, line: &'static [u8]) -> Refusal {
-    Refusal::Told(status, Line::Fixed(line))
+// The lines for the network in a file.
+fn lines_of<R: Threads + Sync>(rt: &R, alloc: Global, bytes: &[u8]) -> Result<Vec<u8>, Refusal> {
+    let net = match Net::read(alloc, bytes) {
+        Ok(net) => net,
+        Err(NetRefusal::Fault(_)) => return Err(no_network()),
+        Err(NetRefusal::NoMemory) => return Err(Refusal::NoMemory),
+    };
+    Ok(lines(rt, alloc, &net)?)
+}
+
+fn no_network() -> Refusal {
+    told(
+        Cause::Network,
+        b"worst_cells: no network; ctm check tells why\n",
+    )
+}
+
+fn told(cause: Cause, line: &'static [u8]) -> Refusal {
+    Refusal::Told(cause, Line::Fixed(line))
 }
 
 // The lines for a network: its worst cells after all steps.

@@ -1,0 +1,102 @@
+ghost use Rattle.std.specs.Prelude.{◌≡◌, ◌≤◌, length};
+ghost use Rattle.region_cut.specs.Chart.{chart_of};
+ghost use Rattle.snapshot.specs.Rooms.{IsRoomFor};
+ghost use Rattle.region_slots.specs.FieldView.{IsPassOf};
+
+use crate::crew_trials::{a_member_and_a_shot, drives, two_members};
+use crate::help_trials::{Way, a_helper_alone, two_helpers};
+use crate::networks::charted;
+use crate::shot_trials::{Uneven, busy_shots, late_shot, uneven_steps};
+use crate::turn_trials::{held_before_neighbours, held_for_others, shared_pass, turns_in_order};
+use network_file::{MOST_BYTES, Net};
+use no_memory::NoMemory;
+use region_cut::Chart;
+use region_slots::{Field, Pass};
+use region_step::Start;
+use snapshot::ShotRoom;
+use std::alloc::Global;
+use std::process::Abort;
+use std::test::Fail;
+use std::thread::Threads;
+
+// What is tried on a field that stands at step 0.
+#[derive(Clone, Copy)]
+pub(crate) enum Trial {
+    Turns,
+    HeldForOthers,
+    HeldBeforeNeighbours,
+    SharedPass,
+    UnevenSteps(Uneven),
+    LateShot,
+    BusyShots,
+    Drives,
+    TwoMembers,
+    AMemberAndAShot,
+    TwoHelpers,
+    AHelperAlone(Way),
+}
+
+// Makes a trial on a field of the network in a file.
+pub(crate) fn on_field<R: Abort + Threads + Sync>(
+    rt: &R,
+    alloc: Global,
+    text: &[u8],
+    trial: Trial,
+) -> Result<(), Fail> {
+    assert!(rt; text.len() <= MOST_BYTES);
+    let net = Net::read(alloc, text)?;
+    let chart = charted(alloc, &net)?;
+    open(rt, alloc, &net, &chart, trial)?;
+    Ok(())
+}
+
+// The same of a network and its chart.
+fn open<R: Abort + Threads + Sync>(
+    rt: &R,
+    alloc: Global,
+    net: &Net,
+    chart: &Chart,
+    trial: Trial,
+) -> Result<(), NoMemory>
+    requires chart { chart.now ≡ chart_of net.now chart.now.cut }
+    requires one_each { length chart.now.cut ≡ length net.now.cells }
+{
+    let mut room = ShotRoom::new(alloc, net, chart)?;
+    let start = Start::zero(alloc, net, chart)?;
+    let (field, pass) = Field::open(alloc, net, chart, &start, 0, 2)?;
+    make(rt, alloc, net, field, pass, &mut room, trial);
+    Ok(())
+}
+
+// Makes a trial on a field, with the pass that has both of its seats.
+fn make<R: Abort + Threads + Sync>(
+    rt: &R,
+    alloc: Global,
+    net: &Net,
+    field: Field,
+    pass: Pass,
+    room: &mut ShotRoom,
+    trial: Trial,
+)
+    requires belongs { IsPassOf field pass }
+    requires whole { (field.terms.seats ≡ 2) × (pass.knows.share ≡ 2) }
+    requires network { field.terms.net.now ≡ net.now }
+    requires one_each { length field.terms.chart.now.cut ≡ length net.now.cells }
+    requires room { IsRoomFor field.terms.chart.now room.old }
+{
+    let last = net.steps;
+    match trial {
+        Trial::Turns => turns_in_order(rt, field, pass, last),
+        Trial::HeldForOthers => held_for_others(rt, field, pass, last),
+        Trial::HeldBeforeNeighbours => held_before_neighbours(rt, field, pass, last),
+        Trial::SharedPass => shared_pass(rt, field, pass, last),
+        Trial::UnevenSteps(uneven) => uneven_steps(rt, net, field, pass, room, last, uneven),
+        Trial::LateShot => late_shot(rt, net, field, pass, room, last),
+        Trial::BusyShots => busy_shots(rt, net, field, pass, room, last),
+        Trial::Drives => drives(rt, field, pass, last),
+        Trial::TwoMembers => two_members(rt, field, pass, last),
+        Trial::AMemberAndAShot => a_member_and_a_shot(rt, field, pass, room, last),
+        Trial::TwoHelpers => two_helpers(rt, alloc, field, pass, last),
+        Trial::AHelperAlone(way) => a_helper_alone(rt, alloc, field, pass, last, way),
+    }
+}
