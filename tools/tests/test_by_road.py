@@ -57,8 +57,9 @@ def test_without_units_there_are_gates_alone():
     assert frame.road.tolist() == ["gate g"] and frame.vehicles.tolist() == [3] and frame.level.tolist() == [""]
     with pytest.raises(Problem, match="has no cost"):
         by_road(at_a_light(0), value_of_time=5)
-    with pytest.raises(Problem, match="no lane-kilometres"):
-        network_states(at_a_light(0))
+    # Of 40 steps a vehicle stands in the cell for one, one for six and one for two.
+    states = network_states(at_a_light(0, 3, 7))
+    assert states.flow.tolist() == pytest.approx([3 / 40]) and states.density.tolist() == pytest.approx([9 / 40])
 
 
 def test_spans_shorter_than_the_records_are_refused(tmp_path):

@@ -6,7 +6,7 @@ import pytest
 
 from ctmtools import Problem, run
 from ctmtools.calibration.diagram import fit, read_states
-from ctmtools.calibration.fitting import by_place, calibrate, distance, geh, range_of
+from ctmtools.calibration.fitting import around, by_place, calibrate, distance, geh, range_of
 from ctmtools.calibration.observed import modelled, read_observed
 
 from .corridor import HEAD
@@ -53,6 +53,31 @@ def test_the_values_of_a_known_run_are_found(tmp_path, recording_program):
     assert found.distance < 0.002 < found.before and found.runs <= 42
     rows = by_place(found.modelled, observed)
     assert list(rows.index) == ["m.0.5", "m.1.5"] and (rows.geh < 0.2).all() and (rows.below_5 == 1).all()
+
+
+def test_the_points_to_begin_at():
+    ranges = [range_of("a=0:1"), range_of("b=0:1")]
+    assert around(ranges, 1) == [(0.5, 0.5)] and around(ranges[:1], 4) == [(0.125,), (0.375,), (0.625,), (0.875,)]
+    assert len(around(ranges, 9)) == 9 and len(around(ranges, 8)) == 4
+
+
+@pytest.mark.parametrize("jobs", [1, 2])
+def test_a_search_that_begins_at_the_nearest_of_some(tmp_path, recording_program, jobs):
+    observed = read_observed(seen(tmp_path, run(study(tmp_path, 1500, "known.toml"))))
+    found = calibrate(study(tmp_path), observed, [range_of("lane.saturation_flow=1200:2150")], most=30, first=4, jobs=jobs)
+    assert found.values["lane.saturation_flow"] == pytest.approx(1500, abs=6)
+    with pytest.raises(Problem, match="no such key"):
+        calibrate(study(tmp_path), observed, [range_of("lane.wave=1:2")])
+
+
+def test_the_first_runs_on_a_cluster(tmp_path, recording_program):
+    from distributed import LocalCluster
+
+    observed = read_observed(seen(tmp_path, run(study(tmp_path, 2000, "known.toml"))))
+    with LocalCluster(n_workers=1, threads_per_worker=1, dashboard_address=None) as made:
+        found = calibrate(study(tmp_path), observed, [range_of("lane.saturation_flow=1800:2200")], 12, first=3,
+                          dask=made.scheduler_address)
+    assert found.values["lane.saturation_flow"] == pytest.approx(2000, abs=20)
 
 
 def test_what_the_model_passes_where_a_detector_stands(tmp_path, recording_program):

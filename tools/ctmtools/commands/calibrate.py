@@ -27,8 +27,13 @@ only ones."""
 @click.option("--vary", "varied", metavar="KEY=LOW:HIGH", multiple=True, required=True,
               help="A key and the range of its value; may be given again.")
 @click.option("--runs", default=80, show_default=True, type=click.IntRange(2, 10_000), help="The most runs.")
+@click.option("--first", default=1, show_default=True, type=click.IntRange(1, 10_000),
+              help="Of so many values, or combinations, the nearest is where the search begins.")
+@click.option("-j", "--jobs", default=1, show_default=True, type=click.IntRange(1, 256), help="Of these, runs side by side.")
+@click.option("--dask", "address", metavar="ADDRESS", help="The scheduler of a Dask cluster that makes them.")
 @click.option("-o", "--output", metavar="FILE.png|svg|pdf", type=click.Path(), help="Where the plot goes.")
-def command(study: str, observed: str, varied: tuple[str, ...], runs: int, output: str | None) -> None:
+def command(study: str, observed: str, varied: tuple[str, ...], runs: int, first: int, jobs: int, address: str | None,
+            output: str | None) -> None:
     """Find the values of a study's keys by which it comes nearest to what detectors saw.
 
     Tells the values, and for each detector GEH and root mean square errors, and plots modelled over observed flows.
@@ -42,7 +47,7 @@ def command(study: str, observed: str, varied: tuple[str, ...], runs: int, outpu
         raise Problem(f"{picture}: a picture's name ends with {', '.join(ENDINGS)}")
     ranges, seen = [range_of(text) for text in varied], read_observed(observed)
     found = calibrate(study, seen, ranges, runs, lambda count, values, off: click.echo(
-        f"{count:4d}  {_values(values)}  {off:.5f}", err=True))
+        f"{count:4d}  {_values(values)}  {off:.5f}", err=True), first, jobs, address)
     for key, value in found.values.items():
         click.echo(f"{key} = {value:g}")
     click.echo(f"\nDistance {found.distance:.4f}, with the study as it stands {found.before:.4f}; {found.runs} runs\n")

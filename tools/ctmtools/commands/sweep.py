@@ -98,7 +98,7 @@ def _tell(sweep: Sweep, rows: int, folder: Path, drawn: Sequence[str]) -> None:
     for _, row in frame.head(rows).iterrows():
         figures = ("",) * 6 if row.error else (told(row.delay_vehicle_hours), kilometre(row.longest_queue_km),
                                                f"{row.most_waiting_vehicles:,.0f}", told(row.served_vehicles),
-                                               told(row.inside_vehicles), told(row.travel_time_min))
+                                               told(row.inside_vehicles), _minutes(row.travel_time_min))
         lines.append((*(shown(row[key]) for key in keys), *figures, _remark(row, same)))
     click.echo("\n".join(table(lines, right=range(len(keys) + 6))))
     if len(frame) > rows:
@@ -118,6 +118,10 @@ def _tell(sweep: Sweep, rows: int, folder: Path, drawn: Sequence[str]) -> None:
 
     save(draw(frame, drawn, sweep.title), picture)
     click.echo(f"\n{path}, {picture}")
+
+
+def _minutes(value: float) -> str:
+    return told(value) if value == value else "-"
 
 
 def _remark(row: pandas.Series, same: str) -> str:

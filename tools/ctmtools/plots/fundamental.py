@@ -13,12 +13,15 @@ from ..units import clock_text
 from .figure import DENSITY, beside, drawing, figure, head, moments
 
 SPAN = 300  # seconds
+SPANS = 60  # so many where the seconds of a step aren't known
 
 
 @drawing
 def draw(report: Report, interval: str | None = None) -> Figure:
     """Draws a point for each span of `interval`, as "5 min", joined in the order of time."""
-    states = network_states(report, float(duration(interval, "--interval")) if interval else SPAN)
+    known = report.units.known
+    span = SPAN if known else max(report.steps / SPANS, float(report.times[1] - report.times[0]) if report.recorded else 1)
+    states = network_states(report, float(duration(interval, "--interval")) if interval else span)
     if len(states) < 2:
         raise Problem(f"{report.name}: has a single span; name a shorter one with --interval")
     drawn, axes = figure(size=(7, 4.5))
@@ -26,11 +29,11 @@ def draw(report: Report, interval: str | None = None) -> Figure:
     axes.plot(states.density, states.flow, color="#999999", linewidth=0.8, zorder=1)
     points = axes.scatter(states.density, states.flow, c=clocks, cmap=DENSITY, s=16, edgecolors="#333333",
                           linewidths=0.4, zorder=2)
-    bar = drawn.colorbar(points, ax=axes, pad=0.02, format=FuncFormatter(lambda value, _: clock_text(value)))
-    bar.set_label("Time of day (h:min)")
+    form = FuncFormatter(lambda value, _: clock_text(value) if known else f"{value:g}")
+    drawn.colorbar(points, ax=axes, pad=0.02, format=form).set_label("Time of day (h:min)" if known else "Time (steps)")
     axes.set_xlim(left=0)
     axes.set_ylim(bottom=0)
-    axes.set_xlabel("Mean density (vehicles/km in a lane)")
-    beside(axes, "Mean flow (vehicles/h in a lane)")
+    axes.set_xlabel("Mean density (vehicles/km in a lane)" if known else "Mean density (vehicles in a cell)")
+    beside(axes, "Mean flow (vehicles/h in a lane)" if known else "Mean flow (vehicles in a step)")
     head(axes, f"{report.title}: fundamental diagram of the network")
     return drawn

@@ -93,19 +93,20 @@ def _figures(report: Report, cells: Sequence[str], stood: numpy.ndarray, went: n
 def network_states(report: Report, every: float | None = None) -> pandas.DataFrame:
     """The mean flow and density in a lane of all roads over each span: the points of the network's fundamental diagram.
 
-    Both are means over lane-kilometres: vehicle-kilometres an hour, and vehicles, by the lane-kilometres of the network.
+    Both are means over lane-kilometres: vehicle-kilometres an hour, and vehicles, by the lane-kilometres of the network;
+    where the units aren't known, over cells, in vehicles a step and vehicles a cell.
     """
-    units = report.units
-    if not units.known or not units.cells:
-        raise Problem(f"{report.name}: the units aren't known, so the network has no lane-kilometres")
-    bounds, cells = bounds_of(report, every), list(units.cells)
-    lengths = numpy.array([units.length(cell) or 0.0 for cell in cells])
-    total = float((lengths * numpy.array([units.cells[cell]["lanes"] for cell in cells])).sum())
+    units, kinds = report.units, report.need_network().kinds
+    bounds, cells = bounds_of(report, every), [cell for cell in report.cells.index if kinds[cell] == "road"]
+    known = units.known and bool(units.cells)
+    lengths = numpy.array([(units.length(cell) or 0.0) if known else 1.0 for cell in cells])
+    lanes = numpy.array([units.cells.get(cell, {}).get("lanes", 1) if known else 1 for cell in cells])
+    total, hour = float((lengths * lanes).sum()), 3600 / units.step if known and units.step is not None else 1.0
     lasting, held, flow = numpy.diff(report.times), report.held[cells].to_numpy(), report.flow[cells].to_numpy()
     rows = []
     for begin, end in zip(bounds, bounds[1:]):
         inside = (report.times[:-1] >= begin) & (report.times[:-1] < end)
         weights = lasting[inside][:, None] / (end - begin)
         rows.append((begin, (held[inside] * weights).sum() / total,
-                     (flow[inside] * weights * lengths).sum() * 3600 / (units.step or 1) / total))
+                     (flow[inside] * weights * lengths).sum() * hour / total))
     return pandas.DataFrame(rows, columns=["step", "density", "flow"])

@@ -78,6 +78,8 @@ def _greatest(report: Report) -> tuple[float, float]:
 
 def _travel_time(report: Report) -> float:
     """The mean travel time in minutes along the longest route, of those who have arrived; lacking without any."""
+    if not report.recorded:
+        return float("nan")
     found = trips(report, chain_of(report))
     return found.of(~numpy.isnan(found.steps)).mean * (report.units.step or 0) / 60
 

@@ -1,4 +1,4 @@
-"""Who does the runs of a sweep: this process, processes beside it, or the workers of a Dask cluster."""
+"""Who does the runs of a sweep or a calibration: this process, processes beside it, or a Dask cluster's workers."""
 
 from __future__ import annotations
 
@@ -6,14 +6,14 @@ import io
 import signal
 import tempfile
 import zipfile
-from collections.abc import Generator, Sequence
+from collections.abc import Callable, Generator, Sequence
 from concurrent.futures import ProcessPoolExecutor, as_completed
 from concurrent.futures.process import BrokenProcessPool
 from pathlib import Path
 from typing import TYPE_CHECKING, Any
 
 from ..problem import Problem, one_line
-from .task import Task, failed, measure
+from .task import failed, measure
 
 if TYPE_CHECKING:
     from distributed import Client
@@ -22,22 +22,23 @@ PACKAGE = Path(__file__).resolve().parents[1]
 TRIES = 3  # so often processes are begun anew where one was ended from outside
 PATIENCE = 15  # seconds until a cluster has to answer
 
+Work = Callable[[Any], dict[str, Any]]  # what is done with each task; it gives what it measured
 Done = Generator[tuple[int, dict[str, Any]], None, None]  # the place of each task and what it measured, as they come
 
 
-def here(tasks: Sequence[Task]) -> Done:
+def here(tasks: Sequence[Any], work: Work = measure) -> Done:
     """Runs the tasks one by one, and gives the place of each and what it measured."""
     for i, task in enumerate(tasks):
-        yield i, measure(task)
+        yield i, work(task)
 
 
-def beside(tasks: Sequence[Task], count: int) -> Done:
+def beside(tasks: Sequence[Any], count: int, work: Work = measure) -> Done:
     """Runs the tasks on so many processes; where one is ended from outside, what is missing is given out again."""
     missing = dict(enumerate(tasks))
     for _ in range(TRIES):
         pool = ProcessPoolExecutor(max_workers=count, initializer=_leave_interrupts)
         try:
-            futures = {pool.submit(measure, task): i for i, task in missing.items()}
+            futures = {pool.submit(work, task): i for i, task in missing.items()}
             for future in as_completed(futures):
                 result = future.result()
                 del missing[futures[future]]
@@ -56,7 +57,7 @@ def _leave_interrupts() -> None:
     signal.signal(signal.SIGINT, signal.SIG_IGN)
 
 
-def cluster(tasks: Sequence[Task], address: str) -> Done:
+def cluster(tasks: Sequence[Any], address: str, work: Work = measure) -> Done:
     """Runs the tasks on the workers of the Dask cluster at an address; a lost worker's are given to the others."""
     from distributed import Client
 
@@ -65,15 +66,15 @@ def cluster(tasks: Sequence[Task], address: str) -> Done:
     except (OSError, TimeoutError, ValueError) as error:
         raise Problem(f"--dask {address}: no scheduler answers there: {one_line(error)}") from None
     _send_package(client)
-    return _gathered(client, tasks)
+    return _gathered(client, tasks, work)
 
 
-def _gathered(client: Client, tasks: Sequence[Task]) -> Done:
+def _gathered(client: Client, tasks: Sequence[Any], work: Work = measure) -> Done:
     """Gives the tasks to a cluster, and what they measured as it comes."""
     from distributed import as_completed as completed
 
     with client:
-        futures = {client.submit(measure, task, pure=False): i for i, task in enumerate(tasks)}
+        futures = {client.submit(work, task, pure=False): i for i, task in enumerate(tasks)}
         for future in completed(list(futures)):
             if future.status == "finished":
                 yield futures[future], future.result()
