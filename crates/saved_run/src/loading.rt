@@ -4,11 +4,12 @@ ghost use Rattle.network_file.specs.Reading.{network_of};
 ghost use Rattle.network_file.specs.declared.limits.TheConstants.{MOST_BYTES};
 ghost use Rattle.saved_run.specs.Charting.{IsNetworkRefusal};
 ghost use Rattle.flow_model.specs.State.{state_at};
+ghost use Rattle.region_cut.specs.Chart.{chart_of};
 ghost use Rattle.region_step.specs.Start.{IsTrueStart};
 ghost use Rattle.saved_run.specs.Content.{Content, IsContent};
 ghost use Rattle.saved_run.specs.Futures.{AgreeBelow, IsEdited, edited_content};
 ghost use Rattle.saved_run.specs.Heads.{content_in};
-ghost use Rattle.saved_run.specs.Loading.{GoesOn, IsLoadRefusal, IsLoaded, IsRefusalOf};
+ghost use Rattle.saved_run.specs.Loading.{CanStart, GoesOn, IsLoadRefusal, IsLoaded, IsRefusalOf};
 ghost use Rattle.saved_run.specs.Laws.{BeginsTrue, HasTrueStart};
 ghost use Rattle.saved_run.specs.Reading.{IsTextOf, content_of};
 ghost use Rattle.saved_run.specs.SavedText.{saved_text};
@@ -27,6 +28,10 @@ use std::alloc::Global;
 pub fn load(alloc: Global, bytes: &[u8]) -> Result<Saved, LoadRefusal>
     ensures loaded { IfOk result (λ saved. IsLoaded (content_of bytes.now) saved.net saved.chart saved.start) }
     ensures refusal { IfErr result (IsLoadRefusal (content_of bytes.now)) }
+
+    // Its regions can be opened.
+    ensures charted { IfOk result (λ saved. saved.chart ≡ chart_of saved.net saved.chart.cut) }
+    ensures can_start { IfOk result (λ saved. CanStart saved.net saved.chart.cut saved.start) }
 
     // A text has at most one content, and each content one text.
     ensures spelled { (content : Content) → content_of bytes.now ≡ Some content → IsTextOf bytes.now content }

@@ -36,7 +36,7 @@ pub fn save_text(
     ensures true_start { IfOk result (λ text. (net : Network) (start : StartLists) → IsShotOf network.now net chart.now.cut start room.now →
         BeginsTrue (content_of text.items) net chart.now.cut) }
 
-    // One of a run from step 0 is a moment of it, from which other networks can go on too.
+    // A shot of a run from step 0 is a moment of it, from which other networks can go on too.
     ensures moment { IfOk result (λ _. (net : Network) → IsShotOf network.now net chart.now.cut (zero_start net chart.now.cut) room.now →
         IsMoment net chart.now.cut (start_in (content_shown chart.now.cut room.now network.now))) }
 {
