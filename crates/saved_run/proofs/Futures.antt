@@ -1,12 +1,10 @@
 -- Two networks that agree below step u are in the same state up to it, so that what was saved of the one by then is a true start of the other.
 use Rattle.std.specs.Prelude.{All, if◌then◌else◌, map, slice_index, sum_by}
 use Rattle.std.specs.List.{range_with_len}
-use Rattle.std.proofs.Common.{◌≡◌, ℕ, zero, suc, ◌+◌, ◌<◌, ◌≤◌, true, List, length, Some, Ok, refl, sym, ap, subst, ◌∙◌, arith}
-use Rattle.signal_plan.specs.Demand.{demand_at}
+use Rattle.std.proofs.Common.{◌≡◌, ℕ, zero, suc, ◌<◌, ◌≤◌, List, length, refl, sym, ap, subst, ◌∙◌, arith}
 use Rattle.network_file.specs.Cells.{is_gate_at}
 use Rattle.network_file.specs.Connectors.{cells_of}
 use Rattle.network_file.specs.Network.{IsNetwork, Network}
-use Rattle.network_file.specs.Reading.{network_of}
 use Rattle.network_file.specs.declared.connector.Connector.{Connector}
 use Rattle.network_file.specs.declared.connector.Connector.TheVariants.{Link, Merge, Diverge}
 use Rattle.flow_model.specs.Bounds.{IsHeldInBounds, IsRowInBounds}
@@ -17,17 +15,17 @@ use Rattle.flow_model.specs.State.{next_rows, occupancy, row_at, rows_moved, sta
 use Rattle.flow_model.specs.declared.row.Row.{Row}
 use Rattle.flow_model.proofs.States.{state_at-in_bounds}
 use Rattle.region_cut.specs.Cuttings.{region_at, region_count}
-use Rattle.region_cut.specs.Joins.{are_neighbours, is_border}
-use Rattle.region_cut.specs.LawfulSteps.{AreLawful}
+use Rattle.region_cut.specs.Joins.{are_neighbours}
+use Rattle.region_cut.specs.CutFaults.{cut_of}
 use Rattle.region_cut.proofs.Cuttings.{at-le-greatest}
 use Rattle.region_step.specs.Start.{IsTrueStart, StartLists, start_of, zero_start}
 use Rattle.region_step.proofs.Grids.{are_the_recurrences, grid_held-started}
 use Rattle.region_step.proofs.StartLaws.{zeros}
 use Rattle.snapshot.specs.Rooms.{RoomValue}
 use Rattle.saved_run.specs.Content.{Content}
-use Rattle.saved_run.specs.Futures.{AgreeBelow, IsMoment}
+use Rattle.saved_run.specs.Futures.{AgreeBelow, IsEdited, IsMoment, edited_content}
 use Rattle.saved_run.specs.Laws.{HasTrueStart, IsShotOf}
-use Rattle.saved_run.specs.Loading.{CanStart, cutting_in, start_in}
+use Rattle.saved_run.specs.Loading.{CanStart, cutting_by, cutting_in, start_in}
 use Rattle.saved_run.specs.Shown.{content_shown}
 use Rattle.saved_run.proofs.Starts.{held_before, shot-has_true_start}
 
@@ -134,10 +132,17 @@ shown-moment bytes net cut room shot =
       none = λ i there none. (fits.bounds i there).earlier.none none;
     }
 
--- so it is a true start of each network that agrees with it below a step that no region is past
-pub edited-has_true_start : (net other : Network) (u : ℕ) (cut edited : List ℕ) (content : Content) → AgreeBelow net other u → IsNetwork other → network_of edited ≡ Ok other →
-    All (λ s. s ≤ u) content.steps → All (λ s. s ≤ other.steps) content.steps → IsMoment net cut (start_in content) → cutting_in other content ≡ Some cut →
-    HasTrueStart (record content { network = edited }) other cut
-edited-has_true_start net other u cut edited content agree sound reads by_then in_time moment cutting =
-    let same = moment-same net other u agree cut (start_in content) by_then in_time moment in
-    record { cut_so = record { network = reads; cutting = cutting }; can_start = moment-starts other cut (start_in content) sound same; true_start = moment-true other cut (start_in content) same }
+-- a cutting of the one is one of the other
+cutting-same : (net other : Network) (content : Content) → other.cells ≡ net.cells → cutting_in other content ≡ cutting_in net content
+unfolding cutting_by cut_of
+cutting-same net other content cells = let long : length other.cells ≡ length net.cells = ap length cells in rw long refl
+
+-- so what is saved of it, with the other network, has a true start
+pub edited-has_true_start : (content : Content) (net other : Network) (u : ℕ) (cut edited : List ℕ) → IsEdited content net other u cut edited → HasTrueStart (edited_content content edited) other cut
+edited-has_true_start content net other u cut edited is =
+    let same = moment-same net other u is.agree cut (start_in content) is.by_then is.in_time is.moment in
+    record {
+      cut_so = record { network = is.reads; cutting = cutting-same net other content is.agree.cells ∙ is.cutting };
+      can_start = moment-starts other cut (start_in content) is.sound same;
+      true_start = moment-true other cut (start_in content) same;
+    }

@@ -11,10 +11,6 @@ abbrev pub with_before : {A : Type 0} → List A → Option (Front (List A)) →
 with_before before None = None
 with_before before (Some found) = Some (record { value = before ++ found.value; rest = found.rest })
 
-pub with_none : {A : Type 0} (found : Option (Front (List A))) → found ≡ with_before [] found
-with_none None = refl
-with_none (Some found) = refl
-
 with_more : {A : Type 0} (before : List A) (one : A) (found : Option (Front (List A))) → with_before before (with_before (one ∷ []) found) ≡ with_before (before ++ one ∷ []) found
 with_more before one None = refl
 with_more before one (Some found) = ap (λ value. Some (record { value = value; rest = found.rest })) (sym (append_assoc before (one ∷ []) found.value))

@@ -17,7 +17,7 @@ pub record HasNumbers (row : Row) : Type 0 where
   pub gone : row.gone < 2 ^ 64
   pub wait : row.wait < 2 ^ 64
 
--- those of a row line
+-- the numbers of a row line, too
 pub record IsRowLine (line : RowLine) : Type 0 where
   pub region : line.region < 2 ^ 64
   pub row : HasNumbers line.row

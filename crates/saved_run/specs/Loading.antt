@@ -28,7 +28,7 @@ of_regions count (Ok cut) = if region_count cut == count then Some cut else None
 unfoldable pub cutting_by : Network → (count : ℕ) → List RowLine → Option (List ℕ)
 cutting_by net count rows = of_regions count (cut_of net (regions_in rows))
 
--- that of a content has a step for each region
+-- the cutting of a content has a step for each region
 abbrev pub cutting_in : Network → Content → Option (List ℕ)
 cutting_in net content = cutting_by net (length content.steps) content.rows
 

@@ -3,11 +3,14 @@ ghost use Rattle.network_file.specs.Network.{Network};
 ghost use Rattle.network_file.specs.Reading.{network_of};
 ghost use Rattle.network_file.specs.declared.limits.TheConstants.{MOST_BYTES};
 ghost use Rattle.saved_run.specs.Charting.{IsNetworkRefusal};
+ghost use Rattle.flow_model.specs.State.{state_at};
+ghost use Rattle.region_cut.specs.Chart.{chart_of};
 ghost use Rattle.region_step.specs.Start.{IsTrueStart};
 ghost use Rattle.saved_run.specs.Content.{Content, IsContent};
+ghost use Rattle.saved_run.specs.Futures.{AgreeBelow, IsEdited, edited_content};
 ghost use Rattle.saved_run.specs.Heads.{content_in};
-ghost use Rattle.saved_run.specs.Loading.{GoesOn, IsLoadRefusal, IsLoaded, IsRefusalOf};
-ghost use Rattle.saved_run.specs.Laws.{BeginsTrue};
+ghost use Rattle.saved_run.specs.Loading.{CanStart, GoesOn, IsLoadRefusal, IsLoaded, IsRefusalOf};
+ghost use Rattle.saved_run.specs.Laws.{BeginsTrue, HasTrueStart};
 ghost use Rattle.saved_run.specs.Reading.{IsTextOf, content_of};
 ghost use Rattle.saved_run.specs.SavedText.{saved_text};
 ghost use Rattle.saved_run.specs.declared.fault.LoadRefusal.TheVariants.{NoMemory};
@@ -26,6 +29,10 @@ pub fn load(alloc: Global, bytes: &[u8]) -> Result<Saved, LoadRefusal>
     ensures loaded { IfOk result (λ saved. IsLoaded (content_of bytes.now) saved.net saved.chart saved.start) }
     ensures refusal { IfErr result (IsLoadRefusal (content_of bytes.now)) }
 
+    // Its regions can be opened.
+    ensures charted { IfOk result (λ saved. saved.chart ≡ chart_of saved.net saved.chart.cut) }
+    ensures can_start { IfOk result (λ saved. CanStart saved.net saved.chart.cut saved.start) }
+
     // A text has at most one content, and each content one text.
     ensures spelled { (content : Content) → content_of bytes.now ≡ Some content → IsTextOf bytes.now content }
     ensures read { (content : Content) → IsContent content → content_of (saved_text content) ≡ Some content }
@@ -33,6 +40,12 @@ pub fn load(alloc: Global, bytes: &[u8]) -> Result<Saved, LoadRefusal>
     // A text whose content has a true start is refused only where memory is refused, and goes on from that start.
     ensures true_start { (net : Network) (cut : List ℕ) → BeginsTrue (content_of bytes.now) net cut →
         MatchResult result (λ saved. (saved.net ≡ net) × (saved.chart.cut ≡ cut) × IsTrueStart net cut saved.start) (λ refusal. refusal ≡ NoMemory) }
+
+    // Networks that agree below a step have one state up to it; so what was saved of the one by then has a true start with
+    // the other.
+    ensures one_state { (net other : Network) (u t : ℕ) → AgreeBelow net other u → t ≤ u → state_at other t ≡ state_at net t }
+    ensures edited { (content : Content) (net other : Network) (u : ℕ) (cut edited : List ℕ) → IsEdited content net other u cut edited →
+        HasTrueStart (edited_content content edited) other cut }
 {
     match read_content(alloc, bytes)? {
         Some((head, network)) => saved_of(alloc, head, network),

@@ -2,8 +2,10 @@ ghost use Rattle.std.specs.Prelude.{◌≡◌, ◌<◌, ◌≤◌, ◌^◌, IfOk
 ghost use Rattle.network_file.specs.declared.limits.TheConstants.{MOST_BYTES};
 ghost use Rattle.snapshot.specs.Rooms.{IsRoomFor};
 ghost use Rattle.network_file.specs.Network.{Network};
-ghost use Rattle.region_step.specs.Start.{StartLists};
+ghost use Rattle.region_step.specs.Start.{StartLists, zero_start};
+ghost use Rattle.saved_run.specs.Futures.{IsMoment};
 ghost use Rattle.saved_run.specs.Laws.{BeginsTrue, IsShotOf};
+ghost use Rattle.saved_run.specs.Loading.{start_in};
 ghost use Rattle.saved_run.specs.Reading.{content_of};
 ghost use Rattle.saved_run.specs.SavedText.{saved_text};
 ghost use Rattle.saved_run.specs.Shown.{content_shown};
@@ -33,6 +35,10 @@ pub fn save_text(
     // A shot from a true start is saved as a true start.
     ensures true_start { IfOk result (λ text. (net : Network) (start : StartLists) → IsShotOf network.now net chart.now.cut start room.now →
         BeginsTrue (content_of text.items) net chart.now.cut) }
+
+    // A shot of a run from step 0 is a moment of it, from which other networks can go on too.
+    ensures moment { IfOk result (λ _. (net : Network) → IsShotOf network.now net chart.now.cut (zero_start net chart.now.cut) room.now →
+        IsMoment net chart.now.cut (start_in (content_shown chart.now.cut room.now network.now))) }
 {
     let mut text = Vec::new(alloc);
     put_counted_line(&mut text, b"saved,1", u64::from(chart.regions()))?;

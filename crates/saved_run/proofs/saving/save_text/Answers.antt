@@ -4,6 +4,7 @@ use Rattle.saved_run.specs.Laws.{BeginsTrue}
 use Rattle.saved_run.specs.Reading.{content_of}
 use Rattle.saved_run.specs.SavedText.{saved_text}
 use Rattle.saved_run.specs.Shown.{content_shown}
+use Rattle.saved_run.proofs.Futures.{shown-moment}
 use Rattle.saved_run.proofs.Shown.{row_lines-shown, rows-shown}
 use Rattle.saved_run.proofs.Starts.{shot-has_true_start}
 use Rattle.saved_run.proofs.Texts.{content_of-saved_text}
@@ -30,3 +31,6 @@ returns-clause-reads c =
 pub returns-clause-true_start : goal.returns-clause-true_start
 returns-clause-true_start c = λ net start shot.
     subst (λ found. BeginsTrue found net c.args.chart.now.cut) (sym (returns-clause-reads c)) (shot-has_true_start c.args.network.now net c.args.chart.now.cut start c.args.room.now shot)
+
+pub returns-clause-moment : goal.returns-clause-moment
+returns-clause-moment c = λ net shot. shown-moment c.args.network.now net c.args.chart.now.cut c.args.room.now shot
