@@ -3,15 +3,14 @@ use Rattle.std.specs.Prelude.{All, if◌then◌else◌, map, slice_index, sum_by
 use Rattle.std.specs.List.{range_with_len}
 use Rattle.std.proofs.Common.{◌≡◌, ℕ, zero, suc, ◌<◌, ◌≤◌, List, length, refl, sym, ap, subst, ◌∙◌, arith}
 use Rattle.network_file.specs.Cells.{is_gate_at}
-use Rattle.network_file.specs.Connectors.{cells_of}
 use Rattle.network_file.specs.Network.{IsNetwork, Network}
 use Rattle.network_file.specs.declared.connector.Connector.{Connector}
 use Rattle.network_file.specs.declared.connector.Connector.TheVariants.{Link, Merge, Diverge}
 use Rattle.flow_model.specs.Bounds.{IsHeldInBounds, IsRowInBounds}
-use Rattle.flow_model.specs.Flows.{entered_by, entering, flow_between, leaving, left_by}
+use Rattle.flow_model.specs.Flows.{entering, flow_of, inflow, leaving, outflow}
 use Rattle.flow_model.specs.Limits.{receiving_at, room_at, sending_at}
-use Rattle.flow_model.specs.Rows.{first_row, moved_row}
-use Rattle.flow_model.specs.State.{next_rows, occupancy, row_at, rows_moved, state_at}
+use Rattle.flow_model.specs.Rows.{first_row, moved_row, next_row}
+use Rattle.flow_model.specs.State.{next_rows, occupancy, row_at, state_at}
 use Rattle.flow_model.specs.declared.row.Row.{Row}
 use Rattle.flow_model.proofs.States.{state_at-in_bounds}
 use Rattle.region_cut.specs.Cuttings.{region_at, region_count}
@@ -38,31 +37,29 @@ module _ (net other : Network) (u : ℕ) (agree : AgreeBelow net other u) where
   unfolding receiving_at
   receiving-same t i n below = let capacity = agree.capacities i t below in let room = ap (λ cells. room_at cells i) agree.cells in rw (capacity, room) refl
 
-  flow-same : (t : ℕ) (connector : Connector) (n : List ℕ) → t < u → flow_between other t connector n ≡ flow_between net t connector n
-  unfolding flow_between
-  flow-same t (Link up down) n below = rw (sending-same t up (slice_index n 0) below, receiving-same t down (slice_index n 1) below) refl
-  flow-same t (Merge up1 up2 down p1 p2) n below =
-      rw (sending-same t up1 (slice_index n 0) below, sending-same t up2 (slice_index n 1) below, receiving-same t down (slice_index n 2) below) refl
-  flow-same t (Diverge up down1 down2 b1 b2) n below =
-      rw (sending-same t up (slice_index n 0) below, receiving-same t down1 (slice_index n 1) below, receiving-same t down2 (slice_index n 2) below, agree.shares up t (b1, b2) below) refl
+  flow-same : (t : ℕ) (n : ℕ → ℕ) (connector : Connector) → t < u → flow_of other t n connector ≡ flow_of net t n connector
+  unfolding flow_of
+  flow-same t n (Link up down) below = rw (sending-same t up (n up) below, receiving-same t down (n down) below) refl
+  flow-same t n (Merge up1 up2 down p1 p2) below =
+      rw (sending-same t up1 (n up1) below, sending-same t up2 (n up2) below, receiving-same t down (n down) below) refl
+  flow-same t n (Diverge up down1 down2 b1 b2) below =
+      rw (sending-same t up (n up) below, receiving-same t down1 (n down1) below, receiving-same t down2 (n down2) below, agree.shares up t (b1, b2) below) refl
 
-  left-same : (connectors : List Connector) (t : ℕ) (n : ℕ → ℕ) (i : ℕ) → t < u → left_by connectors other t n i ≡ left_by connectors net t n i
-  unfolding left_by
-  left-same connectors t n i below = λ j. sum_by (λ connector. leaving i connector (flow-same t connector (map n (cells_of connector)) below j)) connectors
+  outflow-same : (t : ℕ) (n : ℕ → ℕ) (i : ℕ) → t < u → outflow other t n i ≡ outflow net t n i
+  unfolding outflow
+  outflow-same t n i below = λ j. sum_by (λ connector. leaving i connector (flow-same t n connector below j)) (agree.connectors j)
 
-  entered-same : (connectors : List Connector) (t : ℕ) (n : ℕ → ℕ) (i : ℕ) → t < u → entered_by connectors other t n i ≡ entered_by connectors net t n i
-  unfolding entered_by
-  entered-same connectors t n i below = λ j.
+  inflow-same : (t : ℕ) (n : ℕ → ℕ) (i : ℕ) → t < u → inflow other t n i ≡ inflow net t n i
+  unfolding inflow
+  inflow-same t n i below = λ j.
       if is_gate_at (agree.cells j) i then agree.demands i t below j
-      else sum_by (λ connector. entering i connector (flow-same t connector (map n (cells_of connector)) below j)) connectors
+      else sum_by (λ connector. entering i connector (flow-same t n connector below j)) (agree.connectors j)
 
   next_rows-same : (t : ℕ) (rows : List Row) → t < u → next_rows other t rows ≡ next_rows net t rows
-  unfolding rows_moved
+  unfolding next_rows next_row
   next_rows-same t rows below =
       let n = occupancy rows in
-      let enters : (i : ℕ) → entered_by other.connectors other t n i ≡ entered_by net.connectors net t n i = λ i. ap (λ connectors. entered_by connectors other t n i) agree.connectors ∙ entered-same net.connectors t n i below in
-      let leaves : (i : ℕ) → left_by other.connectors other t n i ≡ left_by net.connectors net t n i = λ i. ap (λ connectors. left_by connectors other t n i) agree.connectors ∙ left-same net.connectors t n i below in
-      λ j. map (λ i. moved_row (record net { cells = agree.cells j }) i (row_at rows i) (enters i j) (leaves i j)) (range_with_len 0 (length (agree.cells j)))
+      λ j. map (λ i. moved_row (record net { cells = agree.cells j }) i (row_at rows i) (inflow-same t n i below j) (outflow-same t n i below j)) (range_with_len 0 (length (agree.cells j)))
 
   -- the recurrences come to the same rows up to step u
   pub states-same : (t : ℕ) → t ≤ u → state_at other t ≡ state_at net t
