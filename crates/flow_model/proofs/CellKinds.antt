@@ -69,9 +69,3 @@ there cells i (Some cell) found road = slice_get_within cells i cell found
 
 pub road_at-there : (cells : List Cell) (i : ℕ) → is_road_at cells i ≡ true → i < length cells
 road_at-there cells i road = there cells i (slice_get cells i) refl road
-
--- the connector that was read from these items
-pub read_connector : (items connectors : List Connector) (k : ℕ) (connector : Connector) → items ≡ connectors → k < length connectors →
-    connector ≡ get_or items k connector → connector_at connectors k ≡ connector
-read_connector items connectors k connector same has read =
-    get_or_default connectors k (Link 0 0) connector has ∙ sym (read ∙ ap (λ cs. get_or cs k connector) same)
