@@ -1,5 +1,5 @@
 -- Fields with commas between them, by one field more.
-use Rattle.std.proofs.Common.{ℕ, ◌≡◌, ◌<◌, ◌≤◌, ◌+◌, zero, suc, List, [], ◌∷◌, ◌++◌, refl, ap, ◌∙◌, sym, length, get_or, take, append_assoc, arith, add-one}
+use Rattle.std.proofs.Common.{ℕ, ◌≡◌, ◌<◌, ◌≤◌, ◌+◌, zero, suc, List, [], ◌∷◌, ◌++◌, refl, ap, ◌∙◌, sym, length, get_or, take, drop, append_assoc, arith, add-one}
 use Rattle.std.specs.Prelude.{codes}
 use Rattle.std.proofs.lemmas.List.{append-nil}
 use Rattle.std.specs.List.{flat_map}
@@ -34,13 +34,8 @@ line-more text before after fields (suc i) later there so_far comma =
     rw (comma, so_far, add-one, joined-more fields i there, append_assoc (text ++ joined (take (suc i) fields)) (44 ∷ []) (get_or fields (suc i) []))
     (append_assoc text (joined (take (suc i) fields)) (44 ∷ get_or fields (suc i) []))
 
--- a file without records
-pub converted-headless : (bytes : List ℕ) → file_records_of bytes ≡ [] → converted bytes ≡ codes "ctm,2\n"
+-- a converted file, by the file's records
+pub converted-by : (bytes : List ℕ) (records : List (List (List ℕ))) → records ≡ file_records_of bytes
+    → converted bytes ≡ codes "ctm,2\n" ++ flat_map record_line (drop 1 records)
 unfolding converted
-converted-headless bytes none = rw none refl
-
--- a file with a header
-pub converted-headed : (bytes : List ℕ) (header : List (List ℕ)) (rest : List (List (List ℕ))) → file_records_of bytes ≡ header ∷ rest
-    → converted bytes ≡ codes "ctm,2\n" ++ flat_map record_line rest
-unfolding converted
-converted-headed bytes header rest all = rw all refl
+converted-by bytes records same = rw same refl

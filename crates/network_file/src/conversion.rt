@@ -1,4 +1,4 @@
-ghost use Rattle.std.specs.Prelude.{◌≡◌, ◌≤◌, ◌++◌, IfErr, IfOk, Some, codes, length};
+ghost use Rattle.std.specs.Prelude.{◌≡◌, ◌≤◌, ◌++◌, IfErr, IfOk, Some, codes, drop, length};
 ghost use Rattle.std.specs.List.{flat_map};
 ghost use Rattle.csv.specs.Records.{fields_of};
 ghost use Rattle.network_file.specs.Converted.{converted, record_line};
@@ -31,11 +31,23 @@ pub fn convert(alloc: Global, bytes: &[u8]) -> Result<Vec<u8>, NetRefusal>
 fn text_of_records(alloc: Global, bytes: &[u8]) -> Result<Vec<u8>, NoMemory>
     ensures { IfOk result (λ text. text.items ≡ converted bytes.now) }
 {
-    let text = header(alloc)?;
     let mut reader = open_records(alloc, bytes);
     let mut row = ByteRecord::new(alloc);
-    if next_record(&mut reader, &mut row)? {
-        with_lines(text, &mut reader, &mut row)
+    text_read(alloc, &mut reader, &mut row)
+}
+
+/// The header of format 2, and then the records that a reader has left, without the first, as lines.
+fn text_read(
+    alloc: Global,
+    reader: &mut Reader<&[u8]>,
+    row: &mut ByteRecord,
+) -> Result<Vec<u8>, NoMemory>
+    requires { IsReading (λ s. Some s.now) reader.old }
+    ensures { IfOk result (λ text. text.items ≡ codes "ctm,2\n" ++ flat_map record_line (drop 1 (records_left (λ s. Some s.now) reader.old))) }
+{
+    let text = header(alloc)?;
+    if next_record(reader, row)? {
+        with_lines(text, reader, row)
     } else {
         Ok(text)
     }

@@ -1,7 +1,7 @@
 ghost use Rattle.std.specs.Prelude.{◌≡◌, ◌≤◌, Ok, Some, IfErr, IfOk, length};
 ghost use Rattle.csv.specs.Records.{fields_of};
 ghost use Rattle.network_file.specs.Answers.{Answers, IsFaultOf};
-ghost use Rattle.network_file.specs.FileRecords.{IsReading, records_left};
+ghost use Rattle.network_file.specs.FileRecords.{IsReading, file_records_of, records_left};
 ghost use Rattle.network_file.specs.Reading.{cutting_of_draft, network_in_all, network_of, read_records};
 ghost use Rattle.network_file.specs.Refused.{IsRefusal};
 
@@ -18,7 +18,7 @@ use csv::{ByteRecord, Reader};
 use fixed_flow::MOST_PARTS;
 use std::alloc::Global;
 
-/// Reads a file: its header, and then the later records.
+/// Reads a file: its header, and then the later records one after the other.
 pub(crate) fn read_file(alloc: Global, bytes: &[u8]) -> Result<Net, NetRefusal>
     requires { length bytes.now ≤ MOST_BYTES }
     ensures network { IfOk result (λ net. network_of bytes.now ≡ Ok net) }
@@ -26,14 +26,30 @@ pub(crate) fn read_file(alloc: Global, bytes: &[u8]) -> Result<Net, NetRefusal>
 {
     let mut reader = open_records(alloc, bytes);
     let mut row = ByteRecord::new(alloc);
-    if !next_record(&mut reader, &mut row)? {
+    read_all(alloc, bytes, &mut reader, &mut row)
+}
+
+/// The network of a file by a reader that has all its records left.
+fn read_all(
+    alloc: Global,
+    bytes: &[u8],
+    reader: &mut Reader<&[u8]>,
+    row: &mut ByteRecord,
+) -> Result<Net, NetRefusal>
+    requires few { length bytes.now ≤ MOST_BYTES }
+    requires reading { IsReading (λ s. Some s.now) reader.old }
+    requires left { records_left (λ s. Some s.now) reader.old ≡ file_records_of bytes.now }
+    ensures network { IfOk result (λ net. network_of bytes.now ≡ Ok net) }
+    ensures refusal { IfErr result (λ refusal. IsRefusal refusal (network_of bytes.now)) }
+{
+    if !next_record(reader, row)? {
         return Err(NetRefusal::at(1, Code::NoHeader));
     }
-    let Some(format) = format_of(&row) else {
+    let Some(format) = format_of(row) else {
         return Err(NetRefusal::at(1, Code::NoHeader));
     };
     let draft = NetDraft::of_file(alloc, bytes, format)?;
-    read_later(alloc, draft, &mut reader, &mut row)
+    read_later(alloc, draft, reader, row)
 }
 
 /// Takes the records behind the header into a draft without records, one after the other.
