@@ -8,10 +8,8 @@ use Rattle.std.proofs.lemmas.List.FromFn.{length-range_with_len}
 use Rattle.std.proofs.lemmas.List.Sums.{length-filter, sum-map, sum_by-cons, sum_by-le, sum_by-le-sum_by}
 use Rattle.std.proofs.lemmas.Simd.{map-map}
 use Rattle.signal_plan.proofs.Sums.{sum_by-swap, sum_by_agree, sum_by_range_one}
-use Rattle.signal_plan.specs.declared.bounds.TheConstants.{MOST_RECORDS}
-use Rattle.network_file.specs.Formats.{most_records}
 use Rattle.network_file.specs.Network.{Network}
-use Rattle.network_file.specs.declared.limits.TheConstants.{MOST_RECORDS_OF_FORMAT_1}
+use Rattle.network_file.proofs.NetworkFacts.{few_records}
 use Rattle.region_cut.specs.Chart.{ChartLists, IsChart, border_of, chart_of, list_at}
 use Rattle.region_cut.specs.Cuttings.{region_at, region_count}
 use Rattle.region_cut.specs.Joins.{is_border}
@@ -70,13 +68,6 @@ widths-le-cells chart net charted =
     let border : chart.border ≡ map (border_of net chart.cut) regions = ap (λ (lists : ChartLists). lists.border) charted in
     let widths = ap (λ lists. sum (map length lists)) border ∙ ap sum (map-map length (border_of net chart.cut) regions) ∙ sum-map (λ r. length (border_of net chart.cut r)) regions in
     omega (arith, widths, borders-le-cells net chart.cut)
-
-few_records : (format : ℕ) → most_records format ≤ MOST_RECORDS
-few_records format = by (format == 2)
-  where
-    by : (second : Bool) → cond second MOST_RECORDS MOST_RECORDS_OF_FORMAT_1 ≤ MOST_RECORDS
-    by true = omega arith
-    by false = omega arith
 
 pub words-fit : (chart : ChartLists) → IsChart chart → IsOfNetwork chart → words_of (widths_of chart) < 2 ^ 32
 words-fit chart sound of =

@@ -2,7 +2,7 @@ ghost use Rattle.std.specs.Prelude.{◌≡◌, ◌≤◌};
 
 use crate::{ConnectorCourse, DemandCourse, Rule, space_of};
 use network_file::Net;
-use signal_plan::{MOST_STEPS, Plan};
+use signal_plan::{Demand, MOST_STEPS, Plan};
 use std::test::Fail;
 
 // A diverge, a merge and a link. The gate of the diverge is green in the steps 0, 3, 4, 7 and so on.
@@ -66,8 +66,18 @@ fn a_merge_follows_its_cells_and_a_link_never_changes(rt: HostRuntime) -> Result
 fn a_demand_is_the_sum_of_its_records(rt: HostRuntime) -> Result<(), Fail> {
     let mut plan = Plan::open(rt.alloc());
     plan.put_cell(5)?;
-    plan.put_demand(0, 1, 3, 15)?;
-    plan.put_demand(0, 2, 4, 10)?;
+    plan.put_demand(Demand {
+        cell: 0,
+        from: 1,
+        to: 3,
+        amount: 15,
+    })?;
+    plan.put_demand(Demand {
+        cell: 0,
+        from: 2,
+        to: 4,
+        amount: 10,
+    })?;
     let mut course = DemandCourse::new(rt.alloc(), &plan, 0)?;
     assert_eq!(rt; course.amount(), 0);
     course.refresh(2);

@@ -28,15 +28,15 @@ pub(crate) fn check_text(alloc: Global, input: &[u8]) -> Result<Vec<u8>, Refusal
 fn counts(alloc: Global, net: &Net) -> Result<Vec<u8>, NoMemory>
     ensures { IfOk result (λ text. text.items ≡ counts_line net.now) }
 {
-    let (signals, limits, demands) = net.plan.counts();
+    let planned = net.plan.counts();
     let mut text = Vec::new(alloc);
     put_name(&mut text, net)?;
     put_count(&mut text, net.cells.len() as u64)?;
     put_count(&mut text, net.connectors.len() as u64)?;
     put_count(&mut text, net.steps)?;
-    put_count(&mut text, u64::from(signals))?;
-    put_count(&mut text, u64::from(limits))?;
-    put_count(&mut text, u64::from(demands))?;
+    put_count(&mut text, planned.signals as u64)?;
+    put_count(&mut text, planned.limits as u64)?;
+    put_count(&mut text, planned.demands as u64)?;
     put_turns(&mut text, net)?;
     text.extend_from_slice(b"\n")?;
     Ok(text)
@@ -59,7 +59,7 @@ fn put_turns(text: &mut Vec<u8>, net: &Net) -> Result<(), NoMemory>
     ensures { OnOk result (text.new.items ≡ text.old.items ++ (if net.now.format == 2 then count_field (length net.now.plan.turns) else [])) }
 {
     if net.format == 2 {
-        put_count(text, u64::from(net.plan.turns()))?;
+        put_count(text, net.plan.counts().turns as u64)?;
     }
     Ok(())
 }

@@ -5,7 +5,8 @@ use Rattle.network_file.specs.declared.cell.Cell.{Cell}
 use Rattle.flow_model.specs.State.{delay_of, row_at, state_at}
 use Rattle.flow_model.specs.declared.row.Row.{Row}
 use Rattle.flow_ledger.specs.Books.{entered_of, inside_of, left_of}
-use Rattle.line_fields.specs.Fields.{amount_field, count_field, lines_of, name_at, row_fields}
+use Rattle.line_fields.specs.Fields.{amount_field, count_field, lines_of, row_fields}
+use Rattle.network_file.specs.Cells.{name_at}
 use Rattle.region_step.specs.Recording.{note_of, recorded}
 use Rattle.region_step.specs.declared.note.Note.{Note}
 

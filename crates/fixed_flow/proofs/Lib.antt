@@ -1,4 +1,5 @@
 pub mod DigitFacts
+pub mod Limits
 pub mod MiddleFacts
 pub mod PassFacts
 pub mod PrintedFacts

@@ -1,3 +1,4 @@
+pub mod Limits
 pub mod Middle
 pub mod Pass
 pub mod Printed

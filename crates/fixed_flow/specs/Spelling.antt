@@ -3,6 +3,7 @@ use Rattle.std.specs.Prelude.{ℕ, ◌+◌, ◌-◌, ◌*◌, ◌^◌, Bool, not
 use Rattle.std.specs.Char.{is_ascii_digit}
 use Rattle.std.specs.List.{list_all, list_any, before_first, after_first}
 use Rattle.std.specs.Str.Parse.{digits_value}
+use Rattle.fixed_flow.specs.Limits.{parts_per_vehicle}
 
 -- 1 to `most` ASCII digits
 abbrev pub is_digits : ℕ → List ℕ → Bool
@@ -26,4 +27,4 @@ decimal_parts decimals = digits_value 10 decimals * 10 ^ (6 - length decimals)
 -- the parts that a text spells, whatever their number
 unfoldable pub amount_of : List ℕ → Option ℕ
 amount_of text =
-    if is_amount text then Some (digits_value 10 (before_first is_point text) * 1_000_000 + decimal_parts (after_first is_point text)) else None
+    if is_amount text then Some (digits_value 10 (before_first is_point text) * parts_per_vehicle + decimal_parts (after_first is_point text)) else None

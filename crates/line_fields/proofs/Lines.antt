@@ -3,11 +3,11 @@ use Rattle.std.specs.List.{range_with_len}
 use Rattle.std.proofs.Common.{◌≡◌, ℕ, zero, suc, add-one, ◌+◌, ◌<◌, List, [], ◌∷◌, ◌++◌, refl, length, slice_index_or, arith, sym, ap, ◌∙◌}
 use Rattle.std.specs.Prelude.{flat_map}
 use Rattle.std.proofs.lemmas.Grind.{flat_map-append}
-use Rattle.std.proofs.lemmas.List.{append-nil, map-id}
+use Rattle.std.proofs.lemmas.List.{append-nil, get_or-map, map-id}
 use Rattle.std.proofs.lemmas.List.FromFn.{map-range_with_len_more}
-use Rattle.std.proofs.lemmas.Option.{slice_get_read}
 use Rattle.network_file.specs.declared.cell.Cell.{Cell}
-use Rattle.line_fields.specs.Fields.{lines_of, name_at}
+use Rattle.network_file.specs.Cells.{name_at}
+use Rattle.line_fields.specs.Fields.{lines_of}
 
 -- one number more
 pub range_more : (n : ℕ) → range_with_len 0 (n + 1) ≡ range_with_len 0 n ++ n ∷ []
@@ -27,7 +27,7 @@ lines_of-more line i =
 
 -- the name of a cell that was read
 pub name_at-read : (cells : List Cell) (i : ℕ) (cell : Cell) → i < length cells → cell ≡ slice_index_or cells i cell → name_at cells i ≡ cell.name
-name_at-read cells i cell within here = rw (slice_get_read cells (length cells) i cell refl within here) refl
+name_at-read cells i cell within here = get_or-map (λ c. c.name) cells i cell [] within ∙ ap (λ c. c.name) (sym here)
 
 -- the same lines
 pub lines_of-same : (f g : ℕ → List ℕ) (n : ℕ) → ((i : ℕ) → i < n → f i ≡ g i) → lines_of f n ≡ lines_of g n

@@ -1,9 +1,7 @@
 -- The fields of the lines on out: what stands between the commas.
-use Rattle.std.specs.Prelude.{ℕ, List, [], ◌++◌, ℤ, codes, decimal, flat_map, slice_get}
+use Rattle.std.specs.Prelude.{ℕ, List, ◌++◌, ℤ, codes, decimal, flat_map}
 use Rattle.std.specs.List.{range_with_len}
-use Rattle.std.specs.Option.{option_map_or}
 use Rattle.fixed_flow.specs.Printed.{amount_text, signed_amount_text}
-use Rattle.network_file.specs.declared.cell.Cell.{Cell}
 use Rattle.flow_model.specs.declared.row.Row.{Row}
 
 -- a comma and a count
@@ -21,10 +19,6 @@ signed_field parts = codes "," ++ signed_amount_text parts
 -- `name,n,come,gone,wait`
 unfoldable pub row_fields : (name : List ℕ) → Row → List ℕ
 row_fields name row = name ++ amount_field row.n ++ amount_field row.come ++ amount_field row.gone ++ amount_field row.wait
-
--- the name of cell i
-abbrev pub name_at : List Cell → (i : ℕ) → List ℕ
-name_at cells i = option_map_or (λ cell. cell.name) (slice_get cells i) []
 
 -- one line for each of the first cells, so many of them, in the order of the file
 unfoldable pub lines_of : (ℕ → List ℕ) → (cells : ℕ) → List ℕ

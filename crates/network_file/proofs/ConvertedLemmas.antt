@@ -1,14 +1,14 @@
 -- A converted file is the same network in format 2.
 use Rattle.std.proofs.Common.{ℕ, ◌≡◌, ◌+◌, List, [], ◌∷◌, Ok, Err, Some, None, refl, sym, ap, ◌∙◌, drop, length}
 use Rattle.std.specs.Prelude.{Option, Result, nat_le, nat_lt, ok_or}
-use Rattle.fixed_flow.specs.declared.amount.TheConstants.{MOST_PARTS}
+use Rattle.fixed_flow.specs.Limits.{most_parts}
 use Rattle.std.proofs.lemmas.List.Elements.{All-nil}
 use Rattle.network_file.specs.Converted.{converted}
 use Rattle.network_file.specs.Draft.{Draft, empty_draft}
 use Rattle.network_file.specs.FileRecords.{file_records_of}
 use Rattle.network_file.specs.Formats.{format_of}
 use Rattle.network_file.specs.Network.{Network, load_of}
-use Rattle.network_file.specs.Reading.{at_place, completed, network_in_all, network_of, on_taken, read_file, read_headed, read_records, regions_of}
+use Rattle.network_file.specs.Reading.{at_place, completed, network_in_all, network_of, on_taken, read_file, read_headed, read_records, cutting_of_draft}
 use Rattle.network_file.specs.SameNetwork.{SaysTheSame}
 use Rattle.network_file.specs.Taking.{take_record}
 use Rattle.network_file.specs.declared.cell.Cell.{Cell}
@@ -27,22 +27,22 @@ use Rattle.network_file.proofs.TakenRecords.{take_record-alike}
 abbrev net_in_format_2 : Network → Network
 net_in_format_2 net = record net { format = 2 }
 
-regions_of-in_format_2 : (draft : Draft) → regions_of (in_format_2 draft) ≡ regions_of draft
-unfolding regions_of
-regions_of-in_format_2 draft = refl
+cutting_of_draft-in_format_2 : (draft : Draft) → cutting_of_draft (in_format_2 draft) ≡ cutting_of_draft draft
+unfolding cutting_of_draft
+cutting_of_draft-in_format_2 draft = refl
 
 network_in_all-alike : (draft : Draft) (net : Network) → network_in_all draft ≡ Ok net → network_in_all (in_format_2 draft) ≡ Ok (net_in_format_2 net)
 unfolding network_in_all
 network_in_all-alike draft net made =
     let (steps, (is_steps, made1)) = bind-ok (ok_or draft.steps NoSteps) _ net made in
     let (cells, made2) = must-ok (nat_lt 0 (length draft.cells)) NoCells _ net made1 in
-    let (load, made3) = must-ok (nat_le (load_of draft.cells draft.plan steps) MOST_PARTS) TooMuch _ net made2 in
-    let (regions, (is_regions, made4)) = bind-ok (regions_of draft) _ net made3 in
+    let (load, made3) = must-ok (nat_le (load_of draft.cells draft.plan steps) most_parts) TooMuch _ net made2 in
+    let (regions, (is_regions, made4)) = bind-ok (cutting_of_draft draft) _ net made3 in
     let same : record { format = draft.format; steps = steps; cells = draft.cells; connectors = draft.connectors; plan = draft.plan; regions = regions } ≡ net = cc made4 in
     bind-as (ok_or draft.steps NoSteps) _ steps _ is_steps
     (must-as (nat_lt 0 (length draft.cells)) NoCells _ _ cells
-    (must-as (nat_le (load_of draft.cells draft.plan steps) MOST_PARTS) TooMuch _ _ load
-    (bind-as (regions_of (in_format_2 draft)) _ regions _ (regions_of-in_format_2 draft ∙ is_regions) (ap (λ net. Ok (net_in_format_2 net)) same))))
+    (must-as (nat_le (load_of draft.cells draft.plan steps) most_parts) TooMuch _ _ load
+    (bind-as (cutting_of_draft (in_format_2 draft)) _ regions _ (cutting_of_draft-in_format_2 draft ∙ is_regions) (ap (λ net. Ok (net_in_format_2 net)) same))))
 
 at_place-ok : {A : Type 0} (place : ℕ) (m : Result A Code) (a : A) → at_place place m ≡ Ok a → m ≡ Ok a
 at_place-ok place (Ok a) b made = ap Ok (cc made)

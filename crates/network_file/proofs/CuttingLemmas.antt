@@ -10,9 +10,9 @@ use Rattle.std.proofs.lemmas.List.Folds.{find-append, list_all-append, list_all-
 use Rattle.std.proofs.lemmas.List.FromFn.{length-range_with_len, get_or-range_with_len, length-map-range_with_len, get_or-map-range_with_len, map-range_with_len_more}
 use Rattle.network_file.specs.Cutting.{greatest, has_no_gap, IsCutting}
 use Rattle.network_file.specs.Draft.{Draft}
-use Rattle.network_file.specs.Reading.{regions_of}
+use Rattle.network_file.specs.Reading.{cutting_of_draft}
 use Rattle.network_file.specs.declared.code.Code.TheVariants.{NoRegion, RegionGap}
-use Rattle.network_file.specs.declared.limits.TheConstants.{MOST_REGIONS}
+use Rattle.network_file.specs.Limits.{most_regions}
 use Rattle.network_file.specs.Regions.{all_have_regions, region_in, region_numbers}
 use Rattle.network_file.specs.declared.region_record.RegionRecord.{RegionRecord}
 
@@ -68,18 +68,16 @@ region_in-push regions cell number i none = elim (cases_eq i cell) [
     last_none None = refl
     last_none (Some region) = refl
 
--- the cutting that the region records of a draft make
-
-region_in-few : (regions : List RegionRecord) (cell : ℕ) → All (λ region. region.number < MOST_REGIONS) regions →
-    unwrap_or (region_in regions cell) 0 < MOST_REGIONS
+region_in-few : (regions : List RegionRecord) (cell : ℕ) → All (λ region. region.number < most_regions) regions →
+    unwrap_or (region_in regions cell) 0 < most_regions
 region_in-few [] cell few = omega arith
 region_in-few (region ∷ regions) cell few = elim (cases_Bool (region.cell == cell)) [
-  | inl own ↦ rw own (All-head (λ r. r.number < MOST_REGIONS) region regions few)
-  | inr other ↦ rw other (region_in-few regions cell (All-tail (λ r. r.number < MOST_REGIONS) region regions few))
+  | inl own ↦ rw own (All-head (λ r. r.number < most_regions) region regions few)
+  | inr other ↦ rw other (region_in-few regions cell (All-tail (λ r. r.number < most_regions) region regions few))
 ]
 
-region_numbers-few : (cells : ℕ) (regions : List RegionRecord) → All (λ region. region.number < MOST_REGIONS) regions →
-    All (λ number. number < MOST_REGIONS) (region_numbers cells regions)
+region_numbers-few : (cells : ℕ) (regions : List RegionRecord) → All (λ region. region.number < most_regions) regions →
+    All (λ number. number < most_regions) (region_numbers cells regions)
 region_numbers-few cells regions few = λ k d within.
     let number : ℕ → ℕ = λ cell. unwrap_or (region_in regions cell) 0 in
     let inside : k < cells = omega (arith, length-map-range_with_len number 0 cells) in
@@ -93,14 +91,15 @@ chosen false false whole numbers regions is = cc
 chosen false true false numbers regions is = cc
 chosen false true true numbers regions is = inr (refl, cc)
 
-pub regions_of-cutting : (draft : Draft) (regions : List ℕ) →
-    All (λ region. (region.cell < length draft.cells) × (region.number < MOST_REGIONS)) draft.regions →
-    regions_of draft ≡ Ok regions → (regions ≡ []) ⊎ IsCutting (length draft.cells) regions
-unfolding regions_of
-regions_of-cutting draft regions sound is =
+-- the cutting that the region records of a draft make
+pub cutting_of_draft-cutting : (draft : Draft) (regions : List ℕ) →
+    All (λ region. (region.cell < length draft.cells) × (region.number < most_regions)) draft.regions →
+    cutting_of_draft draft ≡ Ok regions → (regions ≡ []) ⊎ IsCutting (length draft.cells) regions
+unfolding cutting_of_draft
+cutting_of_draft-cutting draft regions sound is =
     let cells : ℕ = length draft.cells in
     let numbers : List ℕ = region_numbers cells draft.regions in
-    let few = All-weaker (λ (region : RegionRecord). (region.cell < cells) × (region.number < MOST_REGIONS)) (λ region. region.number < MOST_REGIONS)
+    let few = All-weaker (λ (region : RegionRecord). (region.cell < cells) × (region.number < most_regions)) (λ region. region.number < most_regions)
     (λ region both. both.1) draft.regions sound in
     elim (chosen (length draft.regions == 0) (all_have_regions cells draft.regions) (has_no_gap numbers) numbers regions is) [
       | inl none ↦ inl none
@@ -110,3 +109,8 @@ regions_of-cutting draft regions sound is =
         no_gap = made.0;
       }))
     ]
+
+-- without region records there are no regions
+pub cutting_of_draft-none : (draft : Draft) (regions : List ℕ) → draft.regions ≡ [] → cutting_of_draft draft ≡ Ok regions → regions ≡ []
+unfolding cutting_of_draft
+cutting_of_draft-none draft regions none is = cc (rw none at is)

@@ -1,8 +1,8 @@
 -- The word of each kind of record: a kind that is named is named by its word, and is one of format 2.
-use Rattle.std.proofs.Common.{ℕ, ◌≡◌, ◌==◌, ◌&&◌, Bool, true, false, List, Some, cond, refl, arith, ap, ◌∙◌}
+use Rattle.std.proofs.Common.{ℕ, ◌≡◌, ◌==◌, ◌&&◌, Bool, true, false, List, Some, cond, refl, arith, ap, subst, ◌∙◌}
 use Rattle.std.specs.Prelude.{bytes_eq, codes, Option}
 use Rattle.std.specs.Cmp.Lexicographic.{bytes_decides}
-use Rattle.std.proofs.lemmas.Bool.{and_parts}
+use Rattle.std.proofs.lemmas.Bool.{and_parts, eqb-true}
 use Rattle.network_file.specs.Taking.{record_kind_of}
 use Rattle.network_file.specs.declared.record_kind.RecordKind.{RecordKind}
 use Rattle.network_file.specs.declared.record_kind.RecordKind.TheVariants.{Steps, Road, Gate, Exit, Link, Merge, Diverge, Signal, Limit, Demand, Turn, Region}
@@ -45,6 +45,23 @@ record_kind_of-word format text kind =
     (named_by text ((format == 2) && bytes_eq text (codes "turn")) Turn kind _ (λ both. (bytes_decides text (codes "turn")).0 (and_parts (format == 2) (bytes_eq text (codes "turn")) both).1)
     (named_by text ((format == 2) && bytes_eq text (codes "region")) Region kind _ (λ both. (bytes_decides text (codes "region")).0 (and_parts (format == 2) (bytes_eq text (codes "region")) both).1)
     (λ named. cc named)))))))))))))
+
+-- turns and regions are kinds of format 2 alone
+pub record_kind_of-Turn : (format : ℕ) (text : List ℕ) → record_kind_of format text ≡ Some Turn → format ≡ 2
+unfolding record_kind_of
+record_kind_of-Turn format text named = by (format == 2) refl (subst (λ t. record_kind_of format t ≡ Some Turn) (record_kind_of-word format text Turn named) named)
+  where
+    by : (b : Bool) → (format == 2) ≡ b → record_kind_of format (codes "turn") ≡ Some Turn → format ≡ 2
+    by true e named = eqb-true format 2 e
+    by false e named = cc (rw e at named)
+
+pub record_kind_of-Region : (format : ℕ) (text : List ℕ) → record_kind_of format text ≡ Some Region → format ≡ 2
+unfolding record_kind_of
+record_kind_of-Region format text named = by (format == 2) refl (subst (λ t. record_kind_of format t ≡ Some Region) (record_kind_of-word format text Region named) named)
+  where
+    by : (b : Bool) → (format == 2) ≡ b → record_kind_of format (codes "region") ≡ Some Region → format ≡ 2
+    by true e named = eqb-true format 2 e
+    by false e named = cc (rw e at named)
 
 -- the word of a kind is plain
 pub word_of-plain : (kind : RecordKind) → IsPlain (word_of kind)

@@ -1,5 +1,6 @@
 pub mod CellLemmas
 pub mod ConnectorLemmas
+pub mod LimitNumbers
 pub mod NetworkFacts
 pub mod ReadingLemmas
 pub mod RecordLemmas

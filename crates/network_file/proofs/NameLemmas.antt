@@ -10,8 +10,8 @@ use Rattle.std.proofs.lemmas.List.Sums.{position_or_len_is}
 use Rattle.std.proofs.lemmas.Bool.{eqb-false, eqb-true, ltb-false}
 use Rattle.std.proofs.lemmas.Bool.Decides.{nat_tests}
 use Rattle.network_file.specs.declared.cell.Cell.{Cell}
-use Rattle.network_file.specs.Cells.{cell_named}
-use Rattle.network_file.specs.NameIndexing.{IsChainEnd, name_at}
+use Rattle.network_file.specs.Cells.{cell_named, name_at}
+use Rattle.network_file.specs.NameIndexing.{IsChainEnd}
 use Rattle.network_file.proofs.CellLemmas.{cell_named-push}
 
 -- names in different buckets differ

@@ -1,23 +1,33 @@
--- What a network says of each connector, for the crates above.
-use Rattle.std.proofs.Common.{ℕ, ◌≡◌, ◌<◌, true, false, List, length}
-use Rattle.network_file.proofs.SoundLemmas.{All-found}
-use Rattle.network_file.specs.Cells.{is_exit_at, is_gate_at}
-use Rattle.network_file.specs.Connectors.{connector_at, downstream_of, leads_into, leads_out_of, upstream_of}
+-- What a network says of its cells and connectors, for the crates above.
+use Rattle.std.proofs.Common.{ℕ, ◌≡◌, ◌==◌, ◌<◌, ◌≤◌, ◌^◌, Bool, true, false, List, length, get_or, cond, sym, ap, ◌∙◌, arith}
+use Rattle.std.proofs.lemmas.List.{get_or_default}
+use Rattle.network_file.specs.Connectors.{connector_at}
+use Rattle.network_file.specs.Formats.{most_records}
 use Rattle.network_file.specs.Network.{IsNetwork, IsSoundConnector, Network}
-use Rattle.network_file.specs.declared.cell.Cell.{Cell}
 use Rattle.network_file.specs.declared.connector.Connector.{Connector}
 use Rattle.network_file.specs.declared.connector.Connector.TheVariants.{Link}
+
+-- a file of either format has at most as many records of a sort as one of format 2
+pub few_records : (format : ℕ) → most_records format ≤ most_records 2
+few_records format = by (format == 2)
+  where
+    by : (second : Bool) → cond second (most_records 2) (most_records 1) ≤ most_records 2
+    by true = omega arith
+    by false = omega arith
+
+-- there are few enough cells and connectors for numbers of 32 bits
+pub few_cells : (net : Network) → IsNetwork net → length net.cells < 2 ^ 32
+few_cells net sound = omega (arith, few_records net.format, sound.sound.few_cells)
+
+pub few_connectors : (net : Network) → IsNetwork net → length net.connectors < 2 ^ 32
+few_connectors net sound = omega (arith, few_records net.format, sound.sound.few_connectors)
+
+-- the connector that was read from these items
+pub read_connector : (items connectors : List Connector) (k : ℕ) (connector : Connector) → items ≡ connectors → k < length connectors
+    → connector ≡ get_or items k connector → connector_at connectors k ≡ connector
+read_connector items connectors k connector same has read =
+    get_or_default connectors k (Link 0 0) connector has ∙ sym (read ∙ ap (λ cs. get_or cs k connector) same)
 
 -- the connector of a number is sound
 pub connector_at-sound : (net : Network) (k : ℕ) → IsNetwork net → k < length net.connectors → IsSoundConnector net.cells (connector_at net.connectors k)
 connector_at-sound net k is_network there = is_network.sound.sound_connectors k (Link 0 0) there
-
--- a cell that a connector leads out of is there, and is no exit
-pub leads_out_of-cell : (cells : List Cell) (connector : Connector) (i : ℕ) → IsSoundConnector cells connector → leads_out_of i connector ≡ true
-    → (i < length cells) × (is_exit_at cells i ≡ false)
-leads_out_of-cell cells connector i sound leads = All-found (λ j. (j < length cells) × (is_exit_at cells j ≡ false)) i (upstream_of connector) sound.up leads
-
--- a cell that a connector leads into is there, and is no gate
-pub leads_into-cell : (cells : List Cell) (connector : Connector) (i : ℕ) → IsSoundConnector cells connector → leads_into i connector ≡ true
-    → (i < length cells) × (is_gate_at cells i ≡ false)
-leads_into-cell cells connector i sound leads = All-found (λ j. (j < length cells) × (is_gate_at cells j ≡ false)) i (downstream_of connector) sound.down leads

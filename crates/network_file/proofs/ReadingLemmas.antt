@@ -37,7 +37,7 @@ pub read_records-taken : (place : ℕ) (draft more : Draft) (fields : List (List
 unfolding read_records
 read_records-taken place draft more fields rest taken = rw taken refl
 
--- a record that is refused is the answer, unless memory was wanted
+-- a record that is refused is the answer, unless memory was refused
 pub read_records-refused : (place : ℕ) (draft : Draft) (fields : List (List ℕ)) (rest : List (List (List ℕ))) (refusal : RecordRefusal) (whole : Result Network NetFault)
     → whole ≡ read_records place draft (fields ∷ rest) → Answers {A = Draft} (Err refusal) (take_record draft fields) → IsRefusal (refusal_at place refusal) whole
 unfolding read_records

@@ -125,7 +125,7 @@ records_left-end rem a b r reading read =
     let (y, known) = reading.known in
     rw known (records_from-end a.state y (rows-end rem a b r config y reading.format known read))
 
--- a reader of records of any length fails for the reader underneath or for want of memory
+-- a reader of records of any length fails for the reader underneath or out of memory
 pub stops_reader-flexible : {R : Type 0} (rem : R → Option (List ℕ)) (a b : Reader R) (k : ErrorKind) → is_flexible a ≡ true → ExplainsRead rem a b false k
     → stops_reader k ≡ true
 stops_reader-flexible rem a b (kind.Io e) flexible why = refl

@@ -6,19 +6,20 @@ use Rattle.std.specs.Cmp.Lexicographic.{nat_list_eq_equiv}
 use Rattle.std.proofs.lemmas.Bool.{eqb-true}
 use Rattle.std.proofs.lemmas.List.{map-append}
 use Rattle.std.proofs.lemmas.List.Elements.{All-head, All-push, All-tail}
+use Rattle.std.proofs.lemmas.List.Folds.{list_any-append}
 use Rattle.std.proofs.lemmas.List.Sums.{sum_by_push, sum_by-cons}
 use Rattle.std.proofs.lemmas.Map.Keys.{IsDistinct-push}
 use Rattle.std.proofs.lemmas.Option.{slice_get_within}
 use Rattle.signal_plan.specs.Records.{DemandRecord, LimitRecord, PlanRecords, SignalRecord, TurnRecord, with_cell, with_demand, with_limit, with_signal, with_turn}
-use Rattle.signal_plan.specs.declared.bounds.TheConstants.{MOST_STEPS}
+use Rattle.signal_plan.specs.Limits.{most_steps}
 use Rattle.network_file.specs.Formats.{most_records}
 use Rattle.network_file.proofs.CellLemmas.{no_name}
 use Rattle.network_file.specs.Cells.{cell_named, is_exit_at, is_gate_at}
-use Rattle.network_file.specs.Connectors.{downstream_of, leads_into, leads_out_of, upstream_of}
+use Rattle.network_file.specs.Connectors.{diverges_from, downstream_of, leads_into, leads_out_of, upstream_of}
 use Rattle.network_file.specs.Network.{HasSoundParts, IsPlanOf, IsSoundCell, IsSoundConnector, IsTurnWithin}
 use Rattle.network_file.specs.declared.cell.Cell.{Cell}
 use Rattle.network_file.specs.declared.connector.Connector.{Connector}
-use Rattle.network_file.specs.declared.limits.TheConstants.{MOST_CAPACITY, MOST_REGIONS}
+use Rattle.network_file.specs.Limits.{most_capacity, most_regions}
 use Rattle.network_file.specs.declared.region_record.RegionRecord.{RegionRecord}
 
 -- an earlier element stays where it was
@@ -61,8 +62,12 @@ count_by-push p xs x few first = rw (sum_by_push (λ y. cond (p y) 1 0) xs x) (b
     by true e = rw (count_by-none p xs (first e)) (omega arith)
     by false e = omega (arith, few)
 
+-- an element that passes still does among one more
+list_any-kept : {X : Type 0} (p : X → Bool) (xs : List X) (x : X) → list_any p xs ≡ true → list_any p (xs ++ x ∷ []) ≡ true
+list_any-kept p xs x found = rw (list_any-append p xs (x ∷ []), found) refl
+
 -- what holds of each number of a list holds of one that is found in it
-pub All-found : (P : ℕ → Type 0) (i : ℕ) (xs : List ℕ) → All P xs → list_any (eqb i) xs ≡ true → P i
+All-found : (P : ℕ → Type 0) (i : ℕ) (xs : List ℕ) → All P xs → list_any (eqb i) xs ≡ true → P i
 All-found P i [] all found = cc found
 All-found P i (x ∷ xs) all found = by (eqb i x) refl (All-found P i xs (All-tail P x xs all))
   where
@@ -85,11 +90,11 @@ still_sound cells cell connector sound = record {
 }
 
 -- a plan of the cells is one of one cell more
-plan-add_cell : (format : ℕ) (cells : List Cell) (plan : PlanRecords) (cell : Cell) (capacity : ℕ) → IsPlanOf format cells plan → capacity ≤ MOST_CAPACITY
+plan-add_cell : (format : ℕ) (cells : List Cell) (plan : PlanRecords) (cell : Cell) (capacity : ℕ) → IsPlanOf format cells plan → capacity ≤ most_capacity
     → IsPlanOf format (cells ++ cell ∷ []) (with_cell plan capacity)
 plan-add_cell format cells plan cell capacity planned low = record {
   one_each = simp length-append (omega (arith, planned.one_each));
-  capacities = All-push (λ q. q ≤ MOST_CAPACITY) plan.cells capacity planned.capacities low;
+  capacities = All-push (λ q. q ≤ most_capacity) plan.cells capacity planned.capacities low;
   signals = λ k d h.
       let (there, sends) = planned.signals k d h in
       (simp length-append (omega (arith, there)), rw (same_exit cells cell _ there) sends);
@@ -101,10 +106,11 @@ plan-add_cell format cells plan cell capacity planned low = record {
       (rw (same_gate cells cell _ (gate-within cells _ gate)) gate, in_time);
   few_turns = planned.few_turns;
   turns = planned.turns;
+  no_turns = planned.no_turns;
 }
 
 pub HasSoundParts-add_cell : (format : ℕ) (cells : List Cell) (connectors : List Connector) (plan : PlanRecords) (cell : Cell) (capacity : ℕ)
-    → HasSoundParts format cells connectors plan → length cells < most_records format → cell_named cells cell.name ≡ None → IsSoundCell cell → capacity ≤ MOST_CAPACITY
+    → HasSoundParts format cells connectors plan → length cells < most_records format → cell_named cells cell.name ≡ None → IsSoundCell cell → capacity ≤ most_capacity
     → HasSoundParts format (cells ++ cell ∷ []) connectors (with_cell plan capacity)
 HasSoundParts-add_cell format cells connectors plan cell capacity sound room fresh fits low = record {
   few_cells = simp length-append (omega (arith, room));
@@ -115,6 +121,7 @@ HasSoundParts-add_cell format cells connectors plan cell capacity sound room fre
   one_out = sound.one_out;
   one_in = sound.one_in;
   planned = plan-add_cell format cells plan cell capacity sound.planned low;
+  turns_diverge = sound.turns_diverge;
 }
 
 pub HasSoundParts-add_connector : (format : ℕ) (cells : List Cell) (connectors : List Connector) (plan : PlanRecords) (connector : Connector)
@@ -133,12 +140,13 @@ HasSoundParts-add_connector format cells connectors plan connector sound room fi
   one_in = λ i. count_by-push (leads_into i) connectors connector (sound.one_in i)
       (All-found (λ down. list_any (leads_into down) connectors ≡ false) i (downstream_of connector) down_free);
   planned = sound.planned;
+  turns_diverge = λ k d h. list_any-kept (diverges_from _) connectors connector (sound.turns_diverge k d h);
 }
 
 -- what every network keeps, with other records of the plan
 with_plan : (format : ℕ) (cells : List Cell) (connectors : List Connector) (old new : PlanRecords) → HasSoundParts format cells connectors old → IsPlanOf format cells new
-    → HasSoundParts format cells connectors new
-with_plan format cells connectors old new sound planned = record {
+    → All (λ turn. list_any (diverges_from turn.cell) connectors ≡ true) new.turns → HasSoundParts format cells connectors new
+with_plan format cells connectors old new sound planned turns_diverge = record {
   few_cells = sound.few_cells;
   few_connectors = sound.few_connectors;
   sound_cells = sound.sound_cells;
@@ -147,6 +155,7 @@ with_plan format cells connectors old new sound planned = record {
   one_out = sound.one_out;
   one_in = sound.one_in;
   planned = planned;
+  turns_diverge = turns_diverge;
 }
 
 pub HasSoundParts-add_signal : (format : ℕ) (cells : List Cell) (connectors : List Connector) (plan : PlanRecords) (signal : SignalRecord)
@@ -164,10 +173,11 @@ HasSoundParts-add_signal format cells connectors plan signal sound there sends =
       demands = planned.demands;
       few_turns = planned.few_turns;
       turns = planned.turns;
-    })
+      no_turns = planned.no_turns;
+    }) sound.turns_diverge
 
 pub HasSoundParts-add_limit : (format : ℕ) (cells : List Cell) (connectors : List Connector) (plan : PlanRecords) (limit : LimitRecord)
-    → HasSoundParts format cells connectors plan → length plan.limits < most_records format → limit.to ≤ MOST_STEPS → limit.capacity ≤ MOST_CAPACITY
+    → HasSoundParts format cells connectors plan → length plan.limits < most_records format → limit.to ≤ most_steps → limit.capacity ≤ most_capacity
     → HasSoundParts format cells connectors (with_limit plan limit)
 HasSoundParts-add_limit format cells connectors plan limit sound room in_time low =
     let planned = sound.planned in
@@ -176,15 +186,16 @@ HasSoundParts-add_limit format cells connectors plan limit sound room in_time lo
       capacities = planned.capacities;
       signals = planned.signals;
       few_limits = simp length-append (omega (arith, room));
-      limits = All-push (λ l. (l.to ≤ MOST_STEPS) × (l.capacity ≤ MOST_CAPACITY)) plan.limits limit planned.limits (in_time, low);
+      limits = All-push (λ l. (l.to ≤ most_steps) × (l.capacity ≤ most_capacity)) plan.limits limit planned.limits (in_time, low);
       few_demands = planned.few_demands;
       demands = planned.demands;
       few_turns = planned.few_turns;
       turns = planned.turns;
-    })
+      no_turns = planned.no_turns;
+    }) sound.turns_diverge
 
 pub HasSoundParts-add_demand : (format : ℕ) (cells : List Cell) (connectors : List Connector) (plan : PlanRecords) (demand : DemandRecord)
-    → HasSoundParts format cells connectors plan → length plan.demands < most_records format → is_gate_at cells demand.cell ≡ true → demand.to ≤ MOST_STEPS
+    → HasSoundParts format cells connectors plan → length plan.demands < most_records format → is_gate_at cells demand.cell ≡ true → demand.to ≤ most_steps
     → HasSoundParts format cells connectors (with_demand plan demand)
 HasSoundParts-add_demand format cells connectors plan demand sound room gate in_time =
     let planned = sound.planned in
@@ -195,15 +206,16 @@ HasSoundParts-add_demand format cells connectors plan demand sound room gate in_
       few_limits = planned.few_limits;
       limits = planned.limits;
       few_demands = simp length-append (omega (arith, room));
-      demands = All-push (λ d. (is_gate_at cells d.cell ≡ true) × (d.to ≤ MOST_STEPS)) plan.demands demand planned.demands (gate, in_time);
+      demands = All-push (λ d. (is_gate_at cells d.cell ≡ true) × (d.to ≤ most_steps)) plan.demands demand planned.demands (gate, in_time);
       few_turns = planned.few_turns;
       turns = planned.turns;
-    })
+      no_turns = planned.no_turns;
+    }) sound.turns_diverge
 
 pub HasSoundParts-add_turn : (format : ℕ) (cells : List Cell) (connectors : List Connector) (plan : PlanRecords) (turn : TurnRecord)
-    → HasSoundParts format cells connectors plan → length plan.turns < most_records format → turn.to ≤ MOST_STEPS → IsTurnWithin turn
-    → HasSoundParts format cells connectors (with_turn plan turn)
-HasSoundParts-add_turn format cells connectors plan turn sound room in_time within =
+    → HasSoundParts format cells connectors plan → format ≡ 2 → length plan.turns < most_records format → list_any (diverges_from turn.cell) connectors ≡ true
+    → turn.to ≤ most_steps → IsTurnWithin turn → HasSoundParts format cells connectors (with_turn plan turn)
+HasSoundParts-add_turn format cells connectors plan turn sound second room diverges in_time within =
     let planned = sound.planned in
     with_plan format cells connectors plan (with_turn plan turn) sound (record {
       one_each = planned.one_each;
@@ -214,19 +226,20 @@ HasSoundParts-add_turn format cells connectors plan turn sound room in_time with
       few_demands = planned.few_demands;
       demands = planned.demands;
       few_turns = simp length-append (omega (arith, room));
-      turns = All-push (λ t. (t.to ≤ MOST_STEPS) × IsTurnWithin t) plan.turns turn planned.turns (in_time, within);
-    })
+      turns = All-push (λ t. (t.to ≤ most_steps) × IsTurnWithin t) plan.turns turn planned.turns (in_time, within);
+      no_turns = λ first. cc (first, second);
+    }) (All-push (λ t. list_any (diverges_from t.cell) connectors ≡ true) plan.turns turn sound.turns_diverge diverges)
 
 -- the regions of a draft with one more cell
 pub regions-add_cell : (cells : List Cell) (cell : Cell) (regions : List RegionRecord)
-    → All (λ region. (region.cell < length cells) × (region.number < MOST_REGIONS)) regions
-    → All (λ region. (region.cell < length (cells ++ cell ∷ [])) × (region.number < MOST_REGIONS)) regions
+    → All (λ region. (region.cell < length cells) × (region.number < most_regions)) regions
+    → All (λ region. (region.cell < length (cells ++ cell ∷ [])) × (region.number < most_regions)) regions
 regions-add_cell cells cell regions all = λ k d h.
     let (there, few) = all k d h in
     (simp length-append (omega (arith, there)), few)
 
-pub regions-add_region : (cells : List Cell) (regions : List RegionRecord) (region : RegionRecord) → region.cell < length cells → region.number < MOST_REGIONS
-    → All (λ r. (r.cell < length cells) × (r.number < MOST_REGIONS)) regions
-    → All (λ r. (r.cell < length cells) × (r.number < MOST_REGIONS)) (regions ++ region ∷ [])
+pub regions-add_region : (cells : List Cell) (regions : List RegionRecord) (region : RegionRecord) → region.cell < length cells → region.number < most_regions
+    → All (λ r. (r.cell < length cells) × (r.number < most_regions)) regions
+    → All (λ r. (r.cell < length cells) × (r.number < most_regions)) (regions ++ region ∷ [])
 regions-add_region cells regions region there few all =
-    All-push (λ r. (r.cell < length cells) × (r.number < MOST_REGIONS)) regions region all (there, few)
+    All-push (λ r. (r.cell < length cells) × (r.number < most_regions)) regions region all (there, few)

@@ -2,7 +2,7 @@
 use Rattle.std.proofs.Common.{ℕ, ◌≡◌, ◌+◌, ◌-◌, List, Ok}
 use Rattle.std.specs.Prelude.{ok_or, All, Option, is_none}
 use Rattle.fixed_flow.specs.Spelling.{amount_of, whole_of}
-use Rattle.signal_plan.specs.declared.bounds.TheConstants.{MOST_RATIO}
+use Rattle.signal_plan.specs.Limits.{most_ratio}
 use Rattle.signal_plan.specs.Records.{PlanRecords}
 use Rattle.network_file.specs.CellName.{is_name}
 use Rattle.network_file.specs.Cells.{cell_named}
@@ -30,16 +30,16 @@ range_within-plain most first last range taken =
 pub ratio-plain : (first second : List ℕ) (pair : ℕ × ℕ) → ratio first second ≡ Ok pair → IsPlain first × IsPlain second
 unfolding ratio
 ratio-plain first second pair taken =
-    let (num, (is_num, taken1)) = bind-ok (whole_within 1 MOST_RATIO first) _ pair taken in
-    let (den, (is_den, taken2)) = bind-ok (whole_within num MOST_RATIO second) _ pair taken1 in
-    (whole_within-plain 1 MOST_RATIO first num is_num, whole_within-plain num MOST_RATIO second den is_den)
+    let (num, (is_num, taken1)) = bind-ok (whole_within 1 most_ratio first) _ pair taken in
+    let (den, (is_den, taken2)) = bind-ok (whole_within num most_ratio second) _ pair taken1 in
+    (whole_within-plain 1 most_ratio first num is_num, whole_within-plain num most_ratio second den is_den)
 
 pub weights-plain : (first second : List ℕ) (pair : ℕ × ℕ) → weights first second ≡ Ok pair → IsPlain first × IsPlain second
 unfolding weights
 weights-plain first second pair taken =
-    let (weight1, (is_weight1, taken1)) = bind-ok (whole_within 1 MOST_RATIO first) _ pair taken in
-    let (weight2, (is_weight2, taken2)) = bind-ok (whole_within 1 MOST_RATIO second) _ pair taken1 in
-    (whole_within-plain 1 MOST_RATIO first weight1 is_weight1, whole_within-plain 1 MOST_RATIO second weight2 is_weight2)
+    let (weight1, (is_weight1, taken1)) = bind-ok (whole_within 1 most_ratio first) _ pair taken in
+    let (weight2, (is_weight2, taken2)) = bind-ok (whole_within 1 most_ratio second) _ pair taken1 in
+    (whole_within-plain 1 most_ratio first weight1 is_weight1, whole_within-plain 1 most_ratio second weight2 is_weight2)
 
 pub amount_within-plain : (most : ℕ) (text : List ℕ) (n : ℕ) → amount_within most text ≡ Ok n → IsPlain text
 unfolding amount_within

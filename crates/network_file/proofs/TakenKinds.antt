@@ -2,12 +2,12 @@
 use Rattle.std.proofs.Common.{ℕ, zero, suc, ◌≡◌, ◌-◌, List, [], ◌∷◌, Ok, Some, None, subst, ap}
 use Rattle.std.specs.Prelude.{Result, is_none}
 use Rattle.std.proofs.lemmas.List.Elements.{All-push}
-use Rattle.fixed_flow.specs.declared.amount.TheConstants.{MOST_PARTS}
-use Rattle.signal_plan.specs.declared.bounds.TheConstants.{MOST_STEPS}
+use Rattle.fixed_flow.specs.Limits.{most_parts}
+use Rattle.signal_plan.specs.Limits.{most_steps}
 use Rattle.network_file.specs.Draft.{Draft}
 use Rattle.network_file.specs.Fields.{field, whole_within, range_within, ratio, weights, amount_within, new_name, known_cell, upstream, downstream, signal_cell, demand_gate, turn_cell, region_cell}
 use Rattle.network_file.specs.Taking.{take_demand, take_diverge, take_exit, take_gate, take_limit, take_link, take_merge, take_region, take_road, take_signal, take_steps, take_turn, without_room}
-use Rattle.network_file.specs.declared.limits.TheConstants.{MOST_ROOM, MOST_CAPACITY, MOST_REGIONS}
+use Rattle.network_file.specs.Limits.{most_capacity, most_regions, most_room}
 use Rattle.network_file.specs.declared.cell.Cell.{Cell}
 use Rattle.network_file.specs.declared.cell.Kind.TheVariants as kind
 use Rattle.network_file.specs.declared.code.Code.{Code}
@@ -45,11 +45,11 @@ pub take_steps-alike : (draft more : Draft) (fields : List (List ℕ)) → ArePl
 unfolding take_steps
 take_steps-alike draft more fields names taken =
     let (first, taken0) = must-ok (is_none draft.steps) Repeated _ more taken in
-    let (steps, (is_steps, taken1)) = bind-ok (whole_within 1 MOST_STEPS (field fields 1)) _ more taken0 in (
-      (whole_within-plain 1 MOST_STEPS (field fields 1) steps is_steps, tt),
+    let (steps, (is_steps, taken1)) = bind-ok (whole_within 1 most_steps (field fields 1)) _ more taken0 in (
+      (whole_within-plain 1 most_steps (field fields 1) steps is_steps, tt),
       (
         (must-as (is_none draft.steps) Repeated _ _ first
-            (bind-as (whole_within 1 MOST_STEPS (field fields 1)) _ steps _ is_steps
+            (bind-as (whole_within 1 most_steps (field fields 1)) _ steps _ is_steps
             (same_in_format_2 _ more taken1))),
         names_kept _ more taken1 names,
       ),
@@ -59,8 +59,8 @@ pub take_road-alike : (draft more : Draft) (fields : List (List ℕ)) → ArePla
 unfolding take_road
 take_road-alike draft more fields names taken =
     let (name, (is_name, taken1)) = bind-ok (new_name draft.cells (field fields 1)) _ more taken in
-    let (room, (is_room, taken2)) = bind-ok (amount_within MOST_ROOM (field fields 2)) _ more taken1 in
-    let (capacity, (is_capacity, taken3)) = bind-ok (amount_within MOST_CAPACITY (field fields 3)) _ more taken2 in
+    let (room, (is_room, taken2)) = bind-ok (amount_within most_room (field fields 2)) _ more taken1 in
+    let (capacity, (is_capacity, taken3)) = bind-ok (amount_within most_capacity (field fields 3)) _ more taken2 in
     let (pair, (is_pair, taken4)) = bind-ok (ratio (field fields 4) (field fields 5)) _ more taken3 in
     let (plain_num, plain_den) = ratio-plain (field fields 4) (field fields 5) pair is_pair in
     let (first, (is_first, taken5)) = bind-ok (amount_within room (field fields 6)) _ more taken4 in
@@ -68,9 +68,9 @@ take_road-alike draft more fields names taken =
       (
         plain,
         (
-          amount_within-plain MOST_ROOM (field fields 2) room is_room,
+          amount_within-plain most_room (field fields 2) room is_room,
           (
-            amount_within-plain MOST_CAPACITY (field fields 3) capacity is_capacity,
+            amount_within-plain most_capacity (field fields 3) capacity is_capacity,
             (
               plain_num,
               (
@@ -83,8 +83,8 @@ take_road-alike draft more fields names taken =
       ),
       (
         (bind-as (new_name draft.cells (field fields 1)) _ name _ is_name
-            (bind-as (amount_within MOST_ROOM (field fields 2)) _ room _ is_room
-            (bind-as (amount_within MOST_CAPACITY (field fields 3)) _ capacity _ is_capacity
+            (bind-as (amount_within most_room (field fields 2)) _ room _ is_room
+            (bind-as (amount_within most_capacity (field fields 3)) _ capacity _ is_capacity
             (bind-as (ratio (field fields 4) (field fields 5)) _ pair _ is_pair
             (bind-as (amount_within room (field fields 6)) _ first _ is_first
             (same_in_format_2 _ more taken5)))))),
@@ -96,20 +96,20 @@ pub take_gate-alike : (draft more : Draft) (fields : List (List ℕ)) → ArePla
 unfolding take_gate
 take_gate-alike draft more fields names taken =
     let (name, (is_name, taken1)) = bind-ok (new_name draft.cells (field fields 1)) _ more taken in
-    let (capacity, (is_capacity, taken2)) = bind-ok (amount_within MOST_CAPACITY (field fields 2)) _ more taken1 in
-    let (first, (is_first, taken3)) = bind-ok (amount_within MOST_PARTS (field fields 3)) _ more taken2 in
+    let (capacity, (is_capacity, taken2)) = bind-ok (amount_within most_capacity (field fields 2)) _ more taken1 in
+    let (first, (is_first, taken3)) = bind-ok (amount_within most_parts (field fields 3)) _ more taken2 in
     let (same, plain) = new_name-plain draft.cells (field fields 1) name is_name in (
       (
         plain,
         (
-          amount_within-plain MOST_CAPACITY (field fields 2) capacity is_capacity,
-          (amount_within-plain MOST_PARTS (field fields 3) first is_first, tt),
+          amount_within-plain most_capacity (field fields 2) capacity is_capacity,
+          (amount_within-plain most_parts (field fields 3) first is_first, tt),
         ),
       ),
       (
         (bind-as (new_name draft.cells (field fields 1)) _ name _ is_name
-            (bind-as (amount_within MOST_CAPACITY (field fields 2)) _ capacity _ is_capacity
-            (bind-as (amount_within MOST_PARTS (field fields 3)) _ first _ is_first
+            (bind-as (amount_within most_capacity (field fields 2)) _ capacity _ is_capacity
+            (bind-as (amount_within most_parts (field fields 3)) _ first _ is_first
             (same_in_format_2 _ more taken3)))),
         names_kept _ more taken3 (All-push (λ (cell : Cell). IsPlain cell.name) draft.cells (without_room name kind.Gate first) names (subst IsPlain same plain)),
       ),
@@ -119,15 +119,15 @@ pub take_exit-alike : (draft more : Draft) (fields : List (List ℕ)) → ArePla
 unfolding take_exit
 take_exit-alike draft more fields names taken =
     let (name, (is_name, taken1)) = bind-ok (new_name draft.cells (field fields 1)) _ more taken in
-    let (capacity, (is_capacity, taken2)) = bind-ok (amount_within MOST_CAPACITY (field fields 2)) _ more taken1 in
+    let (capacity, (is_capacity, taken2)) = bind-ok (amount_within most_capacity (field fields 2)) _ more taken1 in
     let (same, plain) = new_name-plain draft.cells (field fields 1) name is_name in (
       (
         plain,
-        (amount_within-plain MOST_CAPACITY (field fields 2) capacity is_capacity, tt),
+        (amount_within-plain most_capacity (field fields 2) capacity is_capacity, tt),
       ),
       (
         (bind-as (new_name draft.cells (field fields 1)) _ name _ is_name
-            (bind-as (amount_within MOST_CAPACITY (field fields 2)) _ capacity _ is_capacity
+            (bind-as (amount_within most_capacity (field fields 2)) _ capacity _ is_capacity
             (same_in_format_2 _ more taken2))),
         names_kept _ more taken2 (All-push (λ (cell : Cell). IsPlain cell.name) draft.cells (without_room name kind.Exit 0) names (subst IsPlain same plain)),
       ),
@@ -216,14 +216,14 @@ pub take_signal-alike : (draft more : Draft) (fields : List (List ℕ)) → AreP
 unfolding take_signal
 take_signal-alike draft more fields names taken =
     let (cell, (is_cell, taken1)) = bind-ok (signal_cell draft.cells draft.plan (field fields 1)) _ more taken in
-    let (cycle, (is_cycle, taken2)) = bind-ok (whole_within 1 MOST_STEPS (field fields 2)) _ more taken1 in
+    let (cycle, (is_cycle, taken2)) = bind-ok (whole_within 1 most_steps (field fields 2)) _ more taken1 in
     let (offset, (is_offset, taken3)) = bind-ok (whole_within 0 (cycle - 1) (field fields 3)) _ more taken2 in
     let (range, (is_range, taken4)) = bind-ok (range_within cycle (field fields 4) (field fields 5)) _ more taken3 in
     let (plain_from, plain_to) = range_within-plain cycle (field fields 4) (field fields 5) range is_range in (
       (
         signal_cell-plain draft.cells draft.plan (field fields 1) cell names is_cell,
         (
-          whole_within-plain 1 MOST_STEPS (field fields 2) cycle is_cycle,
+          whole_within-plain 1 most_steps (field fields 2) cycle is_cycle,
           (
             whole_within-plain 0 (cycle - 1) (field fields 3) offset is_offset,
             (
@@ -235,7 +235,7 @@ take_signal-alike draft more fields names taken =
       ),
       (
         (bind-as (signal_cell draft.cells draft.plan (field fields 1)) _ cell _ is_cell
-            (bind-as (whole_within 1 MOST_STEPS (field fields 2)) _ cycle _ is_cycle
+            (bind-as (whole_within 1 most_steps (field fields 2)) _ cycle _ is_cycle
             (bind-as (whole_within 0 (cycle - 1) (field fields 3)) _ offset _ is_offset
             (bind-as (range_within cycle (field fields 4) (field fields 5)) _ range _ is_range
             (same_in_format_2 _ more taken4))))),
@@ -247,23 +247,23 @@ pub take_limit-alike : (draft more : Draft) (fields : List (List ℕ)) → ArePl
 unfolding take_limit
 take_limit-alike draft more fields names taken =
     let (cell, (is_cell, taken1)) = bind-ok (known_cell draft.cells (field fields 1)) _ more taken in
-    let (range, (is_range, taken2)) = bind-ok (range_within MOST_STEPS (field fields 2) (field fields 3)) _ more taken1 in
-    let (plain_from, plain_to) = range_within-plain MOST_STEPS (field fields 2) (field fields 3) range is_range in
-    let (capacity, (is_capacity, taken3)) = bind-ok (amount_within MOST_CAPACITY (field fields 4)) _ more taken2 in (
+    let (range, (is_range, taken2)) = bind-ok (range_within most_steps (field fields 2) (field fields 3)) _ more taken1 in
+    let (plain_from, plain_to) = range_within-plain most_steps (field fields 2) (field fields 3) range is_range in
+    let (capacity, (is_capacity, taken3)) = bind-ok (amount_within most_capacity (field fields 4)) _ more taken2 in (
       (
         known_cell-plain draft.cells (field fields 1) cell names is_cell,
         (
           plain_from,
           (
             plain_to,
-            (amount_within-plain MOST_CAPACITY (field fields 4) capacity is_capacity, tt),
+            (amount_within-plain most_capacity (field fields 4) capacity is_capacity, tt),
           ),
         ),
       ),
       (
         (bind-as (known_cell draft.cells (field fields 1)) _ cell _ is_cell
-            (bind-as (range_within MOST_STEPS (field fields 2) (field fields 3)) _ range _ is_range
-            (bind-as (amount_within MOST_CAPACITY (field fields 4)) _ capacity _ is_capacity
+            (bind-as (range_within most_steps (field fields 2) (field fields 3)) _ range _ is_range
+            (bind-as (amount_within most_capacity (field fields 4)) _ capacity _ is_capacity
             (same_in_format_2 _ more taken3)))),
         names_kept _ more taken3 names,
       ),
@@ -273,23 +273,23 @@ pub take_demand-alike : (draft more : Draft) (fields : List (List ℕ)) → AreP
 unfolding take_demand
 take_demand-alike draft more fields names taken =
     let (gate, (is_gate, taken1)) = bind-ok (demand_gate draft.cells (field fields 1)) _ more taken in
-    let (range, (is_range, taken2)) = bind-ok (range_within MOST_STEPS (field fields 2) (field fields 3)) _ more taken1 in
-    let (plain_from, plain_to) = range_within-plain MOST_STEPS (field fields 2) (field fields 3) range is_range in
-    let (amount, (is_amount, taken3)) = bind-ok (amount_within MOST_PARTS (field fields 4)) _ more taken2 in (
+    let (range, (is_range, taken2)) = bind-ok (range_within most_steps (field fields 2) (field fields 3)) _ more taken1 in
+    let (plain_from, plain_to) = range_within-plain most_steps (field fields 2) (field fields 3) range is_range in
+    let (amount, (is_amount, taken3)) = bind-ok (amount_within most_parts (field fields 4)) _ more taken2 in (
       (
         demand_gate-plain draft.cells (field fields 1) gate names is_gate,
         (
           plain_from,
           (
             plain_to,
-            (amount_within-plain MOST_PARTS (field fields 4) amount is_amount, tt),
+            (amount_within-plain most_parts (field fields 4) amount is_amount, tt),
           ),
         ),
       ),
       (
         (bind-as (demand_gate draft.cells (field fields 1)) _ gate _ is_gate
-            (bind-as (range_within MOST_STEPS (field fields 2) (field fields 3)) _ range _ is_range
-            (bind-as (amount_within MOST_PARTS (field fields 4)) _ amount _ is_amount
+            (bind-as (range_within most_steps (field fields 2) (field fields 3)) _ range _ is_range
+            (bind-as (amount_within most_parts (field fields 4)) _ amount _ is_amount
             (same_in_format_2 _ more taken3)))),
         names_kept _ more taken3 names,
       ),
@@ -299,8 +299,8 @@ pub take_turn-alike : (draft more : Draft) (fields : List (List ℕ)) → ArePla
 unfolding take_turn
 take_turn-alike draft more fields names taken =
     let (cell, (is_cell, taken1)) = bind-ok (turn_cell draft.cells draft.connectors (field fields 1)) _ more taken in
-    let (range, (is_range, taken2)) = bind-ok (range_within MOST_STEPS (field fields 2) (field fields 3)) _ more taken1 in
-    let (plain_from, plain_to) = range_within-plain MOST_STEPS (field fields 2) (field fields 3) range is_range in
+    let (range, (is_range, taken2)) = bind-ok (range_within most_steps (field fields 2) (field fields 3)) _ more taken1 in
+    let (plain_from, plain_to) = range_within-plain most_steps (field fields 2) (field fields 3) range is_range in
     let (pair, (is_pair, taken3)) = bind-ok (weights (field fields 4) (field fields 5)) _ more taken2 in
     let (plain_first, plain_second) = weights-plain (field fields 4) (field fields 5) pair is_pair in (
       (
@@ -318,7 +318,7 @@ take_turn-alike draft more fields names taken =
       ),
       (
         (bind-as (turn_cell draft.cells draft.connectors (field fields 1)) _ cell _ is_cell
-            (bind-as (range_within MOST_STEPS (field fields 2) (field fields 3)) _ range _ is_range
+            (bind-as (range_within most_steps (field fields 2) (field fields 3)) _ range _ is_range
             (bind-as (weights (field fields 4) (field fields 5)) _ pair _ is_pair
             (same_in_format_2 _ more taken3)))),
         names_kept _ more taken3 names,
@@ -329,14 +329,14 @@ pub take_region-alike : (draft more : Draft) (fields : List (List ℕ)) → AreP
 unfolding take_region
 take_region-alike draft more fields names taken =
     let (cell, (is_cell, taken1)) = bind-ok (region_cell draft.cells draft.regions (field fields 1)) _ more taken in
-    let (number, (is_number, taken2)) = bind-ok (whole_within 0 (MOST_REGIONS - 1) (field fields 2)) _ more taken1 in (
+    let (number, (is_number, taken2)) = bind-ok (whole_within 0 (most_regions - 1) (field fields 2)) _ more taken1 in (
       (
         region_cell-plain draft.cells draft.regions (field fields 1) cell names is_cell,
-        (whole_within-plain 0 (MOST_REGIONS - 1) (field fields 2) number is_number, tt),
+        (whole_within-plain 0 (most_regions - 1) (field fields 2) number is_number, tt),
       ),
       (
         (bind-as (region_cell draft.cells draft.regions (field fields 1)) _ cell _ is_cell
-            (bind-as (whole_within 0 (MOST_REGIONS - 1) (field fields 2)) _ number _ is_number
+            (bind-as (whole_within 0 (most_regions - 1) (field fields 2)) _ number _ is_number
             (same_in_format_2 _ more taken2))),
         names_kept _ more taken2 names,
       ),

@@ -1,20 +1,19 @@
 -- A record that is taken has plain fields, and is taken alike in format 2.
-use Rattle.std.proofs.Common.{ℕ, zero, suc, ◌≡◌, ◌==◌, ◌≤◌, ◌<◌, Bool, true, false, List, [], ◌∷◌, Ok, refl, sym, subst, ap, ◌∙◌, arith, cond, length}
+use Rattle.std.proofs.Common.{ℕ, zero, suc, ◌≡◌, ◌==◌, ◌<◌, true, List, [], ◌∷◌, Ok, refl, sym, subst, ap, ◌∙◌, arith, length}
 use Rattle.std.specs.Prelude.{nat_lt, ok_or}
 use Rattle.std.proofs.lemmas.Bool.{eqb-true, lt-ltb, ltb-true}
-use Rattle.signal_plan.specs.declared.bounds.TheConstants.{MOST_RECORDS}
 use Rattle.network_file.specs.Draft.{Draft}
 use Rattle.network_file.specs.Fields.{field}
 use Rattle.network_file.specs.Formats.{most_records}
 use Rattle.network_file.specs.Taking.{field_count, record_kind_of, take_kind, take_record, taken_before}
 use Rattle.network_file.specs.declared.code.Code.TheVariants.{BadKind, BadCount, TooMany}
-use Rattle.network_file.specs.declared.limits.TheConstants.{MOST_RECORDS_OF_FORMAT_1}
 use Rattle.network_file.specs.declared.record_kind.RecordKind.{RecordKind}
 use Rattle.network_file.specs.declared.record_kind.RecordKind.TheVariants.{Steps, Road, Gate, Exit, Link, Merge, Diverge, Signal, Limit, Demand, Turn, Region}
 use Rattle.network_file.proofs.KindWords.{record_kind_of-word, record_kind_of-word_of, word_of, word_of-plain}
 use Rattle.network_file.proofs.PlainLines.{ArePlain, IsPlainRecord}
 use Rattle.network_file.proofs.PlainText.{IsPlain}
 use Rattle.network_file.proofs.CheckLemmas.{bind-as, bind-ok, must-as, must-ok, ok_or-some}
+use Rattle.network_file.proofs.NetworkFacts.{few_records}
 use Rattle.network_file.proofs.TakenFields.{ArePlainNames}
 use Rattle.network_file.proofs.TakenKinds.{IsTakenAlike, fields_from, in_format_2, take_demand-alike, take_diverge-alike, take_exit-alike, take_gate-alike, take_limit-alike, take_link-alike, take_merge-alike, take_region-alike, take_road-alike, take_signal-alike, take_steps-alike, take_turn-alike}
 
@@ -77,18 +76,11 @@ taken_before-in_format_2 Demand draft = refl
 taken_before-in_format_2 Turn draft = refl
 taken_before-in_format_2 Region draft = refl
 
-most_records-in_format_2 : (format : ℕ) → most_records format ≤ MOST_RECORDS
-most_records-in_format_2 format = by (format == 2)
-  where
-    by : (second : Bool) → cond second MOST_RECORDS MOST_RECORDS_OF_FORMAT_1 ≤ MOST_RECORDS
-    by true = omega arith
-    by false = omega arith
-
 -- what is within the limit of a format is within that of format 2
-room-in_format_2 : (taken format : ℕ) → nat_lt taken (most_records format) ≡ true → nat_lt taken MOST_RECORDS ≡ true
+room-in_format_2 : (taken format : ℕ) → nat_lt taken (most_records format) ≡ true → nat_lt taken (most_records 2) ≡ true
 room-in_format_2 taken format room =
     let less : taken < most_records format = ltb-true taken (most_records format) room in
-    lt-ltb taken MOST_RECORDS (omega (arith, less, most_records-in_format_2 format))
+    lt-ltb taken (most_records 2) (omega (arith, less, few_records format))
 
 fields_from-tail : (first : List ℕ) (rest : List (List ℕ)) (place count : ℕ) → fields_from (first ∷ rest) (suc place) count ≡ fields_from rest place count
 fields_from-tail first rest place zero = refl
@@ -120,13 +112,13 @@ take_record-alike draft more fields names taken =
     record_kind_of-word draft.format (field fields 0) kind (ok_or-some (record_kind_of draft.format (field fields 0)) BadKind kind is_kind) in
     let count : length fields ≡ suc (later_count kind) = eqb-true (length fields) (field_count kind) counted ∙ field_count-later kind in
     let kind_2 : ok_or (record_kind_of 2 (field fields 0)) BadKind ≡ Ok kind = ap (λ text. ok_or (record_kind_of 2 text) BadKind) named ∙ ap (λ o. ok_or o BadKind) (record_kind_of-word_of kind) in
-    let room_2 : nat_lt (taken_before kind (in_format_2 draft)) MOST_RECORDS ≡ true =
-    ap (λ n. nat_lt n MOST_RECORDS) (taken_before-in_format_2 kind draft) ∙ room-in_format_2 (taken_before kind draft) draft.format room in (
+    let room_2 : nat_lt (taken_before kind (in_format_2 draft)) (most_records 2) ≡ true =
+    ap (λ n. nat_lt n (most_records 2)) (taken_before-in_format_2 kind draft) ∙ room-in_format_2 (taken_before kind draft) draft.format room in (
       plain-by_places fields (later_count kind) count (subst IsPlain (sym named) (word_of-plain kind)) plain,
       (
         bind-as (ok_or (record_kind_of 2 (field fields 0)) BadKind) _ kind _ kind_2
             (must-as (length fields == field_count kind) BadCount _ _ counted
-            (must-as (nat_lt (taken_before kind (in_format_2 draft)) MOST_RECORDS) TooMany _ _ room_2 alike)),
+            (must-as (nat_lt (taken_before kind (in_format_2 draft)) (most_records 2)) TooMany _ _ room_2 alike)),
         new_names,
       ),
     )

@@ -1,5 +1,5 @@
 -- The list of cells in the order of their records: where a name stands in it, and of which kind a cell is.
-use Rattle.std.specs.Prelude.{ℕ, Bool, true, false, List, Option, position, slice_get, bytes_eq}
+use Rattle.std.specs.Prelude.{ℕ, Bool, true, false, List, [], Option, map, position, slice_get, slice_index_or, bytes_eq}
 use Rattle.std.specs.Option.{option_map_or}
 use Rattle.network_file.specs.declared.cell.Kind.{Kind}
 use Rattle.network_file.specs.declared.cell.Kind.TheVariants.{Road, Gate, Exit}
@@ -8,6 +8,10 @@ use Rattle.network_file.specs.declared.cell.Cell.{Cell}
 -- the number of the cell of this name
 unfoldable pub cell_named : List Cell → List ℕ → Option ℕ
 cell_named cells name = position (λ c. bytes_eq c.name name) cells
+
+-- the name of the cell of this number
+abbrev pub name_at : List Cell → (i : ℕ) → List ℕ
+name_at cells i = slice_index_or (map (λ c. c.name) cells) i []
 
 abbrev pub is_road : Kind → Bool
 is_road Road = true

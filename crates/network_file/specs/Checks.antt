@@ -1,18 +1,17 @@
--- Checks that are made in order: the first that fails gives its code.
+-- Checks that are made in order: the first that fails is the answer.
 use Rattle.std.specs.Prelude.{Bool, true, false, Result, Ok, Err}
-use Rattle.network_file.specs.declared.code.Code.{Code}
 
 infixl 10 ◌>>=◌
-abbrev pub ◌>>=◌ : {A B : Type 0} → Result A Code → (A → Result B Code) → Result B Code
+abbrev pub ◌>>=◌ : {A B E : Type 0} → Result A E → (A → Result B E) → Result B E
 Ok a >>= f = f a
-Err code >>= f = Err code
+Err fault >>= f = Err fault
 
 infixl 10 ◌>>◌
-abbrev pub ◌>>◌ : {A B : Type 0} → Result A Code → Result B Code → Result B Code
+abbrev pub ◌>>◌ : {A B E : Type 0} → Result A E → Result B E → Result B E
 Ok a >> next = next
-Err code >> next = Err code
+Err fault >> next = Err fault
 
--- the test must be true, and else the answer is this code
-abbrev pub must : Bool → Code → Result (Unit {0}) Code
-must true code = Ok tt
-must false code = Err code
+-- the test must be true, and else the answer is this fault
+abbrev pub must : {E : Type 0} → Bool → E → Result (Unit {0}) E
+must true fault = Ok tt
+must false fault = Err fault

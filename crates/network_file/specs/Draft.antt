@@ -1,12 +1,12 @@
 -- The network as far as its records have been read, and each step that takes one more record.
 use Rattle.std.specs.Prelude.{◌≡◌, ℕ, ◌<◌, ◌≤◌, ◌⊎◌, length, All, List, [], ◌∷◌, ◌++◌, Option, Some, None}
 use Rattle.signal_plan.specs.Records.{DemandRecord, LimitRecord, PlanRecords, SignalRecord, TurnRecord, no_records, with_cell, with_demand, with_limit, with_signal, with_turn}
-use Rattle.signal_plan.specs.declared.bounds.TheConstants.{MOST_STEPS}
+use Rattle.signal_plan.specs.Limits.{most_steps}
 use Rattle.network_file.specs.Network.{HasSoundParts}
 use Rattle.network_file.specs.declared.cell.Cell.{Cell}
 use Rattle.network_file.specs.declared.connector.Connector.{Connector}
 use Rattle.network_file.specs.declared.region_record.RegionRecord.{RegionRecord}
-use Rattle.network_file.specs.declared.limits.TheConstants.{MOST_REGIONS}
+use Rattle.network_file.specs.Limits.{most_regions}
 
 pub record Draft : Type 0 where
   -- 1 or 2
@@ -51,6 +51,8 @@ add_region draft region = record draft { regions = draft.regions ++ region ∷ [
 pub record IsSoundDraft (draft : Draft) : Type 0 where
   pub format : (draft.format ≡ 1) ⊎ (draft.format ≡ 2)
   pub some_steps : (steps : ℕ) → draft.steps ≡ Some steps → 1 ≤ steps
-  pub few_steps : (steps : ℕ) → draft.steps ≡ Some steps → steps ≤ MOST_STEPS
+  pub few_steps : (steps : ℕ) → draft.steps ≡ Some steps → steps ≤ most_steps
   pub sound : HasSoundParts draft.format draft.cells draft.connectors draft.plan
-  pub regions : All (λ region. (region.cell < length draft.cells) × (region.number < MOST_REGIONS)) draft.regions
+  pub regions : All (λ region. (region.cell < length draft.cells) × (region.number < most_regions)) draft.regions
+  -- format 1 has no regions
+  pub no_regions : draft.format ≡ 1 → draft.regions ≡ []

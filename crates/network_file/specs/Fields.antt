@@ -3,7 +3,7 @@ use Rattle.std.specs.Prelude.{ℕ, ◌+◌, ◌-◌, List, [], not, ◌&&◌, �
 use Rattle.std.specs.List.{list_any}
 use Rattle.std.specs.Option.{option_map_or}
 use Rattle.fixed_flow.specs.Spelling.{amount_of, whole_of}
-use Rattle.signal_plan.specs.declared.bounds.TheConstants.{MOST_RATIO}
+use Rattle.signal_plan.specs.Limits.{most_ratio}
 use Rattle.signal_plan.specs.Green.{is_signalled}
 use Rattle.signal_plan.specs.Records.{PlanRecords}
 use Rattle.network_file.specs.CellName.{is_name}
@@ -38,15 +38,15 @@ range_within most first last = do
 -- a road's ratio A/B of at most 1, of its two fields
 unfoldable pub ratio : (first second : List ℕ) → Result (ℕ × ℕ) Code
 ratio first second = do
-  num ← whole_within 1 MOST_RATIO first
-  den ← whole_within num MOST_RATIO second
+  num ← whole_within 1 most_ratio first
+  den ← whole_within num most_ratio second
   Ok (num, den)
 
 -- the priorities of a merge or the shares of a diverge, of their two fields
 unfoldable pub weights : (first second : List ℕ) → Result (ℕ × ℕ) Code
 weights first second = do
-  weight1 ← whole_within 1 MOST_RATIO first
-  weight2 ← whole_within 1 MOST_RATIO second
+  weight1 ← whole_within 1 most_ratio first
+  weight2 ← whole_within 1 most_ratio second
   Ok (weight1, weight2)
 
 -- an amount in parts, up to the greatest

@@ -1,8 +1,6 @@
 -- The two formats of a file: their headers, the records that each has, and how many of a sort.
 use Rattle.std.specs.Prelude.{ℕ, ◌==◌, ◌&&◌, List, Option, Some, None, if◌then◌else◌, bytes_eq, codes, length}
-use Rattle.signal_plan.specs.declared.bounds.TheConstants.{MOST_RECORDS}
 use Rattle.network_file.specs.Fields.{field}
-use Rattle.network_file.specs.declared.limits.TheConstants.{MOST_RECORDS_OF_FORMAT_1}
 
 -- the format that a header names: the two fields `ctm` and `1`, or `ctm` and `2`
 unfoldable pub format_of : List (List ℕ) → Option ℕ
@@ -15,4 +13,4 @@ format_of header =
 
 -- the most cells, the most connectors, and the most limit, demand and turn records
 abbrev pub most_records : (format : ℕ) → ℕ
-most_records format = if format == 2 then MOST_RECORDS else MOST_RECORDS_OF_FORMAT_1
+most_records format = if format == 2 then 200_000 else 100_000

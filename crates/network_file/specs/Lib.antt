@@ -9,7 +9,9 @@ pub mod Draft
 pub mod FaultCode
 pub mod Fields
 pub mod FileRecords
+pub mod Fitting
 pub mod Formats
+pub mod Limits
 pub mod Marks
 pub mod NameIndexing
 pub mod NetView

@@ -1,18 +1,15 @@
 -- When an index finds the cells of a list by their names. The cells whose names fall into one bucket are chained.
-use Rattle.std.specs.Prelude.{◌≡◌, ◌≢◌, ℕ, ◌+◌, ◌-◌, ◌<◌, ◌≤◌, List, [], Some, length, map, bit_and, slice_index, slice_index_or}
+use Rattle.std.specs.Prelude.{◌≡◌, ◌≢◌, ℕ, ◌+◌, ◌-◌, ◌<◌, ◌≤◌, List, Some, length, bit_and, slice_index}
 use Rattle.std.specs.Hash.FoldHasher as folding
-use Rattle.network_file.specs.Cells.{cell_named}
+use Rattle.network_file.specs.Cells.{cell_named, name_at}
 use Rattle.network_file.specs.declared.buckets.Buckets.{Buckets}
 use Rattle.network_file.specs.declared.cell.Cell.{Cell}
 use Rattle.network_file.specs.declared.name_index.NameIndex.{NameIndex}
-use Rattle.signal_plan.specs.declared.bounds.TheConstants.{MOST_RECORDS}
+use Rattle.signal_plan.specs.Limits as plan
 
 -- the bucket of a name
 unfoldable pub bucket_of : Buckets → List ℕ → ℕ
 bucket_of buckets name = bit_and (folding.finish (folding.write buckets.seed name)) buckets.last
-
-abbrev pub name_at : List Cell → ℕ → List ℕ
-name_at cells i = slice_index_or (map (λ c. c.name) cells) i []
 
 -- end is one more than the number of the last of the first n cells that is in the bucket, or 0 where none is
 pub record IsChainEnd (bucket_at : ℕ → ℕ) (n bucket end : ℕ) : Type 0 where
@@ -22,7 +19,7 @@ pub record IsChainEnd (bucket_at : ℕ → ℕ) (n bucket end : ℕ) : Type 0 wh
 
 -- the index is of these cells, of which no two have one name
 pub record IsIndexOf (index : NameIndex) (cells : List Cell) : Type 0 where
-  pub few : length cells ≤ MOST_RECORDS
+  pub few : length cells ≤ plan.most_records
   pub apart : (i : ℕ) → i < length cells → cell_named cells (name_at cells i) ≡ Some i
   pub one_each : length index.earlier.items ≡ length cells
   pub buckets : length index.ends.items ≡ index.buckets.last + 1

@@ -1,15 +1,15 @@
 -- A network as contracts see it, and what holds of every network.
 use Rattle.std.specs.Prelude.{◌≡◌, ℕ, ◌+◌, ◌<◌, ◌≤◌, ◌⊎◌, List, [], length, map, eqb, bytes_eq, All, count_by, sum_by, true, false}
-use Rattle.std.specs.List.{IsDistinct}
-use Rattle.fixed_flow.specs.declared.amount.TheConstants.{MOST_PARTS}
+use Rattle.std.specs.List.{IsDistinct, list_any}
+use Rattle.fixed_flow.specs.Limits.{most_parts}
 use Rattle.signal_plan.specs.Records.{PlanRecords, TurnRecord}
 use Rattle.signal_plan.specs.Total.{total_demand}
-use Rattle.signal_plan.specs.declared.bounds.TheConstants.{MOST_RATIO, MOST_STEPS}
+use Rattle.signal_plan.specs.Limits.{most_ratio, most_steps}
 use Rattle.network_file.specs.Cells.{is_road, is_exit, is_exit_at, is_gate_at}
-use Rattle.network_file.specs.Connectors.{upstream_of, downstream_of, weights_of, leads_into, leads_out_of}
+use Rattle.network_file.specs.Connectors.{diverges_from, upstream_of, downstream_of, weights_of, leads_into, leads_out_of}
 use Rattle.network_file.specs.Cutting.{IsCutting}
 use Rattle.network_file.specs.Formats.{most_records}
-use Rattle.network_file.specs.declared.limits.TheConstants.{MOST_ROOM, MOST_CAPACITY}
+use Rattle.network_file.specs.Limits.{most_capacity, most_room}
 use Rattle.network_file.specs.declared.cell.Cell.{Cell}
 use Rattle.network_file.specs.declared.connector.Connector.{Connector}
 
@@ -27,15 +27,15 @@ pub record Network : Type 0 where
 
 -- a cell within the ranges of the format
 pub record IsSoundCell (cell : Cell) : Type 0 where
-  pub room : cell.room ≤ MOST_ROOM
+  pub room : cell.room ≤ most_room
   pub positive : 1 ≤ cell.num
   pub ratio : cell.num ≤ cell.den
-  pub small : cell.den ≤ MOST_RATIO
+  pub small : cell.den ≤ most_ratio
   -- a gate and an exit have no room, and the ratio 1 to 1
   pub no_room : is_road cell.kind ≡ false → cell.room ≡ 0
   pub no_ratio : is_road cell.kind ≡ false → cell.den ≡ 1
   -- a road starts within its room, and an exit starts empty
-  pub first : cell.first ≤ MOST_PARTS
+  pub first : cell.first ≤ most_parts
   pub road : is_road cell.kind ≡ true → cell.first ≤ cell.room
   pub exit : is_exit cell.kind ≡ true → cell.first ≡ 0
 
@@ -46,27 +46,29 @@ pub record IsSoundConnector (cells : List Cell) (connector : Connector) : Type 0
   -- its cells upstream differ, and so do its cells downstream
   pub up_apart : IsDistinct eqb (upstream_of connector)
   pub down_apart : IsDistinct eqb (downstream_of connector)
-  pub weights : All (λ weight. (1 ≤ weight) × (weight ≤ MOST_RATIO)) (weights_of connector)
+  pub weights : All (λ weight. (1 ≤ weight) × (weight ≤ most_ratio)) (weights_of connector)
 
 -- turning shares within the range of the format
 pub record IsTurnWithin (turn : TurnRecord) : Type 0 where
   pub some_first : 1 ≤ turn.b1
-  pub first : turn.b1 ≤ MOST_RATIO
+  pub first : turn.b1 ≤ most_ratio
   pub some_second : 1 ≤ turn.b2
-  pub second : turn.b2 ≤ MOST_RATIO
+  pub second : turn.b2 ≤ most_ratio
 
 -- the records of a plan are those of these cells, within the ranges of the format
 pub record IsPlanOf (format : ℕ) (cells : List Cell) (plan : PlanRecords) : Type 0 where
   -- a capacity for each cell
   pub one_each : length plan.cells ≡ length cells
-  pub capacities : All (λ capacity. capacity ≤ MOST_CAPACITY) plan.cells
+  pub capacities : All (λ capacity. capacity ≤ most_capacity) plan.cells
   pub signals : All (λ signal. (signal.cell < length cells) × (is_exit_at cells signal.cell ≡ false)) plan.signals
   pub few_limits : length plan.limits ≤ most_records format
-  pub limits : All (λ limit. (limit.to ≤ MOST_STEPS) × (limit.capacity ≤ MOST_CAPACITY)) plan.limits
+  pub limits : All (λ limit. (limit.to ≤ most_steps) × (limit.capacity ≤ most_capacity)) plan.limits
   pub few_demands : length plan.demands ≤ most_records format
-  pub demands : All (λ demand. (is_gate_at cells demand.cell ≡ true) × (demand.to ≤ MOST_STEPS)) plan.demands
+  pub demands : All (λ demand. (is_gate_at cells demand.cell ≡ true) × (demand.to ≤ most_steps)) plan.demands
   pub few_turns : length plan.turns ≤ most_records format
-  pub turns : All (λ turn. (turn.to ≤ MOST_STEPS) × IsTurnWithin turn) plan.turns
+  pub turns : All (λ turn. (turn.to ≤ most_steps) × IsTurnWithin turn) plan.turns
+  -- format 1 has no turns
+  pub no_turns : format ≡ 1 → plan.turns ≡ []
 
 -- what holds of the parts of a network, and of a draft of one at each record
 pub record HasSoundParts (format : ℕ) (cells : List Cell) (connectors : List Connector) (plan : PlanRecords) : Type 0 where
@@ -79,6 +81,8 @@ pub record HasSoundParts (format : ℕ) (cells : List Cell) (connectors : List C
   pub one_out : (i : ℕ) → count_by (leads_out_of i) connectors ≤ 1
   pub one_in : (i : ℕ) → count_by (leads_into i) connectors ≤ 1
   pub planned : IsPlanOf format cells plan
+  -- a diverge leads out of the cell of each turn record
+  pub turns_diverge : All (λ turn. list_any (diverges_from turn.cell) connectors ≡ true) plan.turns
 
 -- all that ever enters: first occupancies, and the demand of the steps below T
 abbrev pub load_of : List Cell → PlanRecords → (steps : ℕ) → ℕ
@@ -88,8 +92,10 @@ load_of cells plan steps = sum_by (λ cell. cell.first) cells + total_demand pla
 pub record IsNetwork (net : Network) : Type 0 where
   pub format : (net.format ≡ 1) ⊎ (net.format ≡ 2)
   pub some_steps : 1 ≤ net.steps
-  pub few_steps : net.steps ≤ MOST_STEPS
+  pub few_steps : net.steps ≤ most_steps
   pub some_cells : 1 ≤ length net.cells
   pub sound : HasSoundParts net.format net.cells net.connectors net.plan
   pub regions : (net.regions ≡ []) ⊎ IsCutting (length net.cells) net.regions
-  pub load : load_of net.cells net.plan net.steps ≤ MOST_PARTS
+  -- format 1 has no regions
+  pub no_regions : net.format ≡ 1 → net.regions ≡ []
+  pub load : load_of net.cells net.plan net.steps ≤ most_parts

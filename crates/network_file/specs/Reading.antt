@@ -6,7 +6,7 @@ use Rattle.network_file.specs.Cutting.{has_no_gap}
 use Rattle.network_file.specs.Formats.{format_of}
 use Rattle.network_file.specs.Regions.{all_have_regions, region_numbers}
 use Rattle.network_file.specs.FileRecords.{file_records_of}
-use Rattle.fixed_flow.specs.declared.amount.TheConstants.{MOST_PARTS}
+use Rattle.fixed_flow.specs.Limits.{most_parts}
 use Rattle.network_file.specs.Network.{Network, load_of}
 use Rattle.network_file.specs.Refused.{fault_at}
 use Rattle.network_file.specs.Taking.{take_record}
@@ -15,8 +15,8 @@ use Rattle.network_file.specs.declared.code.Code.TheVariants.{NoHeader, NoSteps,
 use Rattle.network_file.specs.declared.fault.NetFault.{NetFault}
 
 -- the cutting that the region records of a draft make, or the fault that they have as a whole; without any there is none
-unfoldable pub regions_of : Draft → Result (List ℕ) Code
-regions_of draft =
+unfoldable pub cutting_of_draft : Draft → Result (List ℕ) Code
+cutting_of_draft draft =
     let cells = length draft.cells in
     let numbers = region_numbers cells draft.regions in
     if length draft.regions == 0 then Ok []
@@ -29,8 +29,8 @@ unfoldable pub network_in_all : Draft → Result Network Code
 network_in_all draft = do
   steps ← ok_or draft.steps NoSteps
   must (nat_lt 0 (length draft.cells)) NoCells
-  must (nat_le (load_of draft.cells draft.plan steps) MOST_PARTS) TooMuch
-  regions ← regions_of draft
+  must (nat_le (load_of draft.cells draft.plan steps) most_parts) TooMuch
+  regions ← cutting_of_draft draft
   Ok (record { format = draft.format; steps = steps; cells = draft.cells; connectors = draft.connectors; plan = draft.plan; regions = regions })
 
 -- what is wanted, or its fault at a place

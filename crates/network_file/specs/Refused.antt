@@ -16,7 +16,7 @@ abbrev pub refusal_at : ℕ → RecordRefusal → NetRefusal
 refusal_at place (of_record.Fault code) = Fault (fault_at place code)
 refusal_at place of_record.NoMemory = NoMemory
 
--- the refusal names the file's first fault; want of memory says nothing of the file
+-- the refusal names the file's first fault, or memory was refused, which says nothing of the file
 abbrev pub IsRefusal : NetRefusal → Result Network NetFault → Type 0
 IsRefusal (Fault fault) wanted = wanted ≡ Err fault
 IsRefusal NoMemory wanted = ⊤

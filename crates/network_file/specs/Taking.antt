@@ -1,12 +1,12 @@
 -- What each kind of record adds to the draft, or the first fault that it has there.
 use Rattle.std.specs.Prelude.{ℕ, ◌-◌, ◌==◌, ◌&&◌, List, Option, Some, None, Result, Ok, is_none, if◌then◌else◌, nat_lt, length, bytes_eq, codes, ok_or}
-use Rattle.fixed_flow.specs.declared.amount.TheConstants.{MOST_PARTS}
-use Rattle.signal_plan.specs.declared.bounds.TheConstants.{MOST_STEPS}
+use Rattle.fixed_flow.specs.Limits.{most_parts}
+use Rattle.signal_plan.specs.Limits.{most_steps}
 use Rattle.network_file.specs.Checks.{◌>>=◌, ◌>>◌, must}
 use Rattle.network_file.specs.Draft.{Draft, with_steps, add_cell, add_connector, add_demand, add_limit, add_region, add_signal, add_turn}
 use Rattle.network_file.specs.Fields.{field, whole_within, range_within, ratio, weights, amount_within, new_name, known_cell, upstream, downstream, signal_cell, demand_gate, turn_cell, region_cell}
 use Rattle.network_file.specs.Formats.{most_records}
-use Rattle.network_file.specs.declared.limits.TheConstants.{MOST_ROOM, MOST_CAPACITY, MOST_REGIONS}
+use Rattle.network_file.specs.Limits.{most_capacity, most_regions, most_room}
 use Rattle.network_file.specs.declared.cell.Cell.{Cell}
 use Rattle.network_file.specs.declared.cell.Kind.{Kind}
 use Rattle.network_file.specs.declared.cell.Kind.TheVariants as kind
@@ -66,14 +66,14 @@ taken_before Region draft = 0
 unfoldable pub take_steps : Draft → List (List ℕ) → Result Draft Code
 take_steps draft fields = do
   must (is_none draft.steps) Repeated
-  steps ← whole_within 1 MOST_STEPS (field fields 1)
+  steps ← whole_within 1 most_steps (field fields 1)
   Ok (with_steps draft steps)
 
 unfoldable pub take_road : Draft → List (List ℕ) → Result Draft Code
 take_road draft fields = do
   name ← new_name draft.cells (field fields 1)
-  room ← amount_within MOST_ROOM (field fields 2)
-  capacity ← amount_within MOST_CAPACITY (field fields 3)
+  room ← amount_within most_room (field fields 2)
+  capacity ← amount_within most_capacity (field fields 3)
   (num, den) ← ratio (field fields 4) (field fields 5)
   first ← amount_within room (field fields 6)
   Ok (add_cell draft (record { name = name; kind = kind.Road; room = room; num = num; den = den; first = first }) capacity)
@@ -85,14 +85,14 @@ without_room name of_kind first = record { name = name; kind = of_kind; room = 0
 unfoldable pub take_gate : Draft → List (List ℕ) → Result Draft Code
 take_gate draft fields = do
   name ← new_name draft.cells (field fields 1)
-  capacity ← amount_within MOST_CAPACITY (field fields 2)
-  first ← amount_within MOST_PARTS (field fields 3)
+  capacity ← amount_within most_capacity (field fields 2)
+  first ← amount_within most_parts (field fields 3)
   Ok (add_cell draft (without_room name kind.Gate first) capacity)
 
 unfoldable pub take_exit : Draft → List (List ℕ) → Result Draft Code
 take_exit draft fields = do
   name ← new_name draft.cells (field fields 1)
-  capacity ← amount_within MOST_CAPACITY (field fields 2)
+  capacity ← amount_within most_capacity (field fields 2)
   Ok (add_cell draft (without_room name kind.Exit 0) capacity)
 
 unfoldable pub take_link : Draft → List (List ℕ) → Result Draft Code
@@ -120,7 +120,7 @@ take_diverge draft fields = do
 unfoldable pub take_signal : Draft → List (List ℕ) → Result Draft Code
 take_signal draft fields = do
   cell ← signal_cell draft.cells draft.plan (field fields 1)
-  cycle ← whole_within 1 MOST_STEPS (field fields 2)
+  cycle ← whole_within 1 most_steps (field fields 2)
   offset ← whole_within 0 (cycle - 1) (field fields 3)
   (from, to) ← range_within cycle (field fields 4) (field fields 5)
   Ok (add_signal draft (record { cell = cell; cycle = cycle; offset = offset; from = from; to = to }))
@@ -128,28 +128,28 @@ take_signal draft fields = do
 unfoldable pub take_limit : Draft → List (List ℕ) → Result Draft Code
 take_limit draft fields = do
   cell ← known_cell draft.cells (field fields 1)
-  (from, to) ← range_within MOST_STEPS (field fields 2) (field fields 3)
-  capacity ← amount_within MOST_CAPACITY (field fields 4)
+  (from, to) ← range_within most_steps (field fields 2) (field fields 3)
+  capacity ← amount_within most_capacity (field fields 4)
   Ok (add_limit draft (record { cell = cell; from = from; to = to; capacity = capacity }))
 
 unfoldable pub take_demand : Draft → List (List ℕ) → Result Draft Code
 take_demand draft fields = do
   gate ← demand_gate draft.cells (field fields 1)
-  (from, to) ← range_within MOST_STEPS (field fields 2) (field fields 3)
-  amount ← amount_within MOST_PARTS (field fields 4)
+  (from, to) ← range_within most_steps (field fields 2) (field fields 3)
+  amount ← amount_within most_parts (field fields 4)
   Ok (add_demand draft (record { cell = gate; from = from; to = to; amount = amount }))
 
 unfoldable pub take_turn : Draft → List (List ℕ) → Result Draft Code
 take_turn draft fields = do
   cell ← turn_cell draft.cells draft.connectors (field fields 1)
-  (from, to) ← range_within MOST_STEPS (field fields 2) (field fields 3)
+  (from, to) ← range_within most_steps (field fields 2) (field fields 3)
   (b1, b2) ← weights (field fields 4) (field fields 5)
   Ok (add_turn draft (record { cell = cell; from = from; to = to; b1 = b1; b2 = b2 }))
 
 unfoldable pub take_region : Draft → List (List ℕ) → Result Draft Code
 take_region draft fields = do
   cell ← region_cell draft.cells draft.regions (field fields 1)
-  number ← whole_within 0 (MOST_REGIONS - 1) (field fields 2)
+  number ← whole_within 0 (most_regions - 1) (field fields 2)
   Ok (add_region draft (record { cell = cell; number = number }))
 
 abbrev pub take_kind : RecordKind → Draft → List (List ℕ) → Result Draft Code

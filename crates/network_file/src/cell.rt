@@ -15,7 +15,7 @@ pub enum Kind {
 }
 
 /// A cell of the network. Its capacity stands in the plan, under its number.
-#[derive(Debug, Drop)]
+#[derive(Drop)]
 pub struct Cell {
     /// Its name in the file.
     pub name: Name,

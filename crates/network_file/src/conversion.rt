@@ -1,6 +1,8 @@
-ghost use Rattle.std.specs.Prelude.{◌≡◌, ◌≤◌, ◌++◌, IfErr, IfOk, length};
+ghost use Rattle.std.specs.Prelude.{◌≡◌, ◌≤◌, ◌++◌, IfErr, IfOk, Some, codes, length};
+ghost use Rattle.std.specs.List.{flat_map};
 ghost use Rattle.csv.specs.Records.{fields_of};
 ghost use Rattle.network_file.specs.Converted.{converted, record_line};
+ghost use Rattle.network_file.specs.FileRecords.{IsReading, records_left};
 ghost use Rattle.network_file.specs.Reading.{network_of};
 ghost use Rattle.network_file.specs.Refused.{IsRefusal};
 ghost use Rattle.network_file.specs.SameNetwork.{SaysTheSame};
@@ -10,7 +12,7 @@ use crate::fields::field;
 use crate::file_records::{next_record, open_records};
 use crate::limits::MOST_BYTES;
 use crate::reading::read_file;
-use csv::ByteRecord;
+use csv::{ByteRecord, Reader};
 use no_memory::NoMemory;
 use std::alloc::Global;
 
@@ -29,15 +31,37 @@ pub fn convert(alloc: Global, bytes: &[u8]) -> Result<Vec<u8>, NetRefusal>
 fn text_of_records(alloc: Global, bytes: &[u8]) -> Result<Vec<u8>, NoMemory>
     ensures { IfOk result (λ text. text.items ≡ converted bytes.now) }
 {
+    let text = header(alloc)?;
     let mut reader = open_records(alloc, bytes);
     let mut row = ByteRecord::new(alloc);
+    if next_record(&mut reader, &mut row)? {
+        with_lines(text, &mut reader, &mut row)
+    } else {
+        Ok(text)
+    }
+}
+
+/// The header of format 2.
+fn header(alloc: Global) -> Result<Vec<u8>, NoMemory>
+    ensures { IfOk result (λ text. text.items ≡ codes "ctm,2\n") }
+{
     let mut text = Vec::new(alloc);
     text.extend_from_slice(b"ctm,2\n")?;
-    if !next_record(&mut reader, &mut row)? {
-        return Ok(text);
-    }
-    while next_record(&mut reader, &mut row)? {
-        text = with_line(text, &row)?;
+    Ok(text)
+}
+
+/// A text with the records that a reader has left as further lines.
+fn with_lines(
+    text: Vec<u8>,
+    reader: &mut Reader<&[u8]>,
+    row: &mut ByteRecord,
+) -> Result<Vec<u8>, NoMemory>
+    requires { IsReading (λ s. Some s.now) reader.old }
+    ensures { IfOk result (λ more. more.items ≡ text.items ++ flat_map record_line (records_left (λ s. Some s.now) reader.old)) }
+{
+    let mut text = text;
+    while next_record(reader, row)? {
+        text = with_line(text, row)?;
     }
     Ok(text)
 }

@@ -8,7 +8,7 @@ use no_memory::NoMemory;
 use std::alloc::Global;
 
 /// Whether each region number below the greatest of a list is in it. It needs memory for a mark for each
-/// number up to the greatest, and fails only for want of it.
+/// number up to the greatest, and fails only where that is refused.
 #[tactic(auto, unfolding(crate::specs::Cutting::has_no_gap))]
 pub fn has_no_gap(alloc: Global, numbers: &[u32]) -> Result<bool, NoMemory>
     ensures { IfOk result (λ all. all ≡ has_no_gap numbers.now) }

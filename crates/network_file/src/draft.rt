@@ -1,25 +1,20 @@
-ghost use Rattle.std.specs.Prelude.{◌≡◌, ◌<◌, ◌≤◌, ◌⊎◌, All, None, true, false, IfOk, length};
-ghost use Rattle.std.specs.List.{list_any};
-ghost use Rattle.network_file.specs.Cells.{cell_named, is_exit_at, is_gate_at};
+ghost use Rattle.std.specs.Prelude.{◌≡◌, ◌≤◌, ◌⊎◌, IfOk, length};
 ghost use Rattle.network_file.specs.Draft.{add_cell, add_connector, add_demand, add_limit, add_region, add_signal, add_turn, empty_draft, with_steps};
-ghost use Rattle.network_file.specs.Connectors.{leads_into, leads_out_of, upstream_of, downstream_of};
-ghost use Rattle.signal_plan.specs.Green.{is_signalled};
-ghost use Rattle.network_file.specs.Formats.{most_records};
-ghost use Rattle.network_file.specs.Regions.{region_in};
+ghost use Rattle.network_file.specs.Fitting.{Fits, FitsCell, FitsConnector, FitsDemand, FitsLimit, FitsRegion, FitsSignal, FitsTurn, with_entry};
 ghost use Rattle.network_file.specs.Taking.{taken_before};
 ghost use Rattle.network_file.specs.declared.limits.TheConstants.{MOST_BYTES};
-ghost use Rattle.network_file.specs.Network.{IsSoundCell, IsSoundConnector};
 
 use crate::cell::Cell;
 use crate::cell_table::CellTable;
 use crate::connector::Connector;
 use crate::connector_table::ConnectorTable;
-use crate::limits::{MOST_BYTES, MOST_CAPACITY, MOST_REGIONS};
+use crate::entry::Entry;
+use crate::limits::MOST_BYTES;
 use crate::record_kind::RecordKind;
+use crate::region_record::RegionRecord;
 use crate::region_table::RegionTable;
-use fixed_flow::MOST_PARTS;
 use no_memory::NoMemory;
-use signal_plan::{MOST_RATIO, MOST_STEPS, Plan};
+use signal_plan::{Demand, Limit, MOST_STEPS, Plan, Signal, Turn};
 use std::alloc::Global;
 use std::marker::Model;
 
@@ -68,7 +63,7 @@ impl NetDraft {
     }
 
     /// With the number of steps.
-    pub(crate) fn with_steps(self, steps: u32) -> NetDraft
+    fn with_steps(self, steps: u32) -> NetDraft
         requires some { 1 ≤ steps }
         requires few { steps ≤ MOST_STEPS }
         ensures { result ≡ with_steps self steps }
@@ -79,12 +74,26 @@ impl NetDraft {
         }
     }
 
+    /// With what a record says.
+    pub(crate) fn add(self, entry: Entry) -> Result<NetDraft, NoMemory>
+        requires { Fits self entry }
+        ensures { IfOk result (λ more. more ≡ with_entry self entry) }
+    {
+        match entry {
+            Entry::Steps(steps) => Ok(self.with_steps(steps)),
+            Entry::Cell(cell, capacity) => self.add_cell(cell, capacity),
+            Entry::Connector(connector) => self.add_connector(connector),
+            Entry::Signal(signal) => self.add_signal(signal),
+            Entry::Limit(limit) => self.add_limit(limit),
+            Entry::Demand(demand) => self.add_demand(demand),
+            Entry::Turn(turn) => self.add_turn(turn),
+            Entry::Region(region) => self.add_region(region),
+        }
+    }
+
     /// With one more cell, of this capacity.
-    pub(crate) fn add_cell(self, cell: Cell, capacity: u64) -> Result<NetDraft, NoMemory>
-        requires room { length self.cells < most_records self.format }
-        requires fresh { cell_named self.cells cell.name ≡ None }
-        requires sound { IsSoundCell cell }
-        requires capacity { capacity ≤ MOST_CAPACITY }
+    fn add_cell(self, cell: Cell, capacity: u64) -> Result<NetDraft, NoMemory>
+        requires { FitsCell self cell capacity }
         ensures { IfOk result (λ more. more ≡ add_cell self cell capacity) }
     {
         let mut plan = self.plan;
@@ -98,119 +107,60 @@ impl NetDraft {
     }
 
     /// With one more connector.
-    pub(crate) fn add_connector(self, connector: Connector) -> Result<NetDraft, NoMemory>
-        requires room { length self.connectors < most_records self.format }
-        requires sound { IsSoundConnector self.cells connector }
-        requires up_free { All (λ up. list_any (leads_out_of up) self.connectors ≡ false) (upstream_of connector) }
-        requires down_free { All (λ down. list_any (leads_into down) self.connectors ≡ false) (downstream_of connector) }
+    fn add_connector(self, connector: Connector) -> Result<NetDraft, NoMemory>
+        requires { FitsConnector self connector }
         ensures { IfOk result (λ more. more ≡ add_connector self connector) }
     {
         let connectors = self.connectors.with(connector)?;
         Ok(NetDraft { connectors, ..self })
     }
 
-    /// With the signal of a cell: it sends only where its place in the cycle is in `[from, to)`.
-    pub(crate) fn add_signal(
-        self,
-        cell: u32,
-        cycle: u32,
-        offset: u32,
-        from: u32,
-        to: u32,
-    ) -> Result<NetDraft, NoMemory>
-        requires there { cell < length self.cells }
-        requires sends { is_exit_at self.cells cell ≡ false }
-        requires first_signal { is_signalled self.plan cell ≡ false }
-        requires cycle { cycle ≤ MOST_STEPS }
-        requires offset { offset < cycle }
-        requires some_step { from < to }
-        requires within { to ≤ cycle }
-        ensures { IfOk result (λ more. more ≡ add_signal self (record { cell = cell; cycle = cycle; offset = offset; from = from; to = to })) }
+    /// With the signal of a cell.
+    fn add_signal(self, signal: Signal) -> Result<NetDraft, NoMemory>
+        requires { FitsSignal self signal }
+        ensures { IfOk result (λ more. more ≡ add_signal self signal) }
     {
         let mut plan = self.plan;
-        plan.put_signal(
-            cell,
-            u64::from(cycle),
-            u64::from(offset),
-            u64::from(from),
-            u64::from(to),
-        )?;
+        plan.put_signal(signal)?;
         Ok(NetDraft { plan, ..self })
     }
 
-    /// With this capacity of a cell in each step of `[from, to)`.
-    pub(crate) fn add_limit(
-        self,
-        cell: u32,
-        from: u32,
-        to: u32,
-        capacity: u64,
-    ) -> Result<NetDraft, NoMemory>
-        requires room { length self.plan.limits < most_records self.format }
-        requires there { cell < length self.cells }
-        requires some_step { from < to }
-        requires in_time { to ≤ MOST_STEPS }
-        requires capacity { capacity ≤ MOST_CAPACITY }
-        ensures { IfOk result (λ more. more ≡ add_limit self (record { cell = cell; from = from; to = to; capacity = capacity })) }
+    /// With the capacity of a cell in each step of a range.
+    fn add_limit(self, limit: Limit) -> Result<NetDraft, NoMemory>
+        requires { FitsLimit self limit }
+        ensures { IfOk result (λ more. more ≡ add_limit self limit) }
     {
         let mut plan = self.plan;
-        plan.put_limit(cell, u64::from(from), u64::from(to), capacity)?;
+        plan.put_limit(limit)?;
         Ok(NetDraft { plan, ..self })
     }
 
-    /// With so many parts in each step of `[from, to)` that enter a gate.
-    pub(crate) fn add_demand(
-        self,
-        gate: u32,
-        from: u32,
-        to: u32,
-        amount: u64,
-    ) -> Result<NetDraft, NoMemory>
-        requires room { length self.plan.demands < most_records self.format }
-        requires there { gate < length self.cells }
-        requires at_gate { is_gate_at self.cells gate ≡ true }
-        requires some_step { from < to }
-        requires in_time { to ≤ MOST_STEPS }
-        requires amount { amount ≤ MOST_PARTS }
-        ensures { IfOk result (λ more. more ≡ add_demand self (record { cell = gate; from = from; to = to; amount = amount })) }
+    /// With what enters a gate in each step of a range.
+    fn add_demand(self, demand: Demand) -> Result<NetDraft, NoMemory>
+        requires { FitsDemand self demand }
+        ensures { IfOk result (λ more. more ≡ add_demand self demand) }
     {
         let mut plan = self.plan;
-        plan.put_demand(gate, u64::from(from), u64::from(to), amount)?;
+        plan.put_demand(demand)?;
         Ok(NetDraft { plan, ..self })
     }
 
-    /// With these turning shares of the diverge out of a cell in each step of `[from, to)`.
-    pub(crate) fn add_turn(
-        self,
-        cell: u32,
-        from: u32,
-        to: u32,
-        b1: u32,
-        b2: u32,
-    ) -> Result<NetDraft, NoMemory>
-        requires room { length self.plan.turns < most_records self.format }
-        requires there { cell < length self.cells }
-        requires some_step { from < to }
-        requires in_time { to ≤ MOST_STEPS }
-        requires some_first { 1 ≤ b1 }
-        requires first { b1 ≤ MOST_RATIO }
-        requires some_second { 1 ≤ b2 }
-        requires second { b2 ≤ MOST_RATIO }
-        ensures { IfOk result (λ more. more ≡ add_turn self (record { cell = cell; from = from; to = to; b1 = b1; b2 = b2 })) }
+    /// With the turning shares of the diverge out of a cell in each step of a range.
+    fn add_turn(self, turn: Turn) -> Result<NetDraft, NoMemory>
+        requires { FitsTurn self turn }
+        ensures { IfOk result (λ more. more ≡ add_turn self turn) }
     {
         let mut plan = self.plan;
-        plan.put_turn(cell, u64::from(from), u64::from(to), b1, b2)?;
+        plan.put_turn(turn)?;
         Ok(NetDraft { plan, ..self })
     }
 
-    /// With the number of a cell's region.
-    pub(crate) fn add_region(self, cell: u32, number: u32) -> Result<NetDraft, NoMemory>
-        requires there { cell < length self.cells }
-        requires first_region { region_in self.regions cell ≡ None }
-        requires number { number < MOST_REGIONS }
-        ensures { IfOk result (λ more. more ≡ add_region self (record { cell = cell; number = number })) }
+    /// With the region of a cell.
+    fn add_region(self, region: RegionRecord) -> Result<NetDraft, NoMemory>
+        requires { FitsRegion self region }
+        ensures { IfOk result (λ more. more ≡ add_region self region) }
     {
-        let regions = self.regions.with(cell, number)?;
+        let regions = self.regions.with(region.cell, region.number)?;
         Ok(NetDraft { regions, ..self })
     }
 
@@ -218,14 +168,14 @@ impl NetDraft {
     pub(crate) fn taken_before(&self, kind: RecordKind) -> usize
         ensures { result ≡ taken_before kind self.now }
     {
-        let (_, limits, demands) = self.plan.counts();
+        let counts = self.plan.counts();
         match kind {
             RecordKind::Steps | RecordKind::Signal | RecordKind::Region => 0,
             RecordKind::Road | RecordKind::Gate | RecordKind::Exit => self.cells.len(),
             RecordKind::Link | RecordKind::Merge | RecordKind::Diverge => self.connectors.len(),
-            RecordKind::Limit => limits as usize,
-            RecordKind::Demand => demands as usize,
-            RecordKind::Turn => self.plan.turns() as usize,
+            RecordKind::Limit => counts.limits,
+            RecordKind::Demand => counts.demands,
+            RecordKind::Turn => counts.turns,
         }
     }
 }

@@ -20,12 +20,12 @@ pub struct NetFault {
 pub enum NetRefusal {
     /// The file is no network, and this is its first fault.
     Fault(NetFault),
-    /// The memory that the network needs was not to be had.
+    /// The memory that the network needs was refused.
     NoMemory,
 }
 
 /// Why a draft did not take a record.
-#[derive(Clone, Copy, Debug, PartialEq, Eq)]
+#[derive(Clone, Copy)]
 pub(crate) enum RecordRefusal {
     Fault(Code),
     NoMemory,

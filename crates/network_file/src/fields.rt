@@ -213,6 +213,7 @@ pub(crate) fn turn_cell(
 ) -> Result<u32, Code>
     ensures value { result ≡ turn_cell cells.now connectors.now text.now }
     ensures there { IfOk result (λ cell. cell < length cells.now) }
+    ensures diverges { IfOk result (λ cell. list_any (diverges_from cell) connectors.now ≡ true) }
 {
     let cell = known_cell(cells, text)?;
     if connectors.diverges_from(cell) {

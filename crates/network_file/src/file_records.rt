@@ -32,13 +32,13 @@ pub(crate) fn next_record(
 {
     match reader.read_byte_record(row) {
         Ok(found) => Ok(found),
-        Err(error) => Err(want_of_memory(error)),
+        Err(error) => Err(out_of_memory(error)),
     }
 }
 
-/// Why a reader of such records fails: for want of memory. The other cause that its contract leaves is an error
-/// of what it reads from, and bytes give none.
-fn want_of_memory(error: Error) -> NoMemory
+/// Why a reader of such records fails: it is out of memory. Its contract leaves one other cause, an error of what it
+/// reads from, and bytes give none.
+fn out_of_memory(error: Error) -> NoMemory
     requires { stops_reader (error_kind error) ≡ true }
 {
     match error.into_kind() {

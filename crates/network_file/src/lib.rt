@@ -13,6 +13,7 @@ mod connector_table;
 mod conversion;
 mod cutting;
 mod draft;
+mod entry;
 mod fault;
 mod fields;
 mod file_records;

@@ -1,5 +1,5 @@
 /// The most cells, connectors, limit records and demand records of a file of format 1.
-pub const MOST_RECORDS_OF_FORMAT_1: usize = 100_000;
+pub(crate) const MOST_RECORDS_OF_FORMAT_1: usize = 100_000;
 
 /// The greatest room of a road, in parts: 100,000 vehicles.
 pub const MOST_ROOM: u64 = 100_000_000_000;

@@ -5,7 +5,7 @@ use no_memory::NoMemory;
 use std::alloc::Global;
 
 /// A set of cell numbers, as one mark for each number up to the greatest.
-#[derive(Debug, Drop)]
+#[derive(Drop)]
 pub(crate) struct Marks {
     marks: Vec<bool>,
 }

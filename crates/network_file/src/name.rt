@@ -7,7 +7,7 @@ use std::alloc::Global;
 use std::marker::Model;
 
 /// The name of a cell: 1 to 32 bytes, each an ASCII letter, an ASCII digit, `_`, `-` or `.`.
-#[derive(Debug, Drop)]
+#[derive(Drop)]
 pub struct Name {
     bytes: Vec<u8>,
 }

@@ -1,7 +1,8 @@
-ghost use Rattle.std.specs.Prelude.{◌≡◌, ◌≤◌, Ok, IfErr, IfOk, length};
+ghost use Rattle.std.specs.Prelude.{◌≡◌, ◌≤◌, Ok, Some, IfErr, IfOk, length};
 ghost use Rattle.csv.specs.Records.{fields_of};
 ghost use Rattle.network_file.specs.Answers.{Answers, IsFaultOf};
-ghost use Rattle.network_file.specs.Reading.{network_in_all, network_of, regions_of};
+ghost use Rattle.network_file.specs.FileRecords.{IsReading, records_left};
+ghost use Rattle.network_file.specs.Reading.{cutting_of_draft, network_in_all, network_of, read_records};
 ghost use Rattle.network_file.specs.Refused.{IsRefusal};
 
 use crate::code::Code;
@@ -13,11 +14,11 @@ use crate::format::format_of;
 use crate::limits::MOST_BYTES;
 use crate::net::Net;
 use crate::records::take_record;
-use csv::ByteRecord;
+use csv::{ByteRecord, Reader};
 use fixed_flow::MOST_PARTS;
 use std::alloc::Global;
 
-/// Reads a file: its header, and then one record after the other into a draft.
+/// Reads a file: its header, and then the later records.
 pub(crate) fn read_file(alloc: Global, bytes: &[u8]) -> Result<Net, NetRefusal>
     requires { length bytes.now ≤ MOST_BYTES }
     ensures network { IfOk result (λ net. network_of bytes.now ≡ Ok net) }
@@ -31,10 +32,26 @@ pub(crate) fn read_file(alloc: Global, bytes: &[u8]) -> Result<Net, NetRefusal>
     let Some(format) = format_of(&row) else {
         return Err(NetRefusal::at(1, Code::NoHeader));
     };
-    let mut draft = NetDraft::of_file(alloc, bytes, format)?;
+    let draft = NetDraft::of_file(alloc, bytes, format)?;
+    read_later(alloc, draft, &mut reader, &mut row)
+}
+
+/// Takes the records behind the header into a draft without records, one after the other.
+fn read_later(
+    alloc: Global,
+    draft: NetDraft,
+    reader: &mut Reader<&[u8]>,
+    row: &mut ByteRecord,
+) -> Result<Net, NetRefusal>
+    requires reading { IsReading (λ s. Some s.now) reader.old }
+    requires few { length (records_left (λ s. Some s.now) reader.old) ≤ MOST_BYTES }
+    ensures network { IfOk result (λ net. read_records 2 draft (records_left (λ s. Some s.now) reader.old) ≡ Ok net) }
+    ensures refusal { IfErr result (λ refusal. IsRefusal refusal (read_records 2 draft (records_left (λ s. Some s.now) reader.old))) }
+{
+    let mut draft = draft;
     let mut place = 2;
-    while next_record(&mut reader, &mut row)? {
-        draft = match take_record(alloc, draft, &row) {
+    while next_record(reader, row)? {
+        draft = match take_record(alloc, draft, row) {
             Ok(more) => more,
             Err(refusal) => return Err(refusal.at(place)),
         };
@@ -79,10 +96,10 @@ fn complete(alloc: Global, draft: NetDraft) -> Result<Net, RecordRefusal>
 }
 
 /// The cutting that the region records of a draft make; without any there is none.
-#[tactic(auto, unfolding(crate::specs::Reading::regions_of))]
+#[tactic(auto, unfolding(crate::specs::Reading::cutting_of_draft))]
 fn cutting(alloc: Global, draft: &NetDraft) -> Result<Vec<u32>, RecordRefusal>
-    ensures value { IfOk result (λ regions. regions_of draft.now ≡ Ok regions.items) }
-    ensures refusal { IfErr result (λ refusal. IsFaultOf refusal (regions_of draft.now)) }
+    ensures value { IfOk result (λ regions. cutting_of_draft draft.now ≡ Ok regions.items) }
+    ensures refusal { IfErr result (λ refusal. IsFaultOf refusal (cutting_of_draft draft.now)) }
 {
     if draft.regions.is_empty() {
         return Ok(Vec::new(alloc));

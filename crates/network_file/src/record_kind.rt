@@ -2,7 +2,7 @@ ghost use Rattle.std.specs.Prelude.{◌≡◌};
 ghost use Rattle.network_file.specs.Taking.{field_count, record_kind_of};
 
 /// The kinds of record, by the first field.
-#[derive(Clone, Copy, Debug, PartialEq, Eq)]
+#[derive(Clone, Copy)]
 pub(crate) enum RecordKind {
     Steps,
     Road,

@@ -11,12 +11,12 @@ use Rattle.std.proofs.lemmas.List.Filters.{length-filter_both}
 use Rattle.network_file.specs.Network.{IsNetwork, Network}
 use Rattle.region_cut.specs.Chart.{border_of, cells_in, chart_of, connectors_of, halo_at, halo_of, list_at, neighbours_of}
 use Rattle.region_cut.specs.Cuttings.{region_at, region_count}
-use Rattle.region_cut.specs.Gathered.{CanPlace, inside, is_met, met_by, outside, placed, regions_of}
+use Rattle.region_cut.specs.Gathered.{CanPlace, inside, is_met, met_by, outside, placed, halo_regions}
 use Rattle.region_cut.specs.Joins.{is_border, is_halo}
 use Rattle.region_cut.specs.declared.halo.Halo.{Halo}
 use Rattle.region_cut.proofs.Anys.{finds}
-use Rattle.region_cut.proofs.ConnectorCells.{few_cells}
-use Rattle.region_cut.proofs.Gathering.{inside-met_by, met-border, outside-met_by, regions_of-halo_of}
+use Rattle.network_file.proofs.NetworkFacts.{few_cells}
+use Rattle.region_cut.proofs.Gathering.{inside-met_by, met-border, outside-met_by, halo_regions-halo_of}
 use Rattle.region_cut.proofs.ListsByRegion.{list_at-map, lists_are}
 use Rattle.region_cut.proofs.Membership.{border_of-Contains, border_of-increasing, Contains-halo_of, region_at-there}
 use Rattle.region_cut.proofs.Ranges.{Contains-filter_range}
@@ -138,14 +138,14 @@ halo-there net cut halo r is within =
 -- neighbours
 
 pub neighbours-are : (net : Network) (cut : List ℕ) (halo : List (List Halo)) (lists : List (List ℕ)) → IsNetwork net → AreLists cut (halo_of net cut) halo →
-    lists ≡ map (λ r. regions_of (length halo) (list_at halo r)) (range_with_len 0 (length halo)) → AreLists cut (neighbours_of net cut) lists
+    lists ≡ map (λ r. halo_regions (length halo) (list_at halo r)) (range_with_len 0 (length halo)) → AreLists cut (neighbours_of net cut) lists
 neighbours-are net cut halo lists sound are_halo is =
     let count = length-lists cut (halo_of net cut) halo are_halo in
-    are_lists cut (λ r. regions_of (length halo) (list_at halo r)) lists (length halo) is count ∙
-    lists_same (λ r. regions_of (length halo) (list_at halo r)) (neighbours_of net cut) (region_count cut)
+    are_lists cut (λ r. halo_regions (length halo) (list_at halo r)) lists (length halo) is count ∙
+    lists_same (λ r. halo_regions (length halo) (list_at halo r)) (neighbours_of net cut) (region_count cut)
     (λ r within.
-    ap (λ n. regions_of n (list_at halo r)) count ∙ ap (regions_of (region_count cut)) (at_lists cut (halo_of net cut) halo r are_halo within) ∙
-    regions_of-halo_of net cut r sound)
+    ap (λ n. halo_regions n (list_at halo r)) count ∙ ap (halo_regions (region_count cut)) (at_lists cut (halo_of net cut) halo r are_halo within) ∙
+    halo_regions-halo_of net cut r sound)
 
 -- the lists together
 

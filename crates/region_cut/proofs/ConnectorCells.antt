@@ -1,39 +1,14 @@
 -- The cells of a network's connectors.
-use Rattle.std.specs.Prelude.{All, eqb, ◌^◌}
+use Rattle.std.specs.Prelude.{All, eqb}
 use Rattle.std.specs.List.{Contains, list_any}
-use Rattle.std.proofs.Common.{◌≡◌, ℕ, ◌<◌, Bool, true, false, List, length, get_or, cond, sym, ap, ◌∙◌, arith, ◌==◌}
-use Rattle.std.proofs.lemmas.List.{get_or_default}
+use Rattle.std.proofs.Common.{◌≡◌, ℕ, ◌<◌, Bool, true, false, List, length, get_or, sym, ◌∙◌}
 use Rattle.std.proofs.lemmas.List.Elements.{All-append, All-contains, All-weaker, Contains-get_or}
-use Rattle.signal_plan.specs.declared.bounds.TheConstants.{MOST_RECORDS}
 use Rattle.network_file.specs.Cells.{is_exit_at, is_gate_at}
 use Rattle.network_file.specs.Connectors.{cells_of, connector_at, downstream_of, touches, upstream_of}
-use Rattle.network_file.specs.Formats.{most_records}
 use Rattle.network_file.specs.Network.{IsNetwork, IsSoundConnector, Network}
 use Rattle.network_file.specs.declared.connector.Connector.{Connector}
 use Rattle.network_file.specs.declared.connector.Connector.TheVariants.{Link}
-use Rattle.network_file.specs.declared.limits.TheConstants.{MOST_RECORDS_OF_FORMAT_1}
 use Rattle.region_cut.proofs.Anys.{Contains-from_test, test_from_Contains}
-
--- a file of either format has few records of a sort
-few_records : (format : ℕ) → most_records format < 2 ^ 32
-few_records format = by (format == 2)
-  where
-    by : (second : Bool) → cond second MOST_RECORDS MOST_RECORDS_OF_FORMAT_1 < 2 ^ 32
-    by true = omega arith
-    by false = omega arith
-
--- there are few enough cells and connectors for numbers of 32 bits
-pub few_cells : (net : Network) → IsNetwork net → length net.cells < 2 ^ 32
-few_cells net sound = omega (arith, few_records net.format, sound.sound.few_cells)
-
-pub few_connectors : (net : Network) → IsNetwork net → length net.connectors < 2 ^ 32
-few_connectors net sound = omega (arith, few_records net.format, sound.sound.few_connectors)
-
--- the connector that was read from these items
-pub read_connector : (items connectors : List Connector) (k : ℕ) (connector : Connector) → items ≡ connectors → k < length connectors →
-    connector ≡ get_or items k connector → connector_at connectors k ≡ connector
-read_connector items connectors k connector same has read =
-    get_or_default connectors k (Link 0 0) connector has ∙ sym (read ∙ ap (λ cs. get_or cs k connector) same)
 
 -- the cells of a connector are there
 cells_there : (net : Network) (connector : Connector) → IsSoundConnector net.cells connector → All (λ i. i < length net.cells) (cells_of connector)

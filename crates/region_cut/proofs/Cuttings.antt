@@ -3,7 +3,7 @@ use Rattle.std.specs.Prelude.{All}
 use Rattle.std.proofs.Common.{ℕ, suc, zero, ◌<◌, ◌≤◌, ◌+◌, List, [], ◌∷◌, get_or, arith}
 use Rattle.std.proofs.lemmas.List.Elements.{All-head, All-tail}
 use Rattle.network_file.specs.Cutting.{IsCutting, greatest}
-use Rattle.network_file.specs.declared.limits.TheConstants.{MOST_REGIONS}
+use Rattle.network_file.specs.Limits.{most_regions}
 use Rattle.region_cut.specs.Cuttings.{region_count}
 
 pub at-le-greatest : (xs : List ℕ) (i : ℕ) → get_or xs i 0 ≤ greatest xs
@@ -17,5 +17,5 @@ greatest-below (x ∷ xs) n some below =
     omega (arith, greatest-below xs n some (All-tail (λ x. x < n) x xs below), All-head (λ x. x < n) x xs below)
 
 -- there are few regions
-pub region_count-few : (cells : ℕ) (cut : List ℕ) → IsCutting cells cut → region_count cut ≤ MOST_REGIONS
-region_count-few cells cut cutting = greatest-below cut MOST_REGIONS (omega arith) cutting.few
+pub region_count-few : (cells : ℕ) (cut : List ℕ) → IsCutting cells cut → region_count cut ≤ most_regions
+region_count-few cells cut cutting = greatest-below cut most_regions (omega arith) cutting.few

@@ -7,7 +7,7 @@ use Rattle.std.proofs.lemmas.Nat.{div_below}
 use Rattle.std.proofs.lemmas.List.FromFn.{get_or-map-range_with_len, length-map-range_with_len}
 use Rattle.std.proofs.lemmas.List.Elements.{All-head, All-tail, All-weaker, Contains-get_or}
 use Rattle.network_file.specs.Cutting.{IsCutting, greatest, has_no_gap}
-use Rattle.network_file.specs.declared.limits.TheConstants.{MOST_REGIONS}
+use Rattle.network_file.specs.Limits.{most_regions}
 use Rattle.region_cut.specs.Cuttings.{even_cutting}
 use Rattle.region_cut.proofs.Anys.{test_from_Contains}
 use Rattle.region_cut.proofs.Cuttings.{greatest-below}
@@ -56,14 +56,14 @@ has_cell cells k r some few within =
       get_or-map-range_with_len (λ j. j * k / cells) 0 cells i i r there (zero-add i) ∙ first_of-region cells k r some few within,
     )
 
-pub even_cutting-IsCutting : (cells k : ℕ) → 1 ≤ k → k ≤ MOST_REGIONS → k ≤ cells → IsCutting (length (even_cutting cells k)) (even_cutting cells k)
+pub even_cutting-IsCutting : (cells k : ℕ) → 1 ≤ k → k ≤ most_regions → k ≤ cells → IsCutting (length (even_cutting cells k)) (even_cutting cells k)
 unfolding even_cutting has_no_gap
 even_cutting-IsCutting cells k some few within =
     let regions : List ℕ = map (λ i. i * k / cells) (range_with_len 0 cells) in
     let below : All (λ region. region < k) regions = even_regions cells k some in
     record {
       one_each = refl;
-      few = All-weaker (λ region. region < k) (λ region. region < MOST_REGIONS) (λ region h. omega arith) regions below;
+      few = All-weaker (λ region. region < k) (λ region. region < most_regions) (λ region h. omega arith) regions below;
       no_gap =
           all_pass (λ r. list_any (eqb r) regions) (range_with_len 0 (greatest regions))
           (λ j r inside.

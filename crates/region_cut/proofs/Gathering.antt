@@ -10,7 +10,7 @@ use Rattle.network_file.specs.Network.{IsNetwork, Network}
 use Rattle.network_file.specs.declared.connector.Connector.{Connector}
 use Rattle.region_cut.specs.Chart.{border_of, halo_at, halo_of, neighbours_of}
 use Rattle.region_cut.specs.Cuttings.{region_at, region_count}
-use Rattle.region_cut.specs.Gathered.{inside, is_met, met_by, outside, regions_of}
+use Rattle.region_cut.specs.Gathered.{inside, is_met, met_by, outside, halo_regions}
 use Rattle.region_cut.specs.Joins.{are_neighbours, is_border, is_halo, leaves_region, touches_region}
 use Rattle.region_cut.proofs.Anys.{apart, both, false_from_not, finds, first_of_both, found, not_false, not_same, same_tests, second_of_both}
 use Rattle.region_cut.proofs.Meetings.{border-by, border-from, halo-by, halo-from, halo-neighbours, neighbours-halo, touches-leaves_region, touches-touches_region, touches_region-cell}
@@ -98,9 +98,9 @@ outside-met_by net cut r =
     (not_false (region_at cut i == r) (apart (region_at cut i) r by.differ)))
 
 -- the regions that a halo names are the neighbours
-pub regions_of-halo_of : (net : Network) (cut : List ℕ) (r : ℕ) → IsNetwork net → regions_of (region_count cut) (halo_of net cut r) ≡ neighbours_of net cut r
-unfolding regions_of neighbours_of
-regions_of-halo_of net cut r sound =
+pub halo_regions-halo_of : (net : Network) (cut : List ℕ) (r : ℕ) → IsNetwork net → halo_regions (region_count cut) (halo_of net cut r) ≡ neighbours_of net cut r
+unfolding halo_regions neighbours_of
+halo_regions-halo_of net cut r sound =
     filter_agree (λ q. list_any (λ halo. halo.region == q) (halo_of net cut r)) (are_neighbours net.connectors cut r)
     (λ q. same_tests (list_any (λ halo. halo.region == q) (halo_of net cut r)) (are_neighbours net.connectors cut r q)
     (λ any.

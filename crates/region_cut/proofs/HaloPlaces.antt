@@ -6,7 +6,7 @@ use Rattle.std.proofs.Common.{◌≡◌, ℕ, ◌<◌, ◌≤◌, inl, inr, Bool
 use Rattle.std.proofs.lemmas.Bool.{cases_lt, eq-eqb, eqb-true}
 use Rattle.std.proofs.lemmas.List.{get_or_default}
 use Rattle.std.proofs.lemmas.List.Elements.{All-contains}
-use Rattle.region_cut.specs.Gathered.{regions_of}
+use Rattle.region_cut.specs.Gathered.{halo_regions}
 use Rattle.region_cut.specs.declared.halo.Halo.{Halo}
 use Rattle.region_cut.proofs.Anys.{found, finds, list_any-map}
 use Rattle.region_cut.proofs.Ranges.{filter_range_is}
@@ -25,11 +25,11 @@ not_past xs i x below above listed =
     ]
 
 -- an increasing list of the regions that a halo names
-pub regions_of-is : (count : ℕ) (halo : List Halo) (regions : List ℕ) → IsStrictlyIncreasing regions →
+pub halo_regions-is : (count : ℕ) (halo : List Halo) (regions : List ℕ) → IsStrictlyIncreasing regions →
     ((test : ℕ → Bool) → list_any test regions ≡ list_any test (map (λ other. other.region) halo)) →
-    All (λ other. other.region < count) halo → regions ≡ regions_of count halo
-unfolding regions_of
-regions_of-is count halo regions up same there =
+    All (λ other. other.region < count) halo → regions ≡ halo_regions count halo
+unfolding halo_regions
+halo_regions-is count halo regions up same there =
     let named : (q : ℕ) → list_any (λ p. p == q) regions ≡ list_any (λ other. other.region == q) halo =
     λ q. same (λ p. p == q) ∙ list_any-map (λ p. p == q) (λ other. other.region) halo in
     filter_range_is (λ q. list_any (λ other. other.region == q) halo) count regions up

@@ -39,5 +39,5 @@ pub record CanPlace (cut : List ℕ) (border : List (List ℕ)) (i : ℕ) : Type
   pub listed : list_any (λ j. j == i) (list_at border (region_at cut i)) ≡ true
 
 -- the regions below a count that a halo names
-unfoldable pub regions_of : (count : ℕ) → List Halo → List ℕ
-regions_of count halo = filter (λ q. list_any (λ halo. halo.region == q) halo) (range_with_len 0 count)
+unfoldable pub halo_regions : (count : ℕ) → List Halo → List ℕ
+halo_regions count halo = filter (λ q. list_any (λ halo. halo.region == q) halo) (range_with_len 0 count)

@@ -13,6 +13,11 @@ touches_region cut r connector = list_any (λ i. region_at cut i == r) (cells_of
 abbrev pub leaves_region : (cut : List ℕ) → (r : ℕ) → Connector → Bool
 leaves_region cut r connector = list_any (λ i. not (region_at cut i == r)) (cells_of connector)
 
+-- it touches cells of more than one region
+abbrev pub crosses : (cut : List ℕ) → Connector → Bool
+crosses cut connector =
+    list_any (λ i. list_any (λ j. not (region_at cut i == region_at cut j)) (cells_of connector)) (cells_of connector)
+
 -- regions r and q are neighbours: two regions, of both of which one connector touches cells
 abbrev pub are_neighbours : List Connector → (cut : List ℕ) → (r q : ℕ) → Bool
 are_neighbours connectors cut r q =

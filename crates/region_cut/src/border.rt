@@ -7,7 +7,7 @@ use crate::lists::Lists;
 use no_memory::NoMemory;
 use std::alloc::Global;
 
-/// For each region those of the cells met by its connectors that lie in it.
+/// For each region the cells that its connectors meet and that lie in it.
 pub(crate) fn border_by_region(
     alloc: Global,
     cut: &[u32],
@@ -25,7 +25,7 @@ pub(crate) fn border_by_region(
     Ok(lists)
 }
 
-// Those of these cells that lie in region `r`.
+// The cells of a list that lie in region `r`.
 fn border(alloc: Global, cut: &[u32], met: &[u32], r: u32) -> Result<Vec<u32>, NoMemory>
     requires { All (λ i. i < length cut.now) met.now }
     ensures { IfOk result (λ cells. cells.items ≡ inside cut.now r met.now) }

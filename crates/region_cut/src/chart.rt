@@ -42,7 +42,7 @@ impl Model for Chart {
 }
 
 impl Chart {
-    /// The chart of a network that is cut so. After want of memory the cutting is gone.
+    /// The chart of a network that is cut so. Where memory is refused the cutting is gone.
     pub fn new(alloc: Global, net: &Net, cut: Cut) -> Result<Chart, NoMemory>
         requires { length cut ≡ length net.now.cells }
         ensures chart { IfOk result (λ chart. chart ≡ chart_of net.now cut) }
@@ -102,7 +102,7 @@ impl Chart {
         self.neighbours.at(r)
     }
 
-    /// The cells of region `r` that a connector touches that touches another region.
+    /// The cells of region `r` that share a connector with another region.
     pub fn border(&self, r: u32) -> &[u32]
         requires { r < region_count self.now.cut }
         ensures list { result.now ≡ list_at self.now.border r }

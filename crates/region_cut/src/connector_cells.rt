@@ -5,7 +5,7 @@ ghost use Rattle.region_cut.specs.ConnectorCells.{three_cells};
 
 use network_file::Connector;
 
-/// The cells of a connector, in the order of its fields; that of a link downstream stands twice.
+/// The cells of a connector, in the order of its fields; the cell downstream of a link stands twice.
 pub fn three_cells(connector: Connector) -> [u32; 3]
     ensures cells { result ≡ three_cells connector }
     ensures same { (test : ℕ → Bool) → list_any test result ≡ list_any test (cells_of connector) }

@@ -32,7 +32,7 @@ impl CutFault {
 pub enum CutRefusal {
     /// The list is no cutting, and this is its first fault.
     Fault(CutFault),
-    /// The memory that the cutting needs was not to be had.
+    /// The memory that the cutting needs was refused.
     NoMemory,
 }
 

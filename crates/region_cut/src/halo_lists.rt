@@ -10,7 +10,7 @@ use crate::lists::Lists;
 use no_memory::NoMemory;
 use std::alloc::Global;
 
-/// For each region those of the cells met by its connectors that lie in others, each with its place in its border.
+/// For each region the cells that its connectors meet and that lie in others, each with its place in its border.
 pub(crate) fn halo_by_region(
     alloc: Global,
     cut: &[u32],
@@ -30,7 +30,7 @@ pub(crate) fn halo_by_region(
     Ok(lists)
 }
 
-// Those of these cells that lie in other regions than `r`, each with its place.
+// The cells of a list that lie in other regions than `r`, each with its place.
 fn halo(
     alloc: Global,
     cut: &[u32],

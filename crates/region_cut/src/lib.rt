@@ -10,6 +10,7 @@ mod cell_lists;
 mod chart;
 mod connector_cells;
 mod connector_lists;
+mod crossing;
 mod cut;
 mod even;
 mod fault;
@@ -24,6 +25,7 @@ mod own_or_even;
 
 pub use chart::Chart;
 pub use connector_cells::three_cells;
+pub use crossing::crosses;
 pub use cut::Cut;
 pub use fault::{CutFault, CutRefusal};
 pub use halo::Halo;

@@ -1,7 +1,7 @@
 ghost use Rattle.std.specs.Prelude.{◌≡◌, ◌<◌, ℕ, ◌^◌, All, IfOk, length, map};
 ghost use Rattle.std.specs.List.{range_with_len};
 ghost use Rattle.region_cut.specs.Chart.{list_at};
-ghost use Rattle.region_cut.specs.Gathered.{regions_of};
+ghost use Rattle.region_cut.specs.Gathered.{halo_regions};
 
 use crate::halo::Halo;
 use crate::lists::Lists;
@@ -9,14 +9,14 @@ use crate::ordered::order;
 use no_memory::NoMemory;
 use std::alloc::Global;
 
-/// For each region those that its halo names.
+/// For each region the regions that its halo names.
 pub(crate) fn neighbours_by_region(
     alloc: Global,
     halo: &Lists<Halo>,
 ) -> Result<Lists<u32>, NoMemory>
     requires few { length halo.now < 2 ^ 32 }
     requires there { (r : ℕ) → r < length halo.now → All (λ other. other.region < length halo.now) (list_at halo.now r) }
-    ensures { IfOk result (λ lists. lists ≡ map (λ r. regions_of (length halo.now) (list_at halo.now r)) (range_with_len 0 (length halo.now))) }
+    ensures { IfOk result (λ lists. lists ≡ map (λ r. halo_regions (length halo.now) (list_at halo.now r)) (range_with_len 0 (length halo.now))) }
 {
     let mut lists = Lists::new(alloc);
     for r in 0..halo.len() as u32 {
@@ -28,7 +28,7 @@ pub(crate) fn neighbours_by_region(
 
 // The regions that a halo names.
 fn neighbours(alloc: Global, halo: &[Halo]) -> Result<Vec<u32>, NoMemory>
-    ensures { IfOk result (λ regions. (count : ℕ) → All (λ other. other.region < count) halo.now → regions.items ≡ regions_of count halo.now) }
+    ensures { IfOk result (λ regions. (count : ℕ) → All (λ other. other.region < count) halo.now → regions.items ≡ halo_regions count halo.now) }
 {
     let mut regions = regions_named(alloc, halo)?;
     order(&mut regions);

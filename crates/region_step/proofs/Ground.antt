@@ -18,7 +18,8 @@ use Rattle.region_cut.specs.Joins.{is_halo, touches_region}
 use Rattle.region_cut.specs.declared.halo.Halo.{Halo}
 use Rattle.region_cut.proofs.Anys.{Contains-from_test, test_from_Contains}
 use Rattle.region_cut.proofs.ChartParts.{chart-border, chart-cells, chart-connectors, chart-halo}
-use Rattle.region_cut.proofs.ConnectorCells.{few_cells, touches-there}
+use Rattle.network_file.proofs.NetworkFacts.{few_cells}
+use Rattle.region_cut.proofs.ConnectorCells.{touches-there}
 use Rattle.region_cut.proofs.Meetings.{halo-by, halo-from, touches-touches_region}
 use Rattle.region_cut.proofs.Membership.{Contains-border_of, Contains-cells_in, Contains-connectors_of, Contains-halo_of, cells_in-Contains, cells_in-increasing, connectors_of-Contains, halo_of-Contains, halo_of-increasing}
 use Rattle.region_step.specs.Apart.{AreApart}

@@ -6,7 +6,7 @@ use Rattle.std.proofs.Math.Nat.{mul-le-mul, mul-le-mul_right}
 use Rattle.std.proofs.lemmas.List.Elements.{All-weaker}
 use Rattle.std.proofs.lemmas.List.FromFn.{length-range_with_len, get_or-range_with_len}
 use Rattle.std.proofs.lemmas.List.Sums.{sum_by-cons, sum_by-le, get_or-le-sum_by}
-use Rattle.signal_plan.specs.declared.bounds.TheConstants.{MOST_RECORDS, MOST_PARTS}
+use Rattle.signal_plan.specs.Limits.{most_records, most_parts}
 use Rattle.signal_plan.specs.Records.{DemandRecord, PlanRecords}
 use Rattle.signal_plan.specs.Sound.{IsSoundDemand, IsSoundPlan}
 use Rattle.signal_plan.specs.Capacity.{capacity_at, limits_at}
@@ -38,26 +38,26 @@ amount_at-le : (d : DemandRecord) (cell t : ℕ) → amount_at d cell t ≤ d.am
 amount_at-le d cell t =
     elim (applies_at d cell t) as (λ b. (if b then d.amount else 0) ≤ d.amount) [ true ↦ omega arith | false ↦ omega arith ]
 
-pub demand_at-le : (plan : PlanRecords) (cell t : ℕ) → IsSoundPlan plan → demand_at plan cell t ≤ MOST_RECORDS * MOST_PARTS
+pub demand_at-le : (plan : PlanRecords) (cell t : ℕ) → IsSoundPlan plan → demand_at plan cell t ≤ most_records * most_parts
 unfolding demand_at
 demand_at-le plan cell t sound = omega (
   arith,
   sound.few_demands,
-  sum_by-le (λ d. amount_at d cell t) MOST_PARTS plan.demands (
-      All-weaker (IsSoundDemand (length plan.cells)) (λ d. amount_at d cell t ≤ MOST_PARTS)
+  sum_by-le (λ d. amount_at d cell t) most_parts plan.demands (
+      All-weaker (IsSoundDemand (length plan.cells)) (λ d. amount_at d cell t ≤ most_parts)
       (λ d fits. omega (arith, amount_at-le d cell t, fits.amount))
       plan.demands sound.demands
       ),
 )
 
-pub demand_from-le : (plan : PlanRecords) (cell t end : ℕ) → IsSoundPlan plan → demand_from plan cell t end ≤ MOST_RECORDS * (MOST_PARTS * end)
+pub demand_from-le : (plan : PlanRecords) (cell t end : ℕ) → IsSoundPlan plan → demand_from plan cell t end ≤ most_records * (most_parts * end)
 unfolding demand_from
 demand_from-le plan cell t end sound =
     let steps : List ℕ = range_with_len t (end - t) in
     omega (
       arith,
       length-range_with_len t (end - t),
-      sum_by-le (demand_at plan cell) (MOST_RECORDS * MOST_PARTS) steps (λ k d within. demand_at-le plan cell (get_or steps k d) sound),
+      sum_by-le (demand_at plan cell) (most_records * most_parts) steps (λ k d within. demand_at-le plan cell (get_or steps k d) sound),
     )
 
 pub demand_from_none : (plan : PlanRecords) (cell t : ℕ) → demand_from plan cell t t ≡ 0
@@ -101,15 +101,15 @@ demand_from-le-total_demand plan cell steps has =
     (omega (arith, length-range_with_len 0 cells))
     )
 
-pub total_demand-le : (plan : PlanRecords) (steps : ℕ) → IsSoundPlan plan → total_demand plan steps ≤ MOST_RECORDS * (MOST_PARTS * steps)
+pub total_demand-le : (plan : PlanRecords) (steps : ℕ) → IsSoundPlan plan → total_demand plan steps ≤ most_records * (most_parts * steps)
 total_demand-le plan steps sound =
-    let each : (d : DemandRecord) → IsSoundDemand (length plan.cells) d → brought 0 steps d ≤ MOST_PARTS * steps =
+    let each : (d : DemandRecord) → IsSoundDemand (length plan.cells) d → brought 0 steps d ≤ most_parts * steps =
     λ d fits. mul-le-mul fits.amount (omega arith) in
     omega (
       arith,
       total_demand_is plan steps sound,
-      sum_by-le (brought 0 steps) (MOST_PARTS * steps) plan.demands (
-          All-weaker (IsSoundDemand (length plan.cells)) (λ d. brought 0 steps d ≤ MOST_PARTS * steps) each plan.demands sound.demands
+      sum_by-le (brought 0 steps) (most_parts * steps) plan.demands (
+          All-weaker (IsSoundDemand (length plan.cells)) (λ d. brought 0 steps d ≤ most_parts * steps) each plan.demands sound.demands
           ),
-      mul-le-mul_right (MOST_PARTS * steps) sound.few_demands,
+      mul-le-mul_right (most_parts * steps) sound.few_demands,
     )

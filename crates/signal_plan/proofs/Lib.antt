@@ -1,8 +1,10 @@
+pub mod Limits
 pub mod Sums
 pub mod Changes
 pub mod Merging
 pub mod Filters
 pub mod Searches
+pub mod Given
 pub mod Overlap
 pub mod Sound
 pub mod OwnRecords

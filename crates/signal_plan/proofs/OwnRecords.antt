@@ -2,7 +2,7 @@
 use Rattle.std.specs.Prelude.{◌==◌, if◌then◌else◌, Option, None, Some, is_some}
 use Rattle.std.specs.List.{find}
 use Rattle.std.specs.Option.{option_or}
-use Rattle.std.proofs.Common.{◌≡◌, ◌≢◌, ℕ, false, ◌<◌, [], ◌∷◌, ◌++◌, length, arith, refl, ◌∙◌, ap}
+use Rattle.std.proofs.Common.{◌≡◌, ◌≢◌, ℕ, false, ◌<◌, [], ◌∷◌, length, arith, refl, ◌∙◌, ap}
 use Rattle.std.proofs.lemmas.Bool.{eq-eqb, ne_eqb}
 use Rattle.std.proofs.lemmas.List.{get_or_append_left, get_or_push}
 use Rattle.std.proofs.lemmas.List.Elements.{All-weaker}
@@ -10,7 +10,7 @@ use Rattle.std.proofs.lemmas.List.Folds.{find-append}
 use Rattle.signal_plan.specs.Records.{DemandRecord, LimitRecord, PlanRecords, SignalRecord, TurnRecord, with_cell, with_demand, with_limit, with_signal, with_turn}
 use Rattle.signal_plan.specs.Sound.{IsSoundDemand, IsSoundLimit, IsSoundPlan, IsSoundSignal, IsSoundTurn}
 use Rattle.signal_plan.specs.Green.{is_signalled, signal_of}
-use Rattle.signal_plan.specs.CellRecords.{bare, planned_at, records_at}
+use Rattle.signal_plan.specs.CellRecords.{bare, planned_at, records_at, with_own_demand, with_own_limit, with_own_signal, with_own_turn}
 use Rattle.signal_plan.proofs.Filters.{filter-none, filter_push_no, filter_push_yes}
 use Rattle.signal_plan.proofs.Searches.{find-none}
 
@@ -43,8 +43,7 @@ planned_at-with_cell_new plan capacity sound =
 
 -- a record changes what the plan says of its own cell alone
 pub records_at-with_limit_own : (plan : PlanRecords) (limit : LimitRecord) →
-    records_at (with_limit plan limit) limit.cell ≡
-    record (records_at plan limit.cell) { limits = (records_at plan limit.cell).limits ++ limit ∷ [] }
+    records_at (with_limit plan limit) limit.cell ≡ with_own_limit (records_at plan limit.cell) limit
 unfolding signal_of
 records_at-with_limit_own plan limit =
     ap (λ limits. record (records_at plan limit.cell) { limits = limits })
@@ -58,8 +57,7 @@ records_at-with_limit_other plan limit cell other =
     (filter_push_no (λ l. l.cell == cell) plan.limits limit (ne_eqb limit.cell cell other))
 
 pub records_at-with_demand_own : (plan : PlanRecords) (demand : DemandRecord) →
-    records_at (with_demand plan demand) demand.cell ≡
-    record (records_at plan demand.cell) { demands = (records_at plan demand.cell).demands ++ demand ∷ [] }
+    records_at (with_demand plan demand) demand.cell ≡ with_own_demand (records_at plan demand.cell) demand
 unfolding signal_of
 records_at-with_demand_own plan demand =
     ap (λ demands. record (records_at plan demand.cell) { demands = demands })
@@ -73,8 +71,7 @@ records_at-with_demand_other plan demand cell other =
     (filter_push_no (λ d. d.cell == cell) plan.demands demand (ne_eqb demand.cell cell other))
 
 pub records_at-with_turn_own : (plan : PlanRecords) (turn : TurnRecord) →
-    records_at (with_turn plan turn) turn.cell ≡
-    record (records_at plan turn.cell) { turns = (records_at plan turn.cell).turns ++ turn ∷ [] }
+    records_at (with_turn plan turn) turn.cell ≡ with_own_turn (records_at plan turn.cell) turn
 unfolding signal_of
 records_at-with_turn_own plan turn =
     ap (λ turns. record (records_at plan turn.cell) { turns = turns })
@@ -96,7 +93,7 @@ none_after None = refl
 none_after (Some s) = refl
 
 pub records_at-with_signal_own : (plan : PlanRecords) (signal : SignalRecord) → is_signalled plan signal.cell ≡ false →
-    records_at (with_signal plan signal) signal.cell ≡ record (records_at plan signal.cell) { signal = Some signal }
+    records_at (with_signal plan signal) signal.cell ≡ with_own_signal (records_at plan signal.cell) signal
 unfolding signal_of
 records_at-with_signal_own plan signal none =
     let found : find (λ s. s.cell == signal.cell) (signal ∷ []) ≡ Some signal =

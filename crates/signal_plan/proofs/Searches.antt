@@ -2,8 +2,8 @@
 use Rattle.std.specs.Prelude.{Bool, ◌&&◌, if◌then◌else◌, Option, None, Some, reverse, All}
 use Rattle.std.specs.List.{filter, find}
 use Rattle.std.specs.Option.{option_map, option_map_or, option_or}
-use Rattle.std.proofs.Common.{◌≡◌, ℕ, true, false, ◌<◌, ◌-◌, List, [], ◌∷◌, ◌++◌, length, arith, refl, sym, ap, ◌∙◌, take, drop}
-use Rattle.std.proofs.lemmas.List.{get_or-reverse, length-reverse, reverse-append, take-append-drop}
+use Rattle.std.proofs.Common.{◌≡◌, true, false, ◌<◌, ◌-◌, List, [], ◌∷◌, ◌++◌, length, arith, refl, ap, ◌∙◌}
+use Rattle.std.proofs.lemmas.List.{get_or-reverse, length-reverse, reverse-append}
 use Rattle.std.proofs.lemmas.List.Elements.{All-head, All-tail}
 use Rattle.std.proofs.lemmas.List.Folds.{find-append}
 
@@ -50,11 +50,3 @@ last_found-append value p xs ys =
         option_map f (option_or o p) ≡ option_or (option_map f o) (option_map f p)
     option_map-option_or f None p = refl
     option_map-option_or f (Some x) p = refl
-
--- in a list that is split in two
-pub last_found-split : {X Y : Type 0} (value : X → Y) (p : X → Bool) (xs front back : List X) (n : ℕ) →
-    front ≡ take n xs → back ≡ drop n xs →
-    option_or (option_map value (find p (reverse back))) (option_map value (find p (reverse front))) ≡ option_map value (find p (reverse xs))
-last_found-split value p xs front back n first second =
-    let whole : front ++ back ≡ xs = rw (first, second) (take-append-drop n xs) in
-    sym (last_found-append value p front back) ∙ ap (λ all. option_map value (find p (reverse all))) whole

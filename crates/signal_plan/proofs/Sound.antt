@@ -9,7 +9,7 @@ use Rattle.std.proofs.lemmas.Map.Steps.{length-le_from_distinct_below}
 use Rattle.std.proofs.lemmas.Map.Views.{Contains-from_any}
 use Rattle.std.proofs.lemmas.Bool.{eqb-true}
 use Rattle.std.specs.Cmp.{nat_eq_equiv}
-use Rattle.signal_plan.specs.declared.bounds.TheConstants.{MOST_CELLS, MOST_RECORDS}
+use Rattle.signal_plan.specs.Limits.{most_cells, most_records}
 use Rattle.signal_plan.specs.Records.{DemandRecord, LimitRecord, PlanRecords, SignalRecord, TurnRecord, no_records, with_cell, with_demand, with_limit, with_signal, with_turn}
 use Rattle.signal_plan.specs.Sound.{IsSoundDemand, IsSoundLimit, IsSoundPlan, IsSoundSignal, IsSoundTurn}
 use Rattle.signal_plan.specs.Green.{is_signalled, signal_of}
@@ -26,7 +26,7 @@ IsSoundPlan-no_records = record {
   turns = All-nil (IsSoundTurn 0);
 }
 
-pub IsSoundPlan-with_cell : (plan : PlanRecords) (capacity : ℕ) → length plan.cells < MOST_CELLS → IsSoundPlan plan →
+pub IsSoundPlan-with_cell : (plan : PlanRecords) (capacity : ℕ) → length plan.cells < most_cells → IsSoundPlan plan →
     IsSoundPlan (with_cell plan capacity)
 IsSoundPlan-with_cell plan capacity few sound =
     let old : ℕ = length plan.cells in
@@ -74,7 +74,7 @@ IsSoundPlan-with_limit plan limit fits sound = record {
   turns = sound.turns;
 }
 
-pub IsSoundPlan-with_demand : (plan : PlanRecords) (demand : DemandRecord) → length plan.demands < MOST_RECORDS →
+pub IsSoundPlan-with_demand : (plan : PlanRecords) (demand : DemandRecord) → length plan.demands < most_records →
     IsSoundDemand (length plan.cells) demand → IsSoundPlan plan → IsSoundPlan (with_demand plan demand)
 IsSoundPlan-with_demand plan demand few fits sound = record {
   few_cells = sound.few_cells;

@@ -1,5 +1,5 @@
 -- What a plan says of one cell.
-use Rattle.std.specs.Prelude.{ℕ, ◌-◌, Bool, true, if◌then◌else◌, ◌==◌, List, [], Option, None, reverse, slice_index, sum_by}
+use Rattle.std.specs.Prelude.{ℕ, ◌-◌, Bool, true, if◌then◌else◌, ◌==◌, List, [], ◌∷◌, ◌++◌, Option, None, Some, reverse, slice_index, sum_by}
 use Rattle.std.specs.List.{filter, find, range_with_len}
 use Rattle.std.specs.Option.{option_map_or}
 use Rattle.signal_plan.specs.Records.{DemandRecord, LimitRecord, PlanRecords, SignalRecord, TurnRecord, in_range}
@@ -20,6 +20,20 @@ pub record PlannedCell : Type 0 where
 -- a cell without records
 abbrev pub bare : CellRecords
 bare = record { signal = None; limits = []; demands = []; turns = [] }
+
+-- one more record of the cell
+abbrev pub with_own_limit : CellRecords → LimitRecord → CellRecords
+with_own_limit own limit = record own { limits = own.limits ++ limit ∷ [] }
+
+abbrev pub with_own_demand : CellRecords → DemandRecord → CellRecords
+with_own_demand own demand = record own { demands = own.demands ++ demand ∷ [] }
+
+abbrev pub with_own_turn : CellRecords → TurnRecord → CellRecords
+with_own_turn own turn = record own { turns = own.turns ++ turn ∷ [] }
+
+-- this signal, in place of any that the cell had
+abbrev pub with_own_signal : CellRecords → SignalRecord → CellRecords
+with_own_signal own signal = record own { signal = Some signal }
 
 -- the records of the plan that are of the cell
 abbrev pub records_at : PlanRecords → (cell : ℕ) → CellRecords

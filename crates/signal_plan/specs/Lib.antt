@@ -1,3 +1,4 @@
+pub mod Limits
 pub mod Records
 pub mod Sound
 pub mod Capacity
@@ -9,3 +10,4 @@ pub mod Layout
 pub mod Turning
 pub mod Changes
 pub mod Merging
+pub mod Given

@@ -1,11 +1,15 @@
-ghost use Rattle.std.specs.Prelude.{◌≡◌, ℕ, ◌<◌, ◌^◌, [], ◌∷◌, ◌++◌, Some, is_some, IfOk, OnOk, OnErr};
+ghost use Rattle.std.specs.Prelude.{◌≡◌, ℕ, ◌<◌, ◌^◌, is_some, reverse, IfOk, OnOk, OnErr};
+ghost use Rattle.std.specs.List.{find};
 ghost use Rattle.signal_plan.specs.Changes.{in_force, IsRising};
 
 use crate::bounds::MOST_STEPS;
-use crate::cell_records::CellRecords;
+use crate::cell_records::{CellRecord, CellRecords};
 use crate::change::Change;
 use crate::demand::Demand;
+use crate::fallback::with_fallback;
 use crate::limit::Limit;
+use crate::ranged::Ranged;
+use crate::record_changes::record_changes;
 use crate::signal::Signal;
 use crate::turn::Turn;
 use no_memory::NoMemory;
@@ -47,72 +51,16 @@ impl CellPlan {
         }
     }
 
-    /// Adds a limit record.
-    pub(crate) fn put_limit(&mut self, alloc: Global, limit: Limit) -> Result<(), NoMemory>
-        ensures added { OnOk result (self.new ≡ record self.old {
-          records = record self.old.records { limits = self.old.records.limits ++ limit ∷ [] };
-        }) }
+    /// Adds a record.
+    pub(crate) fn put<R: CellRecord>(&mut self, alloc: Global, one: R) -> Result<(), NoMemory>
+        ensures added { OnOk result (self.new ≡ record self.old { records = R.added self.old.records one }) }
         ensures unchanged { OnErr result (self.new ≡ self.old) }
     {
         match &mut self.records {
-            Some(records) => records.put_limit(limit)?,
+            Some(records) => one.put_into(records)?,
             None => {
                 let mut records = CellRecords::new(alloc);
-                records.put_limit(limit)?;
-                self.records = Some(Box::new(alloc, records)?);
-            }
-        }
-        Ok(())
-    }
-
-    /// Adds a demand record.
-    pub(crate) fn put_demand(&mut self, alloc: Global, demand: Demand) -> Result<(), NoMemory>
-        ensures added { OnOk result (self.new ≡ record self.old {
-          records = record self.old.records { demands = self.old.records.demands ++ demand ∷ [] };
-        }) }
-        ensures unchanged { OnErr result (self.new ≡ self.old) }
-    {
-        match &mut self.records {
-            Some(records) => records.put_demand(demand)?,
-            None => {
-                let mut records = CellRecords::new(alloc);
-                records.put_demand(demand)?;
-                self.records = Some(Box::new(alloc, records)?);
-            }
-        }
-        Ok(())
-    }
-
-    /// Adds a turn record.
-    pub(crate) fn put_turn(&mut self, alloc: Global, turn: Turn) -> Result<(), NoMemory>
-        ensures added { OnOk result (self.new ≡ record self.old {
-          records = record self.old.records { turns = self.old.records.turns ++ turn ∷ [] };
-        }) }
-        ensures unchanged { OnErr result (self.new ≡ self.old) }
-    {
-        match &mut self.records {
-            Some(records) => records.put_turn(turn)?,
-            None => {
-                let mut records = CellRecords::new(alloc);
-                records.put_turn(turn)?;
-                self.records = Some(Box::new(alloc, records)?);
-            }
-        }
-        Ok(())
-    }
-
-    /// Gives the cell this signal in place of any that it had.
-    pub(crate) fn set_signal(&mut self, alloc: Global, signal: Signal) -> Result<(), NoMemory>
-        ensures added { OnOk result (self.new ≡ record self.old {
-          records = record self.old.records { signal = Some signal };
-        }) }
-        ensures unchanged { OnErr result (self.new ≡ self.old) }
-    {
-        match &mut self.records {
-            Some(records) => records.set_signal(signal),
-            None => {
-                let mut records = CellRecords::new(alloc);
-                records.set_signal(signal);
+                one.put_into(&mut records)?;
                 self.records = Some(Box::new(alloc, records)?);
             }
         }
@@ -124,8 +72,38 @@ impl CellPlan {
         ensures { result ≡ self.now.records.signal }
     {
         match &self.records {
-            Some(records) => records.signal(),
+            Some(records) => records.signal,
             None => None,
+        }
+    }
+
+    // Its limits.
+    fn limits(&self) -> &[Limit]
+        ensures { result.now ≡ self.now.records.limits }
+    {
+        match &self.records {
+            Some(records) => &records.limits,
+            None => &[],
+        }
+    }
+
+    // Its demand records.
+    fn demands(&self) -> &[Demand]
+        ensures { result.now ≡ self.now.records.demands }
+    {
+        match &self.records {
+            Some(records) => &records.demands,
+            None => &[],
+        }
+    }
+
+    // Its turn records.
+    fn turns(&self) -> &[Turn]
+        ensures { result.now ≡ self.now.records.turns }
+    {
+        match &self.records {
+            Some(records) => &records.turns,
+            None => &[],
         }
     }
 
@@ -133,9 +111,17 @@ impl CellPlan {
     pub(crate) fn has_signal(&self) -> bool
         ensures { result ≡ is_some self.now.records.signal }
     {
-        match &self.records {
-            Some(records) => records.has_signal(),
-            None => false,
+        self.signal().is_some()
+    }
+
+    /// Whether the cell may send in step `t`: it has no signal, or a green one.
+    pub(crate) fn is_green_at(&self, t: u64) -> bool
+        requires in_time { t < MOST_STEPS }
+        ensures { result ≡ own_green self.now.records t }
+    {
+        match self.signal() {
+            Some(signal) => signal.is_green_at(t),
+            None => true,
         }
     }
 
@@ -143,8 +129,8 @@ impl CellPlan {
     pub(crate) fn capacity_at(&self, t: u64) -> u64
         ensures { result ≡ own_capacity self.now.records t self.now.capacity }
     {
-        match &self.records {
-            Some(records) => records.capacity_at(t, self.capacity),
+        match newest_at(self.limits(), t) {
+            Some(limit) => limit.capacity,
             None => self.capacity,
         }
     }
@@ -153,20 +139,9 @@ impl CellPlan {
     pub(crate) fn shares_at(&self, t: u64, own: (u32, u32)) -> (u32, u32)
         ensures { result ≡ own_shares self.now.records t own }
     {
-        match &self.records {
-            Some(records) => records.shares_at(t, own),
+        match newest_at(self.turns(), t) {
+            Some(turn) => (turn.b1, turn.b2),
             None => own,
-        }
-    }
-
-    /// Whether the cell may send in step `t`: it has no signal, or a green one.
-    pub(crate) fn is_green_at(&self, t: u64) -> bool
-        requires in_time { t < MOST_STEPS }
-        ensures { result ≡ own_green self.now.records t }
-    {
-        match &self.records {
-            Some(records) => records.is_green_at(t),
-            None => true,
         }
     }
 
@@ -175,10 +150,11 @@ impl CellPlan {
         requires fits { own_demand self.now.records t < 2 ^ 64 }
         ensures { result ≡ own_demand self.now.records t }
     {
-        match &self.records {
-            Some(records) => records.demand_at(t),
-            None => 0,
+        let mut amount = 0;
+        for demand in self.demands() {
+            amount += demand.at(t);
         }
+        amount
     }
 
     /// What all demand records bring in the steps of `[t, end)`.
@@ -186,10 +162,11 @@ impl CellPlan {
         requires fits { own_demand_from self.now.records t end < 2 ^ 128 }
         ensures { result ≡ own_demand_from self.now.records t end }
     {
-        match &self.records {
-            Some(records) => records.demand_from(t, end),
-            None => 0,
+        let mut amount = 0;
+        for demand in self.demands() {
+            amount += demand.within(t, end);
         }
+        amount
     }
 
     /// The changes of the capacity.
@@ -198,10 +175,8 @@ impl CellPlan {
             own_capacity self.now.records t self.now.capacity) }
         ensures rising { IfOk result (λ changes. IsRising changes.items) }
     {
-        match &self.records {
-            Some(records) => records.capacity_changes(alloc, self.capacity),
-            None => Ok(Vec::new(alloc)),
-        }
+        let changes = record_changes(alloc, self.limits())?;
+        with_fallback(alloc, &changes, self.capacity)
     }
 
     /// The changes of what all demand records bring.
@@ -211,10 +186,7 @@ impl CellPlan {
             own_demand self.now.records t) }
         ensures rising { IfOk result (λ changes. IsRising changes.items) }
     {
-        match &self.records {
-            Some(records) => records.demand_changes(alloc),
-            None => Ok(Vec::new(alloc)),
-        }
+        record_changes(alloc, self.demands())
     }
 
     /// The changes of the turning shares, which are `own` where no turn record speaks.
@@ -227,9 +199,14 @@ impl CellPlan {
             own_shares self.now.records t own) }
         ensures rising { IfOk result (λ changes. IsRising changes.items) }
     {
-        match &self.records {
-            Some(records) => records.share_changes(alloc, own),
-            None => Ok(Vec::new(alloc)),
-        }
+        let changes = record_changes(alloc, self.turns())?;
+        with_fallback(alloc, &changes, own)
     }
+}
+
+// The newest record that speaks of step `t`.
+fn newest_at<R: Ranged>(records: &[R], t: u64) -> Option<R>
+    ensures { result ≡ find (λ one. R.speaks one t) (reverse records.now) }
+{
+    records.iter().rev().find(|one| one.holds_at(t)).copied()
 }

@@ -1,5 +1,6 @@
-ghost use Rattle.std.specs.Prelude.{◌≡◌, ◌+◌, ◌<◌, ◌^◌, None, refl};
+ghost use Rattle.std.specs.Prelude.{◌≡◌, ◌+◌, ◌<◌, ◌^◌, None, Some, refl};
 ghost use Rattle.std.specs.Option.{option_or};
+ghost use Rattle.std.proofs.Math.Nat.{add-zero, add_assoc, le-add_left, le-add_right, lt_of_le_of_lt, zero-add};
 
 /// How what a record gives in a step joins with what the records before it give.
 pub(crate) trait Join: Copy {
@@ -21,7 +22,14 @@ pub(crate) trait Join: Copy {
         requires { Fits (joined self newer) }
         ensures { result ≡ joined self newer };
 
-    ghost none_joined: { joined none none ≡ none };
+    ghost joined_none: { (given : Self) → joined given none ≡ given };
+
+    ghost none_joined: { (given : Self) → joined none given ≡ given };
+
+    ghost associative: { (a b c : Self) → joined (joined a b) c ≡ joined a (joined b c) };
+
+    // What fits together fits by itself.
+    ghost parts_fit: { (a b : Self) → Fits (joined a b) → Fits a × Fits b };
 }
 
 /// The newer record holds where it speaks.
@@ -40,7 +48,13 @@ impl<T: Copy> Join for Option<T> {
         newer.or(self)
     }
 
-    ghost none_joined = { refl };
+    ghost joined_none = { λ given. refl };
+
+    ghost none_joined = { elim [ None ↦ refl | Some x ↦ refl ] };
+
+    ghost associative = { λ a b. elim [ None ↦ refl | Some x ↦ refl ] };
+
+    ghost parts_fit = { λ a b fits. (tt, tt) };
 }
 
 /// Amounts add up.
@@ -59,5 +73,11 @@ impl Join for u64 {
         self + newer
     }
 
-    ghost none_joined = { refl };
+    ghost joined_none = { add-zero };
+
+    ghost none_joined = { zero-add };
+
+    ghost associative = { add_assoc };
+
+    ghost parts_fit = { λ a b fits. (lt_of_le_of_lt (le-add_right a b) fits, lt_of_le_of_lt (le-add_left b a) fits) };
 }

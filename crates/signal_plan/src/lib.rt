@@ -5,11 +5,11 @@
 //! shares of a cell at a step, or for all their changes in the order of the steps. Amounts are in
 //! parts, millionths of a vehicle; cells are numbered from 0 in the order in which they were put.
 //!
-//! - The plan is in `step_plan`; what it says of one cell in `cell_plan` and `cell_records`; the records
-//!   in `signal`, `limit`, `demand` and `turn`.
-//! - Lists of changes: `span` has those of one record, `merge` those of two lists together, by a `join`
-//!   of their values; `record_changes` those of all records of a cell, `fallback` the cell's own value
-//!   where no record speaks.
+//! - The plan is in `step_plan`; what it says of one cell in `cell_plan`, over its `cell_records`; the
+//!   records in `signal`, `limit`, `demand` and `turn`.
+//! - Lists of changes: each `ranged` record has those of one `span` of steps; `merge` those of two lists
+//!   together, by a `join` of their values; `record_changes` those of all records of a kind that a cell
+//!   has; `fallback` puts the cell's own value where no record speaks.
 #![tactic(auto)]
 
 mod bounds;
@@ -21,7 +21,9 @@ mod fallback;
 mod join;
 mod limit;
 mod merge;
+mod plan_counts;
 mod range;
+mod ranged;
 mod record_changes;
 mod signal;
 mod span;
@@ -32,5 +34,9 @@ mod turn;
 
 pub use bounds::{MOST_CELLS, MOST_PARTS, MOST_RATIO, MOST_RECORDS, MOST_STEPS};
 pub use change::Change;
+pub use demand::Demand;
+pub use limit::Limit;
+pub use plan_counts::PlanCounts;
 pub use signal::Signal;
 pub use step_plan::Plan;
+pub use turn::Turn;

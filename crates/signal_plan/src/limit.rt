@@ -1,16 +1,25 @@
-ghost use Rattle.std.specs.Prelude.{◌≡◌};
+ghost use Rattle.std.specs.Prelude.{Some};
 ghost use Rattle.signal_plan.specs.Records.{in_range};
 
+use crate::change::Change;
 use crate::range::is_in_range;
+use crate::ranged::Ranged;
+use crate::span::span;
+use no_memory::NoMemory;
+use std::alloc::Global;
 use std::marker::Model;
 
 /// A limit record: the capacity of its cell in each step of `[from, to)`.
 #[derive(Clone, Copy, Debug)]
-pub(crate) struct Limit {
-    pub(crate) cell: u32,
-    pub(crate) from: u64,
-    pub(crate) to: u64,
-    pub(crate) capacity: u64,
+pub struct Limit {
+    /// The number of the cell, from 0.
+    pub cell: u32,
+    /// The first step, from 0.
+    pub from: u32,
+    /// The step after the last one.
+    pub to: u32,
+    /// The capacity, in parts a step.
+    pub capacity: u64,
 }
 
 impl Model for Limit {
@@ -23,11 +32,18 @@ impl Model for Limit {
     ghost inverse = { λ l. record { cell = l.cell; from = l.from; to = l.to; capacity = l.capacity } };
 }
 
-impl Limit {
-    /// Whether the record speaks of step `t`.
-    pub(crate) fn holds_at(&self, t: u64) -> bool
-        ensures { result ≡ in_range self.now.from self.now.to t }
-    {
+impl Ranged for Limit {
+    type Given = Option<u64>;
+
+    ghost speaks = { λ l step. in_range l.from l.to step };
+
+    ghost gives = { λ l. Some l.capacity };
+
+    fn holds_at(&self, t: u64) -> bool {
         is_in_range(self.from, self.to, t)
+    }
+
+    fn changes(&self, alloc: Global) -> Result<Vec<Change<Option<u64>>>, NoMemory> {
+        span(alloc, self.from, self.to, Some(self.capacity))
     }
 }

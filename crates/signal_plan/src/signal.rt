@@ -8,15 +8,15 @@ use std::marker::Model;
 /// A signal: its cell sends only in steps `t` where `(t + offset) mod cycle` is in `[from, to)`.
 #[derive(Clone, Copy, Debug)]
 pub struct Signal {
-    /// The number of the cell that it stands at.
+    /// The number of the cell that it stands at, from 0.
     pub cell: u32,
     /// After how many steps it begins anew: 1 to `MOST_STEPS`.
     pub cycle: u32,
-    /// Its place in the cycle at step 0, below `cycle`.
+    /// Its place in the cycle at step 0: 0 to `cycle` - 1.
     pub offset: u32,
-    /// The first place of the cycle that is green.
+    /// The first place of the cycle that is green, from 0.
     pub from: u32,
-    /// The place after the last one that is green, at most `cycle`.
+    /// The place after the last one that is green: `from` + 1 to `cycle`.
     pub to: u32,
 }
 
@@ -40,6 +40,6 @@ impl Signal {
         ensures { result ≡ shows_green t self.now }
     {
         let place = (t + u64::from(self.offset)) % u64::from(self.cycle);
-        is_in_range(self.from.into(), self.to.into(), place)
+        is_in_range(self.from, self.to, place)
     }
 }

@@ -10,8 +10,8 @@ use std::alloc::Global;
 /// The changes of a value that is in force in each step of `[from, to)`, and nothing in the others.
 pub(crate) fn span<T: Join>(
     alloc: Global,
-    from: u64,
-    to: u64,
+    from: u32,
+    to: u32,
     value: T,
 ) -> Result<Vec<Change<T>>, NoMemory>
     ensures in_force { IfOk result (λ changes. (t : ℕ) → in_force T.none changes.items t ≡
@@ -20,9 +20,12 @@ pub(crate) fn span<T: Join>(
 {
     let mut changes = Vec::new(alloc);
     if from < to {
-        changes.push(Change { step: from, value })?;
         changes.push(Change {
-            step: to,
+            step: u64::from(from),
+            value,
+        })?;
+        changes.push(Change {
+            step: u64::from(to),
             value: T::none(),
         })?;
     }

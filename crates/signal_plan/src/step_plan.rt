@@ -1,4 +1,4 @@
-ghost use Rattle.std.specs.Prelude.{◌≡◌, ◌*◌, ◌^◌, ◌<◌, ◌≤◌, ℕ, false, length, slice_index, IfOk, OnOk, OnErr};
+ghost use Rattle.std.specs.Prelude.{◌≡◌, ◌*◌, ◌<◌, ◌≤◌, ℕ, false, length, slice_index, IfOk, OnOk, OnErr};
 ghost use Rattle.signal_plan.specs.Records.{no_records, with_cell, with_demand, with_limit, with_signal, with_turn};
 ghost use Rattle.signal_plan.specs.Sound.{IsSoundPlan};
 ghost use Rattle.signal_plan.specs.Capacity.{capacity_at};
@@ -13,6 +13,7 @@ use crate::cell_plan::CellPlan;
 use crate::change::Change;
 use crate::demand::Demand;
 use crate::limit::Limit;
+use crate::plan_counts::PlanCounts;
 use crate::signal::Signal;
 use crate::turn::Turn;
 use no_memory::NoMemory;
@@ -71,124 +72,71 @@ impl Plan {
         Ok(())
     }
 
-    /// Adds the limit record by which the cell has this capacity, in parts, in each step of
-    /// `[from, to)`. Of the limits that speak of a step the last one holds.
-    pub fn put_limit(
-        &mut self,
-        cell: u32,
-        from: u64,
-        to: u64,
-        capacity: u64,
-    ) -> Result<(), NoMemory>
-        requires has_cell { cell < length self.old.cells }
-        requires some_step { from < to }
-        ensures added { OnOk result (self.new ≡ with_limit self.old
-            (record { cell = cell; from = from; to = to; capacity = capacity })) }
+    /// Adds a limit record. Of the limits that speak of a step the last one holds.
+    pub fn put_limit(&mut self, limit: Limit) -> Result<(), NoMemory>
+        requires has_cell { limit.cell < length self.old.cells }
+        requires some_step { limit.from < limit.to }
+        ensures added { OnOk result (self.new ≡ with_limit self.old limit) }
         ensures unchanged { OnErr result (self.new ≡ self.old) }
     {
-        let limit = Limit {
-            cell,
-            from,
-            to,
-            capacity,
-        };
         // Room first: after it the last push cannot fail.
         self.limits.reserve(1)?;
-        let own = &mut self.cells[cell as usize];
-        own.put_limit(self.alloc, limit)?;
+        let own = &mut self.cells[limit.cell as usize];
+        own.put(self.alloc, limit)?;
         self.limits.push(limit)?;
         Ok(())
     }
 
-    /// Adds the signal of the cell: green in step `t` where `(t + offset) mod cycle` is in `[from, to)`.
-    pub fn put_signal(
-        &mut self,
-        cell: u32,
-        cycle: u64,
-        offset: u64,
-        from: u64,
-        to: u64,
-    ) -> Result<(), NoMemory>
-        requires has_cell { cell < length self.old.cells }
-        requires no_signal { is_signalled self.old cell ≡ false }
-        requires offset { offset < cycle }
-        requires cycle { cycle ≤ MOST_STEPS }
-        requires some_green { from < to }
-        requires within { to ≤ cycle }
-        ensures added { OnOk result (self.new ≡ with_signal self.old
-            (record { cell = cell; cycle = cycle; offset = offset; from = from; to = to })) }
+    /// Adds the signal of a cell that has none yet.
+    pub fn put_signal(&mut self, signal: Signal) -> Result<(), NoMemory>
+        requires has_cell { signal.cell < length self.old.cells }
+        requires no_signal { is_signalled self.old signal.cell ≡ false }
+        requires cycle { signal.cycle ≤ MOST_STEPS }
+        requires some_green { signal.from < signal.to }
+        requires within { signal.to ≤ signal.cycle }
+        ensures added { OnOk result (self.new ≡ with_signal self.old signal) }
         ensures unchanged { OnErr result (self.new ≡ self.old) }
     {
-        let signal = Signal {
-            cell,
-            cycle: cycle as u32,
-            offset: offset as u32,
-            from: from as u32,
-            to: to as u32,
-        };
         // Room first: after it the last push cannot fail.
         self.signals.reserve(1)?;
-        let own = &mut self.cells[cell as usize];
-        own.set_signal(self.alloc, signal)?;
+        let own = &mut self.cells[signal.cell as usize];
+        own.put(self.alloc, signal)?;
         self.signals.push(signal)?;
         Ok(())
     }
 
-    /// Adds the demand record of so many parts in each step of `[from, to)`.
-    pub fn put_demand(&mut self, cell: u32, from: u64, to: u64, amount: u64) -> Result<(), NoMemory>
-        requires has_cell { cell < length self.old.cells }
-        requires some_step { from < to }
-        requires amount { amount ≤ MOST_PARTS }
+    /// Adds a demand record. What all records of a gate bring in a step adds up.
+    pub fn put_demand(&mut self, demand: Demand) -> Result<(), NoMemory>
+        requires has_cell { demand.cell < length self.old.cells }
+        requires some_step { demand.from < demand.to }
+        requires amount { demand.amount ≤ MOST_PARTS }
         requires few_demands { length self.old.demands < MOST_RECORDS }
-        ensures added { OnOk result (self.new ≡ with_demand self.old
-            (record { cell = cell; from = from; to = to; amount = amount })) }
+        ensures added { OnOk result (self.new ≡ with_demand self.old demand) }
         ensures unchanged { OnErr result (self.new ≡ self.old) }
     {
-        let demand = Demand {
-            cell,
-            from,
-            to,
-            amount,
-        };
         // Room first: after it the last push cannot fail.
         self.demands.reserve(1)?;
-        let own = &mut self.cells[cell as usize];
-        own.put_demand(self.alloc, demand)?;
+        let own = &mut self.cells[demand.cell as usize];
+        own.put(self.alloc, demand)?;
         self.demands.push(demand)?;
         Ok(())
     }
 
-    /// Adds the turn record by which the diverge out of the cell has the turning shares `b1` and `b2` in
-    /// each step of `[from, to)`. Of the turn records that speak of a step the last one holds.
-    pub fn put_turn(
-        &mut self,
-        cell: u32,
-        from: u64,
-        to: u64,
-        b1: u32,
-        b2: u32,
-    ) -> Result<(), NoMemory>
-        requires has_cell { cell < length self.old.cells }
-        requires some_step { from < to }
-        requires some_first { 1 ≤ b1 }
-        requires some_second { 1 ≤ b2 }
-        requires first { b1 ≤ MOST_RATIO }
-        requires second { b2 ≤ MOST_RATIO }
-        ensures added { OnOk result (self.new ≡ with_turn self.old
-            (record { cell = cell; from = from; to = to; b1 = b1; b2 = b2 })) }
+    /// Adds a turn record. Of the turn records that speak of a step the last one holds.
+    pub fn put_turn(&mut self, turn: Turn) -> Result<(), NoMemory>
+        requires has_cell { turn.cell < length self.old.cells }
+        requires some_step { turn.from < turn.to }
+        requires some_first { 1 ≤ turn.b1 }
+        requires some_second { 1 ≤ turn.b2 }
+        requires first { turn.b1 ≤ MOST_RATIO }
+        requires second { turn.b2 ≤ MOST_RATIO }
+        ensures added { OnOk result (self.new ≡ with_turn self.old turn) }
         ensures unchanged { OnErr result (self.new ≡ self.old) }
     {
-        let turn = Turn {
-            cell,
-            from,
-            to,
-            b1,
-            b2,
-        };
         // Room first: after it the last push cannot fail.
         self.turns.reserve(1)?;
-        let own = &mut self.cells[cell as usize];
-        own.put_turn(self.alloc, turn)?;
+        let own = &mut self.cells[turn.cell as usize];
+        own.put(self.alloc, turn)?;
         self.turns.push(turn)?;
         Ok(())
     }
@@ -296,24 +244,21 @@ impl Plan {
         self.cells[cell as usize].share_changes(alloc, own)
     }
 
-    /// The numbers of signals, limits and demand records.
-    pub fn counts(&self) -> (u32, u32, u32)
-        requires few_limits { length self.now.limits < 2 ^ 32 }
-        ensures { result ≡ (length self.now.signals, length self.now.limits, length self.now.demands) }
+    /// How many records of each kind the plan has.
+    pub fn counts(&self) -> PlanCounts
+        ensures { result ≡ record {
+          signals = length self.now.signals;
+          limits = length self.now.limits;
+          demands = length self.now.demands;
+          turns = length self.now.turns;
+        } }
     {
-        (
-            self.signals.len() as u32,
-            self.limits.len() as u32,
-            self.demands.len() as u32,
-        )
-    }
-
-    /// The number of turn records.
-    pub fn turns(&self) -> u32
-        requires few_turns { length self.now.turns < 2 ^ 32 }
-        ensures { result ≡ length self.now.turns }
-    {
-        self.turns.len() as u32
+        PlanCounts {
+            signals: self.signals.len(),
+            limits: self.limits.len(),
+            demands: self.demands.len(),
+            turns: self.turns.len(),
+        }
     }
 
     /// The sum of all demand of the steps below `steps`, in parts.

@@ -1,4 +1,4 @@
-use crate::{Change, Plan};
+use crate::{Change, Demand, Limit, Plan, Signal, Turn};
 use std::test::Fail;
 
 /// The amount in force at step `t`, `start` before the first change.
@@ -17,13 +17,23 @@ fn last_limit_in_range_holds(rt: HostRuntime) -> Result<(), Fail> {
     let mut plan = Plan::open(rt.alloc());
     plan.put_cell(10)?;
     plan.put_cell(5)?;
-    plan.put_limit(0, 0, 2, 1)?;
-    plan.put_limit(0, 1, 3, 3)?;
+    plan.put_limit(Limit {
+        cell: 0,
+        from: 0,
+        to: 2,
+        capacity: 1,
+    })?;
+    plan.put_limit(Limit {
+        cell: 0,
+        from: 1,
+        to: 3,
+        capacity: 3,
+    })?;
     for (t, capacity) in [(0, 1), (1, 3), (2, 3), (3, 10)] {
         assert_eq!(rt; plan.capacity(0, t), capacity, "at {t}");
         assert_eq!(rt; plan.capacity(1, t), 5, "at {t}");
     }
-    assert_eq!(rt; plan.counts(), (0, 2, 0));
+    assert_eq!(rt; plan.counts().limits, 2);
     Ok(())
 }
 
@@ -33,14 +43,20 @@ fn signal_shows_red_and_green(rt: HostRuntime) -> Result<(), Fail> {
     plan.put_cell(1)?;
     plan.put_cell(1)?;
     assert!(rt; !plan.has_signal(0));
-    plan.put_signal(0, 4, 3, 0, 2)?;
+    plan.put_signal(Signal {
+        cell: 0,
+        cycle: 4,
+        offset: 3,
+        from: 0,
+        to: 2,
+    })?;
     assert!(rt; plan.has_signal(0));
     assert!(rt; !plan.has_signal(1));
     for (t, green) in [(0, false), (1, true), (2, true), (3, false), (4, false)] {
         assert_eq!(rt; plan.green(0, t), green, "at {t}");
         assert!(rt; plan.green(1, t), "at {t}");
     }
-    assert_eq!(rt; plan.counts(), (1, 0, 0));
+    assert_eq!(rt; plan.counts().signals, 1);
     assert!(rt; plan.signal(1).is_none());
     assert!(rt;
         plan.signal(0)
@@ -58,9 +74,24 @@ fn records_of_a_gate_add_up(rt: HostRuntime) -> Result<(), Fail> {
     let mut plan = Plan::open(rt.alloc());
     plan.put_cell(2_000_000)?;
     plan.put_cell(500_000)?;
-    plan.put_demand(0, 0, 3, 400_000)?;
-    plan.put_demand(1, 1, 2, 70_000)?;
-    plan.put_demand(0, 2, 100, 1_000)?;
+    plan.put_demand(Demand {
+        cell: 0,
+        from: 0,
+        to: 3,
+        amount: 400_000,
+    })?;
+    plan.put_demand(Demand {
+        cell: 1,
+        from: 1,
+        to: 2,
+        amount: 70_000,
+    })?;
+    plan.put_demand(Demand {
+        cell: 0,
+        from: 2,
+        to: 100,
+        amount: 1_000,
+    })?;
     for (t, first, second) in [
         (0, 400_000, 0),
         (1, 400_000, 70_000),
@@ -82,7 +113,7 @@ fn records_of_a_gate_add_up(rt: HostRuntime) -> Result<(), Fail> {
     assert_eq!(rt; plan.total(0), 0);
     assert_eq!(rt; plan.total(2), 870_000);
     assert_eq!(rt; plan.total(4), 1_272_000);
-    assert_eq!(rt; plan.counts(), (0, 0, 3));
+    assert_eq!(rt; plan.counts().demands, 3);
     Ok(())
 }
 
@@ -91,8 +122,20 @@ fn last_turn_in_range_holds(rt: HostRuntime) -> Result<(), Fail> {
     let mut plan = Plan::open(rt.alloc());
     plan.put_cell(1)?;
     plan.put_cell(1)?;
-    plan.put_turn(0, 2, 4, 3, 1)?;
-    plan.put_turn(0, 3, 5, 1, 1_000)?;
+    plan.put_turn(Turn {
+        cell: 0,
+        from: 2,
+        to: 4,
+        b1: 3,
+        b2: 1,
+    })?;
+    plan.put_turn(Turn {
+        cell: 0,
+        from: 3,
+        to: 5,
+        b1: 1,
+        b2: 1_000,
+    })?;
     for (t, shares) in [
         (0, (7, 5)),
         (1, (7, 5)),
@@ -103,7 +146,7 @@ fn last_turn_in_range_holds(rt: HostRuntime) -> Result<(), Fail> {
         assert_eq!(rt; plan.shares(0, t, (7, 5)), shares, "at {t}");
         assert_eq!(rt; plan.shares(1, t, (7, 5)), (7, 5), "at {t}");
     }
-    assert_eq!(rt; plan.turns(), 2);
+    assert_eq!(rt; plan.counts().turns, 2);
     let changes = plan.share_changes(rt.alloc(), 0, (7, 5))?;
     assert_eq!(rt; changes.len(), 4);
     assert_eq!(rt; plan.share_changes(rt.alloc(), 1, (7, 5))?.len(), 0);
@@ -115,8 +158,18 @@ fn capacity_changes_where_limits_begin_and_end(rt: HostRuntime) -> Result<(), Fa
     let mut plan = Plan::open(rt.alloc());
     plan.put_cell(5)?;
     plan.put_cell(10)?;
-    plan.put_limit(0, 0, 2, 1)?;
-    plan.put_limit(0, 1, 3, 3)?;
+    plan.put_limit(Limit {
+        cell: 0,
+        from: 0,
+        to: 2,
+        capacity: 1,
+    })?;
+    plan.put_limit(Limit {
+        cell: 0,
+        from: 1,
+        to: 3,
+        capacity: 3,
+    })?;
     let changes = plan.capacity_changes(rt.alloc(), 0)?;
     for (t, capacity) in [(0, 1), (1, 3), (2, 3), (3, 5), (4, 5)] {
         assert_eq!(rt; amount_at(5, &changes, t), capacity, "at {t}");
@@ -129,9 +182,24 @@ fn capacity_changes_where_limits_begin_and_end(rt: HostRuntime) -> Result<(), Fa
 fn demand_changes_where_records_overlap(rt: HostRuntime) -> Result<(), Fail> {
     let mut plan = Plan::open(rt.alloc());
     plan.put_cell(5)?;
-    plan.put_demand(0, 1, 4, 100)?;
-    plan.put_demand(0, 2, 3, 20)?;
-    plan.put_demand(0, 3, 9, 7)?;
+    plan.put_demand(Demand {
+        cell: 0,
+        from: 1,
+        to: 4,
+        amount: 100,
+    })?;
+    plan.put_demand(Demand {
+        cell: 0,
+        from: 2,
+        to: 3,
+        amount: 20,
+    })?;
+    plan.put_demand(Demand {
+        cell: 0,
+        from: 3,
+        to: 9,
+        amount: 7,
+    })?;
     let changes = plan.demand_changes(rt.alloc(), 0)?;
     for (t, amount) in [(0, 0), (1, 100), (2, 120), (3, 107), (4, 7), (8, 7), (9, 0)] {
         assert_eq!(rt; amount_at(0, &changes, t), amount, "at {t}");

@@ -20,7 +20,7 @@ use Rattle.flow_ledger.proofs.FlightLaws.{flight-at_one_step}
 use Rattle.region_cut.specs.Cuttings.{region_at}
 use Rattle.region_cut.proofs.Ranges.{filter_range_more}
 use Rattle.snapshot.specs.RunLaws.{cell_step}
-use Rattle.snapshot.specs.ShotText.{crosses}
+use Rattle.region_cut.specs.Joins.{crosses}
 use Rattle.snapshot.specs.Shots.{flights_crossing}
 
 -- the cells of a connector that crosses no border are of one region

@@ -8,7 +8,8 @@ use Rattle.network_file.specs.Connectors.{connector_at}
 use Rattle.network_file.specs.Network.{Network}
 use Rattle.flow_model.specs.declared.row.Row.{Row}
 use Rattle.region_cut.proofs.Ranges.{filter_range_more}
-use Rattle.snapshot.specs.ShotText.{crosses, flight_line, flight_lines}
+use Rattle.snapshot.specs.ShotText.{flight_line, flight_lines}
+use Rattle.region_cut.specs.Joins.{crosses}
 
 -- the lines of those of the first connectors, so many of them, that touch more than one region
 unfoldable pub flights_before : Network → (cut : List ℕ) → List Row → (connectors : ℕ) → List ℕ

@@ -1,17 +1,17 @@
 -- The text of a shot (docs/FORMAT.md, "The shots").
-use Rattle.std.specs.Prelude.{ℕ, Bool, ◌++◌, ◌==◌, List, not, codes, flat_map, length, slice_index}
-use Rattle.std.specs.List.{filter, list_any, range_with_len}
-use Rattle.network_file.specs.Connectors.{cells_of, connector_at}
+use Rattle.std.specs.Prelude.{ℕ, ◌++◌, List, codes, flat_map, length, slice_index}
+use Rattle.std.specs.List.{filter, range_with_len}
+use Rattle.network_file.specs.Cells.{name_at}
+use Rattle.network_file.specs.Connectors.{connector_at}
 use Rattle.network_file.specs.Network.{Network}
 use Rattle.network_file.specs.declared.cell.Cell.{Cell}
-use Rattle.network_file.specs.declared.connector.Connector.{Connector}
 use Rattle.flow_model.specs.State.{row_at}
 use Rattle.flow_model.specs.declared.row.Row.{Row}
 use Rattle.flow_ledger.specs.Books.{books_of}
 use Rattle.flow_ledger.specs.Flight.{flight_of}
 use Rattle.flow_ledger.specs.declared.network_books.Books.{Books}
-use Rattle.line_fields.specs.Fields.{count_field, lines_of, name_at, row_fields, signed_field}
-use Rattle.region_cut.specs.Cuttings.{region_at}
+use Rattle.line_fields.specs.Fields.{count_field, lines_of, row_fields, signed_field}
+use Rattle.region_cut.specs.Joins.{crosses}
 
 -- `shot,number,inside,flight,initial,entered,left`
 unfoldable pub books_line : (number : ℕ) → Books → List ℕ
@@ -35,12 +35,7 @@ row_line name row = codes "row," ++ row_fields name row ++ codes "\n"
 unfoldable pub region_lines : (steps : List ℕ) → List ℕ
 region_lines steps = lines_of (λ r. region_line r (slice_index steps r)) (length steps)
 
--- the connector touches cells of more than one region
-abbrev pub crosses : (cut : List ℕ) → Connector → Bool
-crosses cut connector =
-    list_any (λ i. list_any (λ j. not (region_at cut i == region_at cut j)) (cells_of connector)) (cells_of connector)
-
--- those that do, in the order of the file
+-- the connectors that touch cells of more than one region, in the order of the file
 abbrev pub crossing : Network → (cut : List ℕ) → List ℕ
 crossing net cut = filter (λ k. crosses cut (connector_at net.connectors k)) (range_with_len 0 (length net.connectors))
 

@@ -12,7 +12,8 @@ use Rattle.flow_ledger.specs.declared.network_books.Books.{Books}
 use Rattle.region_cut.specs.Chart.{list_at}
 use Rattle.region_cut.specs.Cuttings.{region_at, region_count}
 use Rattle.region_cut.specs.LawfulSteps.{AreLawful}
-use Rattle.snapshot.specs.ShotText.{crosses, crossing, shot_lines}
+use Rattle.snapshot.specs.ShotText.{crossing, shot_lines}
+use Rattle.region_cut.specs.Joins.{crosses}
 
 -- goal i of so many shots: the goals divide the steps evenly, rounded down
 abbrev pub goal_of : (steps shots i : ℕ) → ℕ

@@ -1,14 +1,13 @@
 ghost use Rattle.std.specs.Prelude.{◌≡◌, ◌++◌, ◌<◌, OnOk, length};
 ghost use Rattle.std.specs.Io.{StartsWith};
-ghost use Rattle.network_file.specs.Connectors.{connector_at};
-ghost use Rattle.snapshot.specs.ShotText.{crosses, flight_line, flight_lines};
+ghost use Rattle.snapshot.specs.ShotText.{flight_line, flight_lines};
 
 use flow_ledger::flight;
 use flow_model::Row;
 use line_fields::{put_count, put_signed};
 use network_file::Net;
 use no_memory::NoMemory;
-use region_cut::{Chart, three_cells};
+use region_cut::{Chart, crosses};
 
 /// Appends a line for each connector that touches cells of more than one region, by its flight.
 pub(crate) fn put_flight_lines(
@@ -42,15 +41,4 @@ fn put_flight_line(text: &mut Vec<u8>, net: &Net, rows: &[Row], k: u32) -> Resul
     put_signed(text, flight(net, rows, k))?;
     text.extend_from_slice(b"\n")?;
     Ok(())
-}
-
-// Whether connector `k` touches cells of more than one region.
-fn crosses(net: &Net, chart: &Chart, k: u32) -> bool
-    requires one_each { length chart.now.cut ≡ length net.now.cells }
-    requires has_connector { k < length net.now.connectors }
-    ensures { result ≡ crosses chart.now.cut (connector_at net.now.connectors k) }
-{
-    let [a, b, c] = three_cells(net.connectors[k as usize]);
-    let region = chart.region_of(a);
-    region != chart.region_of(b) || region != chart.region_of(c)
 }

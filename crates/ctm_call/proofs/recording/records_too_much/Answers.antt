@@ -1,7 +1,7 @@
 use Rattle.std.proofs.Common.{◌≡◌, ◌≤◌, ◌*◌, ◌^◌, length, arith, ap, subst}
 use Rattle.std.proofs.Math.Nat.{mul-le-mul_right}
 use Rattle.network_file.specs.Network.{IsNetwork}
-use Rattle.region_cut.proofs.ConnectorCells.{few_cells}
+use Rattle.network_file.proofs.NetworkFacts.{few_cells}
 use Rattle.ctm_call.proofs.recording.records_too_much.Goals as goal
 
 pub overflow_mul-result : goal.overflow_mul-result

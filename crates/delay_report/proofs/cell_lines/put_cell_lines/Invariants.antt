@@ -1,6 +1,7 @@
 use Rattle.std.proofs.Common.{◌≡◌, ◌++◌}
 use Rattle.flow_model.specs.State.{row_at}
-use Rattle.line_fields.specs.Fields.{lines_of, name_at}
+use Rattle.network_file.specs.Cells.{name_at}
+use Rattle.line_fields.specs.Fields.{lines_of}
 use Rattle.delay_report.specs.Report.{cell_line}
 use Rattle.delay_report.proofs.cell_lines.put_cell_lines.Given as goal
 

@@ -1,7 +1,8 @@
 use Rattle.std.specs.Prelude.{slice_index}
 use Rattle.std.proofs.Common.{◌≡◌, ℕ, ◌<◌, List, ◌++◌, length}
 use Rattle.region_step.specs.declared.note.Note.{Note}
-use Rattle.line_fields.specs.Fields.{lines_of, name_at}
+use Rattle.network_file.specs.Cells.{name_at}
+use Rattle.line_fields.specs.Fields.{lines_of}
 use Rattle.delay_report.specs.Regions.{AreNotesOf}
 use Rattle.delay_report.specs.Report.{note_line}
 use Rattle.delay_report.proofs.note_lines.put_step_lines.Given as goal

@@ -1,7 +1,7 @@
 use Rattle.std.specs.Int.{w128}
 use Rattle.std.proofs.Common.{◌≡◌, ◌<◌, ◌^◌, ℕ, List, ◌++◌, ap, append_assoc, arith, length, pos, rules, subst, to_z, of_z, ◌∙◌}
 use Rattle.network_file.specs.Network.{IsNetwork}
-use Rattle.region_cut.proofs.ConnectorCells.{few_cells}
+use Rattle.network_file.proofs.NetworkFacts.{few_cells}
 use Rattle.flow_ledger.specs.Books.{books_of, entered_of, inside_of, left_of}
 use Rattle.line_fields.specs.Fields.{amount_field}
 use Rattle.flow_model.specs.State.{delay_of}

@@ -7,7 +7,8 @@ use Rattle.network_file.specs.Network.{IsNetwork}
 use Rattle.network_file.specs.declared.connector.Connector.{Connector}
 use Rattle.flow_ledger.specs.Books.{flights_of}
 use Rattle.flow_ledger.specs.Flight.{flight_by}
-use Rattle.flow_ledger.proofs.SignedSums.{IsSumOf, few_connectors, one_flight_more, stored_sum}
+use Rattle.flow_ledger.proofs.SignedSums.{IsSumOf, one_flight_more, stored_sum}
+use Rattle.network_file.proofs.NetworkFacts.{few_connectors}
 use Rattle.flow_ledger.proofs.sums.flights.Goals as goal
 
 pub loop-k-preserved : goal.loop-k-preserved

@@ -18,7 +18,7 @@ returns-in-Ok-clause-end c = λ none.
     let read = rw none at (c.in-Ok.ensures.reads c.requires.plain c.requires.ready) in
     records_left-end (λ (s : Bor (List ℕ)). Some s.now) c.args.reader.now c.read_byte_record.new.self (fields_of c.read_byte_record.new.row) c.requires read
 
-pub want_of_memory-requires : goal.want_of_memory-requires
-want_of_memory-requires c =
+pub out_of_memory-requires : goal.out_of_memory-requires
+out_of_memory-requires c =
     stops_reader-flexible (λ (s : Bor (List ℕ)). Some s.now) c.args.reader.now c.read_byte_record.new.self c.in-Err.error.kind c.requires.flexible
     (c.in-Err.ensures.why c.requires.ready)

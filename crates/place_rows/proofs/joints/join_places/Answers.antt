@@ -1,7 +1,7 @@
 use Rattle.std.specs.Prelude.{All}
 use Rattle.std.proofs.Common.{◌≡◌, ◌<◌, ℕ, true, false, length, get_or, ap, subst, arith}
 use Rattle.network_file.specs.Connectors.{connector_at}
-use Rattle.region_cut.proofs.ConnectorCells.{read_connector}
+use Rattle.network_file.proofs.NetworkFacts.{read_connector}
 use Rattle.timelines.specs.Followed.{IsThere}
 use Rattle.place_rows.specs.Chains.{is_chained, is_link}
 use Rattle.place_rows.proofs.Extending.{joined-chained, joined-none, joined-odd}

@@ -1,7 +1,7 @@
 use Rattle.std.specs.Prelude.{slice_index, slice_index_or}
 use Rattle.std.proofs.Common.{◌≡◌, ℕ, zero, suc, ◌<◌, [], ◌∷◌, ap, arith, subst, sym, ◌∙◌}
 use Rattle.network_file.specs.Connectors.{connector_at}
-use Rattle.region_cut.proofs.ConnectorCells.{read_connector}
+use Rattle.network_file.proofs.NetworkFacts.{read_connector}
 use Rattle.region_cut.specs.ConnectorCells.{three_cells}
 use Rattle.place_rows.specs.Carrying.{IsSpotOf}
 use Rattle.place_rows.specs.declared.spot.Spot.TheVariants.{Own}

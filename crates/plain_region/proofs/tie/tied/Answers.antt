@@ -1,7 +1,7 @@
 use Rattle.std.specs.Prelude.{slice_index}
 use Rattle.std.proofs.Common.{◌≡◌, ℕ, zero, suc, ◌<◌, [], ◌∷◌, ap, arith, subst, sym, ◌∙◌}
 use Rattle.network_file.specs.Connectors.{connector_at}
-use Rattle.region_cut.proofs.ConnectorCells.{read_connector}
+use Rattle.network_file.proofs.NetworkFacts.{read_connector}
 use Rattle.region_cut.specs.ConnectorCells.{three_cells}
 use Rattle.plain_region.specs.Layout.{IsPlaceOf, place_at}
 use Rattle.place_rows.proofs.Known.{known_cell}

@@ -8,7 +8,8 @@ use Rattle.region_cut.specs.Chart.{connectors_of}
 use Rattle.region_cut.specs.Cuttings.{region_at}
 use Rattle.region_cut.specs.Joins.{touches_region}
 use Rattle.region_cut.proofs.Anys.{list_any-map}
-use Rattle.region_cut.proofs.ConnectorCells.{read_connector, same_cells-there}
+use Rattle.network_file.proofs.NetworkFacts.{read_connector}
+use Rattle.region_cut.proofs.ConnectorCells.{same_cells-there}
 use Rattle.region_cut.proofs.ListsByRegion.{lists_are}
 use Rattle.region_cut.proofs.Ranges.{filter_range_more}
 use Rattle.region_cut.proofs.connector_lists.connectors_by_region.Goals as goal

@@ -6,7 +6,8 @@ use Rattle.network_file.specs.Connectors.{cells_of, connector_at}
 use Rattle.network_file.specs.Network.{IsNetwork}
 use Rattle.region_cut.specs.Cuttings.{region_at}
 use Rattle.region_cut.specs.Joins.{leaves_region}
-use Rattle.region_cut.proofs.ConnectorCells.{read_connector, same_cells-there}
+use Rattle.network_file.proofs.NetworkFacts.{read_connector}
+use Rattle.region_cut.proofs.ConnectorCells.{same_cells-there}
 use Rattle.region_cut.proofs.MetCells.{connectors_of-at, found_leaving, found_leaving-more, found_leaving-none, met_by-is}
 use Rattle.region_cut.proofs.met.met.Goals.{then-leaves+in_ok-extend_from_slice, else-leaves}
 use Rattle.region_cut.proofs.met.met.Goals as goal

@@ -4,7 +4,7 @@ use Rattle.signal_plan.proofs.merge.merge.Goals as goal
 pub loop-i-init : goal.loop-i-init
 loop-i-init g c =
     rw (c.none-old.ensures, c.none-new.ensures, c.new-merged.ensures.items)
-    (IsMerged-none g.T.Join.joined g.T.Join.none c.args.older.now c.args.newer.now g.met.T.Join.none_joined)
+    (IsMerged-none g.T.Join.joined g.T.Join.none c.args.older.now c.args.newer.now (g.met.T.Join.none_joined g.T.Join.none))
 
 pub join-requires : goal.join-requires
 join-requires g c =

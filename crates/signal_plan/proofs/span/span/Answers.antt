@@ -5,7 +5,7 @@ use Rattle.signal_plan.proofs.span.span.Goals.{then-from-to+in_ok-push+in_ok-pus
 pub returns-clause-in_force : goal.returns-clause-in_force
 returns-clause-in_force g c t = elim c.if-from-to.branch [
   | then-from-to+in_ok-push+in_ok-push-2 w ↦
-      rw (w.changes-is, w.in_ok-push-2.ensures.items, w.in_ok-push.ensures.items, c.new-changes.ensures.items, w.none.ensures)
+      rw (w.changes-is, w.in_ok-push-2.ensures.items, w.in_ok-push.ensures.items, c.new-changes.ensures.items, w.none.ensures, w.from.ensures, w.from-then-from-to.ensures)
       (in_force_span g.T.Join.none c.args.value c.args.from c.args.to t w.if-from-to.true)
   | else-from-to w ↦
       rw (w.changes-is, c.new-changes.ensures.items, in_range-none c.args.from c.args.to t w.if-from-to.false)

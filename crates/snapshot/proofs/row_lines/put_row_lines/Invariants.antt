@@ -1,6 +1,7 @@
 use Rattle.std.proofs.Common.{◌≡◌, ◌++◌}
 use Rattle.flow_model.specs.State.{row_at}
-use Rattle.line_fields.specs.Fields.{lines_of, name_at}
+use Rattle.network_file.specs.Cells.{name_at}
+use Rattle.line_fields.specs.Fields.{lines_of}
 use Rattle.snapshot.specs.ShotText.{row_line}
 use Rattle.snapshot.proofs.row_lines.put_row_lines.Given as goal
 

@@ -1,4 +1,4 @@
-use Rattle.std.proofs.Common.{◌≡◌, ◌⊎◌, ℕ, arith, rules}
+use Rattle.std.proofs.Common.{◌≡◌, ◌⊎◌, ℕ, arith, refl, rules}
 use Rattle.std.specs.List.{IsDistinct}
 use Rattle.std.proofs.lemmas.List.Elements.{All-nil}
 use Rattle.signal_plan.specs.Records.{no_records}
@@ -29,9 +29,12 @@ sound-empty_draft format known = record {
       demands = All-nil _;
       few_turns = omega arith;
       turns = All-nil _;
+      no_turns = λ first. refl;
     };
+    turns_diverge = All-nil _;
   };
   regions = All-nil _;
+  no_regions = λ first. refl;
 }
 
 pub invariant_of-result : goal.invariant_of-result

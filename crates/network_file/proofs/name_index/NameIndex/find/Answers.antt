@@ -2,8 +2,8 @@ use Rattle.std.proofs.Common.{◌≡◌, ◌<◌, ◌-◌, ◌∙◌, [], Some, 
 use Rattle.std.specs.Prelude.{bytes_eq, slice_index}
 use Rattle.std.specs.Cmp.Lexicographic.{bytes_decides}
 use Rattle.std.proofs.lemmas.List.{get_or-map, get_or_read_under}
-use Rattle.network_file.specs.Cells.{cell_named}
-use Rattle.network_file.specs.NameIndexing.{IsChainEnd, bucket_of, name_at}
+use Rattle.network_file.specs.Cells.{cell_named, name_at}
+use Rattle.network_file.specs.NameIndexing.{IsChainEnd, bucket_of}
 use Rattle.network_file.proofs.NameLemmas.{cell_named-none, passed-earlier}
 use Rattle.network_file.proofs.name_index.NameIndex.find.Goals as goal
 

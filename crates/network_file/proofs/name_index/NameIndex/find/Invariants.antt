@@ -1,6 +1,7 @@
 use Rattle.std.proofs.Common.{ℕ, ◌≡◌, ◌<◌, ◌≤◌, ◌-◌, false, length}
 use Rattle.std.specs.Prelude.{bytes_eq}
-use Rattle.network_file.specs.NameIndexing.{bucket_of, name_at}
+use Rattle.network_file.specs.Cells.{name_at}
+use Rattle.network_file.specs.NameIndexing.{bucket_of}
 use Rattle.network_file.proofs.name_index.NameIndex.find.Given as goal
 
 -- none of the cells from the end on has the name, and the last one before it is in the name's bucket

@@ -7,7 +7,7 @@ use Rattle.region_cut.specs.Cuttings.{region_count}
 use Rattle.region_cut.specs.Gathered.{met_by}
 use Rattle.region_cut.proofs.Charting.{AreLists, are_lists, border-are, border-increasing, cells-are, chart-is, halo-are, halo-there, length-lists, met-CanPlace, met-there, neighbours-are, regions_there}
 use Rattle.region_cut.proofs.ChartLaws.{chart_of-IsChart}
-use Rattle.region_cut.proofs.ConnectorCells.{few_cells}
+use Rattle.network_file.proofs.NetworkFacts.{few_cells}
 use Rattle.region_cut.proofs.chart.Chart.new.Goals as goal
 
 pub cells_by_region-requires-clause-numbered : goal.cells_by_region-requires-clause-numbered

@@ -1,10 +1,22 @@
-use Rattle.signal_plan.proofs.Changes.{in_force-nil}
+use Rattle.std.specs.Prelude.{sum_by}
+use Rattle.std.proofs.Common.{◌<◌, ◌^◌, ap, subst, sym, ◌∙◌}
+use Rattle.std.proofs.lemmas.Result.{IfOk-weaker}
+use Rattle.signal_plan.specs.CellRecords.{brings}
+use Rattle.signal_plan.specs.Records.{DemandRecord, in_range}
+use Rattle.signal_plan.proofs.Given.{given_by-sum}
 use Rattle.signal_plan.proofs.cell_plan.CellPlan.demand_changes.Goals as goal
 
-pub returns-in-None-clause-in_force : goal.returns-in-None-clause-in_force
-returns-in-None-clause-in_force c t = rw (c.new.ensures.items, ← c.self.view_is, c.in-None.is) (in_force-nil 0 t)
-
-pub demand_changes-requires : goal.demand_changes-requires
-demand_changes-requires c = record {
-  fits = λ t. rw c.deref.ensures (rw (← c.self.view_is, c.in-Some.is) at (c.requires.fits t));
+pub record_changes-requires : goal.record_changes-requires
+record_changes-requires c = record {
+  fits = λ t.
+      let given = given_by-sum (λ (d : DemandRecord). d.amount) (λ d step. in_range d.from d.to step) c.demands.result.now t in
+      subst (λ amount. amount < 2 ^ 64) (sym (given ∙ ap (sum_by (λ demand. brings demand t)) c.demands.ensures)) (c.requires.fits t);
 }
+
+pub returns-clause-in_force : goal.returns-clause-in_force
+returns-clause-in_force c =
+    IfOk-weaker c.record_changes.result _ _ (λ changes same t.
+    same t ∙
+    given_by-sum (λ (d : DemandRecord). d.amount) (λ d step. in_range d.from d.to step) c.demands.result.now t ∙
+    ap (sum_by (λ demand. brings demand t)) c.demands.ensures)
+    c.record_changes.ensures.in_force

@@ -1,0 +1,19 @@
+use crate::cell::Cell;
+use crate::connector::Connector;
+use crate::region_record::RegionRecord;
+use signal_plan::{Demand, Limit, Signal, Turn};
+
+/// What a record of the file says, before a draft has taken it.
+#[derive(Drop)]
+pub(crate) enum Entry {
+    /// The number of steps.
+    Steps(u32),
+    /// A cell and its capacity.
+    Cell(Cell, u64),
+    Connector(Connector),
+    Signal(Signal),
+    Limit(Limit),
+    Demand(Demand),
+    Turn(Turn),
+    Region(RegionRecord),
+}

@@ -1,0 +1,8 @@
+-- What records give together.
+use Rattle.std.specs.Prelude.{ℕ, Bool, if◌then◌else◌, List, [], ◌∷◌}
+
+-- what the records give in step t, each in the steps that it speaks of: what the first and then the later ones give, joined
+abbrev pub given_by : {R X : Type 0} → (none : X) → (joined : X → X → X) → (speaks : R → ℕ → Bool) → (gives : R → X) → List R → (t : ℕ) → X
+given_by none joined speaks gives [] t = none
+given_by none joined speaks gives (r ∷ rs) t =
+    joined (if speaks r t then gives r else none) (given_by none joined speaks gives rs t)
