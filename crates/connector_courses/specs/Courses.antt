@@ -3,7 +3,7 @@ use Rattle.std.specs.Prelude.{◌≡◌, ℕ, ◌<◌, ◌≤◌, Bool, true, fa
 use Rattle.signal_plan.specs.Capacity.{capacity_at}
 use Rattle.signal_plan.specs.Green.{green_at}
 use Rattle.signal_plan.specs.Records.{PlanRecords}
-use Rattle.signal_plan.specs.declared.bounds.TheConstants.{MOST_STEPS}
+use Rattle.signal_plan.specs.Limits.{most_steps}
 use Rattle.timelines.specs.Courses.{light_at, value_at}
 use Rattle.connector_courses.specs.Weights.{AreWeights, weights_at}
 use Rattle.connector_courses.specs.declared.cell_course.CellCourse.{CellCourse}
@@ -75,7 +75,7 @@ pub record AreInForce (courses : Courses) (limits : Limits) (step until : ℕ) :
 
 -- where nothing changes no courses are kept, and the limits stay past the last step that there may be
 abbrev pub AreKept : Option Courses → Limits → (step until : ℕ) → Type 0
-AreKept None limits step until = MOST_STEPS < until
+AreKept None limits step until = most_steps < until
 AreKept (Some courses) limits step until = AreInForce courses limits step until
 
 -- what bounds the flow in step t by the courses that are kept, or by limits that never change

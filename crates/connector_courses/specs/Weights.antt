@@ -1,6 +1,6 @@
 -- The weights of a connector from step to step.
 use Rattle.std.specs.Prelude.{ℕ, ◌≤◌}
-use Rattle.signal_plan.specs.declared.bounds.TheConstants.{MOST_RATIO}
+use Rattle.signal_plan.specs.Limits.{most_ratio}
 use Rattle.signal_plan.specs.declared.change.Change.{Change}
 use Rattle.timelines.specs.Courses.{value_at}
 use Rattle.connector_courses.specs.declared.weight_course.WeightCourse.{WeightCourse}
@@ -11,7 +11,7 @@ weights_at weights t = (value_at weights.first t, value_at weights.second t)
 
 -- a priority or a turning share
 abbrev pub IsWeight : (weight : ℕ) → Type 0
-IsWeight weight = (1 ≤ weight) × (weight ≤ MOST_RATIO)
+IsWeight weight = (1 ≤ weight) × (weight ≤ most_ratio)
 
 -- so are both in each step
 pub record AreWeights (weights : WeightCourse) : Type 0 where
