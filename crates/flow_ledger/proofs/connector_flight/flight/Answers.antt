@@ -1,7 +1,7 @@
 use Rattle.std.proofs.Common.{◌≡◌, arith, subst, sym, ap, ◌∙◌}
 use Rattle.std.proofs.lemmas.Int.{ints}
 use Rattle.network_file.specs.Network.{IsNetwork}
-use Rattle.flow_model.proofs.CellKinds.{read_connector}
+use Rattle.network_file.proofs.NetworkFacts.{read_connector}
 use Rattle.flow_ledger.specs.Flight.{flight_by, flight_of}
 use Rattle.flow_ledger.proofs.FlightLaws.{flight-at_one_step, flight-law}
 use Rattle.flow_ledger.proofs.LinkFlights.{link-flight-law}
