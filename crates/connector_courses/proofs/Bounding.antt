@@ -2,7 +2,7 @@
 use Rattle.std.specs.Prelude.{Option, Some, None}
 use Rattle.std.proofs.Common.{◌≡◌, ℕ, ◌<◌, ◌≤◌, refl, sym, ◌∙◌, arith}
 use Rattle.timelines.specs.Courses.{IsSteady}
-use Rattle.signal_plan.specs.declared.bounds.TheConstants.{MOST_STEPS}
+use Rattle.signal_plan.specs.Limits.{most_steps}
 use Rattle.connector_courses.specs.Courses.{AreInForce, AreKept, HaveCome, cell_most, limits_of_courses, limits_in, moved_to}
 use Rattle.connector_courses.specs.Weights.{AreWeights, weights_at}
 use Rattle.connector_courses.specs.declared.courses.Courses.{Courses}
@@ -77,7 +77,7 @@ pub kept-later : (courses : Option Courses) (limits : Limits) (step t until : �
 kept-later None limits step t until has forward before = has
 kept-later (Some courses) limits step t until has forward before = in_force-later courses limits step t until has forward before
 
-pub kept-lasting : (courses : Option Courses) (limits : Limits) (step t until : ℕ) → courses ≡ None → AreKept courses limits step until → t ≤ MOST_STEPS →
+pub kept-lasting : (courses : Option Courses) (limits : Limits) (step t until : ℕ) → courses ≡ None → AreKept courses limits step until → t ≤ most_steps →
     AreKept courses limits t until
 kept-lasting None limits step t until none has in_time = has
 kept-lasting (Some courses) limits step t until none has in_time = cc

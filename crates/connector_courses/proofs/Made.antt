@@ -9,8 +9,7 @@ use Rattle.network_file.specs.Network.{IsNetwork, IsSoundConnector, Network}
 use Rattle.network_file.specs.declared.connector.Connector.{Connector}
 use Rattle.network_file.specs.declared.connector.Connector.TheVariants.{Link, Merge, Diverge}
 use Rattle.flow_model.specs.Between.{flow_between}
-use Rattle.network_file.proofs.NetworkFacts.{connector_at-sound}
-use Rattle.network_file.proofs.NetworkFacts.{read_connector}
+use Rattle.network_file.proofs.NetworkFacts.{connector_at-sound, read_connector}
 use Rattle.connector_courses.specs.Courses.{limits_by}
 use Rattle.connector_courses.specs.Flows.{ConnectorValues, carried_by, flow_at, limits_of}
 use Rattle.connector_courses.specs.Following.{IsCourseOf, IsMadeOf}

@@ -11,7 +11,7 @@ use Rattle.network_file.specs.Network.{IsNetwork, Network}
 use Rattle.network_file.specs.declared.cell.Cell.{Cell}
 use Rattle.network_file.specs.declared.cell.Kind.{Kind}
 use Rattle.network_file.specs.declared.cell.Kind.TheVariants.{Road, Gate, Exit}
-use Rattle.network_file.specs.declared.limits.TheConstants.{MOST_CAPACITY}
+use Rattle.network_file.specs.Limits.{most_capacity}
 use Rattle.flow_model.specs.Bounds.{IsHeldInBounds}
 use Rattle.flow_model.specs.Limits.{receiving_at, room_at, room_by, sending_at}
 use Rattle.flow_model.proofs.CellKinds.{cell_at}
@@ -40,7 +40,7 @@ pub has-space : (net : Network) (t i n : ℕ) → IsNetwork net → t < net.step
 has-space net t i n sound before has bounds =
     let here = cell_at net.cells i has in
     let q : ℕ = capacity_at net.plan i t in
-    let few : q ≤ MOST_CAPACITY = capacity_at-le net t i sound has in
+    let few : q ≤ most_capacity = capacity_at-le net t i sound has in
     let steps = sound.few_steps in
     let road = rw here.1 at bounds.road in
     let gate = rw here.1 at bounds.gate in

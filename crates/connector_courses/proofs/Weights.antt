@@ -6,7 +6,7 @@ use Rattle.std.proofs.lemmas.List.Elements.{All-weaker}
 use Rattle.signal_plan.specs.Changes.{in_force, IsRising}
 use Rattle.signal_plan.specs.Records.{TurnRecord}
 use Rattle.signal_plan.specs.Turning.{shares_at}
-use Rattle.signal_plan.specs.declared.bounds.TheConstants.{MOST_STEPS}
+use Rattle.signal_plan.specs.Limits.{most_steps}
 use Rattle.signal_plan.specs.declared.change.Change.{Change}
 use Rattle.signal_plan.proofs.Changes.{in_force-map, in_force-nil, IsRising-map}
 use Rattle.signal_plan.proofs.Laws.{shares_at-all}
@@ -77,7 +77,7 @@ pub shares-within : (net : Network) (weights : WeightCourse) (up b1 b2 : ℕ) �
     ((t : ℕ) → weights_at weights t ≡ shares_at net.plan up t (b1, b2)) → AreWeights weights
 shares-within net weights up b1 b2 sound first second is =
     let turns : All (λ turn. IsWeight turn.b1 × IsWeight turn.b2) net.plan.turns =
-    All-weaker (λ (turn : TurnRecord). (turn.to ≤ MOST_STEPS) × IsTurnWithin turn) (λ turn. IsWeight turn.b1 × IsWeight turn.b2)
+    All-weaker (λ (turn : TurnRecord). (turn.to ≤ most_steps) × IsTurnWithin turn) (λ turn. IsWeight turn.b1 × IsWeight turn.b2)
     (λ turn within. ((within.1.some_first, within.1.first), (within.1.some_second, within.1.second))) net.plan.turns sound.sound.planned.turns in
     let each : (t : ℕ) → IsWeight (shares_at net.plan up t (b1, b2)).0 × IsWeight (shares_at net.plan up t (b1, b2)).1 =
     λ t. shares_at-all (λ shares. IsWeight shares.0 × IsWeight shares.1) net.plan up t (b1, b2) (first, second) turns in

@@ -1,13 +1,13 @@
 -- Each step keeps the rows in bounds.
 use Rattle.std.proofs.Common.{◌≡◌, inl, inr, ℕ, ◌+◌, ◌*◌, ◌<◌, ◌≤◌, true, false, length, arith}
 use Rattle.std.proofs.lemmas.Bool.{cases_Bool}
-use Rattle.fixed_flow.specs.declared.amount.TheConstants.{MOST_PARTS}
+use Rattle.fixed_flow.specs.Limits.{most_parts}
 use Rattle.signal_plan.specs.Demand.{demand_at}
-use Rattle.signal_plan.specs.declared.bounds.TheConstants.{MOST_STEPS}
+use Rattle.signal_plan.specs.Limits.{most_steps}
 use Rattle.signal_plan.proofs.Laws.{demand_from_more}
 use Rattle.network_file.specs.Cells.{is_gate_at, is_exit_at}
 use Rattle.network_file.specs.Network.{Network, IsNetwork, IsSoundCell}
-use Rattle.network_file.specs.declared.limits.TheConstants.{MOST_CAPACITY, MOST_ROOM}
+use Rattle.network_file.specs.Limits.{most_capacity, most_room}
 use Rattle.flow_model.specs.Flows.{inflow, outflow}
 use Rattle.flow_model.specs.Rows.{moved_row}
 use Rattle.flow_model.specs.Bounds.{is_road_at, room_parts_at, IsHeldInBounds, IsRowInBounds}
@@ -19,10 +19,10 @@ use Rattle.flow_model.proofs.Flows.{outflow-le, inflow-le, outflow-exit}
 -- what a step may bring to a cell that holds n, and what it may take
 pub record IsChange (net : Network) (t i n enters leaves : ℕ) : Type 0 where
   pub held : leaves ≤ n
-  pub sent : leaves ≤ MOST_CAPACITY
+  pub sent : leaves ≤ most_capacity
   pub exit : is_exit_at net.cells i ≡ true → leaves ≡ 0
   pub demand : is_gate_at net.cells i ≡ true → enters ≡ demand_at net.plan i t
-  pub received : is_gate_at net.cells i ≡ false → enters ≤ MOST_CAPACITY
+  pub received : is_gate_at net.cells i ≡ false → enters ≤ most_capacity
   pub room : is_road_at net.cells i ≡ true → n ≤ room_parts_at net.cells i → n + enters ≤ room_parts_at net.cells i
 
 -- no more than a whole step brings and takes is such a change
@@ -44,14 +44,14 @@ changes net t i n enters leaves sound has demand brings takes =
     }
 
 -- the room of a cell is within its limit
-room_parts_at-le : (net : Network) (i : ℕ) → IsNetwork net → i < length net.cells → room_parts_at net.cells i ≤ MOST_ROOM
+room_parts_at-le : (net : Network) (i : ℕ) → IsNetwork net → i < length net.cells → room_parts_at net.cells i ≤ most_room
 room_parts_at-le net i sound has =
     let here = cell_at net.cells i has in
     rw here.1 ((All-at IsSoundCell net.cells i here.0 here.1 sound.sound.sound_cells).room)
 
 -- what a cell that is no exit holds
 pub held-le : (net : Network) (t i n : ℕ) → IsNetwork net → i < length net.cells → is_exit_at net.cells i ≡ false →
-    IsHeldInBounds net t i n → n ≤ MOST_PARTS
+    IsHeldInBounds net t i n → n ≤ most_parts
 held-le net t i n sound has no_exit bounds = elim (kinds_at net.cells i has) [
   | inl road ↦ omega (arith, bounds.road road, room_parts_at-le net i sound has)
   | inr other ↦ elim other [ inl gate ↦ omega (arith, bounds.gate gate) | inr exit ↦ absurd cc ]
@@ -82,10 +82,10 @@ moved_row-in_bounds net t i row enters leaves sound before has bounds change = r
 
 -- a row in bounds fits the machine's numbers
 pub record IsSmall (row : Row) : Type 0 where
-  pub n : row.n ≤ MOST_STEPS * MOST_CAPACITY
-  pub come : row.come ≤ MOST_STEPS * MOST_CAPACITY
-  pub gone : row.gone ≤ MOST_STEPS * MOST_CAPACITY
-  pub wait : row.wait ≤ MOST_STEPS * MOST_PARTS
+  pub n : row.n ≤ most_steps * most_capacity
+  pub come : row.come ≤ most_steps * most_capacity
+  pub gone : row.gone ≤ most_steps * most_capacity
+  pub wait : row.wait ≤ most_steps * most_parts
 
 pub small : (net : Network) (t i : ℕ) (row : Row) → IsNetwork net → t ≤ net.steps → i < length net.cells →
     IsRowInBounds net t i row → IsSmall row

@@ -1,14 +1,10 @@
--- The cell of a number, and its kind; the connector of a number.
+-- The cell of a number, and its kind.
 use Rattle.std.specs.Prelude.{slice_get, All, Option, Some, None}
 use Rattle.std.specs.Option.{option_map_or}
-use Rattle.std.proofs.Common.{◌≡◌, ℕ, ◌<◌, ◌⊎◌, inl, inr, true, false, List, length, get_or, arith, refl, sym, subst, ap, ◌∙◌}
-use Rattle.std.proofs.lemmas.List.{get_or_default}
+use Rattle.std.proofs.Common.{◌≡◌, ℕ, ◌<◌, ◌⊎◌, inl, inr, true, false, List, length, arith, refl, subst}
 use Rattle.std.proofs.lemmas.Option.{slice_get_cases, slice_get_within, get_or_from_slice_get}
 use Rattle.network_file.specs.Cells.{is_road, is_gate, is_exit, is_gate_at, is_exit_at}
-use Rattle.network_file.specs.Connectors.{connector_at}
 use Rattle.network_file.specs.declared.cell.Cell.{Cell}
-use Rattle.network_file.specs.declared.connector.Connector.{Connector}
-use Rattle.network_file.specs.declared.connector.Connector.TheVariants.{Link}
 use Rattle.network_file.specs.declared.cell.Kind.{Kind}
 use Rattle.network_file.specs.declared.cell.Kind.TheVariants.{Road, Gate, Exit}
 use Rattle.flow_model.specs.Bounds.{is_road_at}

@@ -7,11 +7,11 @@ use Rattle.ordinary_link.proofs.Bounds.{sending_flow-le-held, sending_flow-le-ca
 use Rattle.signal_plan.specs.Capacity.{capacity_at}
 use Rattle.signal_plan.specs.Green.{green_at}
 use Rattle.signal_plan.specs.Records.{LimitRecord}
-use Rattle.signal_plan.specs.declared.bounds.TheConstants.{MOST_STEPS}
+use Rattle.signal_plan.specs.Limits.{most_steps}
 use Rattle.signal_plan.proofs.Laws as plan
 use Rattle.network_file.specs.Cells.{is_road}
 use Rattle.network_file.specs.Network.{Network, IsNetwork, IsSoundCell}
-use Rattle.network_file.specs.declared.limits.TheConstants.{MOST_CAPACITY}
+use Rattle.network_file.specs.Limits.{most_capacity}
 use Rattle.network_file.specs.declared.cell.Cell.{Cell}
 use Rattle.network_file.specs.declared.cell.Kind.{Kind}
 use Rattle.network_file.specs.declared.cell.Kind.TheVariants.{Road, Gate, Exit}
@@ -31,11 +31,11 @@ pub receiving_at-le-capacity : (net : Network) (t i n : ℕ) → receiving_at ne
 unfolding receiving_at
 receiving_at-le-capacity net t i n = receiving_flow-le-capacity n (capacity_at net.plan i t) (room_at net.cells i)
 
-pub capacity_at-le : (net : Network) (t i : ℕ) → IsNetwork net → i < length net.cells → capacity_at net.plan i t ≤ MOST_CAPACITY
+pub capacity_at-le : (net : Network) (t i : ℕ) → IsNetwork net → i < length net.cells → capacity_at net.plan i t ≤ most_capacity
 capacity_at-le net t i sound has =
     let planned = sound.sound.planned in
-    plan.capacity_at-le net.plan i t MOST_CAPACITY (omega (arith, planned.one_each)) planned.capacities
-    (All-weaker (λ (l : LimitRecord). (l.to ≤ MOST_STEPS) × (l.capacity ≤ MOST_CAPACITY)) (λ l. l.capacity ≤ MOST_CAPACITY) (λ l both. both.1)
+    plan.capacity_at-le net.plan i t most_capacity (omega (arith, planned.one_each)) planned.capacities
+    (All-weaker (λ (l : LimitRecord). (l.to ≤ most_steps) × (l.capacity ≤ most_capacity)) (λ l. l.capacity ≤ most_capacity) (λ l both. both.1)
     net.plan.limits planned.limits)
 
 -- a road's room is one that the flow rules can take

@@ -10,7 +10,7 @@ use Rattle.merge_rule.proofs.MergeFacts.{merge_of-first_sends, merge_of-second_s
 use Rattle.diverge_rule.proofs.DivergeFacts.{diverge_of-conserved, diverge_of-sends, diverge_of-first_receives, diverge_of-second_receives}
 use Rattle.signal_plan.specs.Records.{TurnRecord}
 use Rattle.signal_plan.specs.Turning.{shares_at}
-use Rattle.signal_plan.specs.declared.bounds.TheConstants.{MOST_STEPS}
+use Rattle.signal_plan.specs.Limits.{most_steps}
 use Rattle.signal_plan.proofs.Laws.{shares_at-all}
 use Rattle.network_file.specs.Connectors.{upstream_of, downstream_of, cells_of, leads_out_of, leads_into}
 use Rattle.network_file.specs.Network.{Network, IsNetwork, IsSoundConnector, IsTurnWithin}
@@ -32,7 +32,7 @@ pub some_shares : (net : Network) (t up b1 b2 : ℕ) → IsNetwork net → 1 ≤
     (1 ≤ (shares_at net.plan up t (b1, b2)).0) × (1 ≤ (shares_at net.plan up t (b1, b2)).1)
 some_shares net t up b1 b2 sound first second =
     shares_at-all (λ shares. (1 ≤ shares.0) × (1 ≤ shares.1)) net.plan up t (b1, b2) (first, second)
-    (All-weaker (λ (turn : TurnRecord). (turn.to ≤ MOST_STEPS) × IsTurnWithin turn) (λ turn. (1 ≤ turn.b1) × (1 ≤ turn.b2))
+    (All-weaker (λ (turn : TurnRecord). (turn.to ≤ most_steps) × IsTurnWithin turn) (λ turn. (1 ≤ turn.b1) × (1 ≤ turn.b2))
     (λ turn within. (within.1.some_first, within.1.some_second)) net.plan.turns sound.sound.planned.turns)
 
 pub flow_between-conserved : (net : Network) (t : ℕ) (connector : Connector) (n : List ℕ) →

@@ -9,7 +9,7 @@ use Rattle.std.proofs.lemmas.List.Sums.{get_or-le-sum_by}
 use Rattle.signal_plan.specs.Total.{demand_from}
 use Rattle.signal_plan.proofs.Laws.{demand_from-le-total_demand}
 use Rattle.network_file.specs.Network.{Network, IsNetwork, IsSoundCell}
-use Rattle.fixed_flow.specs.declared.amount.TheConstants.{MOST_PARTS}
+use Rattle.fixed_flow.specs.Limits.{most_parts}
 use Rattle.network_file.specs.declared.cell.Cell.{Cell}
 use Rattle.flow_model.specs.Flows.{inflow, outflow}
 use Rattle.flow_model.specs.Moves.{begun_row, with_connectors}
@@ -97,7 +97,7 @@ next_rows-in_bounds net t rows sound before bounds = record {
 
 -- what a cell holds at first, and the demand of its gate, are a part of the load
 load-at : (net : Network) (i : ℕ) (cell : Cell) → IsNetwork net → i < length net.cells → get_or net.cells i cell ≡ cell →
-    cell.first + demand_from net.plan i 0 net.steps ≤ MOST_PARTS
+    cell.first + demand_from net.plan i 0 net.steps ≤ most_parts
 load-at net i cell sound has here = omega (
   arith,
   sound.load,

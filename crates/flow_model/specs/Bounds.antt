@@ -5,8 +5,8 @@ use Rattle.signal_plan.specs.Total.{demand_from}
 use Rattle.network_file.specs.Cells.{is_road, is_exit_at, is_gate_at}
 use Rattle.network_file.specs.Network.{Network}
 use Rattle.network_file.specs.declared.cell.Cell.{Cell}
-use Rattle.fixed_flow.specs.declared.amount.TheConstants.{MOST_PARTS}
-use Rattle.network_file.specs.declared.limits.TheConstants.{MOST_CAPACITY}
+use Rattle.fixed_flow.specs.Limits.{most_parts}
+use Rattle.network_file.specs.Limits.{most_capacity}
 use Rattle.flow_model.specs.State.{row_at, occupancy}
 use Rattle.flow_model.specs.declared.row.Row.{Row}
 
@@ -27,8 +27,8 @@ pub record IsHeldInBounds (net : Network) (t i n : ℕ) : Type 0 where
   -- a road never holds more than its room
   pub road : is_road_at net.cells i ≡ true → n ≤ room_parts_at net.cells i
   -- what a gate holds and its demand still to come
-  pub gate : is_gate_at net.cells i ≡ true → n + demand_from net.plan i t net.steps ≤ MOST_PARTS
-  pub exit : is_exit_at net.cells i ≡ true → n ≤ t * MOST_CAPACITY
+  pub gate : is_gate_at net.cells i ≡ true → n + demand_from net.plan i t net.steps ≤ most_parts
+  pub exit : is_exit_at net.cells i ≡ true → n ≤ t * most_capacity
 
 -- occupancies of these cells that are in bounds at step t
 pub record AreHeldInBounds (net : Network) (t : ℕ) (cells n : List ℕ) : Type 0 where
@@ -37,13 +37,13 @@ pub record AreHeldInBounds (net : Network) (t : ℕ) (cells n : List ℕ) : Type
 -- a row of cell i that is in bounds at step t
 pub record IsRowInBounds (net : Network) (t i : ℕ) (row : Row) : Type 0 where
   pub held : IsHeldInBounds net t i row.n
-  pub road_come : is_road_at net.cells i ≡ true → row.come ≤ t * MOST_CAPACITY
-  pub gate_come : is_gate_at net.cells i ≡ true → row.come + demand_from net.plan i t net.steps ≤ MOST_PARTS
+  pub road_come : is_road_at net.cells i ≡ true → row.come ≤ t * most_capacity
+  pub gate_come : is_gate_at net.cells i ≡ true → row.come + demand_from net.plan i t net.steps ≤ most_parts
   pub exit_come : is_exit_at net.cells i ≡ true → row.come ≡ row.n
   pub exit_gone : is_exit_at net.cells i ≡ true → row.gone ≡ 0
   pub exit_wait : is_exit_at net.cells i ≡ true → row.wait ≡ 0
-  pub gone : row.gone ≤ t * MOST_CAPACITY
-  pub wait : row.wait ≤ t * MOST_PARTS
+  pub gone : row.gone ≤ t * most_capacity
+  pub wait : row.wait ≤ t * most_parts
   -- a road or a gate holds what it held at first and what came, less what went
   pub balance : is_exit_at net.cells i ≡ false → row.n + row.gone ≡ first_at net.cells i + row.come
 

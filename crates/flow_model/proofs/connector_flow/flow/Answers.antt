@@ -4,8 +4,7 @@ use Rattle.network_file.specs.Network.{IsNetwork, IsSoundConnector}
 use Rattle.flow_model.specs.Bounds.{AreHeldInBounds}
 use Rattle.flow_model.specs.FlowLaw.{SendsAtMost, ReceivesAtMost}
 use Rattle.flow_model.proofs.Connectors.{flow_between-conserved, flow_between-sends, flow_between-receives}
-use Rattle.network_file.proofs.NetworkFacts.{connector_at-sound}
-use Rattle.network_file.proofs.NetworkFacts.{read_connector}
+use Rattle.network_file.proofs.NetworkFacts.{connector_at-sound, read_connector}
 use Rattle.flow_model.proofs.connector_flow.flow.Goals as goal
 
 pub carried_by-requires-clause-sound : goal.carried_by-requires-clause-sound
