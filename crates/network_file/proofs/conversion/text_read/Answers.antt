@@ -1,4 +1,4 @@
-use Rattle.std.proofs.Common.{◌≡◌, ◌++◌, ◌∙◌, List, ℕ, Bor, Some, ap, drop, sym}
+use Rattle.std.proofs.Common.{◌++◌, ◌∙◌, List, ℕ, Bor, Some, ap, drop, sym}
 use Rattle.std.specs.Prelude.{codes}
 use Rattle.std.specs.List.{flat_map}
 use Rattle.network_file.specs.Converted.{record_line}

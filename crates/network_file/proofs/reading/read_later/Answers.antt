@@ -1,4 +1,4 @@
-use Rattle.std.proofs.Common.{◌≡◌, ◌∙◌, ◌∷◌, [], Bor, List, ℕ, Some, arith, length, ap}
+use Rattle.std.proofs.Common.{◌≡◌, ◌∙◌, [], Bor, List, ℕ, Some, arith, length, ap}
 use Rattle.std.specs.Prelude.{Result}
 use Rattle.csv.specs.Records.{fields_of}
 use Rattle.network_file.specs.Draft.{Draft}
