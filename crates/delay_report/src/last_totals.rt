@@ -6,8 +6,7 @@ ghost use Rattle.delay_report.specs.Ended.{AreAtTheEnd};
 ghost use Rattle.delay_report.specs.Regions.{HaveRows};
 ghost use Rattle.delay_report.specs.Report.{total_line};
 
-use crate::by_cell::ByCell;
-use crate::cell_places::cell_places;
+use crate::cell_rows::cell_rows;
 use crate::total_line::put_total_line;
 use network_file::Net;
 use no_memory::NoMemory;
@@ -33,13 +32,7 @@ pub fn put_last_totals(
         text.new.items ≡ text.old.items ++ total_line net.now (state_at net.now net.now.steps)) }
 {
     let _steps = net.steps;
-    let places = cell_places(alloc, net, chart)?;
-    let by_cell = ByCell {
-        chart,
-        regions,
-        places: &places,
-    };
-    let rows = by_cell.rows(alloc, net)?;
+    let (_places, rows) = cell_rows(alloc, net, chart, regions)?;
     put_total_line(text, net, &rows)?;
     Ok(())
 }

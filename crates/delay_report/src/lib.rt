@@ -16,6 +16,7 @@
 mod by_cell;
 mod cell_lines;
 mod cell_places;
+mod cell_rows;
 mod delay;
 mod last_totals;
 mod note_lines;

@@ -6,8 +6,7 @@ ghost use Rattle.region_step.specs.Standing.{AllStand};
 ghost use Rattle.region_step.specs.Start.{zero_start};
 ghost use Rattle.delay_report.specs.Report.{report_of};
 
-use crate::by_cell::ByCell;
-use crate::cell_places::cell_places;
+use crate::cell_rows::cell_rows;
 use crate::whole_report::report;
 use flow_model::Row;
 use network_file::Net;
@@ -49,12 +48,6 @@ pub fn run_rows(
     ensures rows { IfOk result (λ rows. rows.items ≡ state_at net.now net.now.steps) }
 {
     let _steps = net.steps;
-    let places = cell_places(alloc, net, chart)?;
-    let by_cell = ByCell {
-        chart,
-        regions,
-        places: &places,
-    };
-    let rows = by_cell.rows(alloc, net)?;
+    let (_places, rows) = cell_rows(alloc, net, chart, regions)?;
     Ok(rows)
 }

@@ -12,7 +12,7 @@ ghost use Rattle.delay_report.specs.Report.{report_line, report_of, report_with}
 
 use crate::by_cell::ByCell;
 use crate::cell_lines::put_cell_lines;
-use crate::cell_places::cell_places;
+use crate::cell_rows::cell_rows;
 use crate::note_lines::put_note_lines;
 use crate::total_line::put_total_line;
 use line_fields::put_count;
@@ -49,13 +49,12 @@ pub fn report(
         AreRowsOf chart.now regions.now rows → inside_of net.now rows + left_of net.now rows ≡ initial_of net.now + entered_of net.now rows) }
 {
     let _steps = net.steps;
-    let places = cell_places(alloc, net, chart)?;
+    let (places, rows) = cell_rows(alloc, net, chart, regions)?;
     let by_cell = ByCell {
         chart,
         regions,
         places: &places,
     };
-    let rows = by_cell.rows(alloc, net)?;
     let mut text = Vec::new(alloc);
     put_report_line(&mut text, net)?;
     put_note_lines(&mut text, net, &by_cell, every)?;

@@ -1,4 +1,4 @@
-use Rattle.std.proofs.Common.{◌≡◌, ◌++◌, ap, subst, sym, ◌∙◌}
+use Rattle.std.proofs.Common.{◌++◌, ap, subst, ◌∙◌}
 use Rattle.network_file.specs.Network.{IsNetwork}
 use Rattle.flow_model.specs.State.{state_at}
 use Rattle.delay_report.specs.Report.{total_line}
@@ -10,6 +10,6 @@ returns c = record {
   recurrences = λ start every end.
       let sound = subst IsNetwork c.net.view_is c.net.invariant in
       let last = end-rows_of c.args.net.now c.args.chart.now start every c.args.regions.now sound c.requires.chart c.requires.one_each end in
-      let rows = c.in_ok-rows.ensures.rows (state_at c.args.net.now c.args.net.now.steps) last in
-      c.in_ok-put_total_line.ensures ∙ ap (λ shown. c.args.text.now.items ++ total_line c.args.net.now shown) (c.deref-2.ensures.value ∙ rows);
+      let rows = c.in_ok-_places.ensures.rows (state_at c.args.net.now c.args.net.now.steps) last in
+      c.in_ok-put_total_line.ensures ∙ ap (λ shown. c.args.text.now.items ++ total_line c.args.net.now shown) (c.deref.ensures.value ∙ rows);
 }

@@ -10,7 +10,7 @@ pub returns-clause-balance : goal.returns-clause-balance
 returns-clause-balance c = λ start rows end are.
     let sound = subst IsNetwork c.net.view_is c.net.invariant in
     let last = end-rows_of c.args.net.now c.args.chart.now start c.args.every c.args.regions.now sound c.requires.chart c.requires.one_each end in
-    let same = sym (c.in_ok-rows.ensures.rows rows are) ∙ c.in_ok-rows.ensures.rows (state_at c.args.net.now c.args.net.now.steps) last in
+    let same = sym (c.in_ok-places.ensures.rows rows are) ∙ c.in_ok-places.ensures.rows (state_at c.args.net.now c.args.net.now.steps) last in
     rw same (state-balance c.args.net.now c.args.net.now.steps sound (omega arith))
 
 pub returns-clause-text : goal.returns-clause-text
