@@ -120,6 +120,7 @@ def test_git_ignores_what_the_commands_write_at_the_top(tmp_path):
     made += [f"{study.stem}.sweep/results.csv" for study in studies]
     made += [f"{study.stem}-{plot}.{ending}" for study in studies for plot in ("queue", "time-space", "difference")
              for ending in ("png", "svg", "pdf")]
+    made += [f"{study.stem}.{ending}" for study in studies for ending in ("html", "geojson")]
     subprocess.run(["git", "init", "-q", tmp_path], check=True)
     (tmp_path / ".gitignore").write_bytes((TOOLS.parent / ".gitignore").read_bytes())
     ignored = subprocess.run(["git", "check-ignore", *map(str, made)], cwd=tmp_path, capture_output=True, text=True)

@@ -29,7 +29,8 @@ only ones."""
 @click.option("--runs", default=80, show_default=True, type=click.IntRange(2, 10_000), help="The most runs.")
 @click.option("--first", default=1, show_default=True, type=click.IntRange(1, 10_000),
               help="Of so many values, or combinations, the nearest is where the search begins.")
-@click.option("-j", "--jobs", default=1, show_default=True, type=click.IntRange(1, 256), help="Of these, runs side by side.")
+@click.option("-j", "--jobs", default=1, show_default=True, type=click.IntRange(1, 256),
+              help="Of these, runs side by side.")
 @click.option("--dask", "address", metavar="ADDRESS", help="The scheduler of a Dask cluster that makes them.")
 @click.option("-o", "--output", metavar="FILE.png|svg|pdf", type=click.Path(), help="Where the plot goes.")
 def command(study: str, observed: str, varied: tuple[str, ...], runs: int, first: int, jobs: int, address: str | None,

@@ -38,7 +38,7 @@ def command(detector: str, lanes: float, output: str | None) -> None:
         raise Problem(f"{detector}: {problem}") from None
     click.echo(f"free_flow_speed = {found.speed:.4g}  # km/h\nwave_speed = {found.wave:.4g}  # km/h\n"
                f"jam_density = {found.jam:.4g}  # vehicles/km\nsaturation_flow = {found.capacity:.5g}  # vehicles/h")
-    click.echo(f"\n{found.rows} rows, {found.queued} of them of queued traffic; misses {found.rmse:,.0f} vehicles/h in the "
-               "root mean square")
+    click.echo(f"\n{found.rows} rows, {found.queued} of them of queued traffic; misses {found.rmse:,.0f} vehicles/h in "
+               "the root mean square")
     save(triangle(states, found, f"{Path(detector).stem}: flow and density"), picture)
     click.echo(f"\n{picture}")

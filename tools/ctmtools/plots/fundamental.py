@@ -20,7 +20,8 @@ SPANS = 60  # so many where the seconds of a step aren't known
 def draw(report: Report, interval: str | None = None) -> Figure:
     """Draws a point for each span of `interval`, as "5 min", joined in the order of time."""
     known = report.units.known
-    span = SPAN if known else max(report.steps / SPANS, float(report.times[1] - report.times[0]) if report.recorded else 1)
+    report.need_records()
+    span = SPAN if known else max(report.steps / SPANS, float(report.times[1] - report.times[0]))
     states = network_states(report, float(duration(interval, "--interval")) if interval else span)
     if len(states) < 2:
         raise Problem(f"{report.name}: has a single span; name a shorter one with --interval")

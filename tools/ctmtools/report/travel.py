@@ -26,7 +26,7 @@ Numbers = numpy.ndarray
 
 @dataclass(frozen=True)
 class Trips:
-    """Who enters a chain of cells: how many at which step, and the steps that they need, lacking for who doesn't arrive."""
+    """Who enters a chain of cells: how many at which step, and the steps that they need, lacking without an arrival."""
 
     entered: Numbers
     vehicles: Numbers
