@@ -1,7 +1,7 @@
 ghost use Rattle.std.specs.Prelude.{◌≡◌, List, IfOk, length};
 ghost use Rattle.flow_model.specs.declared.row.Row.{Row as RowValue};
 ghost use Rattle.region_cut.specs.Chart.{chart_of};
-ghost use Rattle.delay_report.specs.Places.{ArePlaced};
+ghost use Rattle.delay_report.specs.Places.{AreCellPlaces};
 ghost use Rattle.delay_report.specs.Regions.{AreRowsOf, HaveRows};
 
 use crate::by_cell::ByCell;
@@ -23,7 +23,7 @@ pub(crate) fn cell_rows(
     requires chart { chart.now ≡ chart_of net.now chart.now.cut }
     requires one_each { length chart.now.cut ≡ length net.now.cells }
     requires rows { HaveRows chart.now regions.now }
-    ensures placed { IfOk result (λ both. ArePlaced chart.now (length net.now.cells) both.0.items) }
+    ensures placed { IfOk result (λ both. AreCellPlaces chart.now (length net.now.cells) both.0.items) }
     ensures one_each { IfOk result (λ both. length both.1.items ≡ length net.now.cells) }
     ensures rows { IfOk result (λ both. (rows : List RowValue) → AreRowsOf chart.now regions.now rows → both.1.items ≡ rows) }
 {
