@@ -1,0 +1,10 @@
+pub mod Content
+pub mod SavedText
+pub mod Numbers
+pub mod Fronts
+pub mod Reading
+pub mod Heads
+pub mod Shown
+pub mod Charting
+pub mod Loading
+pub mod Laws

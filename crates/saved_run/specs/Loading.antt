@@ -1,0 +1,85 @@
+-- What a saved text is to be gone on from, or its first fault.
+use Rattle.std.specs.Prelude.{◌≡◌, ⊤, ℕ, ◌==◌, List, Option, Some, None, Result, Ok, Err, if◌then◌else◌, length, map}
+use Rattle.network_file.specs.Network.{Network}
+use Rattle.network_file.specs.Reading.{network_of}
+use Rattle.region_cut.specs.Chart.{ChartLists, chart_of}
+use Rattle.region_cut.specs.CutFaults.{cut_of}
+use Rattle.region_cut.specs.Cuttings.{region_count}
+use Rattle.region_cut.specs.LawfulSteps.{AreLawful}
+use Rattle.region_cut.specs.declared.fault.CutFault.{CutFault}
+use Rattle.region_step.specs.Start.{Fits, StartLists}
+use Rattle.saved_run.specs.Content.{Content}
+use Rattle.saved_run.specs.declared.fault.LoadFault.{LoadFault}
+use Rattle.saved_run.specs.declared.fault.LoadFault.TheVariants.{Spelling, Network as OfNetwork, Cutting, Start}
+use Rattle.saved_run.specs.declared.fault.LoadRefusal.{LoadRefusal}
+use Rattle.saved_run.specs.declared.fault.LoadRefusal.TheVariants.{Fault, NoMemory}
+use Rattle.saved_run.specs.declared.row_line.RowLine.{RowLine}
+
+-- the region of each cell
+abbrev pub regions_in : List RowLine → List ℕ
+regions_in rows = map (λ line. line.region) rows
+
+-- a cutting, where it has so many regions
+abbrev pub of_regions : (count : ℕ) → Result (List ℕ) CutFault → Option (List ℕ)
+of_regions count (Err fault) = None
+of_regions count (Ok cut) = if region_count cut == count then Some cut else None
+
+-- the cutting of the network that row lines give, where they give one with so many regions
+unfoldable pub cutting_by : Network → (count : ℕ) → List RowLine → Option (List ℕ)
+cutting_by net count rows = of_regions count (cut_of net (regions_in rows))
+
+-- that of a content has a step for each region
+abbrev pub cutting_in : Network → Content → Option (List ℕ)
+cutting_in net content = cutting_by net (length content.steps) content.rows
+
+-- where the regions start
+abbrev pub start_in : Content → StartLists
+start_in content = record {
+  steps = content.steps;
+  rows = map (λ line. line.row) content.rows;
+  earlier = map (λ line. line.earlier) content.rows;
+}
+
+-- the regions can be opened there, and neighbours stand at most one step apart
+pub record CanStart (net : Network) (cut : List ℕ) (start : StartLists) : Type 0 where
+  pub fits : Fits net cut start
+  pub lawful : AreLawful net cut start.steps
+
+-- a content is of this network, cut so
+pub record IsCutSo (content : Content) (net : Network) (cut : List ℕ) : Type 0 where
+  pub network : network_of content.network ≡ Ok net
+  pub cutting : cutting_in net content ≡ Some cut
+
+-- the content is of this network, charted so, and its regions can go on from this start
+pub record GoesOn (content : Content) (net : Network) (chart : ChartLists) (start : StartLists) : Type 0 where
+  pub cut_so : IsCutSo content net chart.cut
+  pub charted : chart ≡ chart_of net chart.cut
+  pub begins : start ≡ start_in content
+  pub can_start : CanStart net chart.cut start
+
+-- a text was read, and a run goes on from its content
+abbrev pub IsLoaded : Option Content → Network → ChartLists → StartLists → Type 0
+IsLoaded None net chart start = ⊥
+IsLoaded (Some content) net chart start = GoesOn content net chart start
+
+-- the first fault of a content
+abbrev pub IsFaultOf : Content → LoadFault → Type 0
+IsFaultOf content Spelling = ⊥
+IsFaultOf content (OfNetwork fault) = network_of content.network ≡ Err fault
+IsFaultOf content Cutting = (net : Network) × (network_of content.network ≡ Ok net) × (cutting_in net content ≡ None)
+IsFaultOf content Start = (net : Network) × (cut : List ℕ) × IsCutSo content net cut × ¬ (CanStart net cut (start_in content))
+
+-- the first fault of a text, by the content that it has
+abbrev pub IsLoadFault : Option Content → LoadFault → Type 0
+IsLoadFault None fault = fault ≡ Spelling
+IsLoadFault (Some content) fault = IsFaultOf content fault
+
+-- the refusal names the first fault; that memory was refused says nothing of the text
+abbrev pub IsLoadRefusal : Option Content → LoadRefusal → Type 0
+IsLoadRefusal found (Fault fault) = IsLoadFault found fault
+IsLoadRefusal found NoMemory = ⊤
+
+-- the same of a content
+abbrev pub IsRefusalOf : Content → LoadRefusal → Type 0
+IsRefusalOf content (Fault fault) = IsFaultOf content fault
+IsRefusalOf content NoMemory = ⊤

@@ -1,0 +1,78 @@
+ghost use Rattle.std.specs.Prelude.{◌≡◌, ◌≤◌, ℕ, List, Ok, Some, IfErr, IfOk, MatchResult, length};
+ghost use Rattle.network_file.specs.Network.{Network};
+ghost use Rattle.network_file.specs.Reading.{network_of};
+ghost use Rattle.network_file.specs.declared.limits.TheConstants.{MOST_BYTES};
+ghost use Rattle.saved_run.specs.Charting.{IsNetworkRefusal};
+ghost use Rattle.region_step.specs.Start.{IsTrueStart};
+ghost use Rattle.saved_run.specs.Content.{Content, IsContent};
+ghost use Rattle.saved_run.specs.Heads.{content_in};
+ghost use Rattle.saved_run.specs.Loading.{GoesOn, IsLoadRefusal, IsLoaded, IsRefusalOf};
+ghost use Rattle.saved_run.specs.Laws.{BeginsTrue};
+ghost use Rattle.saved_run.specs.Reading.{IsTextOf, content_of};
+ghost use Rattle.saved_run.specs.SavedText.{saved_text};
+ghost use Rattle.saved_run.specs.declared.fault.LoadRefusal.TheVariants.{NoMemory};
+
+use crate::chart_in::chart_in;
+use crate::fault::{LoadFault, LoadRefusal};
+use crate::reading::read_content;
+use crate::saved::Saved;
+use crate::saved_head::SavedHead;
+use crate::start_in::{can_start, start_in};
+use network_file::{Net, NetRefusal};
+use std::alloc::Global;
+
+/// Reads a saved text, or tells its first fault.
+pub fn load(alloc: Global, bytes: &[u8]) -> Result<Saved, LoadRefusal>
+    ensures loaded { IfOk result (λ saved. IsLoaded (content_of bytes.now) saved.net saved.chart saved.start) }
+    ensures refusal { IfErr result (IsLoadRefusal (content_of bytes.now)) }
+
+    // A text has at most one content, and each content one text.
+    ensures spelled { (content : Content) → content_of bytes.now ≡ Some content → IsTextOf bytes.now content }
+    ensures read { (content : Content) → IsContent content → content_of (saved_text content) ≡ Some content }
+
+    // A text whose content has a true start is refused only where memory is refused, and goes on from that start.
+    ensures true_start { (net : Network) (cut : List ℕ) → BeginsTrue (content_of bytes.now) net cut →
+        MatchResult result (λ saved. (saved.net ≡ net) × (saved.chart.cut ≡ cut) × IsTrueStart net cut saved.start) (λ refusal. refusal ≡ NoMemory) }
+{
+    match read_content(alloc, bytes)? {
+        Some((head, network)) => saved_of(alloc, head, network),
+        None => Err(LoadRefusal::Fault(LoadFault::Spelling)),
+    }
+}
+
+// The saved run of a content.
+fn saved_of(alloc: Global, head: SavedHead, network: &[u8]) -> Result<Saved, LoadRefusal>
+    requires { length network.now ≤ MOST_BYTES }
+    ensures loaded { IfOk result (λ saved. GoesOn (content_in head network.now) saved.net saved.chart saved.start) }
+    ensures refusal { IfErr result (IsRefusalOf (content_in head network.now)) }
+{
+    let net = network_in(alloc, network)?;
+    started(alloc, net, head)
+}
+
+// The network of a content.
+fn network_in(alloc: Global, network: &[u8]) -> Result<Net, LoadRefusal>
+    requires { length network.now ≤ MOST_BYTES }
+    ensures network { IfOk result (λ net. network_of network.now ≡ Ok net) }
+    ensures refusal { IfErr result (λ refusal. IsNetworkRefusal refusal (network_of network.now)) }
+{
+    match Net::read(alloc, network) {
+        Ok(net) => Ok(net),
+        Err(NetRefusal::Fault(fault)) => Err(LoadRefusal::Fault(LoadFault::Network(fault))),
+        Err(NetRefusal::NoMemory) => Err(LoadRefusal::NoMemory),
+    }
+}
+
+// The saved run of a content, by its network.
+fn started(alloc: Global, net: Net, head: SavedHead) -> Result<Saved, LoadRefusal>
+    ensures loaded { IfOk result (λ saved. (network : List ℕ) → network_of network ≡ Ok net → GoesOn (content_in head network) saved.net saved.chart saved.start) }
+    ensures refusal { IfErr result (λ refusal. (network : List ℕ) → network_of network ≡ Ok net → IsRefusalOf (content_in head network) refusal) }
+{
+    let chart = chart_in(alloc, &net, &head)?;
+    let start = start_in(alloc, head)?;
+    if can_start(&start, &net, &chart) {
+        Ok(Saved { net, chart, start })
+    } else {
+        Err(LoadRefusal::Fault(LoadFault::Start))
+    }
+}

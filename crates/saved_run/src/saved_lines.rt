@@ -1,0 +1,99 @@
+ghost use Rattle.std.specs.Prelude.{◌≡◌, ◌++◌, ◌<◌, ◌^◌, ℕ, All, OnOk, codes, flat_map, length};
+ghost use Rattle.line_fields.specs.Fields.{lines_of};
+ghost use Rattle.snapshot.specs.Rooms.{IsRoomFor};
+ghost use Rattle.saved_run.specs.Content.{IsRowLine};
+ghost use Rattle.saved_run.specs.SavedText.{counted_line, row_counts, row_line};
+ghost use Rattle.saved_run.specs.Shown.{line_shown};
+
+use crate::row_line::RowLine;
+use flow_model::Row;
+use line_fields::put_count;
+use no_memory::NoMemory;
+use region_cut::Chart;
+use snapshot::ShotRoom;
+
+/// Appends a line of a word and a count.
+#[tactic(auto, unfolding(crate::specs::SavedText::counted_line))]
+pub(crate) fn put_counted_line(text: &mut Vec<u8>, word: &[u8], count: u64) -> Result<(), NoMemory>
+    ensures { OnOk result (text.new.items ≡ text.old.items ++ counted_line word.now count) }
+{
+    text.extend_from_slice(word)?;
+    put_count(text, count)?;
+    text.extend_from_slice(b"\n")?;
+    Ok(())
+}
+
+/// Appends a line for each region, by its step.
+pub(crate) fn put_step_lines(text: &mut Vec<u8>, steps: &[u64]) -> Result<(), NoMemory>
+    ensures lines { OnOk result (text.new.items ≡ text.old.items ++ flat_map (counted_line (codes "step")) steps.now) }
+    ensures numbers { OnOk result (All (λ step. step < 2 ^ 64) steps.now) }
+{
+    for step in steps {
+        put_counted_line(text, b"step", *step)?;
+    }
+    Ok(())
+}
+
+/// Appends a line for each cell that the room shows.
+pub(crate) fn put_row_lines(
+    text: &mut Vec<u8>,
+    chart: &Chart,
+    room: &ShotRoom,
+) -> Result<(), NoMemory>
+    requires room { IsRoomFor chart.now room.now }
+    requires few { length chart.now.cut < 2 ^ 32 }
+    ensures lines { OnOk result (text.new.items ≡ text.old.items ++ lines_of (λ i. row_line (line_shown chart.now.cut room.now i)) (length chart.now.cut)) }
+    ensures numbers { OnOk result ((i : ℕ) → i < length chart.now.cut → IsRowLine (line_shown chart.now.cut room.now i)) }
+{
+    for i in 0..room.rows().len() as u32 {
+        put_row_line(text, &line_of(chart, room, i))?;
+    }
+    Ok(())
+}
+
+// What is saved of cell `i`.
+fn line_of(chart: &Chart, room: &ShotRoom, i: u32) -> RowLine
+    requires room { IsRoomFor chart.now room.now }
+    requires there { i < length chart.now.cut }
+    ensures line { result ≡ line_shown chart.now.cut room.now i }
+    ensures numbers { IsRowLine result }
+{
+    let row = room.rows()[i as usize];
+    let earlier = room.earlier()[i as usize];
+    line(chart.region_of(i), row, earlier)
+}
+
+// The line of a cell of a region, whose numbers are those of machine words.
+fn line(region: u32, row: Row, earlier: u64) -> RowLine
+    ensures line { result ≡ record { region = region; row = row; earlier = earlier } }
+    ensures numbers { IsRowLine result }
+{
+    RowLine {
+        region: u64::from(region),
+        row,
+        earlier,
+    }
+}
+
+#[tactic(auto, unfolding(crate::specs::SavedText::row_line))]
+fn put_row_line(text: &mut Vec<u8>, line: &RowLine) -> Result<(), NoMemory>
+    ensures { OnOk result (text.new.items ≡ text.old.items ++ row_line line.now) }
+{
+    text.extend_from_slice(b"row")?;
+    put_count(text, line.region)?;
+    put_row_counts(text, &line.row)?;
+    put_count(text, line.earlier)?;
+    text.extend_from_slice(b"\n")?;
+    Ok(())
+}
+
+#[tactic(auto, unfolding(crate::specs::SavedText::row_counts))]
+fn put_row_counts(text: &mut Vec<u8>, row: &Row) -> Result<(), NoMemory>
+    ensures { OnOk result (text.new.items ≡ text.old.items ++ row_counts row.now) }
+{
+    put_count(text, row.n)?;
+    put_count(text, row.come)?;
+    put_count(text, row.gone)?;
+    put_count(text, row.wait)?;
+    Ok(())
+}

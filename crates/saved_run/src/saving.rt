@@ -1,0 +1,44 @@
+ghost use Rattle.std.specs.Prelude.{◌≡◌, ◌<◌, ◌≤◌, ◌^◌, IfOk, Some, length};
+ghost use Rattle.network_file.specs.declared.limits.TheConstants.{MOST_BYTES};
+ghost use Rattle.snapshot.specs.Rooms.{IsRoomFor};
+ghost use Rattle.network_file.specs.Network.{Network};
+ghost use Rattle.region_step.specs.Start.{StartLists};
+ghost use Rattle.saved_run.specs.Laws.{BeginsTrue, IsShotOf};
+ghost use Rattle.saved_run.specs.Reading.{content_of};
+ghost use Rattle.saved_run.specs.SavedText.{saved_text};
+ghost use Rattle.saved_run.specs.Shown.{content_shown};
+
+use crate::saved_lines::{put_counted_line, put_row_lines, put_step_lines};
+use no_memory::NoMemory;
+use region_cut::Chart;
+use snapshot::ShotRoom;
+use std::alloc::Global;
+
+/// The saved text of a room that was made for this chart, and of the bytes of the network's file.
+#[tactic(auto, unfolding(crate::specs::SavedText::saved_text))]
+pub fn save_text(
+    alloc: Global,
+    chart: &Chart,
+    room: &ShotRoom,
+    network: &[u8],
+) -> Result<Vec<u8>, NoMemory>
+    requires room { IsRoomFor chart.now room.now }
+    requires few { length chart.now.cut < 2 ^ 32 }
+    requires network { length network.now ≤ MOST_BYTES }
+    ensures text { IfOk result (λ text. text.items ≡ saved_text (content_shown chart.now.cut room.now network.now)) }
+
+    // It is read as the same content.
+    ensures reads { IfOk result (λ text. content_of text.items ≡ Some (content_shown chart.now.cut room.now network.now)) }
+
+    // A shot from a true start is saved as a true start.
+    ensures true_start { IfOk result (λ text. (net : Network) (start : StartLists) → IsShotOf network.now net chart.now.cut start room.now →
+        BeginsTrue (content_of text.items) net chart.now.cut) }
+{
+    let mut text = Vec::new(alloc);
+    put_counted_line(&mut text, b"saved,1", u64::from(chart.regions()))?;
+    put_step_lines(&mut text, room.steps())?;
+    put_row_lines(&mut text, chart, room)?;
+    text.extend_from_slice(b"net\n")?;
+    text.extend_from_slice(network)?;
+    Ok(text)
+}
