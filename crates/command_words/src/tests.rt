@@ -19,6 +19,7 @@ fn plain(mode: Mode) -> Request {
         workers: 1,
         every: 0,
         shots: 4,
+        until: 0,
         size: 100,
         seed: 1,
     }
