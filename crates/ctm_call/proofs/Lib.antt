@@ -1,3 +1,5 @@
 pub mod AnswerFacts
 pub mod Called
+pub mod Resuming
+pub mod Saved
 pub mod UsedCutting

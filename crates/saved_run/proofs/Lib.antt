@@ -6,3 +6,5 @@ pub mod Texts
 pub mod Cuttings
 pub mod Shown
 pub mod Starts
+pub mod Deciding
+pub mod Starting
