@@ -21,6 +21,8 @@ pub enum Status {
     WriteFault = 6,
     /// Memory was refused.
     NoMemory = 7,
+    /// The input is no saved run that can be gone on from.
+    Saved = 8,
 }
 
 impl Status {

@@ -1,9 +1,9 @@
 -- The modes: the word of each, and its options.
 use Rattle.std.specs.Prelude.{ℕ, Bool, true, false, List, Option, Some, None, if◌then◌else◌, bytes_eq, codes}
 use Rattle.command_words.specs.declared.mode.Mode.{Mode}
-use Rattle.command_words.specs.declared.mode.Mode.TheVariants.{Run, Watch, Sample, Check, Convert}
+use Rattle.command_words.specs.declared.mode.Mode.TheVariants.{Run, Watch, Sample, Save, Resume, Check, Convert}
 use Rattle.command_words.specs.declared.setting.Setting.{Setting}
-use Rattle.command_words.specs.declared.setting.Setting.TheVariants.{Regions, Workers, Every, Shots, Size, Seed}
+use Rattle.command_words.specs.declared.setting.Setting.TheVariants.{Regions, Workers, Every, Shots, Until, Size, Seed}
 
 -- the mode that a word names
 abbrev pub mode_named : List ℕ → Option Mode
@@ -11,6 +11,8 @@ mode_named word =
     if bytes_eq word (codes "run") then Some Run
     else if bytes_eq word (codes "watch") then Some Watch
     else if bytes_eq word (codes "sample") then Some Sample
+    else if bytes_eq word (codes "save") then Some Save
+    else if bytes_eq word (codes "resume") then Some Resume
     else if bytes_eq word (codes "check") then Some Check
     else if bytes_eq word (codes "convert") then Some Convert
     else None
@@ -31,5 +33,11 @@ takes_option Sample Workers = true
 takes_option Sample Size = true
 takes_option Sample Seed = true
 takes_option Sample other = false
+takes_option Save Until = true
+takes_option Save Regions = true
+takes_option Save Workers = true
+takes_option Save other = false
+takes_option Resume Workers = true
+takes_option Resume other = false
 takes_option Check option = false
 takes_option Convert option = false

@@ -2,7 +2,7 @@
 use Rattle.std.specs.Prelude.{ℕ, List, Option, codes}
 use Rattle.command_words.specs.Values.{IsAmong, OptionValues, numbers, value_among}
 use Rattle.command_words.specs.declared.setting.Setting.{Setting}
-use Rattle.command_words.specs.declared.setting.Setting.TheVariants.{Regions, Workers, Every, Shots, Size, Seed}
+use Rattle.command_words.specs.declared.setting.Setting.TheVariants.{Regions, Workers, Every, Shots, Until, Size, Seed}
 
 pub record SettingTerms : Type 0 where
   -- the word behind `--`
@@ -19,6 +19,7 @@ terms_of Regions = terms (codes "regions") (numbers 1 512) 1
 terms_of Workers = terms (codes "workers") (numbers 1 16) 1
 terms_of Every = terms (codes "every") (numbers 0 100_000) 0
 terms_of Shots = terms (codes "shots") (numbers 1 64) 4
+terms_of Until = terms (codes "until") (numbers 0 100_000) 0
 terms_of Size = terms (codes "size") (numbers 1 10_000) 100
 terms_of Seed = terms (codes "seed") (numbers 0 999_999_999) 1
 

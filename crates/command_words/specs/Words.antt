@@ -9,7 +9,7 @@ use Rattle.command_words.specs.Settings.{IsAllowed, terms_of, value_spelled}
 use Rattle.command_words.specs.declared.mode.Mode.{Mode}
 use Rattle.command_words.specs.declared.request.Request.{Request}
 use Rattle.command_words.specs.declared.setting.Setting.{Setting}
-use Rattle.command_words.specs.declared.setting.Setting.TheVariants.{Regions, Workers, Every, Shots, Size, Seed}
+use Rattle.command_words.specs.declared.setting.Setting.TheVariants.{Regions, Workers, Every, Shots, Until, Size, Seed}
 
 -- an option that isn't given has its default, and one that the mode hasn't is refused
 abbrev pub value_given : Mode → Setting → Option (List ℕ) → Option ℕ
@@ -29,9 +29,10 @@ request_in found = do
   workers ← value_of mode Workers found
   every ← value_of mode Every found
   shots ← value_of mode Shots found
+  until ← value_of mode Until found
   size ← value_of mode Size found
   seed ← value_of mode Seed found
-  Some (record { mode = mode; regions = regions; workers = workers; every = every; shots = shots; size = size; seed = seed })
+  Some (record { mode = mode; regions = regions; workers = workers; every = every; shots = shots; until = until; size = size; seed = seed })
 
 -- `clap` finds no fault with the words
 abbrev pub are_taken : List (List ℕ) → Bool
@@ -47,5 +48,6 @@ pub record IsInRange (request : Request) : Type 0 where
   pub workers : IsAllowed Workers request.workers
   pub every : IsAllowed Every request.every
   pub shots : IsAllowed Shots request.shots
+  pub until : IsAllowed Until request.until
   pub size : IsAllowed Size request.size
   pub seed : IsAllowed Seed request.seed

@@ -19,6 +19,7 @@ pub(crate) fn known_words<'a>(alloc: Global) -> Result<Command<'a>, AllocError>
         .arg(option(alloc, Setting::Workers))?
         .arg(option(alloc, Setting::Every))?
         .arg(option(alloc, Setting::Shots))?
+        .arg(option(alloc, Setting::Until))?
         .arg(option(alloc, Setting::Size))?
         .arg(option(alloc, Setting::Seed))?
         .arg(Arg::new(alloc, MODE).required(true))

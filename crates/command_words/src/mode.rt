@@ -12,6 +12,10 @@ pub enum Mode {
     Watch,
     /// Takes a network that a size and a seed make through its steps, and writes what is in it and its totals.
     Sample,
+    /// Takes the network near a step and writes its regions there, each at a step of its own, as a text to go on from.
+    Save,
+    /// Goes on from such a text to the last step, and writes the report.
+    Resume,
     /// Reads the network and writes its counts.
     Check,
     /// Writes the network again, in the newest form of the file.
@@ -27,6 +31,8 @@ impl Mode {
             "run" => Some(Mode::Run),
             "watch" => Some(Mode::Watch),
             "sample" => Some(Mode::Sample),
+            "save" => Some(Mode::Save),
+            "resume" => Some(Mode::Resume),
             "check" => Some(Mode::Check),
             "convert" => Some(Mode::Convert),
             _ => None,
@@ -46,6 +52,10 @@ impl Mode {
             (Mode::Sample, Setting::Regions | Setting::Workers) => true,
             (Mode::Sample, Setting::Size | Setting::Seed) => true,
             (Mode::Sample, _) => false,
+            (Mode::Save, Setting::Until | Setting::Regions | Setting::Workers) => true,
+            (Mode::Save, _) => false,
+            (Mode::Resume, Setting::Workers) => true,
+            (Mode::Resume, _) => false,
             (Mode::Check, _) => false,
             (Mode::Convert, _) => false,
         }

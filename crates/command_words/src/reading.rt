@@ -37,6 +37,7 @@ fn requested(matches: &ArgMatches) -> Option<Request>
         workers: value(matches, mode, Setting::Workers)?,
         every: value(matches, mode, Setting::Every)?,
         shots: value(matches, mode, Setting::Shots)?,
+        until: value(matches, mode, Setting::Until)?,
         size: value(matches, mode, Setting::Size)?,
         seed: value(matches, mode, Setting::Seed)?,
     })

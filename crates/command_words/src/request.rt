@@ -13,6 +13,8 @@ pub struct Request {
     pub every: u32,
     /// How many shots are taken on the way, 1 to 64.
     pub shots: u32,
+    /// Near which step a run is saved, up to 100,000.
+    pub until: u32,
     /// How many main cells a made network has, 1 to 10,000.
     pub size: u32,
     /// Where the draws of a made network start, up to 999,999,999.

@@ -15,6 +15,8 @@ pub enum Setting {
     Every,
     /// How many shots are taken on the way.
     Shots,
+    /// Near which step a run is saved.
+    Until,
     /// How many main cells a made network has.
     Size,
     /// Where the draws of a made network start.
@@ -63,6 +65,7 @@ impl Setting {
             Setting::Workers => Terms::new("workers", Values::Numbers(1, 16), 1),
             Setting::Every => Terms::new("every", Values::Numbers(0, 100_000), 0),
             Setting::Shots => Terms::new("shots", Values::Numbers(1, 64), 4),
+            Setting::Until => Terms::new("until", Values::Numbers(0, 100_000), 0),
             Setting::Size => Terms::new("size", Values::Numbers(1, 10_000), 100),
             Setting::Seed => Terms::new("seed", Values::Numbers(0, 999_999_999), 1),
         }

@@ -1,4 +1,6 @@
 pub mod AnswerFacts
 pub mod Called
+pub mod Resuming
+pub mod Saved
 pub mod UsedCutting
 pub mod WordsStatus

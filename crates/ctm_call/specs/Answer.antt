@@ -2,14 +2,16 @@
 use Rattle.std.specs.Prelude.{ℕ, List, Option, Some, None, String, nat_lt, if◌then◌else◌, length, Result, Ok, Err}
 use Rattle.std.specs.declared.alloc.Global.{Global}
 use Rattle.command_words.specs.declared.mode.Mode.{Mode}
-use Rattle.command_words.specs.declared.mode.Mode.TheVariants.{Run, Watch, Sample, Check, Convert}
+use Rattle.command_words.specs.declared.mode.Mode.TheVariants.{Run, Watch, Sample, Save, Resume, Check, Convert}
 use Rattle.command_words.specs.declared.request.Request.{Request}
 use Rattle.call_ending.specs.Refusing.{Why}
 use Rattle.ctm_call.specs.CheckMode.{IsCheckText, check_refused}
 use Rattle.ctm_call.specs.ConvertMode.{IsConvertText, convert_refused}
 use Rattle.ctm_call.specs.Input.{large_input, most_bytes}
+use Rattle.ctm_call.specs.ResumeMode.{IsResumeText, resume_refused}
 use Rattle.ctm_call.specs.RunMode.{IsRunText, run_refused}
 use Rattle.ctm_call.specs.SampleMode.{IsSampleText, sample_refused}
+use Rattle.ctm_call.specs.SaveMode.{IsSaveText, save_refused}
 use Rattle.ctm_call.specs.Task.{Task, task_of}
 use Rattle.ctm_call.specs.WatchMode.{IsWatchText, watch_refused}
 use Rattle.ctm_call.specs.Words.{requested, words_refused}
@@ -23,6 +25,8 @@ abbrev pub why_by : Mode → Task → Option Why
 why_by Run task = run_refused task
 why_by Watch task = watch_refused task
 why_by Sample task = sample_refused task
+why_by Save task = save_refused task
+why_by Resume task = resume_refused task
 why_by Check task = check_refused task.input
 why_by Convert task = convert_refused task.input
 
@@ -31,6 +35,8 @@ abbrev pub IsTextBy : Mode → Task → List ℕ → Type 0
 IsTextBy Run task text = IsRunText task text
 IsTextBy Watch task text = IsWatchText task text
 IsTextBy Sample task text = IsSampleText task text
+IsTextBy Save task text = IsSaveText task text
+IsTextBy Resume task text = IsResumeText task text
 IsTextBy Check task text = IsCheckText task.input text
 IsTextBy Convert task text = IsConvertText task.input text
 

@@ -4,8 +4,10 @@ pub mod ConvertMode
 pub mod Input
 pub mod NetworkInput
 pub mod Recording
+pub mod ResumeMode
 pub mod RunMode
 pub mod SampleMode
+pub mod SaveMode
 pub mod Task
 pub mod WatchMode
 pub mod Words

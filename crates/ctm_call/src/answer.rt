@@ -2,18 +2,19 @@ ghost use Rattle.std.specs.Prelude.{◌≡◌, ◌≤◌, ℕ, List, None, IfErr
 ghost use Rattle.ctm_ports.specs.Count.{Rose};
 ghost use Rattle.ctm_ports.specs.ReadEnd.{LosesAtMost};
 ghost use Rattle.command_words.specs.Words.{IsInRange};
-ghost use Rattle.network_file.specs.declared.limits.TheConstants.{MOST_BYTES};
 ghost use Rattle.call_ending.specs.Refusing.{IsRefusalOf};
 ghost use Rattle.ctm_call.specs.Answer.{IsTextBy, IsTextOf, answer_of, why_by, why_in};
-ghost use Rattle.ctm_call.specs.Input.{IsInputOf, IsReadWhole, IsUnread, Reads, most_read};
+ghost use Rattle.ctm_call.specs.Input.{IsInputOf, IsReadWhole, IsUnread, Reads, most_bytes, most_read};
 ghost use Rattle.ctm_call.specs.Task.{task_of};
 ghost use Rattle.ctm_call.specs.Words.{requested};
 
 use crate::check_mode::check_text;
 use crate::convert_mode::convert_text;
 use crate::input::input_of;
+use crate::resume_mode::resume_text;
 use crate::run_mode::run_text;
 use crate::sample_mode::sample_text;
+use crate::save_mode::saved;
 use crate::watch_mode::watch_text;
 use crate::words::request_of;
 use call_ending::Refusal;
@@ -59,7 +60,7 @@ fn text_of<R: Threads + Sync, G: Gate>(
     gate: &G,
 ) -> Result<Vec<u8>, Refusal>
     requires in_range { IsInRange request }
-    requires few_bytes { length input.now ≤ MOST_BYTES }
+    requires few_bytes { length input.now ≤ most_bytes request.mode }
     ensures text { IfOk result (λ text. (why_by request.mode (task_of request input.now) ≡ None) × IsTextBy request.mode (task_of request input.now) text.items) }
     ensures refusal { IfErr result (IsRefusalOf (why_by request.mode (task_of request input.now)) ⊥) }
 {
@@ -67,6 +68,8 @@ fn text_of<R: Threads + Sync, G: Gate>(
         Mode::Run => run_text(rt, alloc, request, input, gate),
         Mode::Watch => watch_text(rt, alloc, request, input, gate),
         Mode::Sample => sample_text(rt, alloc, request, input, gate),
+        Mode::Save => saved(rt, alloc, request, input, gate),
+        Mode::Resume => resume_text(rt, alloc, request, input, gate),
         Mode::Check => check_text(alloc, input),
         Mode::Convert => convert_text(alloc, input),
     }

@@ -14,6 +14,9 @@ use net_make::make;
 use network_file::MOST_BYTES;
 use std::alloc::Global;
 
+/// The most bytes that a saved text may have which is gone on from.
+const MOST_SAVED_BYTES: usize = 67_108_864;
+
 /// The input of a request: the whole source, or for `sample` the network that it makes.
 pub(crate) fn input_of<S: Source>(
     alloc: Global,
@@ -47,7 +50,7 @@ fn reads_source(mode: Mode) -> bool
     ensures { result ≡ reads_source mode }
 {
     match mode {
-        Mode::Run | Mode::Watch | Mode::Check | Mode::Convert => true,
+        Mode::Run | Mode::Watch | Mode::Save | Mode::Resume | Mode::Check | Mode::Convert => true,
         Mode::Sample => false,
     }
 }
@@ -57,7 +60,10 @@ fn most_bytes(mode: Mode) -> usize
     ensures { result ≡ most_bytes mode }
 {
     match mode {
-        Mode::Run | Mode::Watch | Mode::Sample | Mode::Check | Mode::Convert => MOST_BYTES,
+        Mode::Run | Mode::Watch | Mode::Sample | Mode::Save | Mode::Check | Mode::Convert => {
+            MOST_BYTES
+        }
+        Mode::Resume => MOST_SAVED_BYTES,
     }
 }
 

@@ -32,7 +32,7 @@ use Rattle.delay_report.specs.Ended.{AreAtTheEnd}
 use Rattle.delay_report.proofs.RecordedSteps.{recorded-none}
 
 -- the trail of a region of a start
-grid_state-trail : (net : Network) (chart : ChartLists) (start : StartLists) (every r t : ℕ) →
+pub grid_state-trail : (net : Network) (chart : ChartLists) (start : StartLists) (every r t : ℕ) →
     (grid_state net chart start every r t).trail ≡ flat_map (λ s. notes_of (map (grid_row net chart.cut start s) (list_at chart.cells r))) (recorded net.steps every (slice_index start.steps r) t)
 unfolding grid_state grid_trail grid_rows
 grid_state-trail net chart start every r t = refl
@@ -70,7 +70,7 @@ stand-rows net chart start every steps regions stand = record {
 
 -- at the last step, with notes of it and of all recorded steps
 
-at_last : (net : Network) (chart : ChartLists) (start : StartLists) (every r : ℕ) (regions : List RegionValue) (region : RegionValue) → AllStand net chart start every (replicate (region_count chart.cut) net.steps) regions →
+pub at_last : (net : Network) (chart : ChartLists) (start : StartLists) (every r : ℕ) (regions : List RegionValue) (region : RegionValue) → AllStand net chart start every (replicate (region_count chart.cut) net.steps) regions →
     r < region_count chart.cut → Stands net chart start every r net.steps (slice_index_or regions r region)
 at_last net chart start every r regions region stand within =
     subst (λ s. Stands net chart start every r s (slice_index_or regions r region)) (get_or-replicate (region_count chart.cut) r net.steps 0 within)

@@ -1,4 +1,5 @@
 pub mod Ended
 pub mod Regions
 pub mod Report
+pub mod FromStart
 pub mod Places

@@ -10,7 +10,8 @@
 //! let rows = run_rows(alloc, &net, &chart, &regions)?;                        // or the rows of all cells
 //! ```
 //!
-//! The program `worst_cells` does so. `report` and `put_last_totals` are of regions of any true start.
+//! The program `worst_cells` does so. `report` and `put_last_totals` are of regions of any true start, and
+//! `report_from` of any start.
 #![tactic(auto)]
 
 mod by_cell;
@@ -26,6 +27,6 @@ mod total_line;
 mod whole_report;
 
 pub use last_totals::put_last_totals;
-pub use run_end::{run_report, run_rows};
+pub use run_end::{report_from, run_report, run_rows};
 pub use step_count::recorded_steps;
 pub use whole_report::report;

@@ -3,7 +3,9 @@ ghost use Rattle.flow_model.specs.State.{state_at};
 ghost use Rattle.region_cut.specs.Chart.{chart_of};
 ghost use Rattle.region_cut.specs.Cuttings.{region_count};
 ghost use Rattle.region_step.specs.Standing.{AllStand};
-ghost use Rattle.region_step.specs.Start.{zero_start};
+ghost use Rattle.region_step.specs.Start.{StartLists, zero_start};
+ghost use Rattle.delay_report.specs.Ended.{AreAtTheEnd};
+ghost use Rattle.delay_report.specs.FromStart.{report_from};
 ghost use Rattle.delay_report.specs.Report.{report_of};
 
 use crate::cell_rows::cell_rows;
@@ -31,6 +33,27 @@ pub fn run_report(
 {
     let _steps = net.steps;
     let text = report(alloc, net, chart, regions, every)?;
+    Ok(text)
+}
+
+/// The same of regions that were taken to the last step from any one start, each from its own step, and recorded at none.
+pub fn report_from(
+    alloc: Global,
+    net: &Net,
+    chart: &Chart,
+    regions: &[Region],
+) -> Result<Vec<u8>, NoMemory>
+    requires chart { chart.now ≡ chart_of net.now chart.now.cut }
+    requires one_each { length chart.now.cut ≡ length net.now.cells }
+    requires stand { (start : StartLists) × AllStand net.now chart.now start 0 (replicate (region_count chart.now.cut) net.now.steps) regions.now }
+    ensures rows { IfOk result (λ text. (start : StartLists) → AllStand net.now chart.now start 0 (replicate (region_count chart.now.cut) net.now.steps) regions.now →
+        text.items ≡ report_from net.now chart.now.cut start) }
+
+    // Of a true start it is the report of the plain recurrences.
+    ensures recurrences { IfOk result (λ text. (start : StartLists) → AreAtTheEnd net.now chart.now start 0 regions.now → text.items ≡ report_of net.now 0) }
+{
+    let _steps = net.steps;
+    let text = report(alloc, net, chart, regions, 0)?;
     Ok(text)
 }
 

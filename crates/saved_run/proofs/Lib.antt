@@ -7,3 +7,5 @@ pub mod Cuttings
 pub mod Shown
 pub mod Starts
 pub mod Futures
+pub mod Deciding
+pub mod Starting

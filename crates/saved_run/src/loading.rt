@@ -27,6 +27,7 @@ use std::alloc::Global;
 /// Reads a saved text, or tells its first fault.
 pub fn load(alloc: Global, bytes: &[u8]) -> Result<Saved, LoadRefusal>
     ensures loaded { IfOk result (λ saved. IsLoaded (content_of bytes.now) saved.net saved.chart saved.start) }
+    ensures one_each { IfOk result (λ saved. length saved.chart.cut ≡ length saved.net.cells) }
     ensures refusal { IfErr result (IsLoadRefusal (content_of bytes.now)) }
 
     // Its regions can be opened.
@@ -57,6 +58,7 @@ pub fn load(alloc: Global, bytes: &[u8]) -> Result<Saved, LoadRefusal>
 fn saved_of(alloc: Global, head: SavedHead, network: &[u8]) -> Result<Saved, LoadRefusal>
     requires { length network.now ≤ MOST_BYTES }
     ensures loaded { IfOk result (λ saved. GoesOn (content_in head network.now) saved.net saved.chart saved.start) }
+    ensures one_each { IfOk result (λ saved. length saved.chart.cut ≡ length saved.net.cells) }
     ensures refusal { IfErr result (IsRefusalOf (content_in head network.now)) }
 {
     let net = network_in(alloc, network)?;
@@ -79,6 +81,7 @@ fn network_in(alloc: Global, network: &[u8]) -> Result<Net, LoadRefusal>
 // The saved run of a content, by its network.
 fn started(alloc: Global, net: Net, head: SavedHead) -> Result<Saved, LoadRefusal>
     ensures loaded { IfOk result (λ saved. (network : List ℕ) → network_of network ≡ Ok net → GoesOn (content_in head network) saved.net saved.chart saved.start) }
+    ensures one_each { IfOk result (λ saved. length saved.chart.cut ≡ length saved.net.cells) }
     ensures refusal { IfErr result (λ refusal. (network : List ℕ) → network_of network ≡ Ok net → IsRefusalOf (content_in head network) refusal) }
 {
     let chart = chart_in(alloc, &net, &head)?;

@@ -15,8 +15,9 @@ returns c =
     let workers = app_of-added _ _ _ _ _ c.in_ok-arg-2.ensures c.option-2.ensures.own regions c.option-2.ensures.rule in
     let every = app_of-added _ _ _ _ _ c.in_ok-arg-3.ensures c.option-3.ensures.own workers c.option-3.ensures.rule in
     let shots = app_of-added _ _ _ _ _ c.in_ok-arg-4.ensures c.option-4.ensures.own every c.option-4.ensures.rule in
-    let size = app_of-added _ _ _ _ _ c.in_ok-arg-5.ensures c.option-5.ensures.own shots c.option-5.ensures.rule in
-    let seed = app_of-added _ _ _ _ _ c.in_ok-arg-6.ensures c.option-6.ensures.own size c.option-6.ensures.rule in
+    let until = app_of-added _ _ _ _ _ c.in_ok-arg-5.ensures c.option-5.ensures.own shots c.option-5.ensures.rule in
+    let size = app_of-added _ _ _ _ _ c.in_ok-arg-6.ensures c.option-6.ensures.own until c.option-6.ensures.rule in
+    let seed = app_of-added _ _ _ _ _ c.in_ok-arg-7.ensures c.option-7.ensures.own size c.option-7.ensures.rule in
     let mode : rule_of c.required.result ≡ mode_rule = search rules in
     let own : c.required.result.global ≡ false = search rules in
-    IfOk-weaker c.arg-7.result _ _ (λ known added. app_of-added _ _ _ _ _ added own seed mode) c.arg-7.ensures
+    IfOk-weaker c.arg-8.result _ _ (λ known added. app_of-added _ _ _ _ _ added own seed mode) c.arg-8.ensures

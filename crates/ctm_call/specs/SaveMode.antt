@@ -1,0 +1,47 @@
+-- A run that is saved near a step: why it has no text, and which texts it may have.
+use Rattle.std.specs.Prelude.{◌≡◌, ℕ, zero, suc, List, Option, None, length, map, min, slice_index}
+use Rattle.std.specs.List.{range_with_len}
+use Rattle.network_file.specs.Network.{Network}
+use Rattle.network_file.specs.Reading.{network_of}
+use Rattle.flow_model.specs.State.{occupancy, row_at, state_at}
+use Rattle.region_cut.specs.Cuttings.{region_at}
+use Rattle.snapshot.specs.Shots.{AreStepsBetween}
+use Rattle.saved_run.specs.Content.{Content}
+use Rattle.saved_run.specs.SavedText.{saved_text}
+use Rattle.saved_run.specs.declared.row_line.RowLine.{RowLine}
+use Rattle.network_run.specs.Near.{near_end}
+use Rattle.call_ending.specs.Refusing.{Why}
+use Rattle.ctm_call.specs.NetworkInput.{IsNetworkWith, why_of_network}
+use Rattle.ctm_call.specs.Task.{Task}
+use Rattle.ctm_call.specs.WatchMode.{cutting_of}
+
+abbrev pub save_refused : Task → Option Why
+save_refused task = why_of_network (network_of task.input) (λ net. None)
+
+-- what cell i held one step before a step; before step 0 there was nothing
+abbrev pub held_before : Network → (step i : ℕ) → ℕ
+held_before net zero i = 0
+held_before net (suc t) i = occupancy (state_at net t) i
+
+-- the line of cell i, whose region stands at this step: its region, its row of the plain recurrences there, and what it held
+-- one step before
+abbrev pub line_at : Network → (cut : List ℕ) → (step i : ℕ) → RowLine
+line_at net cut step i = record { region = region_at cut i; row = row_at (state_at net step) i; earlier = held_before net step i }
+
+-- a run of this input's network whose regions stand at these steps
+abbrev pub run_at : Network → (cut steps : List ℕ) → (input : List ℕ) → Content
+run_at net cut steps input = record {
+  steps = steps;
+  rows = map (λ i. line_at net cut (slice_index steps (region_at cut i)) i) (range_with_len 0 (length net.cells));
+  network = input;
+}
+
+-- a run that is saved near a step, or near the last one where that comes first: neighbouring regions stand at most one step
+-- apart, and none stands before that step or more than four steps past it
+pub record IsSavedNear (net : Network) (cut : List ℕ) (until : ℕ) (input : List ℕ) (text : List ℕ) : Type 0 where
+  pub steps : List ℕ
+  pub stand : AreStepsBetween net cut (min until net.steps) (near_end net until) steps
+  pub saved : text ≡ saved_text (run_at net cut steps input)
+
+abbrev pub IsSaveText : Task → List ℕ → Type 0
+IsSaveText task text = IsNetworkWith (network_of task.input) (λ net. IsSavedNear net (cutting_of net task.request.regions) task.request.until task.input text)
