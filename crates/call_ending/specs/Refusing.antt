@@ -23,6 +23,7 @@ abbrev pub cause_status : Cause → Status
 cause_status cause.Words = status.Words
 cause_status cause.Network = status.Network
 cause_status cause.TooLarge = status.TooLarge
+cause_status cause.Saved = status.Saved
 
 abbrev pub status_of : Refusal → Status
 status_of (refusal.Told by line) = cause_status by

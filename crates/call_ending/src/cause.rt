@@ -12,6 +12,8 @@ pub enum Cause {
     Network,
     /// An input with too many bytes, or a text that would tell too many values.
     TooLarge,
+    /// A saved run that can't be gone on from.
+    Saved,
 }
 
 impl Cause {
@@ -23,6 +25,7 @@ impl Cause {
             Cause::Words => Status::Words,
             Cause::Network => Status::Network,
             Cause::TooLarge => Status::TooLarge,
+            Cause::Saved => Status::Saved,
         }
     }
 }

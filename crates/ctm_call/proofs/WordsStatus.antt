@@ -4,8 +4,12 @@ use Rattle.network_file.specs.Network.{Network}
 use Rattle.network_file.specs.Reading.{network_of}
 use Rattle.network_file.specs.declared.fault.NetFault.{NetFault}
 use Rattle.command_words.specs.declared.mode.Mode.{Mode}
-use Rattle.command_words.specs.declared.mode.Mode.TheVariants.{Run, Watch, Sample, Check, Convert}
+use Rattle.command_words.specs.declared.mode.Mode.TheVariants.{Run, Watch, Sample, Check, Convert, Save, Resume}
 use Rattle.command_words.specs.declared.request.Request.{Request}
+use Rattle.saved_run.specs.Content.{Content}
+use Rattle.saved_run.specs.Loading.{cutting_in, start_in}
+use Rattle.saved_run.specs.Reading.{content_of}
+use Rattle.saved_run.proofs.Starting.{decide_start}
 use Rattle.call_ending.specs.Ending.{HasEnded, SinkUse}
 use Rattle.call_ending.specs.Refusing.{Why}
 use Rattle.call_ending.specs.Status.{status_number}
@@ -14,6 +18,7 @@ use Rattle.call_ending.specs.declared.status.Status.TheVariants as status
 use Rattle.ctm_call.specs.Answer.{IsTextOf, answer_of, answer_to, answer_unless, why_by, why_in}
 use Rattle.ctm_call.specs.Input.{Reads, large_input, most_bytes}
 use Rattle.ctm_call.specs.NetworkInput.{why_of_network}
+use Rattle.ctm_call.specs.ResumeMode.{why_by_content, why_by_cutting, why_unstarted}
 use Rattle.ctm_call.specs.Recording.{large_record, recorded_values, why_unrecorded}
 use Rattle.ctm_call.specs.Task.{Task, task_of}
 use Rattle.ctm_call.specs.WatchMode.{first_why, large_shots, shown_rows, why_unshown}
@@ -45,6 +50,19 @@ other-unrecorded net every = other-if (nat_lt 4_000_000 (recorded_values net eve
 other-unshown : (net : Network) (shots : ℕ) → IfSome (why_unshown net shots) IsOther
 other-unshown net shots = other-if (nat_lt 4_000_000 (shown_rows net shots)) large_shots (other status.TooLarge (λ e. omega (arith, e)))
 
+other-start : {P : Type 0} (can : Dec P) → IfSome (why_unstarted can) IsOther
+other-start (yes can) = tt
+other-start (no cannot) = other status.Saved (λ e. omega (arith, e))
+
+other-cutting : (content : Content) (net : Network) (cut : Option (List ℕ)) → IfSome (why_by_cutting content net cut) IsOther
+other-cutting content net None = other status.Saved (λ e. omega (arith, e))
+other-cutting content net (Some cut) = other-start (decide_start net cut (start_in content))
+
+other-content : (content : Option Content) → IfSome (why_by_content content) IsOther
+other-content None = other status.Saved (λ e. omega (arith, e))
+other-content (Some content) =
+    other-network (network_of content.network) (λ net. why_by_cutting content net (cutting_in net content)) (λ net. other-cutting content net (cutting_in net content))
+
 -- no mode refuses its input with that status
 other-by : (mode : Mode) (task : Task) → IfSome (why_by mode task) IsOther
 other-by Run task = other-network (network_of task.input) (λ net. why_unrecorded net task.request.every) (λ net. other-unrecorded net task.request.every)
@@ -54,6 +72,8 @@ other-by Watch task =
 other-by Sample task = other-network (network_of task.input) (λ net. None) (λ net. tt)
 other-by Check task = other-network (network_of task.input) (λ net. None) (λ net. tt)
 other-by Convert task = other-network (network_of task.input) (λ net. None) (λ net. tt)
+other-by Save task = other-network (network_of task.input) (λ net. None) (λ net. tt)
+other-by Resume task = other-content (content_of task.input)
 
 other-unless : (large : Bool) (why : Option Why) (task : Task) → IfSome why IsOther → IfSome (why_in (if large then Err large_input else answer_unless why task)) IsOther
 other-unless true why task is = other status.TooLarge (λ e. omega (arith, e))

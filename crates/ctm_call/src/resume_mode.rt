@@ -10,7 +10,7 @@ ghost use Rattle.ctm_call.specs.ResumeMode.{IsResumeText, resume_refused, saved_
 ghost use Rattle.ctm_call.specs.Task.{task_of};
 
 use crate::network_input::refused;
-use call_ending::{Line, Refusal, Status};
+use call_ending::{Cause, Line, Refusal};
 use command_words::Request;
 use delay_report::report_from;
 use network_file::{Net, NetRefusal};
@@ -90,5 +90,5 @@ fn unsaved(alloc: Global, fault: LoadFault) -> Refusal
 fn told(line: &'static [u8]) -> Refusal
     ensures { IsRefusalOf (Some (saved_refused line.entry)) ⊥ result }
 {
-    Refusal::Told(Status::Saved, Line::Fixed(line))
+    Refusal::Told(Cause::Saved, Line::Fixed(line))
 }
