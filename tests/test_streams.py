@@ -8,7 +8,8 @@ from conftest import BYTES, SECONDS, hold, limit
 from messages import READ_FAULT, TOO_LARGE, WORDS, WRITE_FAULT
 from worked import CORRIDOR, REPORT, lines
 
-READING = pytest.mark.parametrize("mode", ["run", "watch", "check", "convert"])
+READING = pytest.mark.parametrize("mode", ["run", "watch", "save", "resume", "check", "convert"])
+WRITING = pytest.mark.parametrize("mode", ["run", "watch", "save", "check", "convert"])
 
 
 @pytest.fixture
@@ -36,7 +37,7 @@ def test_a_directory_is_a_read_fault(mode, run, directory):
     hold((5, b"", READ_FAULT), run([mode], stdin=directory))
 
 
-@READING
+@WRITING
 def test_a_full_device_is_a_write_fault(mode, run, full):
     hold((6, None, WRITE_FAULT), run([mode], input=CORRIDOR, stdout=full))
 

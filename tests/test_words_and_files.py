@@ -2,7 +2,7 @@
 
 import pytest
 from conftest import hold
-from worked import CITY, CORRIDOR, RAMPS, RAMPS_TOTALS, RECORDED, REPORT, TURN, lines
+from worked import CITY, CORRIDOR, RAMPS, RAMPS_TOTALS, RECORDED, REPORT, SAVED, SAVED_LAST, TURN, lines
 
 CONVERTED = CORRIDOR.replace(b"ctm,1", b"ctm,2")
 FIRST_AND_LAST = b"".join(line for line in RECORDED.splitlines(True) if not line.startswith(b"at,2,"))
@@ -51,6 +51,15 @@ CASES = [
     ("workers spelled with zeros", ["run", "--workers", "016"], CORRIDOR, REPORT),
     ("recorded by three workers in two regions", ["run", "--every", "2", "--workers", "3", "--regions", "2"], CORRIDOR,
      RECORDED),
+    ("save at the last step", ["save", "--until", "3", "--regions", "3"], CORRIDOR, SAVED_LAST),
+    ("save past the last step, by workers", ["save", "--until=100000", "--regions", "512", "--workers", "4"], CORRIDOR,
+     SAVED_LAST),
+    ("save in the regions of the file", ["save", "--until", "9"], REGIONS_BACKWARDS,
+     lines("saved,1,3; step,3; step,3; step,3; row,2,0,4000000,4000000,2000000,2000000; "
+           "row,1,2000000,4000000,2000000,0,2000000; row,0,2000000,2000000,0,0,0; net") + REGIONS_BACKWARDS),
+    ("resume", ["resume"], SAVED, REPORT),
+    ("resume by two workers", ["resume", "--workers", "2"], SAVED, REPORT),
+    ("resume at the last step", ["resume"], SAVED_LAST, REPORT),
     ("check with turns in the file", ["check"], TURN, b"network2,3,1,3,0,0,0,1\n"),
     ("recorded every other step", ["run", "--every", "2"], CORRIDOR, RECORDED),
     ("recorded in three regions", ["run", "--every", "2", "--regions", "3"], CORRIDOR, RECORDED),

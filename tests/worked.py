@@ -1,6 +1,6 @@
-"""Files that were worked on paper and what is written of them: a corridor of three cells, its report, and that in which
-every other step is recorded; a full road, the two shots of it and its report; two roads and their report; a road whose
-vehicles turn; a city; and a larger network with its totals.
+"""Files that were worked on paper and what is written of them: a corridor of three cells, its report, that in which every
+other step is recorded, and two saved texts of it; a full road, the two shots of it and its report; two roads and their
+report; a road whose vehicles turn; a city; and a larger network with its totals.
 """
 
 from pathlib import Path
@@ -17,6 +17,10 @@ REPORT = lines("report,3,3; cell,in,0.000000,4.000000,4.000000,2.000000; cell,a,
 RECORDED = lines("report,3,3; at,0,in,0.000000,0.000000; at,0,a,0.000000,0.000000; at,0,out,0.000000,0.000000; "
                  "at,2,in,2.000000,2.000000; at,2,a,2.000000,0.000000; at,2,out,0.000000,0.000000; "
                  "at,3,in,0.000000,4.000000; at,3,a,2.000000,2.000000; at,3,out,2.000000,0.000000") + REPORT.split(b"\n", 1)[1]
+SAVED = lines("saved,1,2; step,2; step,1; row,0,2000000,4000000,2000000,2000000,4000000; row,1,0,0,0,0,0; "
+              "row,1,0,0,0,0,0; net") + CORRIDOR
+SAVED_LAST = lines("saved,1,3; step,3; step,3; step,3; row,0,0,4000000,4000000,2000000,2000000; "
+                   "row,1,2000000,4000000,2000000,0,2000000; row,2,2000000,2000000,0,0,0; net") + CORRIDOR
 FULL_ROAD = lines("ctm,1; steps,1; gate,g,2,4; road,a,6,2,1,1,6; link,g,a")
 FULL_REPORT = lines("report,1,2; cell,g,4.000000,0.000000,0.000000,4.000000; "
                     "cell,a,6.000000,0.000000,0.000000,6.000000; total,10.000000,0.000000,0.000000,10.000000")

@@ -1,5 +1,5 @@
 -- What stands against going on from a text, and what comes of it, by what was loaded.
-use Rattle.std.proofs.Common.{◌≡◌, ℕ, List, length, Option, Some, None, refl, ap, subst, sym, ◌∙◌}
+use Rattle.std.proofs.Common.{◌≡◌, ℕ, List, Option, Some, None, refl, ap, subst, sym, ◌∙◌}
 use Rattle.network_file.specs.Network.{Network}
 use Rattle.region_cut.specs.Chart.{ChartLists, chart_of}
 use Rattle.region_step.specs.Start.{IsTrueStart, StartLists}
@@ -10,7 +10,6 @@ use Rattle.saved_run.specs.declared.fault.LoadFault.TheVariants as fault
 use Rattle.saved_run.proofs.Starting.{decide_start}
 use Rattle.delay_report.specs.FromStart.{report_from}
 use Rattle.delay_report.specs.Report.{report_of}
-use Rattle.call_ending.specs.Refusing.{Why}
 use Rattle.ctm_call.specs.NetworkInput.{why_of_network}
 use Rattle.ctm_call.specs.ResumeMode.{IsGoneOnFrom, why_by_content, why_by_cutting, why_of_fault, why_unstarted}
 

@@ -1,10 +1,9 @@
 -- What a room that shows a run from step 0 saves of it.
 use Rattle.std.specs.Prelude.{map, slice_index}
 use Rattle.std.specs.List.{range_with_len}
-use Rattle.std.proofs.Common.{◌≡◌, ℕ, zero, suc, add-one, ◌<◌, ◌≤◌, List, length, ap, ap₂, sym, ◌∙◌, arith}
-use Rattle.std.proofs.lemmas.List.FromFn.{length-range_with_len}
+use Rattle.std.proofs.Common.{◌≡◌, ℕ, zero, suc, ◌+◌, ◌<◌, ◌≤◌, List, length, ap, ap₂, subst, ◌∙◌, arith}
 use Rattle.network_file.specs.Network.{IsNetwork, Network}
-use Rattle.flow_model.specs.State.{row_at, state_at}
+use Rattle.flow_model.specs.State.{occupancy, row_at, state_at}
 use Rattle.flow_model.specs.declared.row.Row.{Row}
 use Rattle.region_cut.specs.Cuttings.{region_at, region_count}
 use Rattle.region_cut.proofs.Ranges.{Contains-range}
@@ -38,7 +37,8 @@ module _ (net : Network) (cut : List ℕ) (room : RoomValue) (sound : IsNetwork 
   before zero i there = grid_before-start net cut (zero_start net cut) 0 i (omega arith) ∙ zeros (length net.cells) i
   before (suc t) i there =
       let next = grid_before-next net cut (zero_start net cut) t i ∙ grid_held-started net cut (zero_start net cut) t i (begun t i) ∙ ap (λ row. row.n) (recurrences t i there) in
-      rw add-one at next
+      let same : t + 1 ≡ suc t = omega arith in
+      subst (λ s. grid_before net cut (zero_start net cut) s i ≡ occupancy (state_at net t) i) same next
 
   line : (i : ℕ) → i < length net.cells → line_shown cut room i ≡ line_at net cut (slice_index room.steps (region_at cut i)) i
   line i there =

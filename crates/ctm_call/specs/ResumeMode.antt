@@ -4,7 +4,7 @@ use Rattle.network_file.specs.Network.{Network}
 use Rattle.network_file.specs.Reading.{network_of}
 use Rattle.region_step.specs.Start.{IsTrueStart}
 use Rattle.saved_run.specs.Content.{Content}
-use Rattle.saved_run.specs.Loading.{CanStart, IsCutSo, cutting_in, start_in}
+use Rattle.saved_run.specs.Loading.{IsCutSo, cutting_in, start_in}
 use Rattle.saved_run.specs.Reading.{content_of}
 use Rattle.saved_run.specs.declared.fault.LoadFault.{LoadFault}
 use Rattle.saved_run.specs.declared.fault.LoadFault.TheVariants as fault

@@ -53,5 +53,6 @@ fn saved_near<R: Threads + Sync, G: Gate>(
     let until = u64::from(request.until);
     let chart = charted(alloc, net, request.regions)?;
     let room = room_near(rt, alloc, net, &chart, until, request.workers, gate)?;
-    save_text(alloc, &chart, &room, input)
+    let text = save_text(alloc, &chart, &room, input)?;
+    Ok(text)
 }

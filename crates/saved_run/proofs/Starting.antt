@@ -1,6 +1,6 @@
 -- Whether regions can start: from a content's steps, rows and earlier occupancies.
-use Rattle.std.specs.Prelude.{All, slice_index}
-use Rattle.std.proofs.Common.{◌≡◌, ℕ, zero, suc, ◌+◌, ◌*◌, ◌<◌, ◌≤◌, Bool, true, false, List, length, refl, subst, arith}
+use Rattle.std.specs.Prelude.{slice_index}
+use Rattle.std.proofs.Common.{◌≡◌, ℕ, zero, suc, ◌+◌, ◌*◌, ◌<◌, ◌≤◌, true, false, List, length, refl, subst, arith}
 use Rattle.fixed_flow.specs.declared.amount.TheConstants.{MOST_PARTS}
 use Rattle.signal_plan.specs.Total.{demand_from}
 use Rattle.network_file.specs.Cells.{is_exit_at, is_gate_at}

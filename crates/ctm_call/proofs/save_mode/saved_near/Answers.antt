@@ -1,0 +1,25 @@
+use Rattle.std.proofs.Common.{◌≡◌, arith, ap, subst, ◌∙◌}
+use Rattle.network_file.specs.Network.{IsNetwork}
+use Rattle.region_cut.proofs.ConnectorCells.{few_cells}
+use Rattle.saved_run.specs.SavedText.{saved_text}
+use Rattle.ctm_call.specs.SaveMode.{IsSavedNear}
+use Rattle.ctm_call.specs.WatchMode.{cutting_of}
+use Rattle.ctm_call.proofs.Saved.{shown-run}
+use Rattle.ctm_call.proofs.UsedCutting.{cutting-is}
+use Rattle.ctm_call.proofs.save_mode.saved_near.Goals as goal
+
+pub save_text-requires-clause-few : goal.save_text-requires-clause-few
+save_text-requires-clause-few g c = omega (arith, c.in_ok-chart.ensures.one_each, few_cells c.args.net.now (subst IsNetwork c.net.view_is c.net.invariant))
+
+pub returns : goal.returns
+returns g c =
+    let net = c.args.net.now in
+    let sound = subst IsNetwork c.net.view_is c.net.invariant in
+    let cut : c.in_ok-chart.chart.cut ≡ cutting_of net c.args.request.regions = cutting-is net c.args.request.regions c.in_ok-chart.chart.cut c.in_ok-chart.ensures.own c.in_ok-chart.ensures.even in
+    let near : IsSavedNear net c.in_ok-chart.chart.cut c.from-until.result c.args.input.now c.in_ok-text.text.items = record {
+      steps = c.in_ok-room.room.steps;
+      stand = c.in_ok-room.ensures.near;
+      saved = c.in_ok-text.ensures.text ∙ ap saved_text (shown-run net c.in_ok-chart.chart.cut c.in_ok-room.room sound c.in_ok-chart.ensures.one_each c.in_ok-room.ensures.snapshot c.args.input.now);
+    } in
+    subst (λ pieces. IsSavedNear net pieces c.args.request.until c.args.input.now c.in_ok-text.text.items) cut
+    (subst (λ until. IsSavedNear net c.in_ok-chart.chart.cut until c.args.input.now c.in_ok-text.text.items) c.from-until.ensures near)
