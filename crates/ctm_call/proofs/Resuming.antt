@@ -1,36 +1,19 @@
--- What stands against going on from a text, and what comes of it, by what was loaded.
+-- What comes of going on from a text that was loaded.
 use Rattle.std.proofs.Common.{◌≡◌, ℕ, List, Option, Some, None, refl, ap, subst, sym, ◌∙◌}
 use Rattle.network_file.specs.Network.{Network}
 use Rattle.region_cut.specs.Chart.{ChartLists, chart_of}
 use Rattle.region_step.specs.Start.{IsTrueStart, StartLists}
 use Rattle.saved_run.specs.Content.{Content}
-use Rattle.saved_run.specs.Loading.{CanStart, IsLoadFault, IsLoaded, cutting_in, start_in}
-use Rattle.saved_run.specs.declared.fault.LoadFault.{LoadFault}
-use Rattle.saved_run.specs.declared.fault.LoadFault.TheVariants as fault
+use Rattle.saved_run.specs.Loading.{CanStart, IsLoaded, cutting_in, start_in}
 use Rattle.saved_run.proofs.Starting.{decide_start}
 use Rattle.delay_report.specs.FromStart.{report_from}
 use Rattle.delay_report.specs.Report.{report_of}
 use Rattle.ctm_call.specs.NetworkInput.{why_of_network}
-use Rattle.ctm_call.specs.ResumeMode.{IsGoneOnFrom, why_by_content, why_by_cutting, why_of_fault, why_unstarted}
+use Rattle.ctm_call.specs.ResumeMode.{IsGoneOnFrom, why_by_content, why_by_cutting, why_unstarted}
 
 can-start : {P : Type 0} (test : Dec P) → P → why_unstarted test ≡ None
 can-start (yes can) holds = refl
 can-start (no cannot) holds = absurd (cannot holds)
-
-cannot-start : {P : Type 0} (test : Dec P) → (¬ P) → why_unstarted test ≡ Some (why_of_fault fault.Start)
-cannot-start (yes can) fails = absurd (fails can)
-cannot-start (no cannot) fails = refl
-
--- the first fault is why
-pub why-fault : (found : Option Content) (first : LoadFault) → IsLoadFault found first → why_by_content found ≡ Some (why_of_fault first)
-why-fault None first is = ap (λ one. Some (why_of_fault one)) (sym is)
-why-fault (Some content) fault.Spelling is = absurd is
-why-fault (Some content) (fault.Network of_network) is = ap (λ read. why_of_network read (λ net. why_by_cutting content net (cutting_in net content))) is
-why-fault (Some content) fault.Cutting is =
-    ap (λ read. why_of_network read (λ net. why_by_cutting content net (cutting_in net content))) is.1 ∙ ap (why_by_cutting content is.0) is.2
-why-fault (Some content) fault.Start is =
-    ap (λ read. why_of_network read (λ net. why_by_cutting content net (cutting_in net content))) is.2.network ∙ ap (why_by_cutting content is.0) is.2.cutting ∙
-    cannot-start (decide_start is.0 is.1 (start_in content)) is.3
 
 -- nothing stands against a text that was loaded
 pub why-none : (found : Option Content) (net : Network) (chart : ChartLists) (start : StartLists) → IsLoaded found net chart start → why_by_content found ≡ None
