@@ -34,28 +34,18 @@ fn answer<R: Threads + Sync, S: Source>(
     source: &mut S,
 ) -> Result<Vec<u8>, Refusal> {
     match read_up_to(alloc, source, MOST_BYTES) {
-        ReadEnd::Whole(bytes) => lines_of(rt, alloc, &bytes),
+        ReadEnd::Whole(bytes) => match Net::read(alloc, &bytes) {
+            Ok(net) => Ok(lines(rt, alloc, &net)?),
+            Err(NetRefusal::Fault(_)) => Err(told(
+                Cause::Network,
+                b"worst_cells: no network; ctm check tells why\n",
+            )),
+            Err(NetRefusal::NoMemory) => Err(Refusal::NoMemory),
+        },
         ReadEnd::TooLong => Err(told(Cause::TooLarge, b"worst_cells: too large\n")),
         ReadEnd::Failed => Err(Refusal::ReadFault),
         ReadEnd::NoMemory => Err(Refusal::NoMemory),
     }
-}
-
-// The lines for the network in a file.
-fn lines_of<R: Threads + Sync>(rt: &R, alloc: Global, bytes: &[u8]) -> Result<Vec<u8>, Refusal> {
-    let net = match Net::read(alloc, bytes) {
-        Ok(net) => net,
-        Err(NetRefusal::Fault(_)) => return Err(no_network()),
-        Err(NetRefusal::NoMemory) => return Err(Refusal::NoMemory),
-    };
-    Ok(lines(rt, alloc, &net)?)
-}
-
-fn no_network() -> Refusal {
-    told(
-        Cause::Network,
-        b"worst_cells: no network; ctm check tells why\n",
-    )
 }
 
 fn told(cause: Cause, line: &'static [u8]) -> Refusal {
