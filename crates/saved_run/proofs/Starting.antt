@@ -6,7 +6,7 @@ use Rattle.signal_plan.specs.Total.{demand_from}
 use Rattle.network_file.specs.Cells.{is_exit_at, is_gate_at}
 use Rattle.network_file.specs.Network.{Network}
 use Rattle.network_file.specs.declared.limits.TheConstants.{MOST_CAPACITY}
-use Rattle.flow_model.specs.Bounds.{IsHeldInBounds, IsRowInBounds, first_at, is_road_at, most_at}
+use Rattle.flow_model.specs.Bounds.{IsHeldInBounds, IsRowInBounds, first_at, is_road_at, room_parts_at}
 use Rattle.flow_model.specs.State.{row_at}
 use Rattle.flow_model.specs.declared.row.Row.{Row}
 use Rattle.region_cut.specs.Cuttings.{region_count}
@@ -21,7 +21,7 @@ use Rattle.saved_run.proofs.Deciding.{decide_as, decide_below, decide_both, deci
 
 decide_held : (net : Network) (t i n : ℕ) → Dec (IsHeldInBounds net t i n)
 decide_held net t i n = decide_as
-    (decide_both (decide_if (is_road_at net.cells i) (decide_le n (most_at net.cells i)))
+    (decide_both (decide_if (is_road_at net.cells i) (decide_le n (room_parts_at net.cells i)))
     (decide_both (decide_if (is_gate_at net.cells i) (decide_le (n + demand_from net.plan i t net.steps) MOST_PARTS))
     (decide_if (is_exit_at net.cells i) (decide_le n (t * MOST_CAPACITY)))))
     (λ all. record { road = all.0; gate = all.1.0; exit = all.1.1 })
