@@ -1,6 +1,6 @@
 use Rattle.std.proofs.Common.{◌≡◌, arith, ap, subst, ◌∙◌}
 use Rattle.network_file.specs.Network.{IsNetwork}
-use Rattle.region_cut.proofs.ConnectorCells.{few_cells}
+use Rattle.network_file.proofs.NetworkFacts.{few_cells}
 use Rattle.saved_run.specs.SavedText.{saved_text}
 use Rattle.ctm_call.specs.SaveMode.{IsSavedNear}
 use Rattle.ctm_call.specs.WatchMode.{cutting_of}
