@@ -13,7 +13,7 @@ from selenium.webdriver.common.by import By
 
 from ctmtools import Problem, read_report
 from ctmtools.network_file.network import network_of
-from ctmtools.pages.page import D3, data_of, page_of, table_of
+from ctmtools.pages.page import DRAWING_LIBRARY, data_of, page_of, table_of
 from ctmtools.report.reading import Report
 
 from .corridor import corridor
@@ -86,7 +86,7 @@ def test_a_title_can_not_end_the_script(tmp_path):
 
 
 def test_a_missing_library_is_named(tmp_path, monkeypatch):
-    monkeypatch.setattr("ctmtools.pages.page.D3", tmp_path / "d3.min.js")
+    monkeypatch.setattr("ctmtools.pages.page.DRAWING_LIBRARY", tmp_path / "d3.min.js")
     with pytest.raises(Problem, match="apt install node-d3"):
         page_of([reported(corridor(tmp_path))])
 
@@ -185,4 +185,4 @@ def test_a_report_of_steps_and_cells(browser, tool, tmp_path, reports):
 
 def test_mistakes_in_the_words(tool, reports):
     assert "a page's name ends with .html" in tool("report", reports("bottleneck"), "-o", "x.txt")[2]
-    assert D3.exists()
+    assert DRAWING_LIBRARY.exists()

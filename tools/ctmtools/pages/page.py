@@ -17,7 +17,7 @@ from ..report.queues import standing
 from ..report.reading import Report
 
 HERE = Path(__file__).resolve().parent
-D3 = Path("/usr/share/nodejs/d3/dist/d3.min.js")
+DRAWING_LIBRARY = Path("/usr/share/nodejs/d3/dist/d3.min.js")
 MOST_DATA = 3_200_000  # bytes of density and flow in all reports together, which are a third more as text
 COLUMNS = ("road", "km", "delay", "vehicles", "delay a vehicle, s", "longest queue")
 
@@ -35,9 +35,9 @@ def page_of(reports: Sequence[Report], library: str | None = None) -> str:
 
 
 def _library() -> str:
-    if not D3.exists():
-        raise Problem(f"{D3}: is missing; Debian has it as node-d3: apt install node-d3")
-    return D3.read_text()
+    if not DRAWING_LIBRARY.exists():
+        raise Problem(f"{DRAWING_LIBRARY}: is missing; Debian has it as node-d3: apt install node-d3")
+    return DRAWING_LIBRARY.read_text()
 
 
 def data_of(reports: Sequence[Report]) -> dict[str, Any]:
