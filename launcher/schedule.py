@@ -4,7 +4,7 @@ The crates behind which the longest chain of others waits come first. The first 
 others one each beside it, at a lower priority: they take what it leaves idle.
 """
 
-SPEED_OF_A_JOB = 0.7  # what each job beyond the first adds to a check's speed
+SPEED_OF_A_JOB = 0.3  # what each job beyond the first adds to a check's speed, as a first command from nothing showed
 
 
 class Schedule:
