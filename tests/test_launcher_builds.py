@@ -91,7 +91,7 @@ def test_the_time_that_is_left():
             ".seconds_left((), {}, {}))")
     told = subprocess.run(["python3", "-B", "-c", asks], cwd=TOP, stdout=subprocess.PIPE, check=True).stdout
     of_c = 5 / (2 / 3)
-    assert float(told) == pytest.approx(of_c + (10 - of_c * 1.7 * 2 / 3) / 1.7 + 20 / 1.7)
+    assert float(told) == pytest.approx(of_c + (10 - of_c * 1.3 * 2 / 3) / 1.3 + 20 / 1.3)
 
 
 def test_each_crate_of_the_program_has_a_check_time():
