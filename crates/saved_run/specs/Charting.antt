@@ -26,7 +26,7 @@ abbrev pub IsCutRefusal : LoadRefusal → Result (List ℕ) CutFault → Type 0
 IsCutRefusal (Fault fault) wanted = (fault ≡ Cutting) × (own : CutFault) × (wanted ≡ Err own)
 IsCutRefusal NoMemory wanted = ⊤
 
--- the same of a content
+-- the refusal tells that the row lines give no cutting with a step for each region; that memory was refused says nothing of them
 abbrev pub IsChartRefusal : LoadRefusal → Option (List ℕ) → Type 0
 IsChartRefusal (Fault fault) wanted = (fault ≡ Cutting) × (wanted ≡ None)
 IsChartRefusal NoMemory wanted = ⊤

@@ -17,7 +17,7 @@ pub record HasNumbers (row : Row) : Type 0 where
   pub gone : row.gone < 2 ^ 64
   pub wait : row.wait < 2 ^ 64
 
--- the numbers of a row line, too
+-- the numbers of a row line, each below 2^64
 pub record IsRowLine (line : RowLine) : Type 0 where
   pub region : line.region < 2 ^ 64
   pub row : HasNumbers line.row

@@ -79,7 +79,7 @@ abbrev pub IsLoadRefusal : Option Content → LoadRefusal → Type 0
 IsLoadRefusal found (Fault fault) = IsLoadFault found fault
 IsLoadRefusal found NoMemory = ⊤
 
--- the same of a content
+-- the refusal names the first fault of a content; that memory was refused says nothing of it
 abbrev pub IsRefusalOf : Content → LoadRefusal → Type 0
 IsRefusalOf content (Fault fault) = IsFaultOf content fault
 IsRefusalOf content NoMemory = ⊤

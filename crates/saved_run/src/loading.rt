@@ -30,20 +30,20 @@ pub fn load(alloc: Global, bytes: &[u8]) -> Result<Saved, LoadRefusal>
     ensures one_each { IfOk result (λ saved. length saved.chart.cut ≡ length saved.net.cells) }
     ensures refusal { IfErr result (IsLoadRefusal (content_of bytes.now)) }
 
-    // Its regions can be opened.
+    // The regions can be opened where they start.
     ensures charted { IfOk result (λ saved. saved.chart ≡ chart_of saved.net saved.chart.cut) }
     ensures can_start { IfOk result (λ saved. CanStart saved.net saved.chart.cut saved.start) }
 
-    // A text has at most one content, and each content one text.
+    // A text has at most one content, and is the only text with that content.
     ensures spelled { (content : Content) → content_of bytes.now ≡ Some content → IsTextOf bytes.now content }
     ensures read { (content : Content) → IsContent content → content_of (saved_text content) ≡ Some content }
 
-    // A text whose content has a true start is refused only where memory is refused, and goes on from that start.
+    // If the content has a true start, the text is refused only where memory is, and the saved run has that true start.
     ensures true_start { (net : Network) (cut : List ℕ) → BeginsTrue (content_of bytes.now) net cut →
         MatchResult result (λ saved. (saved.net ≡ net) × (saved.chart.cut ≡ cut) × IsTrueStart net cut saved.start) (λ refusal. refusal ≡ NoMemory) }
 
-    // Networks that agree below a step have one state up to it; so what was saved of the one by then has a true start with
-    // the other.
+    // Two networks that agree below step `u` are in the same state at each step up to `u`. So regions of the one that were
+    // saved at steps up to `u` have a true start in the other.
     ensures one_state { (net other : Network) (u t : ℕ) → AgreeBelow net other u → t ≤ u → state_at other t ≡ state_at net t }
     ensures edited { (content : Content) (net other : Network) (u : ℕ) (cut edited : List ℕ) → IsEdited content net other u cut edited →
         HasTrueStart (edited_content content edited) other cut }
