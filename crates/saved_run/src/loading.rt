@@ -34,7 +34,7 @@ pub fn load(alloc: Global, bytes: &[u8]) -> Result<Saved, LoadRefusal>
     ensures charted { IfOk result (λ saved. saved.chart ≡ chart_of saved.net saved.chart.cut) }
     ensures can_start { IfOk result (λ saved. CanStart saved.net saved.chart.cut saved.start) }
 
-    // A text has at most one content, and is the only text with that content.
+    // A text with a content is the saved text of it, and each content is read from its saved text.
     ensures spelled { (content : Content) → content_of bytes.now ≡ Some content → IsSavedText bytes.now content }
     ensures read { (content : Content) → IsContent content → content_of (saved_text content) ≡ Some content }
 
