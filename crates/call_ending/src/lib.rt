@@ -6,8 +6,8 @@
 //! - [`end`] writes the text, or the line of the refusal, and gives the status. `tell` writes the line alone.
 //! - specs/Ending.antt has the five ways in which a call ends, which contracts of whole calls cite (`HasEnded`).
 //!
-//! A status of a program's own takes one line in [`Status`] and one in its definition (specs/Status.antt), and one that
-//! answers have besides in [`Cause`] and its definition (specs/Refusing.antt).
+//! To give a program a status of its own, add it to [`Status`] and to the definition of its number (specs/Status.antt). If
+//! an answer can end with it, add it to [`Cause`] and to the definition of that (specs/Refusing.antt) too.
 #![tactic(auto)]
 
 mod cause;

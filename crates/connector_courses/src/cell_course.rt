@@ -1,4 +1,4 @@
-ghost use Rattle.std.specs.Prelude.{◌≡◌, ◌≤◌, ◌<◌, ℕ, Bool, IfOk, length, if◌then◌else◌};
+ghost use Rattle.std.specs.Prelude.{◌≡◌, ◌≤◌, ◌<◌, ℕ, IfOk, length, if◌then◌else◌};
 ghost use Rattle.timelines.specs.Courses.{IsSteady, light_at};
 ghost use Rattle.connector_courses.specs.Courses.{cell_most, green_by, most_by};
 

@@ -9,7 +9,7 @@ use Rattle.call_ending.specs.Refusing.{IsRefusalOf, Why}
 use Rattle.call_ending.specs.declared.refusal.Refusal.{Refusal}
 use Rattle.call_ending.specs.declared.refusal.Refusal.TheVariants as refusal
 use Rattle.ctm_call.specs.Answer.{IsTextBy, IsTextOf, answer_of, answer_to, answer_unless, why_by, why_in}
-use Rattle.ctm_call.specs.Input.{IsInput, IsInputOf, Reads, large_input, most_bytes, most_read, reads_source}
+use Rattle.ctm_call.specs.Input.{IsInput, IsInputOf, Reads, large_input, most_input, most_read, reads_source}
 use Rattle.ctm_call.specs.Task.{Task, task_of}
 use Rattle.ctm_call.specs.Words.{IsOfWords, requested, words_refused}
 
@@ -21,10 +21,10 @@ pub answer_of-request : (words : List (String Global)) (input : List ℕ) (reque
 unfolding answer_of
 answer_of-request words input request accepts = rw accepts refl
 
-pub answer_to-too_large : (request : Request) (input : List ℕ) → most_bytes request.mode < length input → answer_to request input ≡ Err large_input
+pub answer_to-too_large : (request : Request) (input : List ℕ) → most_input request.mode < length input → answer_to request input ≡ Err large_input
 answer_to-too_large request input large = search rules
 
-pub answer_to-fits : (request : Request) (input : List ℕ) → length input ≤ most_bytes request.mode →
+pub answer_to-fits : (request : Request) (input : List ℕ) → length input ≤ most_input request.mode →
     answer_to request input ≡ answer_unless (why_by request.mode (task_of request input)) (task_of request input)
 answer_to-fits request input fits = search rules
 
@@ -88,7 +88,7 @@ refused_input words request left told Rose asked given =
 
 -- a text of the mode is one of the answer
 pub answered_text : {A : Type 0} (items : A → List ℕ) (words : List (String Global)) (request : Request) (left : Option (List ℕ)) (input : List ℕ) →
-    requested words ≡ Some request → IsInput request left input → length input ≤ most_bytes request.mode → (result : Result A Refusal) →
+    requested words ≡ Some request → IsInput request left input → length input ≤ most_input request.mode → (result : Result A Refusal) →
     IfOk result (λ text. (why_by request.mode (task_of request input) ≡ None) × IsTextBy request.mode (task_of request input) (items text)) →
     IfOk result (λ text. (input : List ℕ) × IsInputOf (requested words) left input × IsTextOf (answer_of words input) (items text))
 answered_text items words request left input asked is fits (Ok text) given =
@@ -97,7 +97,7 @@ answered_text items words request left input asked is fits (Err refusal) given =
 
 -- a refusal of the mode is one of the answer
 pub answered_refusal : {A : Type 0} (words : List (String Global)) (request : Request) (left : Option (List ℕ)) (input : List ℕ) (ReadFailed : Type 0) →
-    requested words ≡ Some request → IsInput request left input → length input ≤ most_bytes request.mode → (result : Result A Refusal) →
+    requested words ≡ Some request → IsInput request left input → length input ≤ most_input request.mode → (result : Result A Refusal) →
     IfErr result (IsRefusalOf (why_by request.mode (task_of request input)) ⊥) →
     IfErr result (λ refusal. (input : List ℕ) × IsInputOf (requested words) left input × IsRefusalOf (why_in (answer_of words input)) ReadFailed refusal)
 answered_refusal words request left input ReadFailed asked is fits (Ok text) given = tt
@@ -113,5 +113,5 @@ pub loses_nothing : (left : Option (List ℕ)) (most : ℕ) → LosesAtMost left
 loses_nothing None most = ([], omega arith, tt)
 loses_nothing (Some bytes) most = ([], omega arith, refl)
 
-pub most_read-reads : (request : Request) → reads_source request.mode ≡ true → most_read (Some request) ≡ most_bytes request.mode + 1
+pub most_read-reads : (request : Request) → reads_source request.mode ≡ true → most_read (Some request) ≡ most_input request.mode + 1
 most_read-reads request reads = rw reads refl

@@ -16,7 +16,7 @@ use Rattle.call_ending.specs.Status.{status_number}
 use Rattle.call_ending.specs.declared.status.Status.{Status}
 use Rattle.call_ending.specs.declared.status.Status.TheVariants as status
 use Rattle.ctm_call.specs.Answer.{IsTextOf, answer_of, answer_to, answer_unless, why_by, why_in}
-use Rattle.ctm_call.specs.Input.{Reads, large_input, most_bytes}
+use Rattle.ctm_call.specs.Input.{Reads, large_input, most_input}
 use Rattle.ctm_call.specs.NetworkInput.{why_of_network}
 use Rattle.ctm_call.specs.ResumeMode.{why_by_content, why_by_cutting, why_unstarted}
 use Rattle.ctm_call.specs.Recording.{large_record, recorded_values, why_unrecorded}
@@ -82,7 +82,7 @@ other-unless false None task is = tt
 
 other-to : (request : Request) (input : List ℕ) → IfSome (why_in (answer_to request input)) IsOther
 other-to request input =
-    other-unless (nat_lt (most_bytes request.mode) (length input)) (why_by request.mode (task_of request input)) (task_of request input) (other-by request.mode (task_of request input))
+    other-unless (nat_lt (most_input request.mode) (length input)) (why_by request.mode (task_of request input)) (task_of request input) (other-by request.mode (task_of request input))
 
 not-asked : (words : List (String Global)) (input : List ℕ) (IsRead ReadFailed : Type 0) (told : Status) (out err : SinkUse) (request : Request) →
     requested words ≡ Some request → HasEnded (IsTextOf (answer_of words input)) (why_in (answer_of words input)) IsRead ReadFailed told out err → told ≡ status.Words → ⊥

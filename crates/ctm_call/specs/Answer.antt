@@ -7,7 +7,7 @@ use Rattle.command_words.specs.declared.request.Request.{Request}
 use Rattle.call_ending.specs.Refusing.{Why}
 use Rattle.ctm_call.specs.CheckMode.{IsCheckText, check_refused}
 use Rattle.ctm_call.specs.ConvertMode.{IsConvertText, convert_refused}
-use Rattle.ctm_call.specs.Input.{large_input, most_bytes}
+use Rattle.ctm_call.specs.Input.{large_input, most_input}
 use Rattle.ctm_call.specs.ResumeMode.{IsResumeText, resume_refused}
 use Rattle.ctm_call.specs.RunMode.{IsRunText, run_refused}
 use Rattle.ctm_call.specs.SampleMode.{IsSampleText, sample_refused}
@@ -57,7 +57,7 @@ answer_unless (Some why) task = Err why
 -- the answer to a request with this input: too long an input is refused first
 abbrev pub answer_to : Request → (input : List ℕ) → Answer
 answer_to request input =
-    if nat_lt (most_bytes request.mode) (length input) then Err large_input
+    if nat_lt (most_input request.mode) (length input) then Err large_input
     else answer_unless (why_by request.mode (task_of request input)) (task_of request input)
 
 -- the answer where the words give this request, or none

@@ -19,14 +19,14 @@ reads_source Check = true
 reads_source Convert = true
 
 -- the most bytes that the input of a mode may have
-abbrev pub most_bytes : Mode → ℕ
-most_bytes Run = 16_777_216
-most_bytes Watch = 16_777_216
-most_bytes Sample = 16_777_216
-most_bytes Save = 16_777_216
-most_bytes Resume = 67_108_864
-most_bytes Check = 16_777_216
-most_bytes Convert = 16_777_216
+abbrev pub most_input : Mode → ℕ
+most_input Run = 16_777_216
+most_input Watch = 16_777_216
+most_input Sample = 16_777_216
+most_input Save = 16_777_216
+most_input Resume = 67_108_864
+most_input Check = 16_777_216
+most_input Convert = 16_777_216
 
 abbrev pub large_input : Why
 large_input = record { status = status.TooLarge; line = codes "ctm: too large: input\n" }
@@ -57,4 +57,4 @@ IsReadWhole request left = Reads request → IsAtEnd left
 -- the most bytes of the source that are read: one more than the input may have
 abbrev pub most_read : Option Request → ℕ
 most_read None = 0
-most_read (Some request) = if reads_source request.mode then most_bytes request.mode + 1 else 0
+most_read (Some request) = if reads_source request.mode then most_input request.mode + 1 else 0

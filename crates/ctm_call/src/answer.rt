@@ -4,7 +4,7 @@ ghost use Rattle.ctm_ports.specs.ReadEnd.{LosesAtMost};
 ghost use Rattle.command_words.specs.Words.{IsInRange};
 ghost use Rattle.call_ending.specs.Refusing.{IsRefusalOf};
 ghost use Rattle.ctm_call.specs.Answer.{IsTextBy, IsTextOf, answer_of, why_by, why_in};
-ghost use Rattle.ctm_call.specs.Input.{IsInputOf, IsReadWhole, IsUnread, Reads, most_bytes, most_read};
+ghost use Rattle.ctm_call.specs.Input.{IsInputOf, IsReadWhole, IsUnread, Reads, most_input, most_read};
 ghost use Rattle.ctm_call.specs.Task.{task_of};
 ghost use Rattle.ctm_call.specs.Words.{requested};
 
@@ -60,7 +60,7 @@ fn text_of<R: Threads + Sync, G: Gate>(
     gate: &G,
 ) -> Result<Vec<u8>, Refusal>
     requires in_range { IsInRange request }
-    requires few_bytes { length input.now ≤ most_bytes request.mode }
+    requires few_bytes { length input.now ≤ most_input request.mode }
     ensures text { IfOk result (λ text. (why_by request.mode (task_of request input.now) ≡ None) × IsTextBy request.mode (task_of request input.now) text.items) }
     ensures refusal { IfErr result (IsRefusalOf (why_by request.mode (task_of request input.now)) ⊥) }
 {

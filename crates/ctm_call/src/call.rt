@@ -37,8 +37,8 @@ pub fn ctm<R: Threads + Sync, S: Source, O: Sink, E: Sink, G: Gate>(
         (sink_use (O.taken out.old) (O.taken out.new) (out.new ≡ out.old) (Rose (O.faults out.old) (O.faults out.new)) (Rose (O.wants out.old) (O.wants out.new)))
         (sink_use (E.taken err.old) (E.taken err.new) (err.new ≡ err.old) (Rose (E.faults err.old) (E.faults err.new)) (Rose (E.wants err.old) (E.wants err.new))) }
 
-    // Status Words tells of words that are refused, in every mode, and where they are there is no other status but that memory
-    // was refused.
+    // The status is Words only where the words are refused, whatever the mode; and where they are, it is Words, or NoMemory
+    // where memory was refused.
     ensures words { result ≡ status.Words → requested words.now ≡ None }
     ensures refused { requested words.now ≡ None → (result ≡ status.Words) ⊎ (result ≡ status.NoMemory) }
 

@@ -5,7 +5,7 @@ ghost use Rattle.command_words.specs.Words.{IsInRange};
 ghost use Rattle.net_make.specs.Made.{made};
 ghost use Rattle.call_ending.specs.Refusing.{IsRefusalOf};
 ghost use Rattle.ctm_call.specs.Answer.{answer_to, why_in};
-ghost use Rattle.ctm_call.specs.Input.{IsInput, IsReadWhole, IsUnread, Reads, large_input, most_bytes, most_read, reads_source};
+ghost use Rattle.ctm_call.specs.Input.{IsInput, IsReadWhole, IsUnread, Reads, large_input, most_input, most_read, reads_source};
 
 use call_ending::{Cause, Line, Refusal};
 use command_words::{Mode, Request};
@@ -24,7 +24,7 @@ pub(crate) fn input_of<S: Source>(
     source: &mut S,
 ) -> Result<Vec<u8>, Refusal>
     requires in_range { IsInRange request }
-    ensures input { IfOk result (λ input. IsInput request (S.left source.old) input.items × (length input.items ≤ most_bytes request.mode)) }
+    ensures input { IfOk result (λ input. IsInput request (S.left source.old) input.items × (length input.items ≤ most_input request.mode)) }
     ensures refusal { IfErr result (λ refusal. (input : List ℕ) × IsInput request (S.left source.old) input
         × IsRefusalOf (why_in (answer_to request input)) (Reads (Some request) × Rose (S.faults source.old) (S.faults source.new)) refusal) }
     ensures unread { IsUnread (Some request) → source.new ≡ source.old }
@@ -37,7 +37,7 @@ pub(crate) fn input_of<S: Source>(
             Err(refusal) => Err(refusal),
         };
     }
-    match read_up_to(alloc, source, most_bytes(request.mode)) {
+    match read_up_to(alloc, source, most_input(request.mode)) {
         ReadEnd::Whole(input) => Ok(input),
         ReadEnd::TooLong => Err(large_input()),
         ReadEnd::Failed => Err(Refusal::ReadFault),
@@ -56,8 +56,8 @@ fn reads_source(mode: Mode) -> bool
 }
 
 // The most bytes that the input of a mode may have.
-fn most_bytes(mode: Mode) -> usize
-    ensures { result ≡ most_bytes mode }
+fn most_input(mode: Mode) -> usize
+    ensures { result ≡ most_input mode }
 {
     match mode {
         Mode::Run | Mode::Watch | Mode::Sample | Mode::Save | Mode::Check | Mode::Convert => {
@@ -77,11 +77,11 @@ fn large_input() -> Refusal
 // The made network, unless it is longer than an input may be.
 fn made_input(alloc: Global, request: Request) -> Result<Vec<u8>, Refusal>
     requires in_range { IsInRange request }
-    ensures input { IfOk result (λ input. (input.items ≡ made request.size request.seed) × (length input.items ≤ most_bytes request.mode)) }
+    ensures input { IfOk result (λ input. (input.items ≡ made request.size request.seed) × (length input.items ≤ most_input request.mode)) }
     ensures refusal { IfErr result (IsRefusalOf (why_in (answer_to request (made request.size request.seed))) ⊥) }
 {
     let input = make(alloc, request.size, request.seed)?;
-    if input.len() > most_bytes(request.mode) {
+    if input.len() > most_input(request.mode) {
         return Err(large_input());
     }
     Ok(input)

@@ -1,4 +1,4 @@
--- Counts of faults and of wants of memory.
+-- Counts of faults, and of writes that got no memory.
 use Rattle.std.specs.Prelude.{◌≡◌, ℕ, ◌+◌, ◌-◌, ◌^◌, ◌<◌, ◌⊎◌, min}
 
 -- a count after one more, which stays at the greatest number of 64 bits

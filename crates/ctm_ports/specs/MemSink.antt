@@ -4,7 +4,7 @@ use Rattle.ctm_ports.specs.Calls.{Calls, after_call}
 use Rattle.ctm_ports.specs.Wrote.{bytes_taken, wants_after}
 use Rattle.ctm_ports.specs.declared.sink.Wrote.{Wrote}
 
--- the bytes taken so far, the most bytes of one write, the writes so far, and the wants of memory
+-- the bytes taken so far, the most bytes of one write, the writes so far, and how many of them got no memory
 pub record Store : Type 0 where
   pub taken : List ℕ
   pub chunk : ℕ

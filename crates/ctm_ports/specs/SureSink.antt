@@ -3,7 +3,7 @@ use Rattle.std.specs.Prelude.{ℕ, List, ◌++◌, take}
 use Rattle.ctm_ports.specs.Wrote.{bytes_taken, wants_after}
 use Rattle.ctm_ports.specs.declared.sink.Wrote.{Wrote}
 
--- the bytes taken so far, and the wants of memory
+-- the bytes taken so far, and how many writes got no memory
 pub record SureStore : Type 0 where
   pub taken : List ℕ
   pub wants : ℕ

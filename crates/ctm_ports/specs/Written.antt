@@ -16,7 +16,7 @@ OnFailed All P = ⊤
 OnFailed Failed P = P
 OnFailed NoMemory P = ⊤
 
--- a fact where the sink wanted memory
+-- a fact where the sink got no memory
 abbrev pub OnNoMemory : Written → Type 0 → Type 0
 OnNoMemory All P = ⊤
 OnNoMemory Failed P = ⊤

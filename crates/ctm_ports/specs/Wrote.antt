@@ -22,7 +22,7 @@ OnFailed (Took n) P = ⊤
 OnFailed Failed P = P
 OnFailed NoMemory P = ⊤
 
--- a fact where the sink wanted memory
+-- a fact where the sink got no memory
 abbrev pub OnNoMemory : Wrote → Type 0 → Type 0
 OnNoMemory (Took n) P = ⊤
 OnNoMemory Failed P = ⊤
@@ -34,7 +34,7 @@ bytes_taken (Took n) = n
 bytes_taken Failed = 0
 bytes_taken NoMemory = 0
 
--- the count of wants after an answer
+-- how often the sink got no memory, after an answer
 abbrev pub wants_after : ℕ → Wrote → ℕ
 wants_after wants (Took n) = wants
 wants_after wants Failed = wants

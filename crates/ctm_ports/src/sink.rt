@@ -19,7 +19,7 @@ pub trait Sink {
     // The bytes taken so far, where the sink tells them.
     ghost taken: { Self → Option (List ℕ) };
 
-    // Two counts that never fall.
+    // How many writes failed, and how many got no memory: two counts that never fall.
     ghost faults: { Self → ℕ };
 
     ghost wants: { Self → ℕ };

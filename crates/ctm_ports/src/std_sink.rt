@@ -3,7 +3,7 @@ use std::io::Write;
 
 /// A sink over a writer of std. Where the writer tells the bytes that it has taken, each write is known to
 /// append to them. Each error of the writer is a fault, also one that a signal caused, and so is each
-/// write that takes nothing. It never wants memory.
+/// write that takes nothing. It never answers `NoMemory`.
 #[derive(Debug, Drop)]
 pub struct StdSink<W> {
     inner: W,

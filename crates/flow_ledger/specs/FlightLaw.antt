@@ -17,7 +17,7 @@ leaves net t i = outflow net t (occupancy (state_at net t)) i
 abbrev pub enters : Network → (t i : ℕ) → ℕ
 enters net t i = inflow net t (occupancy (state_at net t)) i
 
--- those of these cells that stand one step past m
+-- the cells of a list that stand one step past m
 abbrev pub ahead : (s : ℕ → ℕ) → (m : ℕ) → List ℕ → List ℕ
 ahead s m cells = filter (λ i. s i == m + 1) cells
 

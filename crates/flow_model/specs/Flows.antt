@@ -44,7 +44,7 @@ sent_by flow = flow.out1 ∷ flow.out2 ∷ []
 abbrev pub received_by : Flow → List ℕ
 received_by flow = flow.in1 ∷ flow.in2 ∷ []
 
--- the amount beside cell i, where these amounts stand beside these cells
+-- the sum of the amounts beside cell i, in a list of amounts beside a list of cells
 abbrev pub amount_beside : (i : ℕ) → (cells amounts : List ℕ) → ℕ
 amount_beside i [] amounts = 0
 amount_beside i (cell ∷ cells) [] = 0

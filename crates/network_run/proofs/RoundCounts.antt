@@ -1,12 +1,10 @@
 -- Rounds one after the other, and what a round leaves of the members of helpers.
-use Rattle.std.specs.Prelude.{All, sum_by}
-use Rattle.std.proofs.Common.{◌≡◌, ℕ, ◌+◌, ◌*◌, ◌<◌, ◌≤◌, suc, inl, inr, List, [], ◌∷◌, length, get_or, refl, arith}
+use Rattle.std.specs.Prelude.{All}
+use Rattle.std.proofs.Common.{◌≡◌, ℕ, ◌+◌, ◌<◌, ◌≤◌, suc, inl, inr, List, [], ◌∷◌, length, get_or, refl, arith}
 use Rattle.std.proofs.lemmas.Bool.{cases_lt}
 use Rattle.std.proofs.lemmas.List.{get_or-map, length-map}
 use Rattle.std.proofs.lemmas.List.Sums.{get_or-le-sum_by, sum_by-cons}
-use Rattle.region_cut.specs.Cuttings.{region_count}
 use Rattle.region_slots.specs.FieldView.{FieldValue}
-use Rattle.worker_claim.specs.Driving.{tries_of}
 use Rattle.worker_claim.specs.Helping.{AreHelped}
 use Rattle.worker_claim.specs.declared.helper.Helper.{Helper}
 use Rattle.worker_claim.specs.declared.member.Member.{Member}

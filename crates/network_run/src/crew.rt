@@ -12,7 +12,7 @@ use worker_claim::{Helper, Member, Nest, nests};
 pub(crate) struct Crew {
     pub(crate) workers: u32,
     pub(crate) regions: u32,
-    // Those of the workers that aren't members.
+    // The nests of the workers that aren't members.
     pub(crate) nests: Vec<Nest>,
     pub(crate) helpers: Vec<Helper>,
 }

@@ -24,9 +24,9 @@ use std::thread::Threads;
 /// How many steps past a step its snapshot may show a region.
 const NEAR: u64 = 4;
 
-/// A room that shows the regions of a chart near the step `until`, or near the last one where that comes first: from step
-/// 0 so many workers take all regions there, and show them in the room while they go on, each at that step or at most four
-/// steps past it.
+/// A room with a snapshot of the regions of a chart near the step `until`, or near the last step where that comes first.
+/// So many workers take all regions there from step 0. Then the snapshot is taken while they go on, so it has each region
+/// at that step or at most four steps past it.
 pub fn room_near<R: Threads + Sync, G: Gate>(
     rt: &R,
     alloc: Global,
@@ -56,7 +56,7 @@ pub fn room_near<R: Threads + Sync, G: Gate>(
     )
 }
 
-// The same from this start, which is that at step 0, for a step of the run.
+// Such a room near the step `from` of the run; `start` is the start at step 0.
 fn room_from<R: Threads + Sync, G: Gate>(
     rt: &R,
     alloc: Global,
@@ -87,7 +87,7 @@ fn room_from<R: Threads + Sync, G: Gate>(
     Ok(room)
 }
 
-// The same of a field that is open.
+// Puts such a snapshot into the room, of a field that is open with all regions at step 0.
 fn show_near<R: Threads + Sync, G: Gate>(
     rt: &R,
     net: &Net,

@@ -39,8 +39,8 @@ pub fn last_regions<R: Threads + Sync, G: Gate>(
     regions_from(rt, alloc, net, chart, &start, every, goal, workers, gate)
 }
 
-/// The regions of a chart at the step `goal`, taken there by so many workers from where a start says, none of them past
-/// that step. They are recorded as `last_regions` says, and memory is taken as there.
+/// The regions of a chart at the step `goal`, taken there by so many workers from the steps of `start`, none of which is
+/// past `goal`. They are recorded as those of `last_regions`, and memory is taken as there.
 pub fn regions_from<R: Threads + Sync, G: Gate>(
     rt: &R,
     alloc: Global,

@@ -1,6 +1,6 @@
 use std::alloc::{AllocError, AllocFailed};
 
-/// There was no memory left. The value that the call was lent is as it was before.
+/// There was no memory left. What the call was lent may have changed, unless its contract says that it hasn't.
 #[derive(Clone, Copy, Debug, PartialEq, Eq)]
 pub struct NoMemory;
 

@@ -1,3 +1,4 @@
+pub mod Limits
 pub mod Sending
 pub mod Space
 pub mod Receiving

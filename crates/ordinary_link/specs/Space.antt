@@ -1,6 +1,6 @@
 use Rattle.std.specs.Prelude.{ℕ, ◌≤◌, ◌-◌, ◌*◌, ◌/◌}
 use Rattle.ordinary_link.specs.declared.space.Room.{Room}
-use Rattle.ordinary_link.specs.declared.space.TheConstants.{MOST_RATIO}
+use Rattle.ordinary_link.specs.Limits.{most_ratio}
 
 -- what the empty space of a road that holds `n` parts lets in: floor(A·(N - n)/B)
 abbrev pub space_flow : ℕ → Room → ℕ
@@ -11,4 +11,4 @@ pub record IsRoomHolding (n : ℕ) (room : Room) : Type 0 where
   pub within : n ≤ room.most
   pub positive : 1 ≤ room.num
   pub ratio : room.num ≤ room.den
-  pub small : room.den ≤ MOST_RATIO
+  pub small : room.den ≤ most_ratio

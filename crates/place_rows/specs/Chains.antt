@@ -28,7 +28,7 @@ HasNoNext cells up down = (p : ℕ) → IsNextAt cells up down p → ⊥
 abbrev pub is_chained : (cells : List ℕ) → Connector → Bool
 is_chained cells connector = list_any (λ p. is_link cells p connector) (range_with_len 0 (length cells))
 
--- those of these connectors that are not
+-- the connectors of a list that are no link from one of these cells to the next
 abbrev pub odd_ones : Network → (cells connectors : List ℕ) → List ℕ
 odd_ones net cells connectors = filter (λ k. not (is_chained cells (connector_at net.connectors k))) connectors
 

@@ -31,7 +31,7 @@ impl Model for Cut {
 
 impl Cut {
     /// The even cutting of a network's cells into `k` regions: cell `i` is in region `i * k / cells`.
-    pub(crate) fn even(alloc: Global, net: &Net, k: u32) -> Result<Cut, NoMemory>
+    pub fn even(alloc: Global, net: &Net, k: u32) -> Result<Cut, NoMemory>
         requires some { 1 ≤ k }
         requires few { k ≤ MOST_REGIONS }
         requires cells { k ≤ length net.now.cells }

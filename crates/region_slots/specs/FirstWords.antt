@@ -18,14 +18,14 @@ pub record AreFirstWords (chart : ChartLists) (start : StartLists) (words : List
   pub step : step_of chart words r ≡ slice_index start.steps r
   pub rows : AreFirstRows chart start words r (width_at (widths_of chart) r)
 
--- of the words those of region r have changed at most, and its claim word has not
+-- no words but those of region r have changed, and its claim word has not
 pub record OnlyThose (chart : ChartLists) (before after : List ℕ) (r : ℕ) : Type 0 where
   pub long : length after ≡ length before
   pub claims : (q : ℕ) → q < region_count chart.cut → claim_of chart after q ≡ claim_of chart before q
   pub steps : (q : ℕ) → q < region_count chart.cut → q ≢ r → step_of chart after q ≡ step_of chart before q
   pub rows : (q t j : ℕ) → q < region_count chart.cut → q ≢ r → j < width_at (widths_of chart) q → border_word chart after q t j ≡ border_word chart before q t j
 
--- all words: no region is taken, and those of each are there
+-- the words of all regions: no region is taken, and each has its first words
 pub record AreAllFirstWords (chart : ChartLists) (start : StartLists) (words : List ℕ) : Type 0 where
   pub long : length words ≡ words_of (widths_of chart)
   pub free : (r : ℕ) → r < region_count chart.cut → claim_of chart words r ≡ 0

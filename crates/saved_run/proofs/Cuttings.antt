@@ -5,13 +5,13 @@ use Rattle.std.proofs.lemmas.Bool.{cases_eq, eq-eqb, ne_eqb}
 use Rattle.std.proofs.lemmas.Bool.Decides.{nat_tests}
 use Rattle.std.proofs.lemmas.List.{get_or-map, length-map}
 use Rattle.std.proofs.lemmas.List.Folds.{list_all_at}
-use Rattle.network_file.specs.declared.limits.TheConstants.{MOST_REGIONS}
+use Rattle.network_file.specs.Limits.{most_regions}
 use Rattle.network_file.specs.Network.{Network}
 use Rattle.region_cut.specs.CutFaults.{cut_of}
 use Rattle.region_cut.specs.Cuttings.{region_count}
 use Rattle.region_cut.specs.declared.fault.CutFault.{CutFault}
 use Rattle.region_cut.proofs.CutFaults.{cut_of-Length, cut_of-Many}
-use Rattle.saved_run.specs.Charting.{IsChartRefusal, IsCutRefusal, are_regions}
+use Rattle.saved_run.specs.Charting.{IsChartRefusal, IsCuttingRefusal, are_regions}
 use Rattle.saved_run.specs.Loading.{cutting_by, of_regions, regions_in}
 use Rattle.saved_run.specs.declared.fault.LoadRefusal.{LoadRefusal}
 use Rattle.saved_run.specs.declared.fault.LoadRefusal.TheVariants.{Fault, NoMemory}
@@ -36,13 +36,13 @@ unfolding cutting_by
 cutting_by-few net count rows cut is differ = ap (of_regions count) is ∙ ap (λ t. cond t (Some cut) None) (ne_eqb (region_count cut) count differ)
 
 -- a number that no region has
-pub no_region : (rows : List RowLine) (i : ℕ) (d : RowLine) → i < length rows → MOST_REGIONS ≤ (get_or rows i d).region → are_regions (regions_in rows) ≡ false
+pub no_region : (rows : List RowLine) (i : ℕ) (d : RowLine) → i < length rows → most_regions ≤ (get_or rows i d).region → are_regions (regions_in rows) ≡ false
 no_region rows i d within great =
     let here : get_or (regions_in rows) i 0 ≡ (get_or rows i d).region = get_or-map (λ line. line.region) rows i d 0 within in
-    let test : nat_lt (get_or (regions_in rows) i 0) MOST_REGIONS ≡ false = grind (arith, nat_tests, here, great) in
-    list_all_at (λ region. nat_lt region MOST_REGIONS) (regions_in rows) i 0 (omega (arith, within, length-map rows (λ line. line.region))) test
+    let test : nat_lt (get_or (regions_in rows) i 0) most_regions ≡ false = grind (arith, nat_tests, here, great) in
+    list_all_at (λ region. nat_lt region most_regions) (regions_in rows) i 0 (omega (arith, within, length-map rows (λ line. line.region))) test
 
 -- a refusal of the cutting, passed on
-pub passed_on : (net : Network) (count : ℕ) (rows : List RowLine) (refusal : LoadRefusal) → IsCutRefusal refusal (cut_of net (regions_in rows)) → IsChartRefusal refusal (cutting_by net count rows)
+pub passed_on : (net : Network) (count : ℕ) (rows : List RowLine) (refusal : LoadRefusal) → IsCuttingRefusal refusal (cut_of net (regions_in rows)) → IsChartRefusal refusal (cutting_by net count rows)
 passed_on net count rows (Fault fault) is = (is.0, cutting_by-Err net count rows is.1 is.2)
 passed_on net count rows NoMemory is = tt

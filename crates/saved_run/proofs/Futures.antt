@@ -1,5 +1,5 @@
 -- Two networks that agree below step u are in the same state up to it, so that what was saved of the one by then is a true start of the other.
-use Rattle.std.specs.Prelude.{All, if◌then◌else◌, map, slice_index, sum_by}
+use Rattle.std.specs.Prelude.{All, if◌then◌else◌, map, sum_by}
 use Rattle.std.specs.List.{range_with_len}
 use Rattle.std.proofs.Common.{◌≡◌, ℕ, zero, suc, ◌<◌, ◌≤◌, List, length, refl, sym, ap, subst, ◌∙◌, arith}
 use Rattle.network_file.specs.Cells.{is_gate_at}
@@ -23,7 +23,7 @@ use Rattle.region_step.proofs.StartLaws.{zeros}
 use Rattle.snapshot.specs.Rooms.{RoomValue}
 use Rattle.saved_run.specs.Content.{Content}
 use Rattle.saved_run.specs.Futures.{AgreeBelow, IsEdited, IsMoment, edited_content}
-use Rattle.saved_run.specs.Laws.{HasTrueStart, IsShotOf}
+use Rattle.saved_run.specs.Laws.{HasTrueStart, IsTrueShot}
 use Rattle.saved_run.specs.Loading.{CanStart, cutting_by, cutting_in, start_in}
 use Rattle.saved_run.specs.Shown.{content_shown}
 use Rattle.saved_run.proofs.Starts.{held_before, shot-has_true_start}
@@ -113,7 +113,7 @@ moment-starts net cut start sound moment =
     }
 
 -- what is saved of a run from step 0 is a moment
-pub shown-moment : (bytes : List ℕ) (net : Network) (cut : List ℕ) (room : RoomValue) → IsShotOf bytes net cut (zero_start net cut) room → IsMoment net cut (start_in (content_shown cut room bytes))
+pub shown-moment : (bytes : List ℕ) (net : Network) (cut : List ℕ) (room : RoomValue) → IsTrueShot bytes net cut (zero_start net cut) room → IsMoment net cut (start_in (content_shown cut room bytes))
 shown-moment bytes net cut room shot =
     let start = zero_start net cut in
     let from_zero : (i : ℕ) → start_of start cut i ≡ 0 = λ i. zeros (region_count cut) (region_at cut i) in

@@ -1,11 +1,11 @@
 -- Whether regions can start: from a content's steps, rows and earlier occupancies.
 use Rattle.std.specs.Prelude.{slice_index}
 use Rattle.std.proofs.Common.{◌≡◌, ℕ, zero, suc, ◌+◌, ◌*◌, ◌<◌, ◌≤◌, true, false, List, length, refl, subst, arith}
-use Rattle.fixed_flow.specs.declared.amount.TheConstants.{MOST_PARTS}
+use Rattle.fixed_flow.specs.Limits.{most_parts}
 use Rattle.signal_plan.specs.Total.{demand_from}
 use Rattle.network_file.specs.Cells.{is_exit_at, is_gate_at}
 use Rattle.network_file.specs.Network.{Network}
-use Rattle.network_file.specs.declared.limits.TheConstants.{MOST_CAPACITY}
+use Rattle.network_file.specs.Limits.{most_capacity}
 use Rattle.flow_model.specs.Bounds.{IsHeldInBounds, IsRowInBounds, first_at, is_road_at, room_parts_at}
 use Rattle.flow_model.specs.State.{row_at}
 use Rattle.flow_model.specs.declared.row.Row.{Row}
@@ -22,8 +22,8 @@ use Rattle.saved_run.proofs.Deciding.{decide_as, decide_below, decide_both, deci
 decide_held : (net : Network) (t i n : ℕ) → Dec (IsHeldInBounds net t i n)
 decide_held net t i n = decide_as
     (decide_both (decide_if (is_road_at net.cells i) (decide_le n (room_parts_at net.cells i)))
-    (decide_both (decide_if (is_gate_at net.cells i) (decide_le (n + demand_from net.plan i t net.steps) MOST_PARTS))
-    (decide_if (is_exit_at net.cells i) (decide_le n (t * MOST_CAPACITY)))))
+    (decide_both (decide_if (is_gate_at net.cells i) (decide_le (n + demand_from net.plan i t net.steps) most_parts))
+    (decide_if (is_exit_at net.cells i) (decide_le n (t * most_capacity)))))
     (λ all. record { road = all.0; gate = all.1.0; exit = all.1.1 })
     (λ is. (is.road, (is.gate, is.exit)))
 
@@ -40,11 +40,11 @@ decide_earlier net (suc t) i n = decide_as (decide_held net t i n)
 
 -- its row
 
-decide_come : (net : Network) (t i : ℕ) (row : Row) → Dec ((is_road_at net.cells i ≡ true → row.come ≤ t * MOST_CAPACITY)
-    × (is_gate_at net.cells i ≡ true → row.come + demand_from net.plan i t net.steps ≤ MOST_PARTS))
+decide_come : (net : Network) (t i : ℕ) (row : Row) → Dec ((is_road_at net.cells i ≡ true → row.come ≤ t * most_capacity)
+    × (is_gate_at net.cells i ≡ true → row.come + demand_from net.plan i t net.steps ≤ most_parts))
 decide_come net t i row =
-    decide_both (decide_if (is_road_at net.cells i) (decide_le row.come (t * MOST_CAPACITY)))
-    (decide_if (is_gate_at net.cells i) (decide_le (row.come + demand_from net.plan i t net.steps) MOST_PARTS))
+    decide_both (decide_if (is_road_at net.cells i) (decide_le row.come (t * most_capacity)))
+    (decide_if (is_gate_at net.cells i) (decide_le (row.come + demand_from net.plan i t net.steps) most_parts))
 
 decide_left : (net : Network) (i : ℕ) (row : Row) → Dec ((is_exit_at net.cells i ≡ true → row.come ≡ row.n)
     × ((is_exit_at net.cells i ≡ true → row.gone ≡ 0) × (is_exit_at net.cells i ≡ true → row.wait ≡ 0)))
@@ -52,11 +52,11 @@ decide_left net i row =
     decide_both (decide_if (is_exit_at net.cells i) (decide_eq row.come row.n))
     (decide_both (decide_if (is_exit_at net.cells i) (decide_eq row.gone 0)) (decide_if (is_exit_at net.cells i) (decide_eq row.wait 0)))
 
-decide_sums : (net : Network) (t i : ℕ) (row : Row) → Dec ((row.gone ≤ t * MOST_CAPACITY)
-    × ((row.wait ≤ t * MOST_PARTS) × (is_exit_at net.cells i ≡ false → row.n + row.gone ≡ first_at net.cells i + row.come)))
+decide_sums : (net : Network) (t i : ℕ) (row : Row) → Dec ((row.gone ≤ t * most_capacity)
+    × ((row.wait ≤ t * most_parts) × (is_exit_at net.cells i ≡ false → row.n + row.gone ≡ first_at net.cells i + row.come)))
 decide_sums net t i row =
-    decide_both (decide_le row.gone (t * MOST_CAPACITY))
-    (decide_both (decide_le row.wait (t * MOST_PARTS)) (decide_unless (is_exit_at net.cells i) (decide_eq (row.n + row.gone) (first_at net.cells i + row.come))))
+    decide_both (decide_le row.gone (t * most_capacity))
+    (decide_both (decide_le row.wait (t * most_parts)) (decide_unless (is_exit_at net.cells i) (decide_eq (row.n + row.gone) (first_at net.cells i + row.come))))
 
 decide_row : (net : Network) (t i : ℕ) (row : Row) → Dec (IsRowInBounds net t i row)
 decide_row net t i row = decide_as (decide_both (decide_held net t i row.n) (decide_both (decide_come net t i row) (decide_both (decide_left net i row) (decide_sums net t i row))))

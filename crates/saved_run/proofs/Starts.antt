@@ -18,7 +18,7 @@ use Rattle.region_step.specs.Grid.{grid_before, grid_held, grid_row}
 use Rattle.region_step.specs.Start.{Fits, IsCellInBounds, IsTrueStart, StartLists, start_of}
 use Rattle.region_step.proofs.Grids.{are_the_recurrences, grid_before-next, grid_before-start, grid_held-earlier, grid_held-started, held_in_bounds, stay_in_bounds}
 use Rattle.snapshot.specs.Rooms.{RoomValue}
-use Rattle.saved_run.specs.Laws.{HasTrueStart, IsShotOf}
+use Rattle.saved_run.specs.Laws.{HasTrueStart, IsTrueShot}
 use Rattle.saved_run.specs.Loading.{cutting_by, cutting_in, of_regions, regions_in, start_in}
 use Rattle.saved_run.specs.Shown.{content_shown, line_shown}
 use Rattle.saved_run.specs.declared.row_line.RowLine.{RowLine}
@@ -51,7 +51,7 @@ cutting-shown net cut room network cutting one_each =
     let counted : (region_count cut == length room.steps) ≡ true = eq-eqb _ _ (sym one_each) in
     ap (of_regions (length room.steps)) own ∙ ap (λ t. cond t (Some cut) None) counted
 
-module _ (bytes : List ℕ) (net : Network) (cut : List ℕ) (start : StartLists) (room : RoomValue) (shot : IsShotOf bytes net cut start room) where
+module _ (bytes : List ℕ) (net : Network) (cut : List ℕ) (start : StartLists) (room : RoomValue) (shot : IsTrueShot bytes net cut start room) where
   abbrev pub shown : StartLists
   shown = start_in (content_shown cut room bytes)
 

@@ -3,14 +3,14 @@ use Rattle.std.specs.Prelude.{codes, flat_map, nat_le, nat_lt}
 use Rattle.std.proofs.Common.{◌≡◌, ℕ, ◌+◌, ◌<◌, ◌≤◌, Bool, true, false, cond, List, [], ◌∷◌, ◌++◌, length, Option, Some, None, refl, sym, ap, subst, ◌∙◌, arith, append_assoc, length-append}
 use Rattle.std.proofs.lemmas.Bool.{and_parts}
 use Rattle.std.proofs.lemmas.Bool.Decides.{nat_tests}
-use Rattle.network_file.specs.declared.limits.TheConstants.{MOST_BYTES, MOST_REGIONS}
+use Rattle.network_file.specs.Limits.{most_bytes, most_regions}
 use Rattle.saved_run.specs.Content.{Content, IsContent}
 use Rattle.saved_run.specs.Fronts.{counted_line_at}
-use Rattle.saved_run.specs.Reading.{IsTextOf, content_of, is_region_count, rows_at, steps_at}
+use Rattle.saved_run.specs.Reading.{IsSavedText, content_of, is_region_count, row_lines_at, step_lines_at}
 use Rattle.saved_run.specs.SavedText.{counted_line, row_line, saved_text}
 use Rattle.saved_run.specs.declared.row_line.RowLine.{RowLine}
 use Rattle.saved_run.proofs.Fronts.{chained, counted_line_at-line, line-counted_line_at}
-use Rattle.saved_run.proofs.Heads.{lines-rows_at, lines-steps_at, rows_at-lines, steps_at-lines}
+use Rattle.saved_run.proofs.Heads.{lines-row_lines_at, lines-step_lines_at, row_lines_at-lines, step_lines_at-lines}
 use Rattle.saved_run.proofs.Numbers.{none_is_no_some, passed}
 
 five : (a b c d e : List ℕ) → a ++ b ++ c ++ d ++ e ≡ a ++ (b ++ (c ++ (d ++ e)))
@@ -38,33 +38,33 @@ content_of-saved_text content is =
     ≡ Some (record { value = count; rest = steps_text }) =
     ap (counted_line_at (codes "saved,1")) whole ∙ counted_line_at-line (codes "saved,1") count steps_text (omega (arith, is.few)) in
     let counted : is_region_count count ≡ true = grind (arith, nat_tests, is.some, is.few) in
-    let steps : steps_at count steps_text ≡ Some (record { value = content.steps; rest = rows_text }) = steps_at-lines content.steps rows_text is.steps in
+    let steps : step_lines_at count steps_text ≡ Some (record { value = content.steps; rest = rows_text }) = step_lines_at-lines content.steps rows_text is.steps in
     let few : length content.rows < length rows_text = omega (arith, length-lines content.rows end) in
-    let rows : rows_at (length rows_text) rows_text ≡ Some (record { value = content.rows; rest = content.network }) = rows_at-lines (length rows_text) content.rows content.network few is.rows in
-    let short : nat_le (length content.network) MOST_BYTES ≡ true = grind (arith, nat_tests, is.network) in
+    let rows : row_lines_at (length rows_text) rows_text ≡ Some (record { value = content.rows; rest = content.network }) = row_lines_at-lines (length rows_text) content.rows content.network few is.rows in
+    let short : nat_le (length content.network) most_bytes ≡ true = grind (arith, nat_tests, is.network) in
     rw (regions, counted, steps, rows, short) refl
 
 counted : {A : Type 0} (test : Bool) (found : Option A) (a : A) → cond test found None ≡ Some a → (test ≡ true) × (found ≡ Some a)
 counted true found a same = (refl, same)
 counted false found a same = absurd (none_is_no_some a same)
 
-pub saved_text-content_of : (bytes : List ℕ) (content : Content) → content_of bytes ≡ Some content → IsTextOf bytes content
+pub saved_text-content_of : (bytes : List ℕ) (content : Content) → content_of bytes ≡ Some content → IsSavedText bytes content
 unfolding content_of saved_text
 saved_text-content_of bytes content reads =
     let regions = chained (counted_line_at (codes "saved,1") bytes) _ content reads in
-    let steps = chained (cond (is_region_count regions.0.value) (steps_at regions.0.value regions.0.rest) None) _ content regions.2 in
-    let rows = chained (rows_at (length steps.0.rest) steps.0.rest) _ content steps.2 in
-    let last = passed (nat_le (length rows.0.rest) MOST_BYTES) (record { steps = steps.0.value; rows = rows.0.value; network = rows.0.rest }) content rows.2 in
+    let steps = chained (cond (is_region_count regions.0.value) (step_lines_at regions.0.value regions.0.rest) None) _ content regions.2 in
+    let rows = chained (row_lines_at (length steps.0.rest) steps.0.rest) _ content steps.2 in
+    let last = passed (nat_le (length rows.0.rest) most_bytes) (record { steps = steps.0.value; rows = rows.0.value; network = rows.0.rest }) content rows.2 in
     let first = line-counted_line_at (codes "saved,1") bytes regions.0 regions.1 in
-    let test = counted (is_region_count regions.0.value) (steps_at regions.0.value regions.0.rest) steps.0 steps.1 in
-    let step_lines = lines-steps_at regions.0.value regions.0.rest steps.0 test.1 in
-    let row_lines = lines-rows_at (length steps.0.rest) steps.0.rest rows.0 rows.1 in
-    let bounds = and_parts (nat_lt 0 regions.0.value) (nat_le regions.0.value MOST_REGIONS) test.0 in
+    let test = counted (is_region_count regions.0.value) (step_lines_at regions.0.value regions.0.rest) steps.0 steps.1 in
+    let step_lines = lines-step_lines_at regions.0.value regions.0.rest steps.0 test.1 in
+    let row_lines = lines-row_lines_at (length steps.0.rest) steps.0.rest rows.0 rows.1 in
+    let bounds = and_parts (nat_lt 0 regions.0.value) (nat_le regions.0.value most_regions) test.0 in
     let some : 1 ≤ regions.0.value = grind (arith, nat_tests, bounds.0) in
-    let few : regions.0.value ≤ MOST_REGIONS = grind (arith, nat_tests, bounds.1) in
-    let short : length rows.0.rest ≤ MOST_BYTES = grind (arith, nat_tests, last.0) in
+    let few : regions.0.value ≤ most_regions = grind (arith, nat_tests, bounds.1) in
+    let short : length rows.0.rest ≤ most_bytes = grind (arith, nat_tests, last.0) in
     let front : counted_line (codes "saved,1") regions.0.value ≡ counted_line (codes "saved,1") (length steps.0.value) = ap (counted_line (codes "saved,1")) (sym step_lines.counted) in
-    subst (IsTextOf bytes) last.1 (record {
+    subst (IsSavedText bytes) last.1 (record {
       text = first.1 ∙ ap (λ front. front ++ regions.0.rest) front
           ∙ ap (λ rest. counted_line (codes "saved,1") (length steps.0.value) ++ rest) (step_lines.lines ∙ ap (λ rest. flat_map (counted_line (codes "step")) steps.0.value ++ rest) row_lines.lines)
           ∙ sym (five (counted_line (codes "saved,1") (length steps.0.value)) (flat_map (counted_line (codes "step")) steps.0.value) (flat_map row_line rows.0.value) (codes "net\n") rows.0.rest);

@@ -11,7 +11,7 @@ use Rattle.saved_run.specs.Content.{Content}
 use Rattle.saved_run.specs.Loading.{CanStart, IsCutSo, start_in}
 
 -- regions at lawful steps of a run from a true start of the network of these bytes
-pub record IsShotOf (bytes : List ℕ) (net : Network) (cut : List ℕ) (start : StartLists) (room : RoomValue) : Type 0 where
+pub record IsTrueShot (bytes : List ℕ) (net : Network) (cut : List ℕ) (start : StartLists) (room : RoomValue) : Type 0 where
   pub network : network_of bytes ≡ Ok net
   pub sound : IsNetwork net
   pub cutting : IsCutting (length net.cells) cut

@@ -63,23 +63,23 @@ IsLoaded None net chart start = ⊥
 IsLoaded (Some content) net chart start = GoesOn content net chart start
 
 -- the first fault of a content
-abbrev pub IsFaultOf : Content → LoadFault → Type 0
-IsFaultOf content Spelling = ⊥
-IsFaultOf content (OfNetwork fault) = network_of content.network ≡ Err fault
-IsFaultOf content Cutting = (net : Network) × (network_of content.network ≡ Ok net) × (cutting_in net content ≡ None)
-IsFaultOf content Start = (net : Network) × (cut : List ℕ) × IsCutSo content net cut × ¬ (CanStart net cut (start_in content))
+abbrev pub IsContentFault : Content → LoadFault → Type 0
+IsContentFault content Spelling = ⊥
+IsContentFault content (OfNetwork fault) = network_of content.network ≡ Err fault
+IsContentFault content Cutting = (net : Network) × (network_of content.network ≡ Ok net) × (cutting_in net content ≡ None)
+IsContentFault content Start = (net : Network) × (cut : List ℕ) × IsCutSo content net cut × ¬ (CanStart net cut (start_in content))
 
 -- the first fault of a text, by the content that it has
 abbrev pub IsLoadFault : Option Content → LoadFault → Type 0
 IsLoadFault None fault = fault ≡ Spelling
-IsLoadFault (Some content) fault = IsFaultOf content fault
+IsLoadFault (Some content) fault = IsContentFault content fault
 
 -- the refusal names the first fault; that memory was refused says nothing of the text
 abbrev pub IsLoadRefusal : Option Content → LoadRefusal → Type 0
 IsLoadRefusal found (Fault fault) = IsLoadFault found fault
 IsLoadRefusal found NoMemory = ⊤
 
--- the same of a content
-abbrev pub IsRefusalOf : Content → LoadRefusal → Type 0
-IsRefusalOf content (Fault fault) = IsFaultOf content fault
-IsRefusalOf content NoMemory = ⊤
+-- the refusal names the first fault of a content; that memory was refused says nothing of it
+abbrev pub IsContentRefusal : Content → LoadRefusal → Type 0
+IsContentRefusal content (Fault fault) = IsContentFault content fault
+IsContentRefusal content NoMemory = ⊤

@@ -1,7 +1,7 @@
 ghost use Rattle.std.specs.Prelude.{◌≡◌, Ok, Some, None, IfErr, IfOk, MatchOption, false, true, length, map};
 ghost use Rattle.region_cut.specs.Chart.{chart_of};
 ghost use Rattle.region_cut.specs.CutFaults.{cut_of};
-ghost use Rattle.saved_run.specs.Charting.{IsChartRefusal, IsCutRefusal, are_regions};
+ghost use Rattle.saved_run.specs.Charting.{IsChartRefusal, IsCuttingRefusal, are_regions};
 ghost use Rattle.saved_run.specs.Loading.{cutting_by};
 
 use crate::fault::{LoadFault, LoadRefusal};
@@ -34,7 +34,7 @@ pub(crate) fn chart_in(alloc: Global, net: &Net, head: &SavedHead) -> Result<Cha
 fn cut_by(alloc: Global, net: &Net, regions: &[u32]) -> Result<Cut, LoadRefusal>
     ensures cut { IfOk result (λ cut. cut_of net.now regions.now ≡ Ok cut) }
     ensures one_each { IfOk result (λ cut. length cut ≡ length net.now.cells) }
-    ensures refusal { IfErr result (λ refusal. IsCutRefusal refusal (cut_of net.now regions.now)) }
+    ensures refusal { IfErr result (λ refusal. IsCuttingRefusal refusal (cut_of net.now regions.now)) }
 {
     match Cut::of(alloc, net, regions) {
         Ok(cut) => Ok(cut),

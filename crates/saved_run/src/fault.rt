@@ -1,4 +1,4 @@
-use network_file::{NetFault, NetRefusal};
+use network_file::NetFault;
 use no_memory::NoMemory;
 
 /// Why a run can't go on from a text. They are looked for in this order.

@@ -1,5 +1,5 @@
 ghost use Rattle.std.specs.Prelude.{◌≡◌, Some, None, IfOk, MatchOption, length};
-ghost use Rattle.saved_run.specs.Reading.{rows_at, steps_at};
+ghost use Rattle.saved_run.specs.Reading.{row_lines_at, step_lines_at};
 
 use crate::lines::{behind, counted_line, row_line};
 use crate::row_line::RowLine;
@@ -12,8 +12,8 @@ pub(crate) fn step_lines(
     count: u64,
     text: &[u8],
 ) -> Result<Option<(Vec<u64>, &[u8])>, NoMemory>
-    ensures { IfOk result (λ found. MatchOption found (steps_at count text.now ≡ None)
-        (λ steps. steps_at count text.now ≡ Some (record { value = steps.0.items; rest = steps.1.now }))) }
+    ensures { IfOk result (λ found. MatchOption found (step_lines_at count text.now ≡ None)
+        (λ steps. step_lines_at count text.now ≡ Some (record { value = steps.0.items; rest = steps.1.now }))) }
 {
     let mut steps = Vec::new(alloc);
     let mut left = text;
@@ -32,8 +32,8 @@ pub(crate) fn row_lines(
     alloc: Global,
     text: &[u8],
 ) -> Result<Option<(Vec<RowLine>, &[u8])>, NoMemory>
-    ensures { IfOk result (λ found. MatchOption found (rows_at (length text.now) text.now ≡ None)
-        (λ rows. rows_at (length text.now) text.now ≡ Some (record { value = rows.0.items; rest = rows.1.now }))) }
+    ensures { IfOk result (λ found. MatchOption found (row_lines_at (length text.now) text.now ≡ None)
+        (λ rows. row_lines_at (length text.now) text.now ≡ Some (record { value = rows.0.items; rest = rows.1.now }))) }
 {
     let mut rows = Vec::new(alloc);
     let mut left = text;

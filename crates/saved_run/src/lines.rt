@@ -1,4 +1,4 @@
-ghost use Rattle.std.specs.Prelude.{◌≡◌, Some, None, MatchOption, codes};
+ghost use Rattle.std.specs.Prelude.{◌≡◌, Some, None, MatchOption};
 ghost use Rattle.saved_run.specs.Fronts.{behind, counted_line_at, field_at, row_counts_at, row_line_at};
 
 use crate::number::{digits, number};

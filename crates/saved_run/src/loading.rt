@@ -9,9 +9,9 @@ ghost use Rattle.region_step.specs.Start.{IsTrueStart};
 ghost use Rattle.saved_run.specs.Content.{Content, IsContent};
 ghost use Rattle.saved_run.specs.Futures.{AgreeBelow, IsEdited, edited_content};
 ghost use Rattle.saved_run.specs.Heads.{content_in};
-ghost use Rattle.saved_run.specs.Loading.{CanStart, GoesOn, IsLoadRefusal, IsLoaded, IsRefusalOf};
+ghost use Rattle.saved_run.specs.Loading.{CanStart, GoesOn, IsContentRefusal, IsLoadRefusal, IsLoaded};
 ghost use Rattle.saved_run.specs.Laws.{BeginsTrue, HasTrueStart};
-ghost use Rattle.saved_run.specs.Reading.{IsTextOf, content_of};
+ghost use Rattle.saved_run.specs.Reading.{IsSavedText, content_of};
 ghost use Rattle.saved_run.specs.SavedText.{saved_text};
 ghost use Rattle.saved_run.specs.declared.fault.LoadRefusal.TheVariants.{NoMemory};
 
@@ -30,20 +30,20 @@ pub fn load(alloc: Global, bytes: &[u8]) -> Result<Saved, LoadRefusal>
     ensures one_each { IfOk result (λ saved. length saved.chart.cut ≡ length saved.net.cells) }
     ensures refusal { IfErr result (IsLoadRefusal (content_of bytes.now)) }
 
-    // Its regions can be opened.
+    // The regions can be opened where they start.
     ensures charted { IfOk result (λ saved. saved.chart ≡ chart_of saved.net saved.chart.cut) }
     ensures can_start { IfOk result (λ saved. CanStart saved.net saved.chart.cut saved.start) }
 
-    // A text has at most one content, and each content one text.
-    ensures spelled { (content : Content) → content_of bytes.now ≡ Some content → IsTextOf bytes.now content }
+    // A text with a content is the saved text of it, and each content is read from its saved text.
+    ensures spelled { (content : Content) → content_of bytes.now ≡ Some content → IsSavedText bytes.now content }
     ensures read { (content : Content) → IsContent content → content_of (saved_text content) ≡ Some content }
 
-    // A text whose content has a true start is refused only where memory is refused, and goes on from that start.
+    // If the content has a true start, the text is refused only where memory is, and the saved run has that true start.
     ensures true_start { (net : Network) (cut : List ℕ) → BeginsTrue (content_of bytes.now) net cut →
         MatchResult result (λ saved. (saved.net ≡ net) × (saved.chart.cut ≡ cut) × IsTrueStart net cut saved.start) (λ refusal. refusal ≡ NoMemory) }
 
-    // Networks that agree below a step have one state up to it; so what was saved of the one by then has a true start with
-    // the other.
+    // Two networks that agree below step `u` are in the same state at each step up to `u`. So regions of the one that were
+    // saved at steps up to `u` have a true start in the other.
     ensures one_state { (net other : Network) (u t : ℕ) → AgreeBelow net other u → t ≤ u → state_at other t ≡ state_at net t }
     ensures edited { (content : Content) (net other : Network) (u : ℕ) (cut edited : List ℕ) → IsEdited content net other u cut edited →
         HasTrueStart (edited_content content edited) other cut }
@@ -59,7 +59,7 @@ fn saved_of(alloc: Global, head: SavedHead, network: &[u8]) -> Result<Saved, Loa
     requires { length network.now ≤ MOST_BYTES }
     ensures loaded { IfOk result (λ saved. GoesOn (content_in head network.now) saved.net saved.chart saved.start) }
     ensures one_each { IfOk result (λ saved. length saved.chart.cut ≡ length saved.net.cells) }
-    ensures refusal { IfErr result (IsRefusalOf (content_in head network.now)) }
+    ensures refusal { IfErr result (IsContentRefusal (content_in head network.now)) }
 {
     let net = network_in(alloc, network)?;
     started(alloc, net, head)
@@ -82,7 +82,7 @@ fn network_in(alloc: Global, network: &[u8]) -> Result<Net, LoadRefusal>
 fn started(alloc: Global, net: Net, head: SavedHead) -> Result<Saved, LoadRefusal>
     ensures loaded { IfOk result (λ saved. (network : List ℕ) → network_of network ≡ Ok net → GoesOn (content_in head network) saved.net saved.chart saved.start) }
     ensures one_each { IfOk result (λ saved. length saved.chart.cut ≡ length saved.net.cells) }
-    ensures refusal { IfErr result (λ refusal. (network : List ℕ) → network_of network ≡ Ok net → IsRefusalOf (content_in head network) refusal) }
+    ensures refusal { IfErr result (λ refusal. (network : List ℕ) → network_of network ≡ Ok net → IsContentRefusal (content_in head network) refusal) }
 {
     let chart = chart_in(alloc, &net, &head)?;
     let start = start_in(alloc, head)?;

@@ -4,7 +4,7 @@ ghost use Rattle.snapshot.specs.Rooms.{IsRoomFor};
 ghost use Rattle.network_file.specs.Network.{Network};
 ghost use Rattle.region_step.specs.Start.{StartLists, zero_start};
 ghost use Rattle.saved_run.specs.Futures.{IsMoment};
-ghost use Rattle.saved_run.specs.Laws.{BeginsTrue, IsShotOf};
+ghost use Rattle.saved_run.specs.Laws.{BeginsTrue, IsTrueShot};
 ghost use Rattle.saved_run.specs.Loading.{start_in};
 ghost use Rattle.saved_run.specs.Reading.{content_of};
 ghost use Rattle.saved_run.specs.SavedText.{saved_text};
@@ -33,11 +33,11 @@ pub fn save_text(
     ensures reads { IfOk result (λ text. content_of text.items ≡ Some (content_shown chart.now.cut room.now network.now)) }
 
     // A shot from a true start is saved as a true start.
-    ensures true_start { IfOk result (λ text. (net : Network) (start : StartLists) → IsShotOf network.now net chart.now.cut start room.now →
+    ensures true_start { IfOk result (λ text. (net : Network) (start : StartLists) → IsTrueShot network.now net chart.now.cut start room.now →
         BeginsTrue (content_of text.items) net chart.now.cut) }
 
     // A shot of a run from step 0 is a moment of it, from which other networks can go on too.
-    ensures moment { IfOk result (λ _. (net : Network) → IsShotOf network.now net chart.now.cut (zero_start net chart.now.cut) room.now →
+    ensures moment { IfOk result (λ _. (net : Network) → IsTrueShot network.now net chart.now.cut (zero_start net chart.now.cut) room.now →
         IsMoment net chart.now.cut (start_in (content_shown chart.now.cut room.now network.now))) }
 {
     let mut text = Vec::new(alloc);

@@ -1,5 +1,5 @@
 use Rattle.std.specs.Prelude.{min, nat_eq, nat_lt, slice_index}
-use Rattle.std.proofs.Common.{◌≡◌, ◌+◌, ◌<◌, true, arith}
+use Rattle.std.proofs.Common.{◌≡◌, ◌<◌, true, arith}
 use Rattle.std.proofs.lemmas.Bool.Decides.{nat_tests}
 use Rattle.connector_courses.specs.Flows.{received}
 use Rattle.connector_courses.proofs.Nothing.{diverge-none, link-none, merge-none}

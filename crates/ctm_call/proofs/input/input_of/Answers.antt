@@ -15,7 +15,7 @@ returns-in-TooLong-clause-refusal g c =
     let long = long_input _ (g.S.Source.left c.args.source.now) c.in-TooLong.ensures.too_long in (
       long.0,
       read_input_is c.args.request (g.S.Source.left c.args.source.now) long.0 (sym c.reads_source.ensures ∙ c.if-not-reads_source.false) long.1,
-      rw (answer_to-too_large c.args.request long.0 (rw (sym c.most_bytes.ensures) long.2)) (allowed _ _ c.large_input.result c.large_input.ensures),
+      rw (answer_to-too_large c.args.request long.0 (rw (sym c.most_input.ensures) long.2)) (allowed _ _ c.large_input.result c.large_input.ensures),
     )
 
 pub returns-in-Failed-clause-refusal : goal.returns-in-Failed-clause-refusal

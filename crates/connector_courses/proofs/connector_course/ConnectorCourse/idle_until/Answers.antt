@@ -4,7 +4,6 @@ use Rattle.std.proofs.Common.{◌≡◌, ◌≤◌, ◌<◌, ℕ, refl, sym, ap,
 use Rattle.connector_courses.specs.Courses.{limits_in}
 use Rattle.connector_courses.specs.Flows.{limits_of}
 use Rattle.connector_courses.specs.declared.courses.Courses.{Courses}
-use Rattle.connector_courses.proofs.Bounding.{kept-later, kept-limits}
 use Rattle.connector_courses.proofs.Nothing.{flow-until, kept-steady}
 use Rattle.connector_courses.proofs.connector_course.ConnectorCourse.idle_until.Goals as goal
 

@@ -1,11 +1,8 @@
 use Rattle.std.specs.Option.{option_map}
-use Rattle.std.specs.Prelude.{Option, Some, None}
-use Rattle.std.proofs.Common.{◌≡◌, ◌≤◌, ◌+◌, ℕ, sym, ap, subst, ◌∙◌}
-use Rattle.connector_courses.specs.Courses.{AreInForce, AreKept, limits_of_courses, limits_in}
-use Rattle.connector_courses.specs.Flows.{flow_at, limits_of}
-use Rattle.connector_courses.specs.Weights.{weights_at}
+use Rattle.std.specs.Prelude.{Some, None}
+use Rattle.std.proofs.Common.{◌≡◌, ◌≤◌, ◌+◌, sym, ap, subst, ◌∙◌}
+use Rattle.connector_courses.specs.Courses.{AreInForce, AreKept, limits_of_courses}
 use Rattle.connector_courses.specs.declared.courses.Courses.{Courses}
-use Rattle.connector_courses.proofs.Made.{flow-within}
 use Rattle.connector_courses.proofs.Nothing.{flow-some, flow-stays, weights-in, weights-of}
 use Rattle.connector_courses.proofs.connector_course.ConnectorCourse.stays_idle.Goals.{After-least-arg-1}
 use Rattle.connector_courses.proofs.connector_course.ConnectorCourse.stays_idle.Goals as goal
