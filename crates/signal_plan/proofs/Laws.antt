@@ -1,54 +1,75 @@
 -- What callers may know of a plan's capacities, turning shares, demands and totals.
 use Rattle.std.specs.Prelude.{All, reverse, if◌then◌else◌}
 use Rattle.std.specs.List.{range_with_len}
-use Rattle.std.proofs.Common.{◌≡◌, ℕ, suc, true, false, zero-add, ◌+◌, ◌-◌, ◌*◌, ◌<◌, ◌≤◌, List, length, get_or, arith, refl, ◌∙◌}
+use Rattle.std.proofs.Common.{◌≡◌, ℕ, suc, true, false, zero-add, ◌+◌, ◌-◌, ◌*◌, ◌<◌, ◌≤◌, List, length, get_or, inl, inr, arith, refl, ap, sym, subst, ◌∙◌}
 use Rattle.std.proofs.Math.Nat.{mul-le-mul, mul-le-mul_right}
-use Rattle.std.proofs.lemmas.List.Elements.{All-weaker}
+use Rattle.std.proofs.lemmas.Bool.{cases_lt}
+use Rattle.std.proofs.lemmas.List.{get_or_default}
+use Rattle.std.proofs.lemmas.List.Elements.{All-nil, All-weaker}
 use Rattle.std.proofs.lemmas.List.FromFn.{length-range_with_len, get_or-range_with_len}
 use Rattle.std.proofs.lemmas.List.Sums.{sum_by-cons, sum_by-le, get_or-le-sum_by}
 use Rattle.signal_plan.specs.Limits.{most_records, most_parts}
-use Rattle.signal_plan.specs.Records.{DemandRecord, PlanRecords}
-use Rattle.signal_plan.specs.Sound.{IsSoundDemand, IsSoundPlan}
-use Rattle.signal_plan.specs.Capacity.{capacity_at, limits_at}
-use Rattle.signal_plan.specs.Demand.{applies_at, amount_at, demand_at}
-use Rattle.signal_plan.specs.Total.{demand_from, total_demand}
-use Rattle.signal_plan.specs.Turning.{shares_at, turns_at}
-use Rattle.signal_plan.proofs.Sums.{sum_by_range_split}
+use Rattle.signal_plan.specs.Records.{CellRecords, DemandRecord, PlannedCell, PlanRecords, bare_cell, in_range, planned_at, records_at}
+use Rattle.signal_plan.specs.Sound.{AreSound, IsSoundDemand, IsSoundPlan}
+use Rattle.signal_plan.specs.Capacity.{capacity_at}
+use Rattle.signal_plan.specs.Demand.{brings, demand_at}
+use Rattle.signal_plan.specs.Total.{demand_from, own_demand_from, total_demand}
+use Rattle.signal_plan.specs.Turning.{shares_at}
+use Rattle.signal_plan.proofs.Sums.{sum_by_range_split, sum_by-le-times}
+use Rattle.signal_plan.proofs.Planned.{records_at-all, records_at-past}
 use Rattle.signal_plan.proofs.Searches.{All-reverse, find-has}
-use Rattle.signal_plan.proofs.Totals.{brought, total_demand_is}
+use Rattle.signal_plan.proofs.Totals.{brought, brought_to, own_demand_from_sum, total_demand_is}
 
-pub capacity_at-le : (plan : PlanRecords) (cell t most : ℕ) → cell < length plan.cells →
-    All (λ capacity. capacity ≤ most) plan.cells → All (λ limit. limit.capacity ≤ most) plan.limits →
-    capacity_at plan cell t ≤ most
+pub capacity_at-le : (plan : PlanRecords) (cell t most : ℕ) → (planned_at plan cell).capacity ≤ most →
+    All (λ limit. limit.capacity ≤ most) (records_at plan cell).limits → capacity_at plan cell t ≤ most
 unfolding capacity_at
-capacity_at-le plan cell t most has cells limits =
+capacity_at-le plan cell t most own limits =
     let small : ℕ → Type 0 = λ capacity. capacity ≤ most in
-    find-has small (λ l. l.capacity) (limits_at cell t) (reverse plan.limits) (get_or plan.cells cell 0)
-    (All-reverse (λ l. small l.capacity) plan.limits limits) (cells cell 0 has)
+    find-has small (λ l. l.capacity) (λ l. in_range l.from l.to t) (reverse (records_at plan cell).limits) (planned_at plan cell).capacity
+    (All-reverse (λ l. small l.capacity) (records_at plan cell).limits limits) own
 
 -- the shares at a step have what those of the diverge and of all records have
 pub shares_at-all : (P : ℕ × ℕ → Type 0) (plan : PlanRecords) (cell t : ℕ) (own : ℕ × ℕ) → P own →
-    All (λ turn. P (turn.b1, turn.b2)) plan.turns → P (shares_at plan cell t own)
+    All (λ planned. All (λ turn. P (turn.b1, turn.b2)) planned.records.turns) plan.cells → P (shares_at plan cell t own)
 unfolding shares_at
 shares_at-all P plan cell t own fallback turns =
-    find-has P (λ u. (u.b1, u.b2)) (turns_at cell t) (reverse plan.turns) own
-    (All-reverse (λ u. P (u.b1, u.b2)) plan.turns turns) fallback
+    let each = records_at-all (λ records. All (λ turn. P (turn.b1, turn.b2)) records.turns) plan cell turns (All-nil _) in
+    find-has P (λ u. (u.b1, u.b2)) (λ u. in_range u.from u.to t) (reverse (records_at plan cell).turns) own
+    (All-reverse (λ u. P (u.b1, u.b2)) (records_at plan cell).turns each) fallback
 
-amount_at-le : (d : DemandRecord) (cell t : ℕ) → amount_at d cell t ≤ d.amount
-amount_at-le d cell t =
-    elim (applies_at d cell t) as (λ b. (if b then d.amount else 0) ≤ d.amount) [ true ↦ omega arith | false ↦ omega arith ]
+brings-le : (d : DemandRecord) (t : ℕ) → brings d t ≤ d.amount
+brings-le d t =
+    elim (in_range d.from d.to t) as (λ b. (if b then d.amount else 0) ≤ d.amount) [ true ↦ omega arith | false ↦ omega arith ]
+
+-- the demand records of each cell have amounts within bounds
+amounts-le : (plan : PlanRecords) (cell : ℕ) → IsSoundPlan plan → All (λ d. d.amount ≤ most_parts) (records_at plan cell).demands
+amounts-le plan cell sound = elim (cases_lt cell (length plan.cells)) [
+  | inl there ↦
+      All-weaker (λ (d : DemandRecord). (d.cell ≡ cell) × IsSoundDemand d) (λ d. d.amount ≤ most_parts) (λ d fits. fits.1.amount) (records_at plan cell).demands (sound.records cell there).demands
+  | inr past ↦
+      subst (λ (own : CellRecords). All (λ d. d.amount ≤ most_parts) own.demands) (sym (records_at-past plan cell past)) (All-nil (λ d. d.amount ≤ most_parts))
+]
+
+-- a cell has at most all the demand records
+demands-le : (plan : PlanRecords) (cell : ℕ) → IsSoundPlan plan → length (records_at plan cell).demands ≤ most_records
+demands-le plan cell sound = elim (cases_lt cell (length plan.cells)) [
+  | inl there ↦
+      omega (arith, sound.few_demands, get_or-le-sum_by (λ (c : PlannedCell). length c.records.demands) plan.cells cell (bare_cell 0) there)
+  | inr past ↦ omega (arith, ap (λ (own : CellRecords). length own.demands) (records_at-past plan cell past))
+]
 
 pub demand_at-le : (plan : PlanRecords) (cell t : ℕ) → IsSoundPlan plan → demand_at plan cell t ≤ most_records * most_parts
 unfolding demand_at
-demand_at-le plan cell t sound = omega (
-  arith,
-  sound.few_demands,
-  sum_by-le (λ d. amount_at d cell t) most_parts plan.demands (
-      All-weaker (IsSoundDemand (length plan.cells)) (λ d. amount_at d cell t ≤ most_parts)
-      (λ d fits. omega (arith, amount_at-le d cell t, fits.amount))
-      plan.demands sound.demands
-      ),
-)
+demand_at-le plan cell t sound =
+    let demands = (records_at plan cell).demands in
+    omega (
+      arith,
+      demands-le plan cell sound,
+      sum_by-le (λ d. brings d t) most_parts demands (
+          All-weaker (λ d. d.amount ≤ most_parts) (λ d. brings d t ≤ most_parts) (λ d low. omega (arith, brings-le d t, low))
+          demands (amounts-le plan cell sound)
+          ),
+    )
 
 pub demand_from-le : (plan : PlanRecords) (cell t end : ℕ) → IsSoundPlan plan → demand_from plan cell t end ≤ most_records * (most_parts * end)
 unfolding demand_from
@@ -101,15 +122,26 @@ demand_from-le-total_demand plan cell steps has =
     (omega (arith, length-range_with_len 0 cells))
     )
 
-pub total_demand-le : (plan : PlanRecords) (steps : ℕ) → IsSoundPlan plan → total_demand plan steps ≤ most_records * (most_parts * steps)
-total_demand-le plan steps sound =
-    let each : (d : DemandRecord) → IsSoundDemand (length plan.cells) d → brought 0 steps d ≤ most_parts * steps =
-    λ d fits. mul-le-mul fits.amount (omega arith) in
+-- what enters a cell in the steps below `steps`, by the number of its records
+brought_to-le : (steps cell : ℕ) (own : CellRecords) → AreSound cell own → own_demand_from own 0 steps ≤ length own.demands * (most_parts * steps)
+brought_to-le steps cell own sound =
+    let each : (d : DemandRecord) → (d.cell ≡ cell) × IsSoundDemand d → brought 0 steps d ≤ most_parts * steps =
+    λ d fits. mul-le-mul fits.1.amount (omega arith) in
     omega (
       arith,
-      total_demand_is plan steps sound,
-      sum_by-le (brought 0 steps) (most_parts * steps) plan.demands (
-          All-weaker (IsSoundDemand (length plan.cells)) (λ d. brought 0 steps d ≤ most_parts * steps) each plan.demands sound.demands
+      own_demand_from_sum own 0 steps,
+      sum_by-le (brought 0 steps) (most_parts * steps) own.demands (
+          All-weaker (λ (d : DemandRecord). (d.cell ≡ cell) × IsSoundDemand d) (λ d. brought 0 steps d ≤ most_parts * steps) each own.demands sound.demands
           ),
-      mul-le-mul_right (most_parts * steps) sound.few_demands,
     )
+
+pub total_demand-le : (plan : PlanRecords) (steps : ℕ) → IsSoundPlan plan → total_demand plan steps ≤ most_records * (most_parts * steps)
+total_demand-le plan steps sound = omega (
+  arith,
+  total_demand_is plan steps,
+  sum_by-le-times (brought_to steps) (λ c. length c.records.demands) (most_parts * steps) plan.cells (λ k d there.
+      let here = get_or_default plan.cells k d (bare_cell 0) there in
+      subst (λ (c : PlannedCell). brought_to steps c ≤ length c.records.demands * (most_parts * steps)) (sym here)
+      (brought_to-le steps k (records_at plan k) (sound.records k there))),
+  mul-le-mul_right (most_parts * steps) sound.few_demands,
+)

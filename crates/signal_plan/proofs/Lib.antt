@@ -2,13 +2,12 @@ pub mod Limits
 pub mod Sums
 pub mod Changes
 pub mod Merging
-pub mod Filters
 pub mod Searches
 pub mod Given
 pub mod Overlap
+pub mod Planned
+pub mod Counting
 pub mod Sound
-pub mod OwnRecords
-pub mod OwnAnswers
-pub mod Growth
 pub mod Totals
+pub mod CellReads
 pub mod Laws

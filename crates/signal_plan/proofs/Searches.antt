@@ -1,26 +1,11 @@
 -- Which element of a list a search finds.
-use Rattle.std.specs.Prelude.{Bool, ◌&&◌, if◌then◌else◌, Option, None, Some, reverse, All}
-use Rattle.std.specs.List.{filter, find}
+use Rattle.std.specs.Prelude.{Bool, if◌then◌else◌, Option, None, Some, reverse, All}
+use Rattle.std.specs.List.{find}
 use Rattle.std.specs.Option.{option_map, option_map_or, option_or}
 use Rattle.std.proofs.Common.{◌≡◌, true, false, ◌<◌, ◌-◌, List, [], ◌∷◌, ◌++◌, length, arith, refl, ap, ◌∙◌}
 use Rattle.std.proofs.lemmas.List.{get_or-reverse, length-reverse, reverse-append}
 use Rattle.std.proofs.lemmas.List.Elements.{All-head, All-tail}
 use Rattle.std.proofs.lemmas.List.Folds.{find-append}
-
--- among those that a filter leaves
-pub find-filter : {X : Type 0} (p q : X → Bool) (xs : List X) → find p (filter q xs) ≡ find (λ x. q x && p x) xs
-find-filter p q [] = refl
-find-filter p q (x ∷ xs) =
-    elim (q x) as (λ b. find p (if b then x ∷ filter q xs else filter q xs) ≡ (if b && p x then Some x else find (λ x. q x && p x) xs)) [
-      | true ↦ ap (λ rest. if p x then Some x else rest) (find-filter p q xs)
-      | false ↦ find-filter p q xs
-    ]
-
--- where no element passes
-pub find-none : {X : Type 0} (p : X → Bool) (xs : List X) → All (λ x. p x ≡ false) xs → find p xs ≡ None
-find-none p [] none = refl
-find-none p (x ∷ xs) none =
-    rw (All-head (λ y. p y ≡ false) x xs none) (find-none p xs (All-tail (λ y. p y ≡ false) x xs none))
 
 -- the value of what a search finds, or else the default, has what all of them have
 pub find-has : {X Y : Type 0} (P : Y → Type 0) (value : X → Y) (p : X → Bool) (xs : List X) (default : Y) →

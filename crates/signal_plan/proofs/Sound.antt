@@ -1,135 +1,122 @@
--- A plan stays sound with one more cell or record.
-use Rattle.std.specs.Prelude.{map, is_some, if◌then◌else◌, ◌||◌, ◌==◌, eqb, Some}
-use Rattle.std.specs.List.{IsDistinct, find, list_any}
-use Rattle.std.proofs.Common.{◌≡◌, ℕ, true, false, ◌+◌, ◌<◌, ◌≤◌, List, [], ◌∷◌, ◌++◌, length, arith, refl, ◌∙◌}
-use Rattle.std.proofs.lemmas.List.{length_push, map_push, length-map}
-use Rattle.std.proofs.lemmas.List.Elements.{All-contains, All-map, All-nil, All-push, All-weaker}
-use Rattle.std.proofs.lemmas.Map.Keys.{IsDistinct-push}
-use Rattle.std.proofs.lemmas.Map.Steps.{length-le_from_distinct_below}
-use Rattle.std.proofs.lemmas.Map.Views.{Contains-from_any}
-use Rattle.std.proofs.lemmas.Bool.{eqb-true}
-use Rattle.std.specs.Cmp.{nat_eq_equiv}
+-- A plan stays sound, and its counts right, with one more cell or record.
+use Rattle.std.proofs.Common.{◌≡◌, ℕ, false, ◌+◌, ◌<◌, ◌≤◌, [], ◌∷◌, length, inl, inr, arith, refl, ap, sym, subst, ◌∙◌}
+use Rattle.std.proofs.lemmas.Bool.{cases_eq, cases_lt}
+use Rattle.std.proofs.lemmas.List.{get_or_append_left, get_or_push, length_push, length-set}
+use Rattle.std.proofs.lemmas.List.Elements.{All-nil, All-push}
+use Rattle.signal_plan.specs.Counts.{counts_of, demand_count}
+use Rattle.signal_plan.specs.Green.{is_signalled}
 use Rattle.signal_plan.specs.Limits.{most_cells, most_records}
-use Rattle.signal_plan.specs.Records.{DemandRecord, LimitRecord, PlanRecords, SignalRecord, TurnRecord, no_records, with_cell, with_demand, with_limit, with_signal, with_turn}
-use Rattle.signal_plan.specs.Sound.{IsSoundDemand, IsSoundLimit, IsSoundPlan, IsSoundSignal, IsSoundTurn}
-use Rattle.signal_plan.specs.Green.{is_signalled, signal_of}
+use Rattle.signal_plan.specs.Records.{CellRecords, DemandRecord, LimitRecord, PlannedCell, PlanRecords, SignalRecord, TurnRecord, bare, bare_cell, no_records, records_at, with_cell, with_demand, with_limit, with_own_demand, with_own_limit, with_own_signal, with_own_turn, with_records, with_signal, with_turn}
+use Rattle.signal_plan.specs.Sound.{AreSound, IsCounted, IsSoundDemand, IsSoundPlan, IsSoundSignal, IsSoundTurn}
+use Rattle.signal_plan.specs.declared.plan_counts.PlanCounts.{PlanCounts}
+use Rattle.signal_plan.proofs.Counting.{counts_of-with_cell, counts_of-with_demand, counts_of-with_limit, counts_of-with_signal, counts_of-with_turn}
+use Rattle.signal_plan.proofs.Planned.{records_at-with_other, records_at-with_same}
+
+AreSound-bare : (cell : ℕ) → AreSound cell bare
+AreSound-bare cell = record {
+  signal = tt;
+  limits = All-nil _;
+  demands = All-nil _;
+  turns = All-nil _;
+}
 
 pub IsSoundPlan-no_records : IsSoundPlan no_records
-unfolding IsDistinct
 IsSoundPlan-no_records = record {
   few_cells = omega arith;
-  signals = All-nil (IsSoundSignal 0);
-  one_signal = tt;
-  limits = All-nil (IsSoundLimit 0);
   few_demands = omega arith;
-  demands = All-nil (IsSoundDemand 0);
-  turns = All-nil (IsSoundTurn 0);
+  records = λ cell there. absurd (omega arith);
 }
 
-pub IsSoundPlan-with_cell : (plan : PlanRecords) (capacity : ℕ) → length plan.cells < most_cells → IsSoundPlan plan →
-    IsSoundPlan (with_cell plan capacity)
-IsSoundPlan-with_cell plan capacity few sound =
-    let old : ℕ = length plan.cells in
-    let new : ℕ = length (plan.cells ++ capacity ∷ []) in
-    let more : new ≡ old + 1 = length_push plan.cells capacity in
-    record {
-      few_cells = omega arith;
-      signals = All-weaker (IsSoundSignal old) (IsSoundSignal new)
-          (λ s fits. record {
-            cell = omega (arith, fits.cell);
-            cycle = fits.cycle;
-            offset = fits.offset;
-            steps = fits.steps;
-            within = fits.within;
-          })
-          plan.signals sound.signals;
-      one_signal = sound.one_signal;
-      limits = All-weaker (IsSoundLimit old) (IsSoundLimit new)
-          (λ l fits. record { cell = omega (arith, fits.cell); steps = fits.steps }) plan.limits sound.limits;
-      few_demands = sound.few_demands;
-      demands = All-weaker (IsSoundDemand old) (IsSoundDemand new)
-          (λ d fits. record { cell = omega (arith, fits.cell); steps = fits.steps; amount = fits.amount })
-          plan.demands sound.demands;
-      turns = All-weaker (IsSoundTurn old) (IsSoundTurn new)
-          (λ u fits. record {
-            cell = omega (arith, fits.cell);
-            steps = fits.steps;
-            some_first = fits.some_first;
-            some_second = fits.some_second;
-            first = fits.first;
-            second = fits.second;
-          })
-          plan.turns sound.turns;
-    }
-
-pub IsSoundPlan-with_limit : (plan : PlanRecords) (limit : LimitRecord) →
-    IsSoundLimit (length plan.cells) limit → IsSoundPlan plan → IsSoundPlan (with_limit plan limit)
-IsSoundPlan-with_limit plan limit fits sound = record {
-  few_cells = sound.few_cells;
-  signals = sound.signals;
-  one_signal = sound.one_signal;
-  limits = All-push (IsSoundLimit (length plan.cells)) plan.limits limit sound.limits fits;
-  few_demands = sound.few_demands;
-  demands = sound.demands;
-  turns = sound.turns;
+pub IsCounted-with_cell : (plan : PlanRecords) (capacity : ℕ) (counts : PlanCounts) → length plan.cells < most_cells → IsCounted plan counts →
+    IsCounted (with_cell plan capacity) counts
+IsCounted-with_cell plan capacity counts few counted = record {
+  sound = record {
+    few_cells = omega (arith, length_push plan.cells (bare_cell capacity));
+    few_demands = omega (arith, counted.sound.few_demands, ap (λ (n : PlanCounts). n.demands) (counts_of-with_cell plan capacity));
+    records = λ k there. elim (cases_lt k (length plan.cells)) [
+      | inl old ↦
+          subst (λ (c : PlannedCell). AreSound k c.records) (sym (get_or_append_left plan.cells (bare_cell capacity ∷ []) (bare_cell 0) k old))
+          (counted.sound.records k old)
+      | inr past ↦
+          let last : length plan.cells ≡ k = omega (arith, length_push plan.cells (bare_cell capacity)) in
+          subst (λ (c : PlannedCell). AreSound k c.records) (sym (get_or_push plan.cells (bare_cell capacity) (bare_cell 0) k last)) (AreSound-bare k)
+    ];
+  };
+  counts = counted.counts ∙ sym (counts_of-with_cell plan capacity);
 }
 
-pub IsSoundPlan-with_demand : (plan : PlanRecords) (demand : DemandRecord) → length plan.demands < most_records →
-    IsSoundDemand (length plan.cells) demand → IsSoundPlan plan → IsSoundPlan (with_demand plan demand)
-IsSoundPlan-with_demand plan demand few fits sound = record {
-  few_cells = sound.few_cells;
-  signals = sound.signals;
-  one_signal = sound.one_signal;
-  limits = sound.limits;
-  few_demands = omega (arith, length_push plan.demands demand);
-  demands = All-push (IsSoundDemand (length plan.cells)) plan.demands demand sound.demands fits;
-  turns = sound.turns;
+-- with other records of a cell
+IsCounted-with_records : (plan : PlanRecords) (cell : ℕ) (own : CellRecords) (old new : PlanCounts) → cell < length plan.cells → AreSound cell own →
+    new ≡ counts_of (with_records plan cell own) → new.demands ≤ most_records → IsCounted plan old → IsCounted (with_records plan cell own) new
+IsCounted-with_records plan cell own old new has fits are few counted = record {
+  sound = record {
+    few_cells = rw length-set counted.sound.few_cells;
+    few_demands = omega (arith, few, ap (λ (n : PlanCounts). n.demands) are);
+    records = λ k there. elim (cases_eq k cell) [
+      | inl same ↦ rw (same, records_at-with_same plan cell own has) fits
+      | inr other ↦
+          let inside : k < length plan.cells = rw length-set at there in
+          subst (AreSound k) (sym (records_at-with_other plan cell k own other)) (counted.sound.records k inside)
+    ];
+  };
+  counts = are;
 }
 
-pub IsSoundPlan-with_turn : (plan : PlanRecords) (turn : TurnRecord) →
-    IsSoundTurn (length plan.cells) turn → IsSoundPlan plan → IsSoundPlan (with_turn plan turn)
-IsSoundPlan-with_turn plan turn fits sound = record {
-  few_cells = sound.few_cells;
-  signals = sound.signals;
-  one_signal = sound.one_signal;
-  limits = sound.limits;
-  few_demands = sound.few_demands;
-  demands = sound.demands;
-  turns = All-push (IsSoundTurn (length plan.cells)) plan.turns turn sound.turns fits;
-}
+-- the demand records are within bounds
+few_demands : (plan : PlanRecords) (counts : PlanCounts) → IsCounted plan counts → counts.demands ≤ most_records
+few_demands plan counts counted = omega (arith, counted.sound.few_demands, ap (λ (n : PlanCounts). n.demands) counted.counts)
 
--- the cell stands among the cells of the signals exactly where it has a signal
-list_any_is_some : (cell : ℕ) (signals : List SignalRecord) →
-    list_any (eqb cell) (map (λ s. s.cell) signals) ≡ is_some (find (λ s. s.cell == cell) signals)
-list_any_is_some cell [] = refl
-list_any_is_some cell (s ∷ signals) =
-    let rest = list_any_is_some cell signals in
-    rw (nat_eq_equiv.symm cell s.cell) (
-    elim (s.cell == cell) as (λ b. (b || list_any (eqb cell) (map (λ s. s.cell) signals)) ≡
-    is_some (if b then Some s else find (λ s. s.cell == cell) signals)) [ true ↦ refl | false ↦ rest ]
-    )
+pub IsCounted-with_signal : (plan : PlanRecords) (signal : SignalRecord) (counts : PlanCounts) (more : ℕ) → signal.cell < length plan.cells →
+    is_signalled plan signal.cell ≡ false → IsSoundSignal signal → more ≡ counts.signals + 1 → IsCounted plan counts →
+    IsCounted (with_signal plan signal) (record counts { signals = more })
+IsCounted-with_signal plan signal counts more has none fits one counted =
+    let old = counted.sound.records signal.cell has in
+    IsCounted-with_records plan signal.cell (with_own_signal (records_at plan signal.cell) signal) counts (record counts { signals = more }) has
+    (record { signal = (refl, fits); limits = old.limits; demands = old.demands; turns = old.turns })
+    (rw (one, counted.counts) (sym (counts_of-with_signal plan signal has none))) (few_demands plan counts counted) counted
 
-pub IsSoundPlan-with_signal : (plan : PlanRecords) (signal : SignalRecord) → is_signalled plan signal.cell ≡ false →
-    IsSoundSignal (length plan.cells) signal → IsSoundPlan plan → IsSoundPlan (with_signal plan signal)
-unfolding signal_of
-IsSoundPlan-with_signal plan signal none fits sound =
-    let new : list_any (eqb signal.cell) (map (λ s. s.cell) plan.signals) ≡ false =
-    list_any_is_some signal.cell plan.signals ∙ none in
-    record {
-      few_cells = sound.few_cells;
-      signals = All-push (IsSoundSignal (length plan.cells)) plan.signals signal sound.signals fits;
-      one_signal = rw map_push (IsDistinct-push nat_eq_equiv _ signal.cell sound.one_signal new);
-      limits = sound.limits;
-      few_demands = sound.few_demands;
-      demands = sound.demands;
-      turns = sound.turns;
-    }
+pub IsCounted-with_limit : (plan : PlanRecords) (limit : LimitRecord) (counts : PlanCounts) (more : ℕ) → limit.cell < length plan.cells →
+    limit.from < limit.to → more ≡ counts.limits + 1 → IsCounted plan counts →
+    IsCounted (with_limit plan limit) (record counts { limits = more })
+IsCounted-with_limit plan limit counts more has fits one counted =
+    let old = counted.sound.records limit.cell has in
+    let own = records_at plan limit.cell in
+    IsCounted-with_records plan limit.cell (with_own_limit own limit) counts (record counts { limits = more }) has
+    (record {
+      signal = old.signal;
+      limits = All-push (λ l. (l.cell ≡ limit.cell) × (l.from < l.to)) own.limits limit old.limits (refl, fits);
+      demands = old.demands;
+      turns = old.turns;
+    })
+    (rw (one, counted.counts) (sym (counts_of-with_limit plan limit has))) (few_demands plan counts counted) counted
 
--- a cell has at most one signal
-pub signals-le-cells : (plan : PlanRecords) → IsSoundPlan plan → length plan.signals ≤ length plan.cells
-signals-le-cells plan sound =
-    let below = All-map (λ cell. cell < length plan.cells) (λ (s : SignalRecord). s.cell) plan.signals (
-    All-weaker (IsSoundSignal (length plan.cells)) (λ s. s.cell < length plan.cells) (λ s fits. fits.cell) plan.signals sound.signals) in
-    let each : (q : ℕ) → list_any (eqb q) (map (λ s. s.cell) plan.signals) ≡ true → q < length plan.cells =
-    λ q any. All-contains (λ cell. cell < length plan.cells) (map (λ s. s.cell) plan.signals) q below (Contains-from_any eqb-true q (map (λ s. s.cell) plan.signals) any) in
-    omega (arith, length-le_from_distinct_below (map (λ s. s.cell) plan.signals) (length plan.cells) sound.one_signal each, length-map plan.signals (λ s. s.cell))
+pub IsCounted-with_demand : (plan : PlanRecords) (demand : DemandRecord) (counts : PlanCounts) (more : ℕ) → demand.cell < length plan.cells →
+    demand_count plan < most_records → IsSoundDemand demand → more ≡ counts.demands + 1 → IsCounted plan counts →
+    IsCounted (with_demand plan demand) (record counts { demands = more })
+IsCounted-with_demand plan demand counts more has few fits one counted =
+    let old = counted.sound.records demand.cell has in
+    let own = records_at plan demand.cell in
+    IsCounted-with_records plan demand.cell (with_own_demand own demand) counts (record counts { demands = more }) has
+    (record {
+      signal = old.signal;
+      limits = old.limits;
+      demands = All-push (λ d. (d.cell ≡ demand.cell) × IsSoundDemand d) own.demands demand old.demands (refl, fits);
+      turns = old.turns;
+    })
+    (rw (one, counted.counts) (sym (counts_of-with_demand plan demand has)))
+    (omega (arith, one, few, ap (λ (n : PlanCounts). n.demands) counted.counts)) counted
+
+pub IsCounted-with_turn : (plan : PlanRecords) (turn : TurnRecord) (counts : PlanCounts) (more : ℕ) → turn.cell < length plan.cells →
+    IsSoundTurn turn → more ≡ counts.turns + 1 → IsCounted plan counts →
+    IsCounted (with_turn plan turn) (record counts { turns = more })
+IsCounted-with_turn plan turn counts more has fits one counted =
+    let old = counted.sound.records turn.cell has in
+    let own = records_at plan turn.cell in
+    IsCounted-with_records plan turn.cell (with_own_turn own turn) counts (record counts { turns = more }) has
+    (record {
+      signal = old.signal;
+      limits = old.limits;
+      demands = old.demands;
+      turns = All-push (λ u. (u.cell ≡ turn.cell) × IsSoundTurn u) own.turns turn old.turns (refl, fits);
+    })
+    (rw (one, counted.counts) (sym (counts_of-with_turn plan turn has))) (few_demands plan counts counted) counted

@@ -1,11 +1,13 @@
 -- Sums over lists, over the numbers of a range, and sums of which few terms are more than 0.
 use Rattle.std.specs.Prelude.{sum_by, count_by, All, if◌then◌else◌, ◌==◌}
-use Rattle.std.specs.List.{filter, list_any, range_with_len}
-use Rattle.std.proofs.Common.{◌≡◌, ℕ, Bool, inl, inr, zero, suc, false, true, add-zero, zero-add, ◌+◌, ◌*◌, ◌<◌, ◌≤◌, List, [], ◌∷◌, length, get_or, arith, refl, sym, ap, ◌∙◌}
+use Rattle.std.specs.List.{filter, list_any, range_with_len, sum}
+use Rattle.std.proofs.Common.{◌≡◌, ℕ, Bool, inl, inr, zero, suc, false, true, add-zero, zero-add, ◌+◌, ◌*◌, ◌<◌, ◌≤◌, List, [], ◌∷◌, length, get_or, map, arith, refl, sym, ap, ◌∙◌}
 use Rattle.std.proofs.lemmas.Bool.{cases_Bool, cases_eq, eq-eqb, ne_eqb}
 use Rattle.std.proofs.lemmas.Bool.Decides.{nat_tests}
+use Rattle.std.proofs.lemmas.List.{ext_get_or, get_or-map, length-map}
 use Rattle.std.proofs.lemmas.List.Elements.{All-head, All-tail}
-use Rattle.std.proofs.lemmas.List.Sums.{sum_by-cons, sum_by-le}
+use Rattle.std.proofs.lemmas.List.FromFn.{get_or-map-range_with_len, length-map-range_with_len}
+use Rattle.std.proofs.lemmas.List.Sums.{sum-map, sum_by-cons, sum_by-le}
 
 pub sum_by_agree : {X : Type 0} (f g : X → ℕ) (xs : List X) → ((x : X) → f x ≡ g x) → sum_by f xs ≡ sum_by g xs
 sum_by_agree f g [] same = refl
@@ -41,6 +43,30 @@ sum_by_range_split f a (suc m) n =
       sum_by-cons f a (range_with_len (a + 1) (m + n)),
       sum_by_range_split f (a + 1) m n,
     ))
+
+-- a sum over a list, by the places in it
+pub sum_by_places : {X : Type 0} (f : X → ℕ) (xs : List X) (d : X) → sum_by f xs ≡ sum_by (λ k. f (get_or xs k d)) (range_with_len 0 (length xs))
+sum_by_places f xs d =
+    let at : ℕ → ℕ = λ k. f (get_or xs k d) in
+    let n : ℕ = length xs in
+    let same : map f xs ≡ map at (range_with_len 0 n) =
+    ext_get_or 0 (map f xs) (map at (range_with_len 0 n)) (length-map xs f ∙ sym (length-map-range_with_len at 0 n))
+    (λ k lt.
+    let within : k < n = omega (arith, length-map xs f) in
+    get_or-map f xs k d 0 within ∙ sym (get_or-map-range_with_len at 0 n k k 0 within (omega arith))) in
+    sym (sum-map f xs) ∙ ap sum same ∙ sum-map at (range_with_len 0 n)
+
+-- a sum of which each term is at most `m` times that of another
+pub sum_by-le-times : {X : Type 0} (f g : X → ℕ) (m : ℕ) (xs : List X) → All (λ x. f x ≤ g x * m) xs → sum_by f xs ≤ sum_by g xs * m
+sum_by-le-times f g m [] each = omega arith
+sum_by-le-times f g m (x ∷ xs) each = omega (
+  arith,
+  sum_by-cons f x xs,
+  sum_by-cons g x xs,
+  ap (λ n. n * m) (sum_by-cons g x xs),
+  All-head (λ y. f y ≤ g y * m) x xs each,
+  sum_by-le-times f g m xs (All-tail (λ y. f y ≤ g y * m) x xs each),
+)
 
 -- a sum of which one term is `value` and the others are 0
 pub sum_by_range_none : (value k a n : ℕ) → k < a → sum_by (λ j. if k == j then value else 0) (range_with_len a n) ≡ 0

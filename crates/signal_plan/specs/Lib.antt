@@ -1,12 +1,11 @@
 pub mod Limits
 pub mod Records
+pub mod Counts
 pub mod Sound
 pub mod Capacity
 pub mod Green
 pub mod Demand
 pub mod Total
-pub mod CellRecords
-pub mod Layout
 pub mod Turning
 pub mod Changes
 pub mod Merging

@@ -1,5 +1,5 @@
--- What a plan says: the records of the file that speak of single steps.
-use Rattle.std.specs.Prelude.{ℕ, Bool, ◌&&◌, nat_le, nat_lt, List, [], ◌∷◌, ◌++◌}
+-- What a plan says: the records of the file that speak of single steps, each with its cell.
+use Rattle.std.specs.Prelude.{ℕ, Bool, ◌&&◌, nat_le, nat_lt, List, [], ◌∷◌, ◌++◌, Option, None, Some, slice_index_or, slice_set}
 
 -- whether `t` is in `[from, to)`
 abbrev pub in_range : (from to t : ℕ) → Bool
@@ -35,34 +35,72 @@ pub record TurnRecord : Type 0 where
   pub b1 : ℕ
   pub b2 : ℕ
 
--- what a plan says: the capacity Q of each cell, and the records of each kind in the order in which they were put
-pub record PlanRecords : Type 0 where
-  pub cells : List ℕ
-  pub signals : List SignalRecord
+-- the records of a cell: its signal, and its limit, demand and turn records in the order in which they were put
+pub record CellRecords : Type 0 where
+  pub signal : Option SignalRecord
   pub limits : List LimitRecord
   pub demands : List DemandRecord
   pub turns : List TurnRecord
 
+-- the capacity Q of a cell, and its records
+pub record PlannedCell : Type 0 where
+  pub capacity : ℕ
+  pub records : CellRecords
+
+-- what a plan says of each cell
+pub record PlanRecords : Type 0 where
+  pub cells : List PlannedCell
+
+-- no records
+abbrev pub bare : CellRecords
+bare = record { signal = None; limits = []; demands = []; turns = [] }
+
+-- a cell without records
+abbrev pub bare_cell : (capacity : ℕ) → PlannedCell
+bare_cell capacity = record { capacity = capacity; records = bare }
+
+-- what the plan says of the cell; nothing of one that is not there
+abbrev pub planned_at : PlanRecords → (cell : ℕ) → PlannedCell
+planned_at plan cell = slice_index_or plan.cells cell (bare_cell 0)
+
+abbrev pub records_at : PlanRecords → (cell : ℕ) → CellRecords
+records_at plan cell = (planned_at plan cell).records
+
 -- the plan without cells
 abbrev pub no_records : PlanRecords
-no_records = record { cells = []; signals = []; limits = []; demands = []; turns = [] }
+no_records = record { cells = [] }
 
 -- one more cell, of this capacity
 abbrev pub with_cell : PlanRecords → ℕ → PlanRecords
-with_cell plan capacity = record plan { cells = plan.cells ++ capacity ∷ [] }
+with_cell plan capacity = record { cells = plan.cells ++ bare_cell capacity ∷ [] }
 
--- one more signal record
+-- other records of the cell
+abbrev pub with_records : PlanRecords → (cell : ℕ) → CellRecords → PlanRecords
+with_records plan cell own = record { cells = slice_set plan.cells cell (record (planned_at plan cell) { records = own }) }
+
+-- this signal, in place of any that the cell had
+abbrev pub with_own_signal : CellRecords → SignalRecord → CellRecords
+with_own_signal own signal = record own { signal = Some signal }
+
+-- one more record of the cell
+abbrev pub with_own_limit : CellRecords → LimitRecord → CellRecords
+with_own_limit own limit = record own { limits = own.limits ++ limit ∷ [] }
+
+abbrev pub with_own_demand : CellRecords → DemandRecord → CellRecords
+with_own_demand own demand = record own { demands = own.demands ++ demand ∷ [] }
+
+abbrev pub with_own_turn : CellRecords → TurnRecord → CellRecords
+with_own_turn own turn = record own { turns = own.turns ++ turn ∷ [] }
+
+-- the record among those of its cell
 abbrev pub with_signal : PlanRecords → SignalRecord → PlanRecords
-with_signal plan signal = record plan { signals = plan.signals ++ signal ∷ [] }
+with_signal plan signal = with_records plan signal.cell (with_own_signal (records_at plan signal.cell) signal)
 
--- one more limit record
 abbrev pub with_limit : PlanRecords → LimitRecord → PlanRecords
-with_limit plan limit = record plan { limits = plan.limits ++ limit ∷ [] }
+with_limit plan limit = with_records plan limit.cell (with_own_limit (records_at plan limit.cell) limit)
 
--- one more demand record
 abbrev pub with_demand : PlanRecords → DemandRecord → PlanRecords
-with_demand plan demand = record plan { demands = plan.demands ++ demand ∷ [] }
+with_demand plan demand = with_records plan demand.cell (with_own_demand (records_at plan demand.cell) demand)
 
--- one more turn record
 abbrev pub with_turn : PlanRecords → TurnRecord → PlanRecords
-with_turn plan turn = record plan { turns = plan.turns ++ turn ∷ [] }
+with_turn plan turn = with_records plan turn.cell (with_own_turn (records_at plan turn.cell) turn)

@@ -1,43 +1,43 @@
-use Rattle.std.specs.Prelude.{ℕ, ◌<◌, ◌≤◌, eqb, length, map, All}
-use Rattle.std.specs.List.{IsDistinct}
+use Rattle.std.specs.Prelude.{◌≡◌, ℕ, ◌<◌, ◌≤◌, length, All, IfSome}
+use Rattle.signal_plan.specs.Counts.{counts_of, demand_count}
 use Rattle.signal_plan.specs.Limits.{most_cells, most_records, most_parts, most_ratio, most_steps}
-use Rattle.signal_plan.specs.Records.{DemandRecord, LimitRecord, PlanRecords, SignalRecord, TurnRecord}
+use Rattle.signal_plan.specs.Records.{CellRecords, DemandRecord, PlanRecords, SignalRecord, TurnRecord, records_at}
+use Rattle.signal_plan.specs.declared.plan_counts.PlanCounts.{PlanCounts}
 
--- the record is of one of the `cells` cells, and its offset and its green range lie in the cycle
-pub record IsSoundSignal (cells : ℕ) (signal : SignalRecord) : Type 0 where
-  pub cell : signal.cell < cells
+-- the offset and the green range lie in the cycle
+pub record IsSoundSignal (signal : SignalRecord) : Type 0 where
   pub cycle : signal.cycle ≤ most_steps
   pub offset : signal.offset < signal.cycle
   pub steps : signal.from < signal.to
   pub within : signal.to ≤ signal.cycle
 
--- the record is of one of the `cells` cells and has a step
-pub record IsSoundLimit (cells : ℕ) (limit : LimitRecord) : Type 0 where
-  pub cell : limit.cell < cells
-  pub steps : limit.from < limit.to
-
--- the record is of one of the `cells` cells, has a step, and its amount is within bounds
-pub record IsSoundDemand (cells : ℕ) (demand : DemandRecord) : Type 0 where
-  pub cell : demand.cell < cells
+-- the record has a step, and its amount is within bounds
+pub record IsSoundDemand (demand : DemandRecord) : Type 0 where
   pub steps : demand.from < demand.to
   pub amount : demand.amount ≤ most_parts
 
--- the record is of one of the `cells` cells, has a step, and its shares are within bounds
-pub record IsSoundTurn (cells : ℕ) (turn : TurnRecord) : Type 0 where
-  pub cell : turn.cell < cells
+-- the record has a step, and its shares are within bounds
+pub record IsSoundTurn (turn : TurnRecord) : Type 0 where
   pub steps : turn.from < turn.to
   pub some_first : 1 ≤ turn.b1
   pub some_second : 1 ≤ turn.b2
   pub first : turn.b1 ≤ most_ratio
   pub second : turn.b2 ≤ most_ratio
 
--- what holds of the records of every plan
+-- what holds of the records of each cell: they are of this cell, and sound
+pub record AreSound (cell : ℕ) (own : CellRecords) : Type 0 where
+  pub signal : IfSome own.signal (λ signal. (signal.cell ≡ cell) × IsSoundSignal signal)
+  pub limits : All (λ limit. (limit.cell ≡ cell) × (limit.from < limit.to)) own.limits
+  pub demands : All (λ demand. (demand.cell ≡ cell) × IsSoundDemand demand) own.demands
+  pub turns : All (λ turn. (turn.cell ≡ cell) × IsSoundTurn turn) own.turns
+
+-- what holds of every plan
 pub record IsSoundPlan (plan : PlanRecords) : Type 0 where
   pub few_cells : length plan.cells ≤ most_cells
-  pub signals : All (IsSoundSignal (length plan.cells)) plan.signals
-  -- a cell has at most one signal
-  pub one_signal : IsDistinct eqb (map (λ signal. signal.cell) plan.signals)
-  pub limits : All (IsSoundLimit (length plan.cells)) plan.limits
-  pub few_demands : length plan.demands ≤ most_records
-  pub demands : All (IsSoundDemand (length plan.cells)) plan.demands
-  pub turns : All (IsSoundTurn (length plan.cells)) plan.turns
+  pub few_demands : demand_count plan ≤ most_records
+  pub records : (cell : ℕ) → cell < length plan.cells → AreSound cell (records_at plan cell)
+
+-- a plan with its counts
+pub record IsCounted (plan : PlanRecords) (kept : PlanCounts) : Type 0 where
+  pub sound : IsSoundPlan plan
+  pub counts : kept ≡ counts_of plan

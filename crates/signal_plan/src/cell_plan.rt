@@ -28,7 +28,7 @@ pub(crate) struct CellPlan {
 
 impl Model for CellPlan {
     ghost use Rattle.std.specs.Option.{option_map_or};
-    ghost use Rattle.signal_plan.specs.CellRecords.{PlannedCell, bare};
+    ghost use Rattle.signal_plan.specs.Records.{PlannedCell, bare};
 
     ghost Value = { PlannedCell };
 
@@ -39,11 +39,16 @@ impl Model for CellPlan {
 }
 
 impl CellPlan {
-    ghost use Rattle.signal_plan.specs.CellRecords.{bare, own_capacity, own_demand, own_demand_from, own_green, own_shares};
+    ghost use Rattle.signal_plan.specs.Records.{bare_cell};
+    ghost use Rattle.signal_plan.specs.Capacity.{own_capacity};
+    ghost use Rattle.signal_plan.specs.Green.{is_green_by};
+    ghost use Rattle.signal_plan.specs.Demand.{own_demand};
+    ghost use Rattle.signal_plan.specs.Total.{own_demand_from};
+    ghost use Rattle.signal_plan.specs.Turning.{own_shares};
 
     /// A cell of this capacity, without records.
     pub(crate) fn new(capacity: u64) -> Self
-        ensures { result ≡ record { capacity = capacity; records = bare } }
+        ensures { result ≡ bare_cell capacity }
     {
         CellPlan {
             capacity,
@@ -117,7 +122,7 @@ impl CellPlan {
     /// Whether the cell may send in step `t`: it has no signal, or a green one.
     pub(crate) fn is_green_at(&self, t: u64) -> bool
         requires in_time { t < MOST_STEPS }
-        ensures { result ≡ own_green self.now.records t }
+        ensures { result ≡ is_green_by self.now.records.signal t }
     {
         match self.signal() {
             Some(signal) => signal.is_green_at(t),
@@ -127,7 +132,7 @@ impl CellPlan {
 
     /// The capacity at step `t`, by the newest limit that speaks of it.
     pub(crate) fn capacity_at(&self, t: u64) -> u64
-        ensures { result ≡ own_capacity self.now.records t self.now.capacity }
+        ensures { result ≡ own_capacity self.now t }
     {
         match newest_at(self.limits(), t) {
             Some(limit) => limit.capacity,
@@ -172,7 +177,7 @@ impl CellPlan {
     /// The changes of the capacity.
     pub(crate) fn capacity_changes(&self, alloc: Global) -> Result<Vec<Change<u64>>, NoMemory>
         ensures in_force { IfOk result (λ changes. (t : ℕ) → in_force self.now.capacity changes.items t ≡
-            own_capacity self.now.records t self.now.capacity) }
+            own_capacity self.now t) }
         ensures rising { IfOk result (λ changes. IsRising changes.items) }
     {
         let changes = record_changes(alloc, self.limits())?;

@@ -1,5 +1,5 @@
 ghost use Rattle.std.specs.Prelude.{◌≡◌, OnOk, OnErr};
-ghost use Rattle.signal_plan.specs.CellRecords as cell;
+ghost use Rattle.signal_plan.specs.Records as cell;
 
 use crate::demand::Demand;
 use crate::limit::Limit;

@@ -22,7 +22,8 @@ pub(crate) trait Join: Copy {
         requires { Fits (joined self newer) }
         ensures { result ≡ joined self newer };
 
-    // Where no record comes before or after, nothing changes; and it's the same which two join first.
+    // To join with nothing changes nothing, on either side; and of three in a row the first two may be
+    // joined first, or the last two.
     ghost joined_none: { (given : Self) → joined given none ≡ given };
 
     ghost none_joined: { (given : Self) → joined none given ≡ given };

@@ -1,9 +1,9 @@
 //! The plan of a network: what the network file says of single steps.
 //!
-//! A plan has a list of cells, each with its capacity, and the signals, limits, demand records and
-//! turn records of these cells. It is asked for the capacity, the light, the demand and the turning
-//! shares of a cell at a step, or for all their changes in the order of the steps. Amounts are in
-//! parts, millionths of a vehicle; cells are numbered from 0 in the order in which they were put.
+//! A plan has a list of cells, each with its capacity and its signal, limits, demand records and turn
+//! records. It is asked for the capacity, the light, the demand and the turning shares of a cell at a
+//! step, or for all their changes in the order of the steps. Amounts are in parts, millionths of a
+//! vehicle; cells are numbered from 0 in the order in which they were put.
 //!
 //! - The plan is in `step_plan`; what it says of one cell in `cell_plan`, over its `cell_records`; the
 //!   records in `signal`, `limit`, `demand` and `turn`.

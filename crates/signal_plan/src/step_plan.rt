@@ -1,5 +1,6 @@
-ghost use Rattle.std.specs.Prelude.{◌≡◌, ◌*◌, ◌<◌, ◌≤◌, ℕ, false, length, slice_index, IfOk, OnOk, OnErr};
-ghost use Rattle.signal_plan.specs.Records.{no_records, with_cell, with_demand, with_limit, with_signal, with_turn};
+ghost use Rattle.std.specs.Prelude.{◌≡◌, ◌+◌, ◌*◌, ◌<◌, ◌≤◌, ℕ, false, length, IfOk, OnOk, OnErr};
+ghost use Rattle.signal_plan.specs.Records.{no_records, planned_at, with_cell, with_demand, with_limit, with_signal, with_turn};
+ghost use Rattle.signal_plan.specs.Counts.{counts_of, demand_count};
 ghost use Rattle.signal_plan.specs.Sound.{IsSoundPlan};
 ghost use Rattle.signal_plan.specs.Capacity.{capacity_at};
 ghost use Rattle.signal_plan.specs.Green.{green_at, is_signalled, signal_of};
@@ -23,29 +24,24 @@ use std::marker::Model;
 /// What varies from step to step: the capacity of each cell, the light of each signal, the demand of
 /// each gate and the turning shares of each diverge.
 ///
-/// Each record stands twice: in the list of its kind, in the order of the file, and with its cell, so that
-/// what is asked of a cell takes the time of its own records alone.
+/// Each record stands with its cell, so that what is asked of a cell takes the time of its own records
+/// alone.
 #[derive(Debug, Drop)]
 pub struct Plan {
     alloc: Global,
     cells: Vec<CellPlan>,
-    signals: Vec<Signal>,
-    limits: Vec<Limit>,
-    demands: Vec<Demand>,
-    turns: Vec<Turn>,
+    counts: PlanCounts,
 }
 
 impl Model for Plan {
     ghost use Rattle.signal_plan.specs.Records.{PlanRecords};
-    ghost use Rattle.signal_plan.specs.Layout.{records_of, IsLaidOut};
+    ghost use Rattle.signal_plan.specs.Sound.{IsCounted};
 
     ghost Value = { PlanRecords };
 
-    ghost view = { λ plan. records_of plan.cells.items plan.signals.items plan.limits.items plan.demands.items
-        plan.turns.items };
+    ghost view = { λ plan. record { cells = plan.cells.items } };
 
-    ghost invariant = { λ plan. IsLaidOut plan.cells.items
-        (records_of plan.cells.items plan.signals.items plan.limits.items plan.demands.items plan.turns.items) };
+    ghost invariant = { λ plan. IsCounted (record { cells = plan.cells.items }) plan.counts };
 }
 
 impl Plan {
@@ -56,10 +52,12 @@ impl Plan {
         Plan {
             alloc,
             cells: Vec::new(alloc),
-            signals: Vec::new(alloc),
-            limits: Vec::new(alloc),
-            demands: Vec::new(alloc),
-            turns: Vec::new(alloc),
+            counts: PlanCounts {
+                signals: 0,
+                limits: 0,
+                demands: 0,
+                turns: 0,
+            },
         }
     }
 
@@ -80,11 +78,10 @@ impl Plan {
         ensures added { OnOk result (self.new ≡ with_limit self.old limit) }
         ensures unchanged { OnErr result (self.new ≡ self.old) }
     {
-        // Room first: after it the last push cannot fail.
-        self.limits.reserve(1)?;
+        let limits = one_more(self.counts.limits)?;
         let own = &mut self.cells[limit.cell as usize];
         own.put(self.alloc, limit)?;
-        self.limits.push(limit)?;
+        self.counts.limits = limits;
         Ok(())
     }
 
@@ -98,11 +95,10 @@ impl Plan {
         ensures added { OnOk result (self.new ≡ with_signal self.old signal) }
         ensures unchanged { OnErr result (self.new ≡ self.old) }
     {
-        // Room first: after it the last push cannot fail.
-        self.signals.reserve(1)?;
+        let signals = one_more(self.counts.signals)?;
         let own = &mut self.cells[signal.cell as usize];
         own.put(self.alloc, signal)?;
-        self.signals.push(signal)?;
+        self.counts.signals = signals;
         Ok(())
     }
 
@@ -111,15 +107,14 @@ impl Plan {
         requires has_cell { demand.cell < length self.old.cells }
         requires some_step { demand.from < demand.to }
         requires amount { demand.amount ≤ MOST_PARTS }
-        requires few_demands { length self.old.demands < MOST_RECORDS }
+        requires few_demands { demand_count self.old < MOST_RECORDS }
         ensures added { OnOk result (self.new ≡ with_demand self.old demand) }
         ensures unchanged { OnErr result (self.new ≡ self.old) }
     {
-        // Room first: after it the last push cannot fail.
-        self.demands.reserve(1)?;
+        let demands = one_more(self.counts.demands)?;
         let own = &mut self.cells[demand.cell as usize];
         own.put(self.alloc, demand)?;
-        self.demands.push(demand)?;
+        self.counts.demands = demands;
         Ok(())
     }
 
@@ -134,11 +129,10 @@ impl Plan {
         ensures added { OnOk result (self.new ≡ with_turn self.old turn) }
         ensures unchanged { OnErr result (self.new ≡ self.old) }
     {
-        // Room first: after it the last push cannot fail.
-        self.turns.reserve(1)?;
+        let turns = one_more(self.counts.turns)?;
         let own = &mut self.cells[turn.cell as usize];
         own.put(self.alloc, turn)?;
-        self.turns.push(turn)?;
+        self.counts.turns = turns;
         Ok(())
     }
 
@@ -214,7 +208,7 @@ impl Plan {
     pub fn capacity_changes(&self, alloc: Global, cell: u32) -> Result<Vec<Change<u64>>, NoMemory>
         requires has_cell { cell < length self.now.cells }
         ensures in_force { IfOk result (λ changes. (t : ℕ) →
-            in_force (slice_index self.now.cells cell) changes.items t ≡ capacity_at self.now cell t) }
+            in_force (planned_at self.now cell).capacity changes.items t ≡ capacity_at self.now cell t) }
         ensures rising { IfOk result (λ changes. IsRising changes.items) }
     {
         self.cells[cell as usize].capacity_changes(alloc)
@@ -245,21 +239,11 @@ impl Plan {
         self.cells[cell as usize].share_changes(alloc, own)
     }
 
-    /// How many records of each kind the plan has.
+    /// How many records of each kind the plan has. It takes the same time for any plan.
     pub fn counts(&self) -> PlanCounts
-        ensures { result ≡ record {
-          signals = length self.now.signals;
-          limits = length self.now.limits;
-          demands = length self.now.demands;
-          turns = length self.now.turns;
-        } }
+        ensures { result ≡ counts_of self.now }
     {
-        PlanCounts {
-            signals: self.signals.len(),
-            limits: self.limits.len(),
-            demands: self.demands.len(),
-            turns: self.turns.len(),
-        }
+        self.counts
     }
 
     /// The sum of all demand of the steps below `steps`, in parts.
@@ -270,9 +254,16 @@ impl Plan {
         ensures sound { IsSoundPlan self.now }
     {
         let mut total = 0;
-        for demand in &self.demands {
-            total += demand.within(0, steps);
+        for cell in &self.cells {
+            total += cell.demand_from(0, steps);
         }
         total
     }
+}
+
+// One record more. There is no memory for more records than can be counted.
+fn one_more(count: usize) -> Result<usize, NoMemory>
+    ensures { IfOk result (λ more. more ≡ count + 1) }
+{
+    count.checked_add(1).ok_or(NoMemory)
 }

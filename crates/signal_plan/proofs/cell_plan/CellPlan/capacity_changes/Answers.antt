@@ -1,8 +1,8 @@
 use Rattle.std.specs.Option.{option_map}
 use Rattle.std.proofs.Common.{ap, ◌∙◌}
 use Rattle.std.proofs.lemmas.Result.{IfOk-weaker}
-use Rattle.signal_plan.specs.CellRecords.{PlannedCell, last_limit}
-use Rattle.signal_plan.specs.Records.{LimitRecord, in_range}
+use Rattle.signal_plan.specs.Capacity.{last_limit}
+use Rattle.signal_plan.specs.Records.{LimitRecord, PlannedCell, in_range}
 use Rattle.signal_plan.proofs.Changes.{in_force-filled, IsRising-filled}
 use Rattle.signal_plan.proofs.Given.{given_by-last}
 use Rattle.signal_plan.proofs.cell_plan.CellPlan.capacity_changes.Goals as goal

@@ -1,7 +1,7 @@
 use Rattle.std.specs.Prelude.{sum_by}
 use Rattle.std.proofs.Common.{◌<◌, ◌^◌, ap, subst, sym, ◌∙◌}
 use Rattle.std.proofs.lemmas.Result.{IfOk-weaker}
-use Rattle.signal_plan.specs.CellRecords.{brings}
+use Rattle.signal_plan.specs.Demand.{brings}
 use Rattle.signal_plan.specs.Records.{DemandRecord, in_range}
 use Rattle.signal_plan.proofs.Given.{given_by-sum}
 use Rattle.signal_plan.proofs.cell_plan.CellPlan.demand_changes.Goals as goal

@@ -1,7 +1,7 @@
 use Rattle.std.specs.Option.{option_map}
 use Rattle.std.proofs.Common.{ap, ◌∙◌}
 use Rattle.std.proofs.lemmas.Result.{IfOk-weaker}
-use Rattle.signal_plan.specs.CellRecords.{last_turn}
+use Rattle.signal_plan.specs.Turning.{last_turn}
 use Rattle.signal_plan.specs.Records.{TurnRecord, in_range}
 use Rattle.signal_plan.proofs.Changes.{in_force-filled, IsRising-filled}
 use Rattle.signal_plan.proofs.Given.{given_by-last}

@@ -1,11 +1,8 @@
 use Rattle.std.proofs.Common.{◌∙◌}
-use Rattle.std.proofs.lemmas.List.{length-map}
-use Rattle.signal_plan.proofs.OwnAnswers.{own_capacity_read}
+use Rattle.signal_plan.proofs.CellReads.{capacity_read}
 use Rattle.signal_plan.proofs.step_plan.Plan.capacity.Goals as goal
 
 pub returns : goal.returns
 returns c =
-    let has = rw (← c.self.view_is, length-map) at c.requires.has_cell in
-    rw (← c.self.view_is) (
-    c.capacity_at.ensures ∙ own_capacity_read _ _ c.args.cell c.args.t _ c.self.invariant has c.index.ensures
-    )
+    let has = rw (← c.self.view_is) at c.requires.has_cell in
+    rw (← c.self.view_is) (c.capacity_at.ensures ∙ capacity_read _ c.args.cell c.args.t _ has c.index.ensures)

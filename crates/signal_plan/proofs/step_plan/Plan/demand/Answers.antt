@@ -1,27 +1,23 @@
 use Rattle.std.proofs.Common.{arith, ◌∙◌}
-use Rattle.std.proofs.lemmas.List.{length-map}
-use Rattle.signal_plan.proofs.OwnAnswers.{own_demand_read}
 use Rattle.signal_plan.proofs.Laws.{demand_at-le}
+use Rattle.signal_plan.proofs.CellReads.{demand_read}
 use Rattle.signal_plan.proofs.step_plan.Plan.demand.Goals as goal
 
 pub demand_at-requires : goal.demand_at-requires
 demand_at-requires c =
-    let has = rw (← c.self.view_is, length-map) at c.requires.has_cell in
-    let laid = c.self.invariant in
+    let has = rw (← c.self.view_is) at c.requires.has_cell in
     record {
       fits = omega (
         arith,
-        own_demand_read _ _ c.args.cell c.args.t _ laid has c.index.ensures,
-        demand_at-le _ c.args.cell c.args.t laid.sound,
+        demand_read _ c.args.cell c.args.t _ has c.index.ensures,
+        demand_at-le _ c.args.cell c.args.t c.self.invariant.sound,
       );
     }
 
 pub returns-clause-demand : goal.returns-clause-demand
 returns-clause-demand c =
-    let has = rw (← c.self.view_is, length-map) at c.requires.has_cell in
-    rw (← c.self.view_is) (
-    c.demand_at.ensures ∙ own_demand_read _ _ c.args.cell c.args.t _ c.self.invariant has c.index.ensures
-    )
+    let has = rw (← c.self.view_is) at c.requires.has_cell in
+    rw (← c.self.view_is) (c.demand_at.ensures ∙ demand_read _ c.args.cell c.args.t _ has c.index.ensures)
 
 pub returns-clause-bound : goal.returns-clause-bound
 returns-clause-bound c =

@@ -1,27 +1,23 @@
 use Rattle.std.proofs.Common.{arith, ◌∙◌}
-use Rattle.std.proofs.lemmas.List.{length-map}
-use Rattle.signal_plan.proofs.OwnAnswers.{own_demand_from_read}
 use Rattle.signal_plan.proofs.Laws.{demand_from-le}
+use Rattle.signal_plan.proofs.CellReads.{demand_from_read}
 use Rattle.signal_plan.proofs.step_plan.Plan.demand_from.Goals as goal
 
 pub demand_from-requires : goal.demand_from-requires
 demand_from-requires c =
-    let has = rw (← c.self.view_is, length-map) at c.requires.has_cell in
-    let laid = c.self.invariant in
+    let has = rw (← c.self.view_is) at c.requires.has_cell in
     record {
       fits = omega (
         arith,
-        own_demand_from_read _ _ c.args.cell c.args.t c.args.end _ laid has c.index.ensures,
-        demand_from-le _ c.args.cell c.args.t c.args.end laid.sound,
+        demand_from_read _ c.args.cell c.args.t c.args.end _ has c.index.ensures,
+        demand_from-le _ c.args.cell c.args.t c.args.end c.self.invariant.sound,
       );
     }
 
 pub returns-clause-demand : goal.returns-clause-demand
 returns-clause-demand c =
-    let has = rw (← c.self.view_is, length-map) at c.requires.has_cell in
-    rw (← c.self.view_is) (
-    c.demand_from.ensures ∙ own_demand_from_read _ _ c.args.cell c.args.t c.args.end _ c.self.invariant has c.index.ensures
-    )
+    let has = rw (← c.self.view_is) at c.requires.has_cell in
+    rw (← c.self.view_is) (c.demand_from.ensures ∙ demand_from_read _ c.args.cell c.args.t c.args.end _ has c.index.ensures)
 
 pub returns-clause-bound : goal.returns-clause-bound
 returns-clause-bound c =

@@ -1,0 +1,90 @@
+-- The counts of a plan with one more cell or record.
+use Rattle.std.specs.Prelude.{is_some, if◌then◌else◌, slice_set, sum_by}
+use Rattle.std.proofs.Common.{◌≡◌, ℕ, false, ◌+◌, ◌<◌, length, arith, add-zero, refl}
+use Rattle.std.proofs.lemmas.List.{length_push}
+use Rattle.std.proofs.lemmas.List.Sums.{sum_by-set, sum_by_push}
+use Rattle.signal_plan.specs.Counts.{counts_of, demand_count, limit_count, signal_count, turn_count}
+use Rattle.signal_plan.specs.Green.{is_signalled, signal_of}
+use Rattle.signal_plan.specs.Records.{CellRecords, DemandRecord, LimitRecord, PlannedCell, PlanRecords, SignalRecord, TurnRecord, bare_cell, planned_at, records_at, with_cell, with_demand, with_limit, with_own_demand, with_own_limit, with_own_signal, with_own_turn, with_records, with_signal, with_turn}
+
+-- a sum over the cells grows as the term of the cell that changes
+sum_by-with_records : (f : PlannedCell → ℕ) (plan : PlanRecords) (cell : ℕ) (own : CellRecords) (more : ℕ) → cell < length plan.cells →
+    f (record (planned_at plan cell) { records = own }) ≡ f (planned_at plan cell) + more →
+    sum_by f (slice_set plan.cells cell (record (planned_at plan cell) { records = own })) ≡ sum_by f plan.cells + more
+sum_by-with_records f plan cell own more has grown =
+    omega (arith, sum_by-set f plan.cells cell (record (planned_at plan cell) { records = own }) (bare_cell 0) has, grown)
+
+-- how many signals a cell has
+abbrev own_signals : CellRecords → ℕ
+own_signals own = if is_some own.signal then 1 else 0
+
+abbrev signals_of : PlannedCell → ℕ
+signals_of cell = own_signals cell.records
+
+abbrev limits_of : PlannedCell → ℕ
+limits_of cell = length cell.records.limits
+
+abbrev demands_of : PlannedCell → ℕ
+demands_of cell = length cell.records.demands
+
+abbrev turns_of : PlannedCell → ℕ
+turns_of cell = length cell.records.turns
+
+-- with other records of a cell, of which there are so many more
+counts_of-with_records : (plan : PlanRecords) (cell : ℕ) (own : CellRecords) (signals limits demands turns : ℕ) → cell < length plan.cells →
+    own_signals own ≡ own_signals (records_at plan cell) + signals → length own.limits ≡ length (records_at plan cell).limits + limits →
+    length own.demands ≡ length (records_at plan cell).demands + demands → length own.turns ≡ length (records_at plan cell).turns + turns →
+    counts_of (with_records plan cell own) ≡ record {
+      signals = signal_count plan + signals;
+      limits = limit_count plan + limits;
+      demands = demand_count plan + demands;
+      turns = turn_count plan + turns;
+    }
+counts_of-with_records plan cell own signals limits demands turns has more_signals more_limits more_demands more_turns =
+    rw (
+      sum_by-with_records signals_of plan cell own signals has more_signals,
+      sum_by-with_records limits_of plan cell own limits has more_limits,
+      sum_by-with_records demands_of plan cell own demands has more_demands,
+      sum_by-with_records turns_of plan cell own turns has more_turns,
+    )
+
+-- one more record of a kind
+pub counts_of-with_signal : (plan : PlanRecords) (signal : SignalRecord) → signal.cell < length plan.cells → is_signalled plan signal.cell ≡ false →
+    counts_of (with_signal plan signal) ≡ record (counts_of plan) { signals = signal_count plan + 1 }
+unfolding signal_of
+counts_of-with_signal plan signal has none =
+    let own = records_at plan signal.cell in
+    let before : own_signals own ≡ 0 = rw none refl in
+    rw (counts_of-with_records plan signal.cell (with_own_signal own signal) 1 0 0 0 has (omega (arith, before)) (omega arith) (omega arith) (omega arith))
+    (simp add-zero)
+
+pub counts_of-with_limit : (plan : PlanRecords) (limit : LimitRecord) → limit.cell < length plan.cells →
+    counts_of (with_limit plan limit) ≡ record (counts_of plan) { limits = limit_count plan + 1 }
+counts_of-with_limit plan limit has =
+    let own = records_at plan limit.cell in
+    rw (counts_of-with_records plan limit.cell (with_own_limit own limit) 0 1 0 0 has (omega arith) (length_push own.limits limit) (omega arith) (omega arith))
+    (simp add-zero)
+
+pub counts_of-with_demand : (plan : PlanRecords) (demand : DemandRecord) → demand.cell < length plan.cells →
+    counts_of (with_demand plan demand) ≡ record (counts_of plan) { demands = demand_count plan + 1 }
+counts_of-with_demand plan demand has =
+    let own = records_at plan demand.cell in
+    rw (counts_of-with_records plan demand.cell (with_own_demand own demand) 0 0 1 0 has (omega arith) (omega arith) (length_push own.demands demand) (omega arith))
+    (simp add-zero)
+
+pub counts_of-with_turn : (plan : PlanRecords) (turn : TurnRecord) → turn.cell < length plan.cells →
+    counts_of (with_turn plan turn) ≡ record (counts_of plan) { turns = turn_count plan + 1 }
+counts_of-with_turn plan turn has =
+    let own = records_at plan turn.cell in
+    rw (counts_of-with_records plan turn.cell (with_own_turn own turn) 0 0 0 1 has (omega arith) (omega arith) (omega arith) (length_push own.turns turn))
+    (simp add-zero)
+
+-- a cell that comes brings none
+pub counts_of-with_cell : (plan : PlanRecords) (capacity : ℕ) → counts_of (with_cell plan capacity) ≡ counts_of plan
+counts_of-with_cell plan capacity =
+    rw (
+      sum_by_push signals_of plan.cells (bare_cell capacity),
+      sum_by_push limits_of plan.cells (bare_cell capacity),
+      sum_by_push demands_of plan.cells (bare_cell capacity),
+      sum_by_push turns_of plan.cells (bare_cell capacity),
+    ) (simp add-zero)
