@@ -3,13 +3,15 @@ the report of the whole run, and a text that can't be gone on from has a named a
 """
 
 import functools
+import itertools
+import random
 
 import pytest
 from conftest import hold
 from made_networks import made_network
 from messages import TOO_LARGE, fault
 from plain_model import report as plain_report
-from saved import Saved, saved_text
+from saved import Saved, kinds_of, of_the_other_future, saved_text
 from shots import Network
 from test_cuttings import CHAIN, NETWORKS, cut
 from test_regions_and_workers import JUNCTIONS, PARTS, dealt_out
@@ -52,11 +54,12 @@ def faults_of_saved(network, content, regions, until, saved):
 @pytest.fixture
 def save(run):
     """Saves a network near a step, and holds the text against the recurrences."""
-    def made(content, until, regions=1, workers=1):
-        words = ["save", "--until", str(until), "--regions", str(regions), "--workers", str(workers)]
+    def made(content, until=None, regions=1, workers=1):
+        near = [] if until is None else ["--until", str(until)]
+        words = ["save", *near, "--regions", str(regions), "--workers", str(workers)]
         status, text, err = run(words, input=content)
         assert (status, err) == (0, b"")
-        assert next(faults_of_saved(network_of(content), content, regions, until, Saved(text)), "no fault") == "no fault"
+        assert next(faults_of_saved(network_of(content), content, regions, until or 0, Saved(text)), "no fault") == "no fault"
         return text
     return made
 
@@ -79,6 +82,10 @@ def test_the_corridor_is_saved_and_goes_on(until, regions, workers, save, run):
     hold((0, REPORT, b""), run(["resume", "--workers", str(workers)], input=save(CORRIDOR, until, regions, workers)))
 
 
+def test_a_run_is_saved_near_step_0_where_no_step_is_asked_for(save, run):
+    hold((0, plainly(JUNCTIONS), b""), run(["resume"], input=save(JUNCTIONS, None, 7, 4)))
+
+
 OTHERS = {
     "junctions": (JUNCTIONS, 7),
     "junctions dealt out by the file": (dealt_out(JUNCTIONS, 9), 1),
@@ -89,7 +96,6 @@ OTHERS = {
     "two roads": (TWO_ROADS, 4),
     "a merge, dealt out by the file": (cut(NETWORKS["a merge into too little room"], "3120"), 1),
     "a diverge whose shares change": (NETWORKS["a diverge whose shares change"], 4),
-    **{f"made network {seed}": (made_network(seed, 40 + seed, 30, regions=seed % 3 * 4), 6) for seed in range(20)},
 }
 
 
@@ -101,6 +107,33 @@ def test_saved_and_gone_on_with(content, regions, third, save, run):
         hold((0, plainly(content), b""), run(["resume", "--workers", workers], input=text))
 
 
+KINDS = {"road", "gate", "exit", "link", "merge", "diverge", "signal", "limit", "demand", "turn"}
+
+
+@functools.cache
+def made_networks():
+    """200 made networks that have each kind of record. Every third has no regions of its own, and every other holds little at
+    first, so that for a while nothing moves in some of its regions.
+    """
+    made = (made_network(seed, 30 + seed % 30, 20 + seed % 21, regions=seed % 3 * 4, filled=(1, 0.2)[seed % 2])
+            for seed in itertools.count())
+    return list(itertools.islice((content for content in made if kinds_of(content) >= KINDS), 200))
+
+
+@pytest.mark.parametrize("number", range(200))
+def test_a_made_network_saved_and_gone_on_with_twice(number, save, run):
+    """It is saved at the first step, at the last one, and at two between."""
+    content = made_networks()[number]
+    for third in range(4):
+        text = save(content, network_of(content).steps * third // 3, 6, 4)
+        for workers in ("1", "4"):
+            hold((0, plainly(content), b""), run(["resume", "--workers", workers], input=text))
+
+
+def test_most_made_networks_have_regions_too():
+    assert sum(kinds_of(content) >= KINDS | {"region"} for content in made_networks()) > 100
+
+
 def test_what_is_changed_from_the_saved_step_on_is_another_run(save, run):
     """A limit, a demand, a turn and more steps than the saved run has, in no step before the greatest saved one."""
     text = save(CITY, 1, 17, 4)
@@ -108,6 +141,17 @@ def test_what_is_changed_from_the_saved_step_on_is_another_run(save, run):
     changes = lines(f"limit,x5,{begin},9,0.5; demand,g5,{begin},9,1.25; turn,m3,{begin},9,5,1")
     content = CITY.replace(b"steps,5", b"steps,9") + changes
     hold((0, plainly(content), b""), run(["resume"], input=text.replace(CITY, content)))
+
+
+@pytest.mark.parametrize("number", range(50))
+def test_another_future_is_the_whole_run_of_another_network(number, save, run):
+    """From the greatest saved step on other limits, demands, turns and another number of steps."""
+    content, draw = made_networks()[number], random.Random(number)
+    text = save(content, network_of(content).steps // 3, 6, 4)
+    saved = Saved(text)
+    other = of_the_other_future(content, max(saved.steps), draw)
+    assert plainly(other) != plainly(content)
+    hold((0, plainly(other), b""), run(["resume"], input=saved_text(saved.steps, saved.rows, other)))
 
 
 def test_the_regions_are_those_of_the_row_lines(run):
@@ -143,6 +187,8 @@ REFUSED = [
     ("more regions than step lines", edited(b"saved,1,2", b"saved,1,3"), 8, SPELLING),
     ("fewer regions than step lines", edited(b"saved,1,2", b"saved,1,1"), 8, SPELLING),
     ("a leading zero", edited(b"step,2", b"step,02"), 8, SPELLING),
+    ("a leading zero of the regions", edited(b"saved,1,2", b"saved,1,02"), 8, SPELLING),
+    ("a leading zero of a row", edited(ROWS[1], b"row,1,0,0,0,0,01\n"), 8, SPELLING),
     ("two zeros", edited(b",0,0\nnet", b",0,00\nnet"), 8, SPELLING),
     ("a sign", edited(b"step,2", b"step,+2"), 8, SPELLING),
     ("a space", edited(b"step,2", b"step, 2"), 8, SPELLING),
@@ -154,6 +200,7 @@ REFUSED = [
     ("a blank line", edited(b"net", b"\nnet"), 8, SPELLING),
     ("a comment", edited(b"step", b"# so\nstep"), 8, SPELLING),
     ("2^64", edited(b"step,2", b"step,18446744073709551616"), 8, SPELLING),
+    ("2^64 parts", edited(ROWS[1], b"row,1,18446744073709551616,0,0,0,0\n"), 8, SPELLING),
     ("21 digits", edited(b"step,2", b"step,100000000000000000000"), 8, SPELLING),
     ("no line `net`", edited(b"net\n", b""), 8, SPELLING),
     ("a word behind `net`", edited(b"net\n", b"net,1\n"), 8, SPELLING),
@@ -172,6 +219,7 @@ REFUSED = [
     ("regions past the last step", edited(b"step,2\nstep,1", b"step,4\nstep,4"), 8, START),
     ("the step 2^64 - 1", edited(b"step,2", b"step,18446744073709551615"), 8, START),
     ("a road past its room", edited(ROWS[1], FULL_ROW), 8, START),
+    ("2^64 - 1 parts on a road", edited(ROWS[1], b"row,1,18446744073709551615,0,0,0,0\n"), 8, START),
     ("a road that held more than its room", edited(ROWS[1], b"row,1,0,0,0,0,6000001\n"), 8, START),
     ("a part from nowhere", edited(ROWS[1], b"row,1,1,0,0,0,0\n"), 8, START),
     ("an exit that gave back", edited(ROWS[1] + ROWS[2], ROWS[1] + b"row,1,0,1,1,0,0\n"), 8, START),

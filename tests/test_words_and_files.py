@@ -52,6 +52,7 @@ CASES = [
     ("recorded by three workers in two regions", ["run", "--every", "2", "--workers", "3", "--regions", "2"], CORRIDOR,
      RECORDED),
     ("save at the last step", ["save", "--until", "3", "--regions", "3"], CORRIDOR, SAVED_LAST),
+    ("save at a step spelled with zeros", ["save", "--until", "007", "--regions", "3"], CORRIDOR, SAVED_LAST),
     ("save past the last step, by workers", ["save", "--until=100000", "--regions", "512", "--workers", "4"], CORRIDOR,
      SAVED_LAST),
     ("save in the regions of the file", ["save", "--until", "9"], REGIONS_BACKWARDS,

@@ -7,6 +7,8 @@ use Rattle.flow_model.specs.State.{occupancy, row_at, state_at}
 use Rattle.region_cut.specs.Cuttings.{region_at}
 use Rattle.snapshot.specs.Shots.{AreStepsBetween}
 use Rattle.saved_run.specs.Content.{Content}
+use Rattle.saved_run.specs.Laws.{BeginsTrue}
+use Rattle.saved_run.specs.Reading.{content_of}
 use Rattle.saved_run.specs.SavedText.{saved_text}
 use Rattle.saved_run.specs.declared.row_line.RowLine.{RowLine}
 use Rattle.network_run.specs.Near.{near_end}
@@ -42,6 +44,8 @@ pub record IsSavedNear (net : Network) (cut : List ℕ) (until : ℕ) (input : L
   pub steps : List ℕ
   pub stand : AreStepsBetween net cut (min until net.steps) (near_end net until) steps
   pub saved : text ≡ saved_text (run_at net cut steps input)
+  -- it is read again as a run of this network, cut so, that goes on from there as from the beginning
+  pub begins : BeginsTrue (content_of text) net cut
 
 abbrev pub IsSaveText : Task → List ℕ → Type 0
 IsSaveText task text = IsNetworkWith (network_of task.input) (λ net. IsSavedNear net (cutting_of net task.request.regions) task.request.until task.input text)

@@ -1,5 +1,6 @@
-ghost use Rattle.std.specs.Prelude.{◌≡◌, ◌≤◌, IfErr, IfOk, None, length};
+ghost use Rattle.std.specs.Prelude.{◌≡◌, ◌≤◌, IfErr, IfOk, None, Ok, length};
 ghost use Rattle.command_words.specs.Words.{IsInRange};
+ghost use Rattle.network_file.specs.Reading.{network_of};
 ghost use Rattle.network_file.specs.declared.limits.TheConstants.{MOST_BYTES};
 ghost use Rattle.call_ending.specs.Refusing.{IsRefusalOf};
 ghost use Rattle.ctm_call.specs.SaveMode.{IsSaveText, IsSavedNear, save_refused};
@@ -46,12 +47,14 @@ fn saved_near<R: Threads + Sync, G: Gate>(
     gate: &G,
 ) -> Result<Vec<u8>, NoMemory>
     requires in_range { IsInRange request }
+    requires network { network_of input.now ≡ Ok net.now }
     requires few_bytes { length input.now ≤ MOST_BYTES }
     ensures { IfOk result (λ text. IsSavedNear net.now (cutting_of net.now request.regions) request.until input.now text.items) }
 {
     let _steps = net.steps;
     let until = u64::from(request.until);
     let chart = charted(alloc, net, request.regions)?;
+    let _regions = chart.regions();
     let room = room_near(rt, alloc, net, &chart, until, request.workers, gate)?;
     let text = save_text(alloc, &chart, &room, input)?;
     Ok(text)
