@@ -1,7 +1,7 @@
 -- An input with plans: how its separators cut it into a base and plans, and the network files that these make.
 use Rattle.std.specs.Prelude.{◌≡◌, ◌⊎◌, ◌<◌, ⊤, ℕ, Bool, List, [], ◌∷◌, ◌++◌, ◌==◌, ◌||◌, bytes_eq, codes, count_by, if◌then◌else◌, map}
-use Rattle.plan_choice.specs.declared.pieces.PiecesRefusal.{PiecesRefusal}
-use Rattle.plan_choice.specs.declared.pieces.PiecesRefusal.TheVariants.{Plans, NoMemory}
+use Rattle.plan_choice.specs.declared.refusal.PiecesRefusal.{PiecesRefusal}
+use Rattle.plan_choice.specs.declared.refusal.PiecesRefusal.TheVariants.{Plans, NoMemory}
 
 -- a byte in front of some lines: it begins the first of them
 abbrev pub begins : (byte : ℕ) → List (List ℕ) → List (List ℕ)

@@ -1,5 +1,6 @@
-ghost use Rattle.std.specs.Prelude.{◌≡◌, ◌<◌, ◌^◌, All, IfOk, map};
-ghost use Rattle.plan_choice.specs.Choice.{whole_delay};
+ghost use Rattle.std.specs.Prelude.{◌≡◌, ◌<◌, ◌^◌, ℕ, All, IfOk, Result, length, map, slice_index_or};
+ghost use Rattle.network_file.specs.Network.{Network};
+ghost use Rattle.plan_choice.specs.Choice.{AreDelayResults, IsDelayResult, whole_delay};
 
 use crate::whole_run::whole_delay;
 use network_file::Net;
@@ -16,7 +17,7 @@ pub(crate) fn delays<R: Threads + Sync>(
     ensures delays { IfOk result (λ delays. delays.items ≡ map whole_delay nets.now) }
     ensures few { IfOk result (λ delays. All (λ delay. delay < 2 ^ 96) delays.items) }
 {
-    let found = map_indices(rt, alloc, nets.len(), &|p| whole_delay(alloc, &nets[p]))?;
+    let found = run_all(rt, alloc, nets)?;
     let mut delays = Vec::new(alloc);
     for delay in &found {
         match delay {
@@ -25,4 +26,19 @@ pub(crate) fn delays<R: Threads + Sync>(
         }
     }
     Ok(delays)
+}
+
+// What came of the run of each network.
+fn run_all<R: Threads + Sync>(
+    rt: &R,
+    alloc: Global,
+    nets: &[Net],
+) -> Result<Vec<Result<u128, NoMemory>>, NoMemory>
+    ensures { IfOk result (λ found. AreDelayResults nets.now found.items) }
+{
+    let run = move |p: usize| -> Result<u128, NoMemory>
+        requires { p < length nets.now }
+        ensures { (net : Network) → IsDelayResult (slice_index_or nets.entry.now p net) result }
+    { whole_delay(alloc, &nets[p]) };
+    Ok(map_indices(rt, alloc, nets.len(), &run)?)
 }

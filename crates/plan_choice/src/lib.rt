@@ -15,8 +15,10 @@ mod choice;
 mod delays;
 mod lines;
 mod pieces;
+mod refusal;
 mod separators;
 mod whole_run;
 
 pub use choice::{Choice, choose};
-pub use pieces::{Pieces, PiecesRefusal};
+pub use pieces::Pieces;
+pub use refusal::PiecesRefusal;

@@ -1,3 +1,4 @@
+use crate::refusal::PiecesRefusal;
 use crate::separators::{between_separators, separators, split_once};
 use no_memory::NoMemory;
 use std::alloc::Global;
@@ -5,24 +6,6 @@ use std::marker::Model;
 
 /// The most plans that an input may have.
 const MOST_PLANS: u64 = 16;
-
-/// Why an input has no plans to choose among.
-#[derive(Debug, Drop)]
-pub enum PiecesRefusal {
-    /// It has no separator, or more than 16.
-    Plans {
-        /// How many it has.
-        found: u64,
-    },
-    /// Memory was refused.
-    NoMemory,
-}
-
-impl From<NoMemory> for PiecesRefusal {
-    fn from(_: NoMemory) -> Self {
-        PiecesRefusal::NoMemory
-    }
-}
 
 /// An input that is cut at its separators: a base, and 1 to 16 plans (docs/FORMAT.md, "Plans").
 #[derive(Drop)]

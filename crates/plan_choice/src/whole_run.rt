@@ -1,6 +1,7 @@
 ghost use Rattle.std.specs.Prelude.{◌≡◌, ◌<◌, ◌≤◌, ◌^◌, ℕ, IfOk, length};
 ghost use Rattle.region_cut.specs.Chart.{chart_of};
 ghost use Rattle.region_cut.specs.Cuttings.{region_count};
+ghost use Rattle.region_step.specs.Advance.{HasRowsInBounds};
 ghost use Rattle.region_step.specs.Standing.{Stands};
 ghost use Rattle.region_step.specs.Start.{Fits, zero_start};
 ghost use Rattle.plan_choice.specs.Choice.{whole_delay};
@@ -52,6 +53,7 @@ fn last_region(alloc: Global, net: &Net, chart: &Chart) -> Result<Region, NoMemo
 fn take_to_end(net: &Net, chart: &Chart, region: &mut Region)
     requires one { region_count chart.now.cut ≡ 1 }
     requires stands { Stands net.now chart.now (zero_start net.now chart.now.cut) 0 0 0 region.old }
+    requires in_bounds { HasRowsInBounds net.now chart.now region.old.state }
     ensures { Stands net.now chart.now (zero_start net.now chart.now.cut) 0 0 net.now.steps region.new }
 {
     for _step in 0..net.steps {

@@ -1,0 +1,19 @@
+use no_memory::NoMemory;
+
+/// Why an input has no plans to choose among.
+#[derive(Debug, Drop)]
+pub enum PiecesRefusal {
+    /// It has no separator, or more than 16.
+    Plans {
+        /// How many it has.
+        found: u64,
+    },
+    /// Memory was refused.
+    NoMemory,
+}
+
+impl From<NoMemory> for PiecesRefusal {
+    fn from(_: NoMemory) -> Self {
+        PiecesRefusal::NoMemory
+    }
+}
