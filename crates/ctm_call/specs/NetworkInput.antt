@@ -33,7 +33,7 @@ abbrev pub IsNetworkWith : Result Network NetFault → (Network → Type 0) → 
 IsNetworkWith (Ok net) P = P net
 IsNetworkWith (Err fault) P = ⊥
 
--- the refusal tells the fault with which a file was refused, or that memory was refused
-abbrev pub IsToldOf : NetRefusal → Refusal → Type 0
-IsToldOf (of_net.Fault fault) told = IsRefusalOf (Some (network_refused fault)) ⊥ told
-IsToldOf of_net.NoMemory told = told ≡ refusal.NoMemory
+-- the refusal tells the fault with which a file was refused, as a fault is told of it, or that memory was refused
+abbrev pub IsToldOf : (NetFault → Why) → NetRefusal → Refusal → Type 0
+IsToldOf why (of_net.Fault fault) told = IsRefusalOf (Some (why fault)) ⊥ told
+IsToldOf why of_net.NoMemory told = told ≡ refusal.NoMemory

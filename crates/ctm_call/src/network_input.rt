@@ -3,7 +3,7 @@ ghost use Rattle.network_file.specs.Network.{Network};
 ghost use Rattle.network_file.specs.Reading.{network_of};
 ghost use Rattle.network_file.specs.declared.limits.TheConstants.{MOST_BYTES};
 ghost use Rattle.call_ending.specs.Refusing.{IsRefusalOf, Why};
-ghost use Rattle.ctm_call.specs.NetworkInput.{IsToldOf, fault_told, network_line, why_of_network};
+ghost use Rattle.ctm_call.specs.NetworkInput.{IsToldOf, fault_told, network_line, network_refused, why_of_network};
 
 use call_ending::{Cause, Line, Refusal};
 use itoa::Buffer;
@@ -25,7 +25,7 @@ pub(crate) fn network_in(alloc: Global, input: &[u8]) -> Result<Net, Refusal>
 
 /// The refusal of a file, with the line that tells its fault.
 pub(crate) fn refused(alloc: Global, refusal: NetRefusal) -> Refusal
-    ensures { IsToldOf refusal result }
+    ensures { IsToldOf network_refused refusal result }
 {
     match refusal {
         NetRefusal::Fault(fault) => match fault_line(alloc, fault) {
