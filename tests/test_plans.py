@@ -6,16 +6,12 @@ from pathlib import Path
 import pytest
 from conftest import hold
 from plain_model import Plain
-from worked import CORRIDOR, lines
+from worked import CORRIDOR, QUEUE, QUEUE_CHOICE, QUEUE_PLANS, TIMINGS, lines
 
-# Ten vehicles at a gate that lets one of them go in each of four steps.
-BASE = lines("ctm,1; steps,4; gate,g,1,10; exit,x,5; link,g,x")
-OFFSETS = [f"signal,g,4,{timing}" for timing in ("3,0,2", "0,0,2", "0,0,4", "1,0,4")]
-CHOICE = lines("plan,0,35.000000; plan,1,33.000000; plan,2,30.000000; plan,3,30.000000; choice,2")
 STREET = (Path(__file__).parents[1] / "examples/arterial-ten.plans").read_bytes()
 
 
-def with_plans(plans, base=BASE, separator=b"==\n"):
+def with_plans(plans, base=QUEUE, separator=b"==\n"):
     return separator.join([base, *(lines(plan) if plan else b"" for plan in plans)])
 
 
@@ -26,16 +22,16 @@ def waited(vehicle_steps, count=1, choice=0):
 
 # The name of each case, its input and its text. Without a signal 9, 8, 7 and 6 vehicles wait, 30 in all.
 CHOICES = [
-    ("the first of the least", with_plans(OFFSETS), CHOICE),
-    ("lines that end in two bytes", with_plans(OFFSETS).replace(b"\n", b"\r\n"), CHOICE),
-    ("one plan", with_plans(OFFSETS[1:2]), waited(33)),
-    ("sixteen equal plans", with_plans(OFFSETS[1:2] * 16), waited(33, 16)),
+    ("the first of the least", QUEUE_PLANS, QUEUE_CHOICE),
+    ("lines that end in two bytes", QUEUE_PLANS.replace(b"\n", b"\r\n"), QUEUE_CHOICE),
+    ("one plan", with_plans(TIMINGS[1:2]), waited(33)),
+    ("sixteen equal plans", with_plans(TIMINGS[1:2] * 16), waited(33, 16)),
     ("a plan of no bytes", with_plans([""]), waited(30)),
-    ("a separator at the end without a line feed", BASE + b"==", waited(30)),
-    ("two plans of no bytes, the second at the end", BASE + b"==\n==", waited(30, 2)),
+    ("a separator at the end without a line feed", QUEUE + b"==", waited(30)),
+    ("two plans of no bytes, the second at the end", QUEUE + b"==\n==", waited(30, 2)),
     ("plans of comments and blank lines", with_plans(["# nothing; ", "; "]), waited(30, 2)),
-    ("the least last", with_plans(OFFSETS[:3]), CHOICE.replace(b"plan,3,30.000000\n", b"")),
-    ("the least first", with_plans(OFFSETS[2::-1]), lines("plan,0,30.000000; plan,1,33.000000; plan,2,35.000000; choice,0")),
+    ("the least last", with_plans(TIMINGS[:3]), QUEUE_CHOICE.replace(b"plan,3,30.000000\n", b"")),
+    ("the least first", with_plans(TIMINGS[2::-1]), lines("plan,0,30.000000; plan,1,33.000000; plan,2,35.000000; choice,0")),
     ("plans with cells of their own",
      with_plans(["gate,h,1,2", "gate,h,1,1"]), lines("plan,0,38.000000; plan,1,34.000000; choice,1")),
     ("an exit that fills up and waits for nothing", with_plans([""], lines("ctm,1; steps,2; gate,g,3,3; exit,x,3; link,g,x")),
@@ -54,16 +50,16 @@ def test_the_choice(given, text, run):
 COUNTED = [
     ("a network alone", CORRIDOR, 0),
     ("nothing", b"", 0),
-    ("seventeen plans", with_plans(OFFSETS[:1] * 17), 17),
+    ("seventeen plans", with_plans(TIMINGS[:1] * 17), 17),
     ("many plans behind a base with a fault", b"lane,x\n" + b"==\n" * 1000, 1000),
-    ("a space behind the signs", BASE + b"== \n", 0),
-    ("a space before them", BASE + b" ==\n", 0),
-    ("three signs", BASE + b"===\n", 0),
-    ("one sign", BASE + b"=\n", 0),
-    ("the signs at the end of a line", BASE + b"# ==\n", 0),
-    ("a carriage return and the end", BASE + b"==\r", 0),
-    ("a carriage return alone", BASE + b"==\rexit,y,1\n", 0),
-    ("two carriage returns", BASE + b"==\r\r\n", 0),
+    ("a space behind the signs", QUEUE + b"== \n", 0),
+    ("a space before them", QUEUE + b" ==\n", 0),
+    ("three signs", QUEUE + b"===\n", 0),
+    ("one sign", QUEUE + b"=\n", 0),
+    ("the signs at the end of a line", QUEUE + b"# ==\n", 0),
+    ("a carriage return and the end", QUEUE + b"==\r", 0),
+    ("a carriage return alone", QUEUE + b"==\rexit,y,1\n", 0),
+    ("two carriage returns", QUEUE + b"==\r\r\n", 0),
 ]
 
 
@@ -74,14 +70,14 @@ def test_no_plans_or_too_many(given, found, run):
 
 # The name of each case, its input and what is told.
 FAULTS = [
-    ("an unknown cell in the second plan", with_plans([OFFSETS[0], "signal,h,4,0,0,2"]), "plan 1 record 6 code 8 Unknown"),
+    ("an unknown cell in the second plan", with_plans([TIMINGS[0], "signal,h,4,0,0,2"]), "plan 1 record 6 code 8 Unknown"),
     ("the first of two plans with a fault", with_plans(["", "lane,x", "exit,x,5"]), "plan 1 record 6 code 2 BadKind"),
-    ("a second signal in the second record of a plan", with_plans(["", f"{OFFSETS[0]}; {OFFSETS[1]}"]),
+    ("a second signal in the second record of a plan", with_plans(["", f"{TIMINGS[0]}; {TIMINGS[1]}"]),
      "plan 1 record 7 code 7 Repeated"),
-    ("a base with a fault", with_plans(OFFSETS, lines("ctm,1; lane,x")), "plan 0 record 2 code 2 BadKind"),
-    ("a base that lacks what the first plan has", with_plans(["steps,4", ""], BASE.replace(b"steps,4\n", b"")),
+    ("a base with a fault", with_plans(TIMINGS, lines("ctm,1; lane,x")), "plan 0 record 2 code 2 BadKind"),
+    ("a base that lacks what the first plan has", with_plans(["steps,4", ""], QUEUE.replace(b"steps,4\n", b"")),
      "plan 1 record 5 code 12 NoSteps"),
-    ("no base", b"==\n" + BASE + b"==\n", "plan 1 record 1 code 1 NoHeader"),
+    ("no base", b"==\n" + QUEUE + b"==\n", "plan 1 record 1 code 1 NoHeader"),
     ("a separator in a quoted field", lines('ctm,1; steps,4; gate,g,1,10; exit,"x; ==; y",5'), "plan 0 record 4 code 4 BadName"),
 ]
 
