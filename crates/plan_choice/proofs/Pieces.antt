@@ -73,3 +73,11 @@ length-pieces_of (line ∷ lines) = elim (cases_Bool (is_separator line)) [
 pub length-pieces : (text : List ℕ) → length (pieces_in text) ≡ separators_in text + 1
 unfolding pieces_in
 length-pieces text = length-pieces_of (lines_in text)
+
+length-files : (pieces : List (List ℕ)) (separators : ℕ) → length pieces ≡ separators + 1 → length (files_of pieces) ≡ separators
+length-files [] separators is = absurd (omega (arith, is))
+length-files (base ∷ plans) separators is = omega (arith, is, length-map plans (λ plan. base ++ plan))
+
+-- as many candidates as separators
+pub length-candidates : (input : List ℕ) → length (candidates_in input) ≡ separators_in input
+length-candidates input = length-files (pieces_in input) (separators_in input) (length-pieces input)

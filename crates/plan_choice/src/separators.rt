@@ -12,11 +12,12 @@ pub(crate) fn split_once(text: &[u8]) -> Option<(&[u8], &[u8])>
 {
     let mut at = 0;
     while at < text.len() {
-        let next = at + first_line(&text[at..]);
-        if is_separator(&text[at..next]) {
-            return Some((&text[..at], &text[next..]));
+        let rest = &text[at..];
+        let end = first_line(rest);
+        if is_separator(&rest[..end]) {
+            return Some((&text[..at], &rest[end..]));
         }
-        at = next;
+        at += end;
     }
     None
 }

@@ -56,6 +56,7 @@ fn take_to_end(net: &Net, chart: &Chart, region: &mut Region)
     requires in_bounds { HasRowsInBounds net.now chart.now region.old.state }
     ensures { Stands net.now chart.now (zero_start net.now chart.now.cut) 0 0 net.now.steps region.new }
 {
+    let _regions = chart.regions();
     for _step in 0..net.steps {
         region.advance(net, chart);
     }
