@@ -1,4 +1,5 @@
-pub mod Lines
-pub mod Pieces
+pub mod FirstLine
+pub mod Cutting
+pub mod SideBySide
 pub mod Sizes
 pub mod WholeRun

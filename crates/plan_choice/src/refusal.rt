@@ -13,6 +13,11 @@ pub enum PiecesRefusal {
 }
 
 impl From<NoMemory> for PiecesRefusal {
+    ghost use Rattle.std.specs.Prelude.{◌≡◌};
+    ghost use Rattle.plan_choice.specs.declared.refusal.PiecesRefusal.TheVariants as refusal;
+
+    ghost from_gives = { λ _ r. r ≡ refusal.NoMemory };
+
     fn from(_: NoMemory) -> Self {
         PiecesRefusal::NoMemory
     }

@@ -1,7 +1,7 @@
 -- The first line of a text.
 use Rattle.std.specs.Prelude.{◌==◌, None, Some, drop, not, position, take}
 use Rattle.std.specs.List.{position_or_len}
-use Rattle.std.proofs.Common.{◌≡◌, ℕ, ◌+◌, ◌<◌, ◌≤◌, inl, inr, true, false, List, [], ◌∷◌, length, ap, arith, refl, sym, ◌∙◌}
+use Rattle.std.proofs.Common.{◌≡◌, ℕ, suc, ◌+◌, ◌<◌, ◌≤◌, inl, inr, true, false, List, [], ◌∷◌, length, ap, arith, refl, sym, ◌∙◌}
 use Rattle.std.proofs.lemmas.Bool.{cases_Bool, cases_lt, le-ltb, lt-ltb}
 use Rattle.std.proofs.lemmas.List.{drop_all, take_all}
 use Rattle.plan_choice.specs.Pieces.{begins, lines_in}
@@ -38,19 +38,21 @@ lines-found (byte ∷ text) within = elim (cases_Bool (byte == 10)) [
 
 lines-alone : (text : List ℕ) → 1 ≤ length text → length text ≤ before_feed text → lines_in text ≡ text ∷ []
 lines-alone [] some none = absurd (omega arith)
-lines-alone (byte ∷ text) some none = elim (cases_Bool (byte == 10)) [
+lines-alone (byte ∷ []) some none = elim (cases_Bool (byte == 10)) [
   | inl is ↦
-      let here : before_feed (byte ∷ text) ≡ 0 = rw is refl in
+      let here : before_feed (byte ∷ []) ≡ 0 = rw is refl in
+      absurd (omega (arith, some, none, here))
+  | inr other ↦ lines-byte byte [] other ∙ ap (begins byte) lines-none
+]
+lines-alone (byte ∷ (next ∷ text)) some none = elim (cases_Bool (byte == 10)) [
+  | inl is ↦
+      let here : before_feed (byte ∷ (next ∷ text)) ≡ 0 = rw is refl in
       absurd (omega (arith, some, none, here))
   | inr other ↦
-      let further : before_feed (byte ∷ text) ≡ 1 + before_feed text = rw other refl in
-      let outside : length text ≤ before_feed text = omega (arith, none, further) in
-      lines-byte byte text other ∙ rest text outside
+      let further : before_feed (byte ∷ (next ∷ text)) ≡ 1 + before_feed (next ∷ text) = rw other refl in
+      let outside : length (next ∷ text) ≤ before_feed (next ∷ text) = omega (arith, none, further) in
+      lines-byte byte (next ∷ text) other ∙ ap (begins byte) (lines-alone (next ∷ text) (omega arith) outside)
 ]
-  where
-    rest : (text : List ℕ) → length text ≤ before_feed text → begins byte (lines_in text) ≡ (byte ∷ text) ∷ []
-    rest [] outside = ap (begins byte) lines-none
-    rest (next ∷ text) outside = ap (begins byte) (lines-alone (next ∷ text) (omega arith) outside)
 
 -- a line feed ends it
 pub line-found : (text : List ℕ) (at : ℕ) → position (λ byte. byte == 10) text ≡ Some at →

@@ -1,5 +1,5 @@
 -- The pieces of a text, line by line.
-use Rattle.std.specs.Prelude.{All, count_by, drop, map, slice_index_or, take}
+use Rattle.std.specs.Prelude.{cond, count_by, drop, map, slice_index_or, take}
 use Rattle.std.proofs.Common.{◌≡◌, ℕ, ◌+◌, ◌<◌, ◌≤◌, inl, inr, true, false, List, [], ◌∷◌, ◌++◌, length, ap, append_assoc, arith, refl, sym, subst, ◌∙◌}
 use Rattle.std.proofs.lemmas.Bool.{cases_Bool}
 use Rattle.std.proofs.lemmas.List.{append-nil, drop-drop, drop_all, get_or-map, length-append, length-map, take_all}
@@ -58,17 +58,33 @@ pieces-whole text at ended before =
     ap (λ piece. piece ∷ []) (append-nil (take at text) ∙ take_all at text ended)
 
 -- one piece more than separators
+pieces_of-separator : (line : List ℕ) (lines : List (List ℕ)) → is_separator line ≡ true → pieces_of (line ∷ lines) ≡ [] ∷ pieces_of lines
+unfolding pieces_of
+pieces_of-separator line lines is = rw is refl
+
+pieces_of-line : (line : List ℕ) (lines : List (List ℕ)) → is_separator line ≡ false → pieces_of (line ∷ lines) ≡ leads line (pieces_of lines)
+unfolding pieces_of
+pieces_of-line line lines other = rw other refl
+
+length-leads : (line : List ℕ) (pieces : List (List ℕ)) → 1 ≤ length pieces → length (leads line pieces) ≡ length pieces
+length-leads line [] some = absurd (omega arith)
+length-leads line (piece ∷ pieces) some = refl
+
+separators-more : (line : List ℕ) (lines : List (List ℕ)) → count_by is_separator (line ∷ lines) ≡ cond (is_separator line) 1 0 + count_by is_separator lines
+separators-more line lines = sum_by-cons (λ l. cond (is_separator l) 1 0) line lines
+
 length-pieces_of : (lines : List (List ℕ)) → length (pieces_of lines) ≡ count_by is_separator lines + 1
 unfolding pieces_of
 length-pieces_of [] = refl
 length-pieces_of (line ∷ lines) = elim (cases_Bool (is_separator line)) [
-  | inl is ↦ rw is (omega (arith, length-pieces_of lines, sum_by-cons _ line lines))
-  | inr other ↦ rw other (omega (arith, led (pieces_of lines), length-pieces_of lines))
+  | inl is ↦
+      let one : ◌≡◌ {A = ℕ} (cond (is_separator line) 1 0) 1 = rw is refl in
+      omega (arith, ap length (pieces_of-separator line lines is), length-pieces_of lines, separators-more line lines, one)
+  | inr other ↦
+      let none : ◌≡◌ {A = ℕ} (cond (is_separator line) 1 0) 0 = rw other refl in
+      let some : 1 ≤ length (pieces_of lines) = omega (arith, length-pieces_of lines) in
+      omega (arith, ap length (pieces_of-line line lines other), length-leads line (pieces_of lines) some, length-pieces_of lines, separators-more line lines, none)
 ]
-  where
-    led : (pieces : List (List ℕ)) → 1 ≤ length pieces → length (leads line pieces) ≡ length pieces
-    led [] some = absurd (omega arith)
-    led (piece ∷ pieces) some = refl
 
 pub length-pieces : (text : List ℕ) → length (pieces_in text) ≡ separators_in text + 1
 unfolding pieces_in
@@ -81,3 +97,19 @@ length-files (base ∷ plans) separators is = omega (arith, is, length-map plans
 -- as many candidates as separators
 pub length-candidates : (input : List ℕ) → length (candidates_in input) ≡ separators_in input
 length-candidates input = length-files (pieces_in input) (separators_in input) (length-pieces input)
+
+-- the network file of a plan that was read
+pub file-read : {R : Type 0} (now : R → List ℕ) (base : List ℕ) (plans : List R) (p : ℕ) (plan : R) → p < length (files_of (base ∷ map now plans)) → plan ≡ slice_index_or plans p plan →
+    base ++ now plan ≡ slice_index_or (files_of (base ∷ map now plans)) p []
+file-read now base plans p plan there read =
+    let within : p < length (map now plans) = omega (arith, there, length-map (map now plans) (λ piece. base ++ piece)) in
+    let inside : p < length plans = omega (arith, within, length-map plans now) in
+    ap (λ r. base ++ now r) read ∙ ap (λ piece. base ++ piece) (sym (get_or-map now plans p plan [] inside)) ∙
+    sym (get_or-map (λ piece. base ++ piece) (map now plans) p [] [] within)
+
+-- how many separators there are, by what stands behind the first
+pub separators-none : (input : List ℕ) → pieces_in input ≡ input ∷ [] → 0 ≡ separators_in input
+separators-none input is = omega (arith, ap length is, length-pieces input)
+
+pub separators-behind : (input base plans : List ℕ) (found : ℕ) → pieces_in input ≡ base ∷ pieces_in plans → length (pieces_in plans) ≡ found + 1 → found + 1 ≡ separators_in input
+separators-behind input base plans found is counted = omega (arith, ap length is, counted, length-pieces input)
