@@ -54,7 +54,11 @@ pub record IsChosenAmong (nets : List Network) (text : List ℕ) : Type 0 where
   pub chosen : IsChoice (map whole_delay nets) plan
   pub text_is : text ≡ choice_text (map whole_delay nets) plan
 
-pub record IsChooseText (input : List ℕ) (text : List ℕ) : Type 0 where
+-- the text of candidates, each of which is a network
+pub record IsChosenOf (files : List (List ℕ)) (text : List ℕ) : Type 0 where
   pub nets : List Network
-  pub candidates : map network_of (candidates_in input) ≡ map Ok nets
+  pub networks : map network_of files ≡ map Ok nets
   pub chosen : IsChosenAmong nets text
+
+abbrev pub IsChooseText : (input : List ℕ) → List ℕ → Type 0
+IsChooseText input text = IsChosenOf (candidates_in input) text

@@ -4,7 +4,7 @@ ghost use Rattle.network_file.specs.declared.limits.TheConstants.{MOST_BYTES};
 ghost use Rattle.line_fields.specs.Fields.{lines_of};
 ghost use Rattle.plan_choice.specs.Pieces.{files_of, most_plans};
 ghost use Rattle.call_ending.specs.Refusing.{IsRefusalOf, Why};
-ghost use Rattle.ctm_call.specs.ChooseMode.{IsChooseText, IsChosenAmong, candidate_line, candidate_refused, choice_text, choose_refused, plan_line, plans_line, plans_refused, why_of_candidate, why_of_candidates};
+ghost use Rattle.ctm_call.specs.ChooseMode.{IsChooseText, IsChosenAmong, IsChosenOf, candidate_line, candidate_refused, choice_text, choose_refused, plan_line, plans_line, plans_refused, why_of_candidate, why_of_candidates};
 ghost use Rattle.ctm_call.specs.NetworkInput.{IsToldOf};
 
 use crate::network_input::put_fault;
@@ -27,12 +27,22 @@ pub(crate) fn choose_text<R: Threads + Sync>(
     ensures text { IfOk result (λ text. (choose_refused input.now ≡ None) × IsChooseText input.now text.items) }
     ensures refusal { IfErr result (IsRefusalOf (choose_refused input.now) ⊥) }
 {
-    let pieces = match Pieces::of(alloc, input) {
-        Ok(pieces) => pieces,
-        Err(PiecesRefusal::Plans { found }) => return Err(miscounted(alloc, found)),
-        Err(PiecesRefusal::NoMemory) => return Err(Refusal::NoMemory),
-    };
-    match networks(alloc, &pieces) {
+    match Pieces::of(alloc, input) {
+        Ok(pieces) => text_of(rt, alloc, &pieces),
+        Err(PiecesRefusal::Plans { found }) => Err(miscounted(alloc, found)),
+        Err(PiecesRefusal::NoMemory) => Err(Refusal::NoMemory),
+    }
+}
+
+// The same of an input that was cut so.
+fn text_of<R: Threads + Sync>(rt: &R, alloc: Global, pieces: &Pieces) -> Result<Vec<u8>, Refusal>
+    requires some { 1 ≤ length (files_of pieces.now) }
+    requires few { length (files_of pieces.now) ≤ most_plans }
+    requires few_bytes { (p : ℕ) → length (slice_index_or (files_of pieces.now) p []) ≤ MOST_BYTES }
+    ensures text { IfOk result (λ text. (why_of_candidates 0 (files_of pieces.now) ≡ None) × IsChosenOf (files_of pieces.now) text.items) }
+    ensures refusal { IfErr result (IsRefusalOf (why_of_candidates 0 (files_of pieces.now)) ⊥) }
+{
+    match networks(alloc, pieces) {
         Ok(nets) => Ok(chosen(rt, alloc, &nets)?),
         Err(refusal) => Err(refusal),
     }
@@ -64,11 +74,13 @@ fn counted_line(alloc: Global, separators: u64) -> Result<Vec<u8>, NoMemory>
 fn networks(alloc: Global, pieces: &Pieces) -> Result<Vec<Net>, Refusal>
     requires few_bytes { (p : ℕ) → length (slice_index_or (files_of pieces.now) p []) ≤ MOST_BYTES }
     ensures networks { IfOk result (λ nets. map network_of (files_of pieces.now) ≡ map Ok nets.items) }
+    ensures one_each { IfOk result (λ nets. length nets.items ≡ length (files_of pieces.now)) }
     ensures accepted { IfOk result (λ nets. why_of_candidates 0 (files_of pieces.now) ≡ None) }
     ensures refusal { IfErr result (IsRefusalOf (why_of_candidates 0 (files_of pieces.now)) ⊥) }
 {
     let mut nets = Vec::new(alloc);
-    for p in 0..pieces.count() {
+    let count = pieces.count();
+    for p in 0..count {
         match network(alloc, pieces, p) {
             Ok(net) => nets.push(net)?,
             Err(refusal) => return Err(refusal),

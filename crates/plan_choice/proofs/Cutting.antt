@@ -1,8 +1,8 @@
 -- The pieces of a text, line by line.
 use Rattle.std.specs.Prelude.{cond, count_by, drop, map, slice_index_or, take}
-use Rattle.std.proofs.Common.{◌≡◌, ℕ, ◌+◌, ◌<◌, ◌≤◌, inl, inr, true, false, List, [], ◌∷◌, ◌++◌, length, ap, append_assoc, arith, refl, sym, subst, ◌∙◌}
+use Rattle.std.proofs.Common.{◌≡◌, ℕ, ◌+◌, ◌<◌, ◌≤◌, inl, inr, true, false, List, [], ◌∷◌, ◌++◌, length, ap, append_assoc, arith, refl, sym, ◌∙◌}
 use Rattle.std.proofs.lemmas.Bool.{cases_Bool}
-use Rattle.std.proofs.lemmas.List.{append-nil, drop-drop, drop_all, get_or-map, length-append, length-map, take_all}
+use Rattle.std.proofs.lemmas.List.{append-nil, drop_all, get_or-map, length-map, take_all}
 use Rattle.std.proofs.lemmas.List.Sums.{sum_by-cons}
 use Rattle.plan_choice.specs.Pieces.{candidates_in, files_of, is_separator, leads, lines_in, pieces_in, pieces_of, separators_in}
 

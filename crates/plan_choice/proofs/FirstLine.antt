@@ -1,5 +1,5 @@
 -- The first line of a text.
-use Rattle.std.specs.Prelude.{◌==◌, None, Some, drop, not, position, take}
+use Rattle.std.specs.Prelude.{◌==◌, None, Some, drop, position, take}
 use Rattle.std.specs.List.{position_or_len}
 use Rattle.std.proofs.Common.{◌≡◌, ℕ, suc, ◌+◌, ◌<◌, ◌≤◌, inl, inr, true, false, List, [], ◌∷◌, length, ap, arith, refl, sym, ◌∙◌}
 use Rattle.std.proofs.lemmas.Bool.{cases_Bool, cases_lt, le-ltb, lt-ltb}

@@ -1,8 +1,7 @@
 -- A network in one region.
-use Rattle.std.specs.Prelude.{Ok, ◌==◌, map, max, nat_lt, replicate, slice_index, slice_index_or}
+use Rattle.std.specs.Prelude.{Ok, ◌==◌, map, nat_lt, replicate, slice_index, slice_index_or}
 use Rattle.std.specs.List.{Contains, list_all}
-use Rattle.std.proofs.Common.{◌≡◌, ℕ, Bool, true, false, zero, suc, ◌+◌, ◌<◌, ◌≤◌, List, [], ◌∷◌, length, ap, arith, refl, sym, subst, ◌∙◌}
-use Rattle.std.proofs.lemmas.List.{get_or-replicate}
+use Rattle.std.proofs.Common.{◌≡◌, ℕ, Bool, true, false, zero, suc, ◌+◌, ◌<◌, ◌≤◌, List, [], ◌∷◌, length, ap, arith, refl, sym, ◌∙◌}
 use Rattle.network_file.specs.Checks.{◌>>◌, must}
 use Rattle.network_file.specs.Cutting.{greatest, has_no_gap}
 use Rattle.network_file.specs.Limits.{most_regions}

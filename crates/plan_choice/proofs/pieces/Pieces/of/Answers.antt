@@ -1,4 +1,4 @@
-use Rattle.std.proofs.Common.{arith, inl, inr, refl}
+use Rattle.std.proofs.Common.{inl, inr, refl}
 use Rattle.plan_choice.proofs.Cutting.{separators-behind, separators-none}
 use Rattle.plan_choice.proofs.pieces.Pieces.of.Goals as goal
 
