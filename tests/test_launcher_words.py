@@ -25,7 +25,7 @@ REFUSED = [shlex.split(example)[1:] for row in rows_of("Words") for example in r
 
 
 def test_the_page_has_the_tables_that_are_read():
-    assert (len(MODES), len(RANGES), len(DEFAULTS)) == (7, 7, 7)
+    assert (len(MODES), len(RANGES), len(DEFAULTS)) == (8, 7, 7)
     assert len(REFUSED) >= 20
 
 
