@@ -25,7 +25,7 @@ REFUSED = [shlex.split(example)[1:] for row in rows_of("Words") for example in r
 
 
 def test_the_page_has_the_tables_that_are_read():
-    assert (len(MODES), len(RANGES), len(DEFAULTS)) == (7, 7, 7)
+    assert (len(MODES), len(RANGES), len(DEFAULTS)) == (8, 7, 7)
     assert len(REFUSED) >= 20
 
 
@@ -81,8 +81,8 @@ def test_words_are_refused_where_the_program_refuses_them(words, run, without_rt
     (["run", "--shots", "1"], ["run has no option --shots", "--regions --workers --every"]),
     (["run", "--reg", "3"], ["--reg is no option", "--regions --workers"]),
     (["run", "-r", "3"], ["-r is no option"]),
-    (["drive"], ["drive is no mode", "run watch sample save resume check convert"]),
-    ([], ["no mode is given", "run watch sample save resume check convert"]),
+    (["drive"], ["drive is no mode", "run watch sample save resume choose check convert"]),
+    ([], ["no mode is given", "run watch sample save resume choose check convert"]),
     (["run", "check"], ["check is a word too many"]),
     (["--", "run", "--regions", "3"], ["--regions stands behind two dashes"]),
     (["run", "ctm"], ["a network is read from standard input: ./ctm run < ctm"]),

@@ -2,7 +2,8 @@
 
 import pytest
 from conftest import hold
-from worked import CITY, CORRIDOR, RAMPS, RAMPS_TOTALS, RECORDED, REPORT, SAVED, SAVED_LAST, TURN, lines
+from worked import (CITY, CORRIDOR, QUEUE_CHOICE, QUEUE_PLANS, RAMPS, RAMPS_TOTALS, RECORDED, REPORT, SAVED, SAVED_LAST,
+                    TURN, lines)
 
 CONVERTED = CORRIDOR.replace(b"ctm,1", b"ctm,2")
 FIRST_AND_LAST = b"".join(line for line in RECORDED.splitlines(True) if not line.startswith(b"at,2,"))
@@ -61,6 +62,7 @@ CASES = [
     ("resume", ["resume"], SAVED, REPORT),
     ("resume by two workers", ["resume", "--workers", "2"], SAVED, REPORT),
     ("resume at the last step", ["resume"], SAVED_LAST, REPORT),
+    ("choose among four plans", ["choose"], QUEUE_PLANS, QUEUE_CHOICE),
     ("check with turns in the file", ["check"], TURN, b"network2,3,1,3,0,0,0,1\n"),
     ("recorded every other step", ["run", "--every", "2"], CORRIDOR, RECORDED),
     ("recorded in three regions", ["run", "--every", "2", "--regions", "3"], CORRIDOR, RECORDED),

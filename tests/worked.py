@@ -1,6 +1,6 @@
 """Files that were worked on paper and what is written of them: a corridor of three cells, its report, that in which every
 other step is recorded, and two saved texts of it; a full road, the two shots of it and its report; two roads and their
-report; a road whose vehicles turn; a city; and a larger network with its totals.
+report; a road whose vehicles turn; a queue with four plans; a city; and a larger network with its totals.
 """
 
 from pathlib import Path
@@ -34,6 +34,12 @@ TWO_ROADS = lines("ctm,1; steps,4; gate,g,2,8; road,a,6,2,1,1,0; road,b,6,2,1,1,
 TWO_ROADS_REPORT = lines("report,4,4; cell,g,0.000000,0.000000,8.000000,12.000000; "
                          "cell,a,2.000000,8.000000,6.000000,0.000000; cell,b,2.000000,6.000000,4.000000,0.000000; "
                          "cell,x,4.000000,4.000000,0.000000,0.000000; total,4.000000,0.000000,4.000000,12.000000")
+
+# Ten vehicles at a gate that lets one of them go in each of four steps, four timings of its signal, and the choice.
+QUEUE = lines("ctm,1; steps,4; gate,g,1,10; exit,x,5; link,g,x")
+TIMINGS = ["signal,g,4,3,0,2", "signal,g,4,0,0,2", "signal,g,4,0,0,4", "signal,g,4,1,0,4"]
+QUEUE_PLANS = QUEUE + b"".join(b"==\n" + lines(timing) for timing in TIMINGS)
+QUEUE_CHOICE = lines("plan,0,35.000000; plan,1,33.000000; plan,2,30.000000; plan,3,30.000000; choice,2")
 
 # A corridor with ramps, signals and an incident: the made network of size 100 and seed 7, and the line of its totals, as a
 # model from docs/FORMAT.md and docs/MODEL.md alone works it out.

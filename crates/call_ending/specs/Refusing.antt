@@ -24,6 +24,7 @@ cause_status cause.Words = status.Words
 cause_status cause.Network = status.Network
 cause_status cause.TooLarge = status.TooLarge
 cause_status cause.Saved = status.Saved
+cause_status cause.Plans = status.Plans
 
 abbrev pub status_of : Refusal → Status
 status_of (refusal.Told by line) = cause_status by

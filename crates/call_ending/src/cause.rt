@@ -14,6 +14,8 @@ pub enum Cause {
     TooLarge,
     /// A saved run that can't be gone on from.
     Saved,
+    /// An input with no plans to choose among, or with too many.
+    Plans,
 }
 
 impl Cause {
@@ -26,6 +28,7 @@ impl Cause {
             Cause::Network => Status::Network,
             Cause::TooLarge => Status::TooLarge,
             Cause::Saved => Status::Saved,
+            Cause::Plans => Status::Plans,
         }
     }
 }

@@ -23,6 +23,8 @@ pub enum Status {
     NoMemory = 7,
     /// The input is no saved run that can be gone on from.
     Saved = 8,
+    /// The input has no plans to choose among, or too many.
+    Plans = 9,
 }
 
 impl Status {

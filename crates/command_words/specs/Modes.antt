@@ -1,7 +1,7 @@
 -- The modes: the word of each, and its options.
 use Rattle.std.specs.Prelude.{ℕ, Bool, true, false, List, Option, Some, None, if◌then◌else◌, bytes_eq, codes}
 use Rattle.command_words.specs.declared.mode.Mode.{Mode}
-use Rattle.command_words.specs.declared.mode.Mode.TheVariants.{Run, Watch, Sample, Save, Resume, Check, Convert}
+use Rattle.command_words.specs.declared.mode.Mode.TheVariants.{Run, Watch, Sample, Save, Resume, Choose, Check, Convert}
 use Rattle.command_words.specs.declared.setting.Setting.{Setting}
 use Rattle.command_words.specs.declared.setting.Setting.TheVariants.{Regions, Workers, Every, Shots, Until, Size, Seed}
 
@@ -13,6 +13,7 @@ mode_named word =
     else if bytes_eq word (codes "sample") then Some Sample
     else if bytes_eq word (codes "save") then Some Save
     else if bytes_eq word (codes "resume") then Some Resume
+    else if bytes_eq word (codes "choose") then Some Choose
     else if bytes_eq word (codes "check") then Some Check
     else if bytes_eq word (codes "convert") then Some Convert
     else None
@@ -39,5 +40,6 @@ takes_option Save Workers = true
 takes_option Save other = false
 takes_option Resume Workers = true
 takes_option Resume other = false
+takes_option Choose option = false
 takes_option Check option = false
 takes_option Convert option = false

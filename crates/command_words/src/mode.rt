@@ -16,6 +16,8 @@ pub enum Mode {
     Save,
     /// Goes on from such a text to the last step, and writes the report.
     Resume,
+    /// Runs a network with each of several plans, and writes their delays and the plan with the least.
+    Choose,
     /// Reads the network and writes its counts.
     Check,
     /// Writes the network again, in the newest form of the file.
@@ -33,6 +35,7 @@ impl Mode {
             "sample" => Some(Mode::Sample),
             "save" => Some(Mode::Save),
             "resume" => Some(Mode::Resume),
+            "choose" => Some(Mode::Choose),
             "check" => Some(Mode::Check),
             "convert" => Some(Mode::Convert),
             _ => None,
@@ -56,6 +59,7 @@ impl Mode {
             (Mode::Save, _) => false,
             (Mode::Resume, Setting::Workers) => true,
             (Mode::Resume, _) => false,
+            (Mode::Choose, _) => false,
             (Mode::Check, _) => false,
             (Mode::Convert, _) => false,
         }

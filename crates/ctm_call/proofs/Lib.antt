@@ -1,5 +1,6 @@
 pub mod AnswerFacts
 pub mod Called
+pub mod Choosing
 pub mod Resumed
 pub mod Resuming
 pub mod Saved

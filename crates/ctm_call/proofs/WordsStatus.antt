@@ -1,21 +1,24 @@
 -- Status Words is the answer to words that are refused alone.
-use Rattle.std.proofs.Common.{◌≡◌, ◌⊎◌, ℕ, Bool, true, false, inl, inr, List, Option, Some, None, Result, Ok, Err, String, Global, IfSome, refl, subst, sym, ap, ◌∙◌, if◌then◌else◌, length, nat_lt, arith}
+use Rattle.std.proofs.Common.{◌≡◌, ◌⊎◌, ℕ, Bool, true, false, inl, inr, List, Option, Some, None, Result, Ok, Err, String, Global, IfSome, refl, subst, sym, ap, ◌∙◌, if◌then◌else◌, [], ◌∷◌, ◌+◌, length, nat_lt, arith}
+use Rattle.std.specs.Prelude.{◌&&◌, nat_le}
 use Rattle.network_file.specs.Network.{Network}
 use Rattle.network_file.specs.Reading.{network_of}
 use Rattle.network_file.specs.declared.fault.NetFault.{NetFault}
 use Rattle.command_words.specs.declared.mode.Mode.{Mode}
-use Rattle.command_words.specs.declared.mode.Mode.TheVariants.{Run, Watch, Sample, Check, Convert, Save, Resume}
+use Rattle.command_words.specs.declared.mode.Mode.TheVariants.{Run, Watch, Sample, Check, Choose, Convert, Save, Resume}
 use Rattle.command_words.specs.declared.request.Request.{Request}
 use Rattle.saved_run.specs.Content.{Content}
 use Rattle.saved_run.specs.Loading.{cutting_in, start_in}
 use Rattle.saved_run.specs.Reading.{content_of}
 use Rattle.saved_run.proofs.Starting.{decide_start}
+use Rattle.plan_choice.specs.Pieces.{candidates_in, most_plans, separators_in}
 use Rattle.call_ending.specs.Ending.{HasEnded, SinkUse}
 use Rattle.call_ending.specs.Refusing.{Why}
 use Rattle.call_ending.specs.Status.{status_number}
 use Rattle.call_ending.specs.declared.status.Status.{Status}
 use Rattle.call_ending.specs.declared.status.Status.TheVariants as status
 use Rattle.ctm_call.specs.Answer.{IsTextOf, answer_of, answer_to, answer_unless, why_by, why_in}
+use Rattle.ctm_call.specs.ChooseMode.{choose_refused, plans_refused, why_of_candidate, why_of_candidates}
 use Rattle.ctm_call.specs.Input.{Reads, large_input, most_input}
 use Rattle.ctm_call.specs.NetworkInput.{why_of_network}
 use Rattle.ctm_call.specs.ResumeMode.{why_by_content, why_by_cutting, why_unstarted}
@@ -63,6 +66,22 @@ other-content None = other status.Saved (λ e. omega (arith, e))
 other-content (Some content) =
     other-network (network_of content.network) (λ net. why_by_cutting content net (cutting_in net content)) (λ net. other-cutting content net (cutting_in net content))
 
+other-candidate : (p : ℕ) (read : Result Network NetFault) (later : Option Why) → IfSome later IsOther → IfSome (why_of_candidate p read later) IsOther
+other-candidate p (Ok net) later is = is
+other-candidate p (Err fault) later is = other status.Network (λ e. omega (arith, e))
+
+other-candidates : (p : ℕ) (files : List (List ℕ)) → IfSome (why_of_candidates p files) IsOther
+other-candidates p [] = tt
+other-candidates p (file ∷ files) = other-candidate p (network_of file) (why_of_candidates (p + 1) files) (other-candidates (p + 1) files)
+
+other-plans : (counted : Bool) (separators : ℕ) (why : Option Why) → IfSome why IsOther → IfSome (if counted then why else Some (plans_refused separators)) IsOther
+other-plans true separators why is = is
+other-plans false separators why is = other status.Plans (λ e. omega (arith, e))
+
+other-choose : (input : List ℕ) → IfSome (choose_refused input) IsOther
+other-choose input =
+    other-plans (nat_lt 0 (separators_in input) && nat_le (separators_in input) most_plans) (separators_in input) (why_of_candidates 0 (candidates_in input)) (other-candidates 0 (candidates_in input))
+
 -- no mode refuses its input with that status
 other-by : (mode : Mode) (task : Task) → IfSome (why_by mode task) IsOther
 other-by Run task = other-network (network_of task.input) (λ net. why_unrecorded net task.request.every) (λ net. other-unrecorded net task.request.every)
@@ -70,6 +89,7 @@ other-by Watch task =
     other-network (network_of task.input) (λ net. first_why (why_unrecorded net task.request.every) (why_unshown net task.request.shots))
     (λ net. other-first (why_unrecorded net task.request.every) (why_unshown net task.request.shots) (other-unrecorded net task.request.every) (other-unshown net task.request.shots))
 other-by Sample task = other-network (network_of task.input) (λ net. None) (λ net. tt)
+other-by Choose task = other-choose task.input
 other-by Check task = other-network (network_of task.input) (λ net. None) (λ net. tt)
 other-by Convert task = other-network (network_of task.input) (λ net. None) (λ net. tt)
 other-by Save task = other-network (network_of task.input) (λ net. None) (λ net. tt)

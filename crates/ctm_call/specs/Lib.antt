@@ -1,5 +1,6 @@
 pub mod Answer
 pub mod CheckMode
+pub mod ChooseMode
 pub mod ConvertMode
 pub mod Input
 pub mod NetworkInput

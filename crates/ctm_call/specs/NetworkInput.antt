@@ -10,12 +10,15 @@ use Rattle.call_ending.specs.declared.refusal.Refusal.{Refusal}
 use Rattle.call_ending.specs.declared.refusal.Refusal.TheVariants as refusal
 use Rattle.call_ending.specs.declared.status.Status.TheVariants as status
 
--- where a network's first fault stands and what it is
-unfoldable pub network_line : NetFault → List ℕ
-network_line fault =
-    codes "ctm: network: record " ++ decimal fault.place
+-- where a network's first fault stands and what it is: `record R code C NAME`, at the end of a line
+unfoldable pub fault_told : NetFault → List ℕ
+fault_told fault =
+    codes "record " ++ decimal fault.place
     ++ codes " code " ++ decimal (code_number fault.code)
     ++ codes " " ++ code_name fault.code ++ codes "\n"
+
+abbrev pub network_line : NetFault → List ℕ
+network_line fault = codes "ctm: network: " ++ fault_told fault
 
 abbrev pub network_refused : NetFault → Why
 network_refused fault = record { status = status.Network; line = network_line fault }
@@ -30,7 +33,7 @@ abbrev pub IsNetworkWith : Result Network NetFault → (Network → Type 0) → 
 IsNetworkWith (Ok net) P = P net
 IsNetworkWith (Err fault) P = ⊥
 
--- the refusal tells the fault with which a file was refused, or that memory was refused
-abbrev pub IsToldOf : NetRefusal → Refusal → Type 0
-IsToldOf (of_net.Fault fault) told = IsRefusalOf (Some (network_refused fault)) ⊥ told
-IsToldOf of_net.NoMemory told = told ≡ refusal.NoMemory
+-- the refusal tells the fault with which a file was refused, as a fault is told of it, or that memory was refused
+abbrev pub IsToldOf : (NetFault → Why) → NetRefusal → Refusal → Type 0
+IsToldOf why (of_net.Fault fault) told = IsRefusalOf (Some (why fault)) ⊥ told
+IsToldOf why of_net.NoMemory told = told ≡ refusal.NoMemory

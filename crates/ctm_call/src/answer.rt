@@ -9,6 +9,7 @@ ghost use Rattle.ctm_call.specs.Task.{task_of};
 ghost use Rattle.ctm_call.specs.Words.{requested};
 
 use crate::check_mode::check_text;
+use crate::choose_mode::choose_text;
 use crate::convert_mode::convert_text;
 use crate::input::input_of;
 use crate::resume_mode::resume_text;
@@ -70,6 +71,7 @@ fn text_of<R: Threads + Sync, G: Gate>(
         Mode::Sample => sample_text(rt, alloc, request, input, gate),
         Mode::Save => saved(rt, alloc, request, input, gate),
         Mode::Resume => resume_text(rt, alloc, request, input, gate),
+        Mode::Choose => choose_text(rt, alloc, input),
         Mode::Check => check_text(alloc, input),
         Mode::Convert => convert_text(alloc, input),
     }

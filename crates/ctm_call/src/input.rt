@@ -50,7 +50,8 @@ fn reads_source(mode: Mode) -> bool
     ensures { result ≡ reads_source mode }
 {
     match mode {
-        Mode::Run | Mode::Watch | Mode::Save | Mode::Resume | Mode::Check | Mode::Convert => true,
+        Mode::Run | Mode::Watch | Mode::Save | Mode::Resume => true,
+        Mode::Choose | Mode::Check | Mode::Convert => true,
         Mode::Sample => false,
     }
 }
@@ -60,9 +61,8 @@ fn most_input(mode: Mode) -> usize
     ensures { result ≡ most_input mode }
 {
     match mode {
-        Mode::Run | Mode::Watch | Mode::Sample | Mode::Save | Mode::Check | Mode::Convert => {
-            MOST_BYTES
-        }
+        Mode::Run | Mode::Watch | Mode::Sample | Mode::Save => MOST_BYTES,
+        Mode::Choose | Mode::Check | Mode::Convert => MOST_BYTES,
         Mode::Resume => MOST_SAVED_BYTES,
     }
 }

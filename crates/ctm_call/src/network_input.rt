@@ -1,9 +1,9 @@
-ghost use Rattle.std.specs.Prelude.{◌≡◌, ◌≤◌, IfErr, IfOk, Ok, Option, length};
+ghost use Rattle.std.specs.Prelude.{◌≡◌, ◌≤◌, ◌++◌, IfErr, IfOk, Ok, OnOk, Option, length};
 ghost use Rattle.network_file.specs.Network.{Network};
 ghost use Rattle.network_file.specs.Reading.{network_of};
 ghost use Rattle.network_file.specs.declared.limits.TheConstants.{MOST_BYTES};
 ghost use Rattle.call_ending.specs.Refusing.{IsRefusalOf, Why};
-ghost use Rattle.ctm_call.specs.NetworkInput.{IsToldOf, network_line, why_of_network};
+ghost use Rattle.ctm_call.specs.NetworkInput.{IsToldOf, fault_told, network_line, network_refused, why_of_network};
 
 use call_ending::{Cause, Line, Refusal};
 use itoa::Buffer;
@@ -25,7 +25,7 @@ pub(crate) fn network_in(alloc: Global, input: &[u8]) -> Result<Net, Refusal>
 
 /// The refusal of a file, with the line that tells its fault.
 pub(crate) fn refused(alloc: Global, refusal: NetRefusal) -> Refusal
-    ensures { IsToldOf refusal result }
+    ensures { IsToldOf network_refused refusal result }
 {
     match refusal {
         NetRefusal::Fault(fault) => match fault_line(alloc, fault) {
@@ -37,18 +37,27 @@ pub(crate) fn refused(alloc: Global, refusal: NetRefusal) -> Refusal
 }
 
 // The line that tells a network's fault.
-#[tactic(auto, unfolding(crate::specs::NetworkInput::network_line))]
 fn fault_line(alloc: Global, fault: NetFault) -> Result<Vec<u8>, NoMemory>
     ensures { IfOk result (λ line. line.items ≡ network_line fault) }
 {
-    let mut digits = Buffer::new();
     let mut line = Vec::new(alloc);
-    line.extend_from_slice(b"ctm: network: record ")?;
+    line.extend_from_slice(b"ctm: network: ")?;
+    put_fault(&mut line, fault)?;
+    Ok(line)
+}
+
+/// Appends where a network's fault stands and what it is.
+#[tactic(auto, unfolding(crate::specs::NetworkInput::fault_told))]
+pub(crate) fn put_fault(line: &mut Vec<u8>, fault: NetFault) -> Result<(), NoMemory>
+    ensures { OnOk result (line.new.items ≡ line.old.items ++ fault_told fault) }
+{
+    let mut digits = Buffer::new();
+    line.extend_from_slice(b"record ")?;
     line.extend_from_slice(digits.format(fault.place).as_bytes())?;
     line.extend_from_slice(b" code ")?;
     line.extend_from_slice(digits.format(fault.code.number()).as_bytes())?;
     line.extend_from_slice(b" ")?;
     line.extend_from_slice(fault.code.name().as_bytes())?;
     line.extend_from_slice(b"\n")?;
-    Ok(line)
+    Ok(())
 }

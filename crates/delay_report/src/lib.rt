@@ -27,6 +27,6 @@ mod total_line;
 mod whole_report;
 
 pub use last_totals::put_last_totals;
-pub use run_end::{report_from, run_report, run_rows};
+pub use run_end::{report_from, run_delay, run_report, run_rows};
 pub use step_count::recorded_steps;
 pub use whole_report::report;

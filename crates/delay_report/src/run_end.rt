@@ -1,5 +1,5 @@
-ghost use Rattle.std.specs.Prelude.{◌≡◌, ℕ, IfOk, length, replicate};
-ghost use Rattle.flow_model.specs.State.{state_at};
+ghost use Rattle.std.specs.Prelude.{◌≡◌, ◌<◌, ◌^◌, ℕ, IfOk, length, replicate};
+ghost use Rattle.flow_model.specs.State.{delay_of, state_at};
 ghost use Rattle.region_cut.specs.Chart.{chart_of};
 ghost use Rattle.region_cut.specs.Cuttings.{region_count};
 ghost use Rattle.region_step.specs.Standing.{AllStand};
@@ -9,6 +9,7 @@ ghost use Rattle.delay_report.specs.FromStart.{report_from};
 ghost use Rattle.delay_report.specs.Report.{report_of};
 
 use crate::cell_rows::cell_rows;
+use crate::delay::delay;
 use crate::whole_report::report;
 use flow_model::Row;
 use network_file::Net;
@@ -73,4 +74,22 @@ pub fn run_rows(
     let _steps = net.steps;
     let (_places, rows) = cell_rows(alloc, net, chart, regions)?;
     Ok(rows)
+}
+
+/// The delay of such regions: the waits of all cells, parts times steps. At most 100,000 waits of 64 bits fit in 128.
+pub fn run_delay(
+    alloc: Global,
+    net: &Net,
+    chart: &Chart,
+    regions: &[Region],
+) -> Result<u128, NoMemory>
+    requires chart { chart.now ≡ chart_of net.now chart.now.cut }
+    requires one_each { length chart.now.cut ≡ length net.now.cells }
+    requires stand { (every : ℕ) × AllStand net.now chart.now (zero_start net.now chart.now.cut) every (replicate (region_count chart.now.cut) net.now.steps) regions.now }
+    ensures delay { IfOk result (λ sum. sum ≡ delay_of (state_at net.now net.now.steps)) }
+    ensures few { IfOk result (λ sum. sum < 2 ^ 96) }
+{
+    let _steps = net.steps;
+    let rows = run_rows(alloc, net, chart, regions)?;
+    Ok(delay(&rows))
 }

@@ -1,0 +1,11 @@
+use Rattle.std.proofs.Common.{arith, ◌∙◌}
+use Rattle.ctm_call.proofs.Choosing.{cut-refusal, cut-text, pieces-few, refused-plans}
+use Rattle.ctm_call.proofs.choose_mode.choose_text.Goals as goal
+
+pub returns-in-Ok-clause-text : goal.returns-in-Ok-clause-text
+returns-in-Ok-clause-text g c =
+    cut-text c.args.input.now c.in-Ok.pieces c.in-Ok.ensures.pieces (λ text. text.items) c.text_of.result c.in-Ok.ensures.counted.0 c.in-Ok.ensures.counted.1 c.text_of.ensures.text
+
+pub returns-in-Ok-clause-refusal : goal.returns-in-Ok-clause-refusal
+returns-in-Ok-clause-refusal g c =
+    cut-refusal c.args.input.now c.in-Ok.pieces c.in-Ok.ensures.pieces c.text_of.result c.in-Ok.ensures.counted.0 c.in-Ok.ensures.counted.1 c.text_of.ensures.refusal
