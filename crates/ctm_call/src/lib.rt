@@ -24,3 +24,4 @@ mod watch_mode;
 mod words;
 
 pub use call::ctm;
+pub use network_input::network_in;
