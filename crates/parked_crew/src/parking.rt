@@ -10,7 +10,7 @@ use std::thread::{Threads, for_each_mut};
 
 /// Brings all regions to the goal, or leaves them past it, by a member of the crew for each pass: all at once where the
 /// threads can be made, and one after the other where they can't. A member that would sweep in vain waits until another
-/// moves a region. So the call may wait; that it returns isn't proved.
+/// moves a region; turns by other passes don't wake it. So the call may wait; that it returns isn't proved.
 pub fn parked<R: Threads + Wait + Sync, G: Gate>(
     rt: &R,
     field: &Field,

@@ -18,10 +18,7 @@ pub(crate) fn workers_of(words: &[String]) -> Result<u32, Refusal>
 {
     match workers_in(words) {
         Some(workers) => Ok(workers),
-        None => Err(Refusal::Told(
-            Cause::Words,
-            Line::Fixed(b"ctm: words refused\n"),
-        )),
+        None => Err(refused_words()),
     }
 }
 
@@ -34,4 +31,12 @@ fn workers_in(words: &[String]) -> Option<u32>
         [word] => Values::Numbers(1, MOST_WORKERS).value(word),
         _ => None,
     }
+}
+
+// The refusal of words that ask for none.
+fn refused_words() -> Refusal
+    ensures status { status_of result ≡ status.Words }
+    ensures refused { IsRefusalOf (Some words_refused) ⊥ result }
+{
+    Refusal::Told(Cause::Words, Line::Fixed(b"ctm: words refused\n"))
 }
