@@ -12,7 +12,7 @@ use Rattle.region_slots.specs.FieldView.{HasCounts}
 use Rattle.region_slots.specs.Turning.{IsBehind, IsMoved, IsWithin}
 use Rattle.region_slots.specs.declared.turn.Turn.{Turn}
 use Rattle.region_slots.specs.declared.turn.Turn.TheVariants.{Behind, Ended, Held, Moved}
-use Rattle.parked_crew.specs.Sweeping.{HasSwept, counted, none, turns_of}
+use Rattle.parked_crew.specs.Sweeping.{HasSwept, counted, none}
 use Rattle.parked_crew.specs.declared.swept.Swept.{Swept}
 
 -- what no turn has changed is kept
