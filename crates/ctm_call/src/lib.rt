@@ -7,14 +7,14 @@
 //!   `sample_mode`, `save_mode`, `resume_mode`, `check_mode`, `convert_mode`, each with its definition of the same name in specs/. The tables by mode are
 //!   `text_of` here, `reads_source` and `most_bytes` in `input`, and those of specs/Answer.antt and specs/Input.antt.
 //! - `network_input` reads a network, or tells its fault; `recording` says how much a run may record.
-//! - `given_words` has the words that a program was called with.
+//! - `command_line` has the words that a program was called with.
 #![tactic(auto)]
 
 mod answer;
 mod call;
 mod check_mode;
+mod command_line;
 mod convert_mode;
-mod given_words;
 mod input;
 mod network_input;
 mod recording;
@@ -26,5 +26,5 @@ mod watch_mode;
 mod words;
 
 pub use call::ctm;
-pub use given_words::given_words;
+pub use command_line::given_words;
 pub use network_input::network_in;

@@ -14,13 +14,13 @@ use Rattle.ctm_call.specs.Input.{large_input}
 use Rattle.ctm_call.specs.NetworkInput.{why_of_network}
 use Rattle.ctm_call.specs.Words.{words_refused}
 use Rattle.ctm_call.proofs.AnswerFacts.{allowed, some_input}
-use Rattle.wait_call.specs.Answer.{Answer, IsTextOf, answer_by, answer_of, answer_of_file, answer_to, most_bytes, why_in}
+use Rattle.wait_call.specs.Answer.{Answer, IsTextOf, answer_by, answer_of, answer_of_file, answer_to, most_input, why_in}
 use Rattle.wait_call.specs.Words.{workers_asked}
 
-pub answer_to-too_large : (input : List ℕ) → most_bytes < length input → answer_to input ≡ Err large_input
+pub answer_to-too_large : (input : List ℕ) → most_input < length input → answer_to input ≡ Err large_input
 answer_to-too_large input large = search rules
 
-pub answer_to-fits : (input : List ℕ) → length input ≤ most_bytes → answer_to input ≡ answer_of_file (network_of input)
+pub answer_to-fits : (input : List ℕ) → length input ≤ most_input → answer_to input ≡ answer_of_file (network_of input)
 answer_to-fits input fits = search rules
 
 -- why a file has no report

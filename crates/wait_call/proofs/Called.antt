@@ -11,21 +11,21 @@ use Rattle.call_ending.specs.declared.status.Status.{Status}
 use Rattle.call_ending.specs.declared.status.Status.TheVariants as status
 use Rattle.call_ending.proofs.Ended.{ended-unwritten, ended-written}
 use Rattle.ctm_call.specs.Input.{large_input}
-use Rattle.wait_call.specs.Answer.{Answer, IsTextOf, answer_by, answer_of, answer_of_file, answer_to, most_bytes, why_in}
+use Rattle.wait_call.specs.Answer.{Answer, IsTextOf, answer_by, answer_of, answer_of_file, answer_to, most_input, why_in}
 use Rattle.wait_call.specs.Words.{workers_asked}
 
-pub called : {A : Type 0} (words : List (String Global)) (left : Option (List ℕ)) (IsRead ReadFailed : Type 0) (status : Status) (out err : SinkUse)
+pub called : {A : Type 0} (words : List (String Global)) (left : Option (List ℕ)) (IsRead ReadFailed : Type 0) (told : Status) (out err : SinkUse)
     (items : A → List ℕ) (answer : Result A Refusal) →
     IfOk answer (λ text. (input : List ℕ) × IfSome left (λ bytes. input ≡ bytes) × IsTextOf (answer_of words input) (items text)) →
     IfErr answer (λ refusal. (input : List ℕ) × IfSome left (λ bytes. input ≡ bytes) × IsRefusalOf (why_in (answer_of words input)) ReadFailed refusal) →
     OnOk answer IsRead →
-    IfOk answer (λ text. HasWritten (items text) status out err) →
-    IfErr answer (λ refusal. IsUnwritten (status_of refusal) (line_of refusal) status out err) →
-    (input : List ℕ) × IfSome left (λ bytes. input ≡ bytes) × HasEnded (IsTextOf (answer_of words input)) (why_in (answer_of words input)) IsRead ReadFailed status out err
-called words left IsRead ReadFailed status out err items (Ok text) given refused read written unwritten =
-    (given.0, given.1, ended-written _ _ IsRead ReadFailed status out err (items text) given.2 read written)
-called words left IsRead ReadFailed status out err items (Err refusal) given refused read written unwritten =
-    (refused.0, refused.1, ended-unwritten _ _ IsRead ReadFailed status out err refusal refused.2 unwritten)
+    IfOk answer (λ text. HasWritten (items text) told out err) →
+    IfErr answer (λ refusal. IsUnwritten (status_of refusal) (line_of refusal) told out err) →
+    (input : List ℕ) × IfSome left (λ bytes. input ≡ bytes) × HasEnded (IsTextOf (answer_of words input)) (why_in (answer_of words input)) IsRead ReadFailed told out err
+called words left IsRead ReadFailed told out err items (Ok text) given refused read written unwritten =
+    (given.0, given.1, ended-written _ _ IsRead ReadFailed told out err (items text) given.2 read written)
+called words left IsRead ReadFailed told out err items (Err refusal) given refused read written unwritten =
+    (refused.0, refused.1, ended-unwritten _ _ IsRead ReadFailed told out err refusal refused.2 unwritten)
 
 -- where the words are refused it ends so
 pub told-words : {A : Type 0} (asked : Option ℕ) (told : Status) (line : Refusal → List ℕ) (out err : SinkUse) (answer : Result A Refusal) → IfErr answer (λ refusal. asked ≡ None → status_of refusal ≡ status.Words) → OnOk answer (asked ≢ None) →
@@ -48,7 +48,7 @@ other-unless false read = other-file read
 other-by : (asked : Option ℕ) (input : List ℕ) (why : Why) → why_in (answer_by asked input) ≡ Some why → why.status ≡ status.Words → asked ≡ None
 other-by None input why answered is = refl
 other-by (Some workers) input why answered is =
-    absurd (subst (λ (some : Option Why). IfSome some (λ w. w.status ≡ status.Words → ⊥)) answered (other-unless (nat_lt most_bytes (length input)) (network_of input)) is)
+    absurd (subst (λ (some : Option Why). IfSome some (λ w. w.status ≡ status.Words → ⊥)) answered (other-unless (nat_lt most_input (length input)) (network_of input)) is)
 
 pub words-told : (asked : Option ℕ) (input : List ℕ) (IsRead ReadFailed : Type 0) (told : Status) (out err : SinkUse) →
     HasEnded (IsTextOf (answer_by asked input)) (why_in (answer_by asked input)) IsRead ReadFailed told out err → told ≡ status.Words → asked ≡ None

@@ -17,8 +17,8 @@ abbrev pub Answer : Type 0
 Answer = Result Network Why
 
 -- a network may have so many bytes
-abbrev pub most_bytes : ℕ
-most_bytes = 16_777_216
+abbrev pub most_input : ℕ
+most_input = 16_777_216
 
 abbrev pub answer_of_file : Result Network NetFault → Answer
 answer_of_file (Ok net) = Ok net
@@ -26,7 +26,7 @@ answer_of_file (Err fault) = Err (network_refused fault)
 
 -- the answer to an input: too long an input is refused first
 abbrev pub answer_to : (input : List ℕ) → Answer
-answer_to input = if nat_lt most_bytes (length input) then Err large_input else answer_of_file (network_of input)
+answer_to input = if nat_lt most_input (length input) then Err large_input else answer_of_file (network_of input)
 
 -- the answer where the words ask for so many workers, or are refused: how many they are changes nothing
 abbrev pub answer_by : Option ℕ → (input : List ℕ) → Answer
@@ -49,4 +49,4 @@ why_in (Err why) = Some why
 -- the most bytes of the source that are read: one more than an input may have
 abbrev pub most_read : Option ℕ → ℕ
 most_read None = 0
-most_read (Some workers) = most_bytes + 1
+most_read (Some workers) = most_input + 1

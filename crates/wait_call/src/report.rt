@@ -1,7 +1,7 @@
 ghost use Rattle.std.specs.Prelude.{◌≡◌, ◌≤◌, IfErr, IfOk, length};
 ghost use Rattle.delay_report.specs.Report.{report_of};
 ghost use Rattle.call_ending.specs.Refusing.{IsRefusalOf};
-ghost use Rattle.wait_call.specs.Answer.{IsTextOf, answer_to, most_bytes, why_in};
+ghost use Rattle.wait_call.specs.Answer.{IsTextOf, answer_to, most_input, why_in};
 
 use crate::waiting_run::last_regions;
 use call_ending::Refusal;
@@ -26,7 +26,7 @@ pub(crate) fn report_in<R: Threads + Wait + Sync, G: Gate>(
     workers: u32,
     gate: &G,
 ) -> Result<Vec<u8>, Refusal>
-    requires few_bytes { length input.now ≤ most_bytes }
+    requires few_bytes { length input.now ≤ most_input }
     requires workers { (1 ≤ workers) × (workers ≤ 16) }
     ensures text { IfOk result (λ text. IsTextOf (answer_to input.now) text.items) }
     ensures refusal { IfErr result (IsRefusalOf (why_in (answer_to input.now)) ⊥) }
