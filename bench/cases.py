@@ -100,12 +100,12 @@ def changing_case(seed):
     return in_other_forms(draw, text) if draw.random() < 0.2 else text, some_every(draw, steps)
 
 
-def outcome(program, network, words):
+def outcome(program, network, words, seconds=SECONDS):
     """The status of a run and what it wrote on both streams, or that it took too long."""
     try:
-        ended = subprocess.run([program, *words], input=network, capture_output=True, timeout=SECONDS)
+        ended = subprocess.run([program, *words], input=network, capture_output=True, timeout=seconds)
     except subprocess.TimeoutExpired:
-        return f"takes longer than {SECONDS} s", b"", b""
+        return f"takes longer than {seconds} s", b"", b""
     return f"status {ended.returncode}", ended.stdout, ended.stderr
 
 

@@ -80,6 +80,14 @@ def proved_program(words):
     return os.path.join(TOP, "crates/ctm_program/out/ctm_program")
 
 
+def waiting_program(words):
+    """The same of the program whose workers wait."""
+    if words:
+        return os.path.abspath(words[0])
+    path = subprocess.run([os.path.join(TOP, "ctm-wait"), "--path"], stdout=subprocess.PIPE, check=True, text=True)
+    return path.stdout.strip()
+
+
 def twin():
     """The program of twin.rs, built where it isn't yet for the processor that the proved one is built for, or None
     where there is no rustc.

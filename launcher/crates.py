@@ -6,6 +6,8 @@ import subprocess
 from pathlib import Path
 
 PARTS = ("src", "specs", "proofs")
+# The programs: the command that has each built, and words on which it takes the smallest network and ends with status 0.
+PROGRAMS = {"ctm_program": ("./ctm", ["run"]), "ctm_wait": ("./ctm-wait", ["1"])}
 SECONDS_A_LINE = 0.06  # of a crate that the table of check times doesn't have
 SECONDS_KEPT = 1  # of a crate that is built already
 

@@ -1,4 +1,4 @@
-"""A small repository with ./ctm, in which tests/fake_rt stands for the toolchain's command: it sleeps in place of proving."""
+"""A small repository with ./ctm and ./ctm-wait, in which tests/fake_rt stands for the toolchain's command: it sleeps in place of proving."""
 
 import shutil
 import signal
@@ -12,9 +12,13 @@ case "$1" in
   *) echo 'ctm: words refused' >&2; exit 2 ;;
 esac
 """
-CRATES = "low:\nlong: low\nside: low\nother:\ntop: long side\nctm_program: top other\nunused: low\n"
+WAITING = """#!/usr/bin/env bash
+cat
+echo "by $*"
+"""
+CRATES = "low:\nlong: low\nside: low\nother:\ntop: long side\nctm_program: top other\nctm_wait: top\nunused: low\n"
 JOBS = 4
-SECONDS = {"low": 0.2, "long": 1.2, "side": 0.3, "other": 0.3, "top": 0.2, "ctm_program": 0.2, "unused": 9}
+SECONDS = {"low": 0.2, "long": 1.2, "side": 0.3, "other": 0.3, "top": 0.2, "ctm_program": 0.2, "ctm_wait": 0.2, "unused": 9}
 
 
 def heed_signals():
@@ -35,7 +39,8 @@ class Repository:
         if has_rt:
             shutil.copy(TOP / "tests/fake_rt", self.bin / "rt")
         self.top.mkdir()
-        shutil.copy(TOP / "ctm", self.top)
+        for command in ("ctm", "ctm-wait"):
+            shutil.copy(TOP / command, self.top)
         shutil.copytree(TOP / "launcher", self.top / "launcher", ignore=shutil.ignore_patterns("__pycache__"))
         (self.top / "docs").mkdir()
         rows = "".join(f"| `{name}` | 1 | {round(100 * seconds)} | 1 |\n" for name, seconds in SECONDS.items())
@@ -47,19 +52,20 @@ class Repository:
             (source / "lib.rt").write_text(f"// {name}\n")
             (source / "seconds").write_text(f"{seconds}\n")
         (self.top / "crates/ctm_program/src/program.sh").write_text(PROGRAM)
+        (self.top / "crates/ctm_wait/src/program.sh").write_text(WAITING)
 
     @property
     def environment(self):
         return {"PATH": f"{self.bin}:/usr/bin:/bin", "HOME": str(self.top), "CTM_JOBS": str(JOBS),
                 "FAKE_RT_LOG": str(self.log), "FAKE_RT_TRY": str(self.trial)}
 
-    def start(self, *words, **how):
+    def start(self, *words, command="ctm", **how):
         how = {"stdin": subprocess.DEVNULL, "stdout": subprocess.PIPE, "stderr": subprocess.PIPE,
                "preexec_fn": heed_signals, **how}
-        return subprocess.Popen([self.top / "ctm", *words], env=self.environment, **how)
+        return subprocess.Popen([self.top / command, *words], env=self.environment, **how)
 
     def call(self, *words, given=b"", **how):
-        """The status of ./ctm, and what it wrote on out and err, as text."""
+        """The status of ./ctm or of another command, and what it wrote on out and err, as text."""
         process = self.start(*words, stdin=subprocess.PIPE, **how)
         out, err = process.communicate(given, timeout=60)
         return process.returncode, out.decode(), err.decode()

@@ -76,7 +76,7 @@ def test_a_gate_that_passes_says_how_many_checks_of_each_sort_ran(gate):
 
 def test_the_program_of_the_gate_is_current_for_the_launcher(gate):
     gate.run()
-    asks = f'top={gate.top}; . "$top/launcher/current"; is_current'
+    asks = f'top={gate.top}; target=ctm_program; . "$top/launcher/current"; is_current'
     assert subprocess.run(["bash", "-c", asks]).returncode == 0
     gate.write("crates/low/src/lib.rt", "changed")
     assert subprocess.run(["bash", "-c", asks]).returncode == 1

@@ -8,12 +8,14 @@
 //!   same name in specs/. The tables by mode are `text_of` here, `reads_source` and `most_input` in `input`, and those of
 //!   specs/Answer.antt and specs/Input.antt.
 //! - `network_input` reads a network, or tells its fault; `recording` says how much a run may record.
+//! - `command_line` has the words that a program was called with.
 #![tactic(auto)]
 
 mod answer;
 mod call;
 mod check_mode;
 mod choose_mode;
+mod command_line;
 mod convert_mode;
 mod input;
 mod network_input;
@@ -26,3 +28,5 @@ mod watch_mode;
 mod words;
 
 pub use call::ctm;
+pub use command_line::given_words;
+pub use network_input::network_in;

@@ -12,7 +12,7 @@ use no_memory::NoMemory;
 use std::alloc::Global;
 
 /// The network that an input is, or the refusal of a file by its first fault.
-pub(crate) fn network_in(alloc: Global, input: &[u8]) -> Result<Net, Refusal>
+pub fn network_in(alloc: Global, input: &[u8]) -> Result<Net, Refusal>
     requires few_bytes { length input.now ≤ MOST_BYTES }
     ensures network { IfOk result (λ net. network_of input.now ≡ Ok net) }
     ensures refusal { IfErr result (λ refusal. (why : Network → Option Why) → IsRefusalOf (why_of_network (network_of input.now) why) ⊥ refusal) }

@@ -1,10 +1,8 @@
-//! The program `ctm`: the call of `ctm_call` over the real streams (docs/FORMAT.md), with the words of `command_line`.
+//! The program `ctm`: the call of `ctm_call` over the real streams (docs/FORMAT.md).
 #![tactic(auto)]
 
-mod command_line;
-
 use call_ending::{Refusal, tell};
-use ctm_call::ctm;
+use ctm_call::{ctm, given_words};
 use ctm_ports::{StdSink, StdSource};
 use region_slots::OpenGate;
 use std::process::ExitCode;
@@ -13,7 +11,7 @@ fn main(rt: HostRuntime) -> ExitCode {
     let mut source = StdSource::new(rt.stdin());
     let mut out = StdSink::new(rt.stdout());
     let mut err = StdSink::new(rt.stderr());
-    let status = match command_line::words(&rt) {
+    let status = match given_words(&rt) {
         Ok(words) => ctm(
             &rt,
             rt.alloc(),

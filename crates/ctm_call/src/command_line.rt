@@ -4,8 +4,8 @@ use std::env;
 use std::env::Env;
 use std::io::ErrorKind;
 
-/// The words after the program's name. Where one of them isn't text there are none.
-pub(crate) fn words<R: Env + AllocGlobal>(rt: &R) -> Result<Vec<String>, NoMemory> {
+/// The words after the program's name, as the environment gives them. Where one of them isn't text there are none.
+pub fn given_words<R: Env + AllocGlobal>(rt: &R) -> Result<Vec<String>, NoMemory> {
     match env::args(rt) {
         Ok(args) => Ok(args.skip(1).collect(rt.alloc())?),
         Err(error) if error.kind() == ErrorKind::OutOfMemory => Err(NoMemory),

@@ -1,0 +1,117 @@
+-- The turns of a sweep, one after the other.
+use Rattle.std.specs.Prelude.{slice_index}
+use Rattle.std.specs.List.{sum}
+use Rattle.std.proofs.Common.{◌≡◌, ◌≢◌, ℕ, ◌+◌, ◌<◌, ◌≤◌, inl, inr, List, length, refl, sym, ap, subst, ◌∙◌, arith}
+use Rattle.std.proofs.lemmas.Bool.{cases_lt}
+use Rattle.std.proofs.lemmas.List.Sums.{sum_by-set}
+use Rattle.region_cut.specs.Cuttings.{region_count}
+use Rattle.border_rows.specs.Kinds.{found_taken, looked, raised}
+use Rattle.border_rows.specs.declared.view.Terms.{Terms}
+use Rattle.border_rows.specs.declared.view.View.{View}
+use Rattle.region_slots.specs.FieldView.{HasCounts}
+use Rattle.region_slots.specs.Turning.{IsBehind, IsMoved, IsWithin}
+use Rattle.region_slots.specs.declared.turn.Turn.{Turn}
+use Rattle.region_slots.specs.declared.turn.Turn.TheVariants.{Behind, Ended, Held, Moved}
+use Rattle.parked_crew.specs.Sweeping.{HasSwept, counted, none}
+use Rattle.parked_crew.specs.declared.swept.Swept.{Swept}
+
+-- what no turn has changed is kept
+pub within-none : (view : View) (goal : ℕ) → IsWithin view view goal
+within-none view goal = record {
+  share = refl;
+  splits = refl;
+  seen = record { long = refl; later = λ q. omega arith };
+  moves = omega arith;
+  risen = omega arith;
+  reach = omega arith;
+  held_found = λ q. omega arith;
+  short_found = omega arith;
+  looks = λ q. omega arith;
+}
+
+-- and what turns keep one after the other
+pub within-more : (old view new : View) (goal : ℕ) → IsWithin old view goal → IsWithin view new goal → IsWithin old new goal
+within-more old view new goal before after = record {
+  share = after.share ∙ before.share;
+  splits = after.splits ∙ before.splits;
+  seen = record { long = after.seen.long ∙ before.seen.long; later = λ q. omega (arith, before.seen.later q, after.seen.later q) };
+  moves = omega (arith, before.moves, after.moves);
+  risen = omega (arith, before.risen, after.risen);
+  reach = omega (arith, before.reach, after.reach);
+  held_found = λ q. omega (arith, before.held_found q, after.held_found q);
+  short_found = omega (arith, before.short_found, after.short_found);
+  looks = λ q. omega (arith, before.looks q, after.looks q);
+}
+
+-- no turn yet
+pub swept-none : (view : View) (goal : ℕ) → HasSwept 0 goal view view none
+swept-none view goal = record {
+  keeps = within-none view goal;
+  turns = refl;
+  moved = omega arith;
+  held = omega arith;
+  behind = omega arith;
+  ended = λ none r within. absurd (omega (arith, within));
+}
+
+raised-sum : (counts : List ℕ) (r : ℕ) → r < length counts → sum (raised counts r) ≡ sum counts + 1
+raised-sum counts r there = omega (arith, sum_by-set (λ n. n) counts r (slice_index counts r + 1) 0 there)
+
+-- Of the turns before, and of one more, all found their region at goal or past it only where each did.
+more-ended : (old view new : View) (r goal : ℕ) (swept : Swept) (one : ℕ) → HasSwept r goal old view swept → IsWithin view new goal → (one ≢ 0 → (one ≡ 1) × (goal ≤ slice_index new.seen r)) →
+    swept.ended + one ≡ r + 1 → (p : ℕ) → p < r + 1 → goal ≤ slice_index new.seen p
+more-ended old view new r goal swept one before after own all p within =
+    let some : one ≢ 0 = λ none. absurd (omega (arith, none, all, before.turns)) in
+    elim (cases_lt p r) [
+      | inl early ↦ omega (arith, before.ended (omega (arith, all, own some)) p early, after.seen.later p)
+      | inr late ↦ let is : p ≡ r = omega (arith, late, within) in subst (λ k. goal ≤ slice_index new.seen k) (sym is) (own some).1
+    ]
+
+-- one turn more
+pub swept-more : (terms : Terms) (old view new : View) (goal r : ℕ) (swept : Swept) (answer : Turn) → r < region_count terms.chart.now.cut → HasCounts (region_count terms.chart.now.cut) view →
+    HasSwept r goal old view swept → IsWithin view new goal → (answer ≡ Held → new ≡ found_taken view r) →
+    ((s : ℕ) → answer ≡ Ended s → (goal ≤ s) × (new ≡ looked view r s) × (slice_index new.seen r ≡ s) × (slice_index view.seen r ≤ s)) →
+    ((q s : ℕ) → answer ≡ Behind q s → IsBehind terms view new goal r q s) → ((s : ℕ) → answer ≡ Moved s → IsMoved terms view new goal r s) →
+    HasSwept (r + 1) goal old new (counted swept answer)
+unfolding counted
+swept-more terms old view new goal r swept Held there has before after held ended behind moved =
+    let is = held refl in
+    let within : r < length view.held_found = omega (arith, there, has.held_found) in
+    record {
+      keeps = within-more old view new goal before.keeps after;
+      turns = omega (arith, before.turns);
+      moved = omega (arith, before.moved, ap (λ (v : View). v.moves) is);
+      held = omega (arith, before.held, ap (λ (v : View). sum v.held_found) is, raised-sum view.held_found r within);
+      behind = omega (arith, before.behind, ap (λ (v : View). v.short_found) is);
+      ended = λ all. more-ended old view new r goal swept 0 before after (λ some. absurd (some refl)) (omega (arith, all));
+    }
+swept-more terms old view new goal r swept (Ended s) there has before after held ended behind moved =
+    let is = ended s refl in
+    record {
+      keeps = within-more old view new goal before.keeps after;
+      turns = omega (arith, before.turns);
+      moved = omega (arith, before.moved, ap (λ (v : View). v.moves) is.1);
+      held = omega (arith, before.held, ap (λ (v : View). sum v.held_found) is.1);
+      behind = omega (arith, before.behind, ap (λ (v : View). v.short_found) is.1);
+      ended = λ all. more-ended old view new r goal swept 1 before after (λ some. (refl, omega (arith, is.0, is.2))) (omega (arith, all));
+    }
+swept-more terms old view new goal r swept (Behind q s) there has before after held ended behind moved =
+    let is = behind q s refl in
+    record {
+      keeps = within-more old view new goal before.keeps after;
+      turns = omega (arith, before.turns);
+      moved = omega (arith, before.moved, is.still.moves);
+      held = omega (arith, before.held, ap sum is.still.alike.held_found);
+      behind = omega (arith, before.behind, is.one_more);
+      ended = λ all. more-ended old view new r goal swept 0 before after (λ some. absurd (some refl)) (omega (arith, all));
+    }
+swept-more terms old view new goal r swept (Moved s) there has before after held ended behind moved =
+    let is = moved s refl in
+    record {
+      keeps = within-more old view new goal before.keeps after;
+      turns = omega (arith, before.turns);
+      moved = omega (arith, before.moved, is.moves);
+      held = omega (arith, before.held, ap sum is.alike.held_found);
+      behind = omega (arith, before.behind, is.found.short_found);
+      ended = λ all. more-ended old view new r goal swept 0 before after (λ some. absurd (some refl)) (omega (arith, all));
+    }

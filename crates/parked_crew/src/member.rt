@@ -1,0 +1,36 @@
+ghost use Rattle.std.specs.Prelude.{◌≡◌, ◌≤◌};
+ghost use Rattle.region_slots.specs.FieldView.{IsPassOf};
+ghost use Rattle.parked_crew.specs.Parking.{IsBrought};
+
+use crate::board::Board;
+use crate::sweep::sweep;
+use region_slots::{Field, Gate, Pass};
+use std::sync::Wait;
+
+/// What a member of the crew does: it sweeps until a sweep finds all regions at the goal or past it, and waits after each
+/// that was in vain. The count is read before the sweep, so that a move which the sweep came too early to see is counted
+/// past it.
+pub(crate) fn work<R: Wait, G: Gate>(
+    rt: &R,
+    field: &Field,
+    pass: &mut Pass,
+    goal: u64,
+    board: &Board,
+    gate: &G,
+)
+    requires belongs { IsPassOf field.now pass.old }
+    requires in_time { goal ≤ field.now.terms.net.now.steps }
+    ensures { IsBrought field.now goal pass.old pass.new }
+{
+    for _ in rt.forever() {
+        let count = board.count(rt);
+        let swept = sweep(rt, field, pass, goal, board, gate);
+        if swept.is_done() {
+            return;
+        }
+        if swept.is_in_vain() {
+            board.wait(rt, count);
+        }
+    }
+    unreachable!()
+}

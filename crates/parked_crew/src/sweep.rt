@@ -1,0 +1,34 @@
+ghost use Rattle.std.specs.Prelude.{◌≡◌, ◌≤◌};
+ghost use Rattle.region_cut.specs.Cuttings.{region_count};
+ghost use Rattle.region_slots.specs.FieldView.{IsPassOf};
+ghost use Rattle.parked_crew.specs.Sweeping.{HasSwept};
+
+use crate::board::Board;
+use crate::swept::Swept;
+use region_slots::{Field, Gate, Pass, Turn};
+use std::sync::Wait;
+
+/// One turn on each region, in order of number. Each move is counted on the board once it is published.
+pub(crate) fn sweep<R: Wait, G: Gate>(
+    rt: &R,
+    field: &Field,
+    pass: &mut Pass,
+    goal: u64,
+    board: &Board,
+    gate: &G,
+) -> Swept
+    requires belongs { IsPassOf field.now pass.old }
+    requires in_time { goal ≤ field.now.terms.net.now.steps }
+    ensures belongs { IsPassOf field.now pass.new × (pass.new.id ≡ pass.old.id) }
+    ensures swept { HasSwept (region_count field.now.terms.chart.now.cut) goal pass.old.knows pass.new.knows result }
+{
+    let mut swept = Swept::none();
+    for region in 0..field.regions() {
+        let turn = field.turn(pass, region, goal, gate);
+        if matches!(turn, Turn::Moved { .. }) {
+            board.raise(rt);
+        }
+        swept.count(turn);
+    }
+    swept
+}

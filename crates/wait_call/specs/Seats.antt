@@ -1,0 +1,16 @@
+-- The passes of the workers, before and after the run.
+use Rattle.std.specs.Prelude.{◌≡◌, ◌≤◌, ℕ}
+use Rattle.region_cut.specs.Cuttings.{region_count}
+use Rattle.region_slots.specs.FieldView.{FieldValue, IsPassOf, PassValue}
+use Rattle.parked_crew.specs.Parking.{HasSeenAll}
+
+-- a pass of the field with one seat, which has published nothing past the last step
+pub record IsSeat (field : FieldValue) (pass : PassValue) : Type 0 where
+  pub belongs : IsPassOf field pass
+  pub share : pass.knows.share ≡ 1
+  pub reach : pass.knows.reach ≤ field.terms.net.now.steps
+
+-- one that has seen all regions at the last step besides
+pub record HasCome (field : FieldValue) (pass : PassValue) : Type 0 where
+  pub seat : IsSeat field pass
+  pub seen : HasSeenAll (region_count field.terms.chart.now.cut) field.terms.net.now.steps pass.knows

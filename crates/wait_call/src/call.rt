@@ -1,0 +1,52 @@
+ghost use Rattle.std.specs.Prelude.{◌≡◌, ◌≢◌, ℕ, List, None, IfSome};
+ghost use Rattle.std.specs.Io.KnownBytes.{IsAtEnd};
+ghost use Rattle.ctm_ports.specs.Count.{Rose};
+ghost use Rattle.ctm_ports.specs.ReadEnd.{LosesAtMost};
+ghost use Rattle.call_ending.specs.Ending.{HasEnded, sink_use};
+ghost use Rattle.call_ending.specs.declared.status.Status.TheVariants as status;
+ghost use Rattle.wait_call.specs.Answer.{IsTextOf, answer_of, most_read, why_in};
+ghost use Rattle.wait_call.specs.Words.{workers_asked};
+
+use crate::answer::answer;
+use call_ending::{Status, end};
+use ctm_ports::{Sink, Source};
+use region_slots::Gate;
+use std::alloc::Global;
+use std::sync::Wait;
+use std::thread::Threads;
+
+/// Takes the network that the source gives through its steps, and writes the report on `out`, or says on `err` why there is
+/// none. The words are those after the program's name: the number of workers, from 1 to 16. They run in threads of `rt`, a
+/// worker waits where it would sweep in vain, and the gate is told when they take a region and give it back. So the call
+/// may wait; that it returns isn't proved.
+pub fn ctm_wait<R: Threads + Wait + Sync, S: Source, O: Sink, E: Sink, G: Gate>(
+    rt: &R,
+    alloc: Global,
+    words: &[String],
+    source: &mut S,
+    out: &mut O,
+    err: &mut E,
+    gate: &G,
+) -> Status
+    // There is an input, which is what the source has left where it tells it, and by the answer to the words and this input
+    // the call ended in one of five ways: it is done, the answer is a refusal, a read of the source failed where the words
+    // ask for a run, a write of the report failed, or memory was refused.
+    ensures ended { (input : List ℕ) × IfSome (S.left source.old) (λ bytes. input ≡ bytes)
+        × HasEnded (IsTextOf (answer_of words.now input)) (why_in (answer_of words.now input))
+        (IsAtEnd (S.left source.new))
+        ((workers_asked words.now ≢ None) × Rose (S.faults source.old) (S.faults source.new))
+        result
+        (sink_use (O.taken out.old) (O.taken out.new) (out.new ≡ out.old) (Rose (O.faults out.old) (O.faults out.new)) (Rose (O.wants out.old) (O.wants out.new)))
+        (sink_use (E.taken err.old) (E.taken err.new) (err.new ≡ err.old) (Rose (E.faults err.old) (E.faults err.new)) (Rose (E.wants err.old) (E.wants err.new))) }
+
+    // Status Words tells of words that are refused, and where they are there is no other.
+    ensures words { result ≡ status.Words → workers_asked words.now ≡ None }
+    ensures refused { workers_asked words.now ≡ None → result ≡ status.Words }
+
+    // Where the words are refused the source is as it was, and else it is read one byte past the longest input at most.
+    ensures unread { workers_asked words.now ≡ None → source.new ≡ source.old }
+    ensures bounded { LosesAtMost (S.left source.old) (S.left source.new) (most_read (workers_asked words.now)) }
+{
+    let answer = answer(rt, alloc, words, source, gate);
+    end(answer, out, err)
+}

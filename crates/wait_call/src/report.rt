@@ -1,0 +1,56 @@
+ghost use Rattle.std.specs.Prelude.{◌≡◌, ◌≤◌, IfErr, IfOk, length};
+ghost use Rattle.delay_report.specs.Report.{report_of};
+ghost use Rattle.call_ending.specs.Refusing.{IsRefusalOf};
+ghost use Rattle.wait_call.specs.Answer.{IsTextOf, answer_to, most_input, why_in};
+
+use crate::waiting_run::last_regions;
+use call_ending::Refusal;
+use ctm_call::network_in;
+use delay_report::run_report;
+use network_file::Net;
+use network_run::charted;
+use no_memory::NoMemory;
+use region_slots::Gate;
+use std::alloc::Global;
+use std::sync::Wait;
+use std::thread::Threads;
+
+/// In how many regions a network is run whose file gives none, where it has as many cells.
+const REGIONS: u32 = 64;
+
+/// The report of the network that an input is, run by so many workers, or why there is none.
+pub(crate) fn report_in<R: Threads + Wait + Sync, G: Gate>(
+    rt: &R,
+    alloc: Global,
+    input: &[u8],
+    workers: u32,
+    gate: &G,
+) -> Result<Vec<u8>, Refusal>
+    requires few_bytes { length input.now ≤ most_input }
+    requires workers { (1 ≤ workers) × (workers ≤ 16) }
+    ensures text { IfOk result (λ text. IsTextOf (answer_to input.now) text.items) }
+    ensures refusal { IfErr result (IsRefusalOf (why_in (answer_to input.now)) ⊥) }
+{
+    let net = match network_in(alloc, input) {
+        Ok(net) => net,
+        Err(refusal) => return Err(refusal),
+    };
+    Ok(report_of_run(rt, alloc, &net, workers, gate)?)
+}
+
+// The report of a network.
+fn report_of_run<R: Threads + Wait + Sync, G: Gate>(
+    rt: &R,
+    alloc: Global,
+    net: &Net,
+    workers: u32,
+    gate: &G,
+) -> Result<Vec<u8>, NoMemory>
+    requires { (1 ≤ workers) × (workers ≤ 16) }
+    ensures { IfOk result (λ text. text.items ≡ report_of net.now 0) }
+{
+    let _steps = net.steps;
+    let chart = charted(alloc, net, REGIONS)?;
+    let regions = last_regions(rt, alloc, net, &chart, workers, gate)?;
+    run_report(alloc, net, &chart, &regions, 0)
+}

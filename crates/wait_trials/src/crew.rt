@@ -1,0 +1,59 @@
+ghost use Rattle.std.specs.Prelude.{◌≡◌, ◌≤◌};
+ghost use Rattle.region_cut.specs.Chart.{chart_of};
+ghost use Rattle.region_slots.specs.FieldView.{IsPassOf};
+
+use crate::meeting::Meeting;
+use network_file::{MOST_BYTES, Net};
+use network_run::charted;
+use no_memory::NoMemory;
+use parked_crew::{Board, parked};
+use region_cut::Chart;
+use region_slots::{Field, Pass};
+use region_step::Start;
+use std::alloc::Global;
+use std::process::Abort;
+use std::sync::Wait;
+use std::test::Fail;
+use std::thread::Threads;
+
+// Two members of a crew take the network in a file to its last step, in four regions.
+pub(crate) fn two_members<R: Abort + Threads + Wait + Sync>(
+    rt: &R,
+    alloc: Global,
+    text: &[u8],
+) -> Result<(), Fail> {
+    assert!(rt; text.len() <= MOST_BYTES);
+    let net = Net::read(alloc, text)?;
+    let chart = charted(alloc, &net, 4)?;
+    on_field(rt, alloc, &net, &chart)?;
+    Ok(())
+}
+
+// The same of a network and its chart.
+fn on_field<R: Abort + Threads + Wait + Sync>(
+    rt: &R,
+    alloc: Global,
+    net: &Net,
+    chart: &Chart,
+) -> Result<(), NoMemory>
+    requires chart { chart.now ≡ chart_of net.now chart.now.cut }
+{
+    let last = net.steps;
+    let start = Start::zero(alloc, net, chart)?;
+    let (field, pass) = Field::open(alloc, net, chart, &start, 0, 2)?;
+    meet(rt, &field, pass, last);
+    Ok(())
+}
+
+// The same on a field, with the pass that has both of its seats.
+fn meet<R: Abort + Threads + Wait + Sync>(rt: &R, field: &Field, mut pass: Pass, last: u64)
+    requires belongs { IsPassOf field.now pass }
+    requires two { pass.knows.share ≡ 2 }
+    requires in_time { last ≤ field.now.terms.net.now.steps }
+{
+    let gate = Meeting::new();
+    let other = field.share(&mut pass);
+    parked(rt, field, &mut [pass, other], last, &Board::new(), &gate);
+    assert!(rt; gate.took_place(), "each waited for the other");
+    assert!(rt; gate.is_complete(4), "each region was held at each step");
+}

@@ -1,0 +1,50 @@
+use crate::calling::call_past;
+use crate::crew::two_members;
+use crate::meeting::Meeting;
+use call_ending::Status;
+use region_slots::OpenGate;
+use std::test::Fail;
+
+// A gate, two roads and an exit, each a region of its own where there are four.
+const CHAIN: &[u8] =
+    b"ctm,1\nsteps,4\ngate,g,2,8\nroad,a,6,2,1,1,0\nroad,b,6,2,1,1,0\nexit,x,2\nlink,g,a\nlink,a,b\nlink,b,x\n";
+
+const CHAIN_REPORT: &[u8] = b"report,4,4\ncell,g,0.000000,0.000000,8.000000,12.000000\n\
+cell,a,2.000000,8.000000,6.000000,0.000000\ncell,b,2.000000,6.000000,4.000000,0.000000\n\
+cell,x,4.000000,4.000000,0.000000,0.000000\ntotal,4.000000,0.000000,4.000000,12.000000\n";
+
+#[test]
+fn two_members_that_wait_work_at_once(rt: HostRuntime) -> Result<(), Fail> {
+    two_members(&rt, rt.alloc(), CHAIN)
+}
+
+#[test]
+fn two_workers_that_wait_work_at_once(rt: HostRuntime) -> Result<(), Fail> {
+    let gate = Meeting::new();
+    let ended = call_past(&rt, rt.alloc(), &["2"], CHAIN, &gate)?;
+    assert_eq!(rt; ended.status, Status::Done);
+    assert_eq!(rt; ended.out.bytes(), CHAIN_REPORT);
+    assert!(rt; ended.err.bytes().is_empty());
+    assert!(rt; gate.took_place(), "each waited for the other");
+    assert!(rt; gate.is_complete(4), "each region was held at each step");
+    Ok(())
+}
+
+#[test]
+fn words_that_are_no_number_of_workers_are_refused(rt: HostRuntime) -> Result<(), Fail> {
+    for words in [
+        [].as_slice(),
+        &[""],
+        &["0"],
+        &["17"],
+        &["2.0"],
+        &["run"],
+        &["2", "2"],
+    ] {
+        let ended = call_past(&rt, rt.alloc(), words, CHAIN, &OpenGate)?;
+        assert_eq!(rt; ended.status, Status::Words);
+        assert!(rt; ended.out.bytes().is_empty());
+        assert_eq!(rt; ended.err.bytes(), b"ctm: words refused\n".as_slice());
+    }
+    Ok(())
+}
