@@ -1,0 +1,9 @@
+-- Orders of all cells.
+use Rattle.std.specs.Prelude.{◌≡◌, ℕ, ◌<◌, List, length, All}
+use Rattle.std.specs.List.{Contains}
+
+-- a list of the numbers below a bound, each once
+pub record IsOrder (cells : ℕ) (order : List ℕ) : Type 0 where
+  pub long : length order ≡ cells
+  pub there : All (λ i. i < cells) order
+  pub each : (i : ℕ) → i < cells → Contains order i
