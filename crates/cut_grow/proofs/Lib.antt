@@ -1,0 +1,5 @@
+pub mod Connectors
+pub mod Leasts
+pub mod SideTables
+pub mod NextCells
+pub mod Walking
