@@ -62,7 +62,7 @@ by_place cells order places runs regions all inverse is whole =
     let below : p < cells = omega (arith, length-map order (region_at regions), all.long) in
     let there : get_or order p 0 < cells = all.there p 0 (omega (arith, all.long)) in
     get_or-map (region_at regions) order p 0 0 (omega (arith, all.long)) ∙ by_cell cells order places runs regions inverse is (get_or order p 0) there ∙
-    ap (λ q. get_or (runs_from 0 runs) q 0) (inverse.at p below))
+    ap (λ q. get_or (runs_from 0 runs) q 0) (inverse.forth p below))
 
 -- in any cutting in runs the region of a cell is by its place
 by_runs : (cells : ℕ) (order places sizes list : List ℕ) → IsOrder cells order → ArePlaces cells order places → map (region_at list) order ≡ runs_from 0 sizes →
@@ -114,7 +114,7 @@ in-runs-cutting cells k order places runs regions all inverse is whole long some
           let cell : i < cells = all.there p 0 (omega (arith, all.long)) in
           let number : r ≡ 0 + r = omega arith in
           let region : get_or regions i 0 ≡ r =
-          by_cell cells order places runs regions inverse is i cell ∙ ap (λ q. get_or (runs_from 0 runs) q 0) (inverse.at p there) ∙
+          by_cell cells order places runs regions inverse is i cell ∙ ap (λ q. get_or (runs_from 0 runs) q 0) (inverse.forth p there) ∙
           get_or_default (runs_from 0 runs) p 0 (0 + r) has.1 ∙ has.2 ∙ sym number in
           let inside_list : i < length regions = omega (arith, ap length is, length-map places (slice_index (runs_from 0 runs)), inverse.long) in
           test_from_Contains regions r (i, inside_list, get_or_default regions i r 0 inside_list ∙ region));

@@ -1,7 +1,7 @@
 -- Counts of numbers, and how many spans lie inside a run by such counts.
 use Rattle.std.specs.Prelude.{All, cond, count_by, eqb, map, min, nat_le, nat_lt, sum_by, ◌&&◌}
 use Rattle.std.proofs.Common.{◌≡◌, ℕ, ◌<◌, ◌≤◌, ◌+◌, ◌-◌, Bool, true, false, List, [], ◌∷◌, ◌++◌, length, get_or, set, take, inl, inr, sym, refl, ap, subst, ◌∙◌, arith}
-use Rattle.std.proofs.lemmas.Bool.{and_from, and_left, and_right, cases_eq, cases_lt, cond-false, cond-true, eq-eqb, le-leb, le-ltb, lt-leb, lt-ltb, ne_eqb}
+use Rattle.std.proofs.lemmas.Bool.{and_from, and_left, and_right, cases_eq, cases_lt, eq-eqb, le-leb, le-ltb, lt-leb, lt-ltb, ne_eqb}
 use Rattle.std.proofs.lemmas.List.{get_or-set_other, get_or-set_same, length-set}
 use Rattle.std.proofs.lemmas.List.Folds.{fold-map}
 use Rattle.std.proofs.lemmas.List.Sums.{count_by_more_no, count_by_more_yes}
@@ -9,6 +9,7 @@ use Rattle.signal_plan.proofs.Sums.{sum_by_splits}
 use Rattle.cut_grow.specs.Counts.{begin_of}
 use Rattle.cut_grow.specs.Spans.{inside, is_inside}
 use Rattle.cut_grow.specs.declared.span.Span.{Span}
+use Rattle.cut_grow.proofs.Counted.{counted, uncounted}
 
 -- those below a number and those equal to it are those below the next
 pub below-next : (p : ℕ) (numbers : List ℕ) →
@@ -19,24 +20,24 @@ below-next p numbers =
       | inl below ↦
           omega (
             arith,
-            cond-true (nat_lt number (p + 1)) 1 0 (lt-ltb number (p + 1) (omega arith)),
-            cond-true (nat_lt number p) 1 0 (lt-ltb number p below),
-            cond-false (eqb number p) 1 0 (ne_eqb number p (λ same. omega (arith, same))),
+            counted (nat_lt number (p + 1)) (lt-ltb number (p + 1) (omega arith)),
+            counted (nat_lt number p) (lt-ltb number p below),
+            uncounted (eqb number p) (ne_eqb number p (λ same. omega (arith, same))),
           )
       | inr past ↦ elim (cases_eq number p) [
         | inl same ↦
             omega (
               arith,
-              cond-true (nat_lt number (p + 1)) 1 0 (lt-ltb number (p + 1) (omega arith)),
-              cond-false (nat_lt number p) 1 0 (le-ltb number p past),
-              cond-true (eqb number p) 1 0 (eq-eqb number p same),
+              counted (nat_lt number (p + 1)) (lt-ltb number (p + 1) (omega arith)),
+              uncounted (nat_lt number p) (le-ltb number p past),
+              counted (eqb number p) (eq-eqb number p same),
             )
         | inr other ↦
             omega (
               arith,
-              cond-false (nat_lt number (p + 1)) 1 0 (le-ltb number (p + 1) (omega (arith, other))),
-              cond-false (nat_lt number p) 1 0 (le-ltb number p past),
-              cond-false (eqb number p) 1 0 (ne_eqb number p other),
+              uncounted (nat_lt number (p + 1)) (le-ltb number (p + 1) (omega (arith, other))),
+              uncounted (nat_lt number p) (le-ltb number p past),
+              uncounted (eqb number p) (ne_eqb number p other),
             )
       ]
     ])
@@ -57,25 +58,25 @@ gain-counts spans size p =
       | inl passed ↦
           omega (
             arith,
-            cond-true (nat_lt (begin_of size span) (p + 1)) 1 0 (lt-ltb (begin_of size span) (p + 1) (omega arith)),
-            cond-false (is_inside p size span) 1 0 (and_left (nat_le p span.first) (nat_lt span.last (p + size)) (lt-leb p span.first passed)),
-            cond-true (nat_lt span.first p) 1 0 (lt-ltb span.first p passed),
+            counted (nat_lt (begin_of size span) (p + 1)) (lt-ltb (begin_of size span) (p + 1) (omega arith)),
+            uncounted (is_inside p size span) (and_left (nat_le p span.first) (nat_lt span.last (p + size)) (lt-leb p span.first passed)),
+            counted (nat_lt span.first p) (lt-ltb span.first p passed),
           )
       | inr ahead ↦ elim (cases_lt span.last (p + size)) [
         | inl within ↦
             omega (
               arith,
-              cond-true (nat_lt (begin_of size span) (p + 1)) 1 0 (lt-ltb (begin_of size span) (p + 1) (omega arith)),
-              cond-true (is_inside p size span) 1 0
+              counted (nat_lt (begin_of size span) (p + 1)) (lt-ltb (begin_of size span) (p + 1) (omega arith)),
+              counted (is_inside p size span)
               (and_from (nat_le p span.first) (nat_lt span.last (p + size)) (le-leb p span.first ahead) (lt-ltb span.last (p + size) within)),
-              cond-false (nat_lt span.first p) 1 0 (le-ltb span.first p ahead),
+              uncounted (nat_lt span.first p) (le-ltb span.first p ahead),
             )
         | inr past ↦
             omega (
               arith,
-              cond-false (nat_lt (begin_of size span) (p + 1)) 1 0 (le-ltb (begin_of size span) (p + 1) (omega arith)),
-              cond-false (is_inside p size span) 1 0 (and_right (nat_le p span.first) (nat_lt span.last (p + size)) (le-ltb span.last (p + size) past)),
-              cond-false (nat_lt span.first p) 1 0 (le-ltb span.first p ahead),
+              uncounted (nat_lt (begin_of size span) (p + 1)) (le-ltb (begin_of size span) (p + 1) (omega arith)),
+              uncounted (is_inside p size span) (and_right (nat_le p span.first) (nat_lt span.last (p + size)) (le-ltb span.last (p + size) past)),
+              uncounted (nat_lt span.first p) (le-ltb span.first p ahead),
             )
       ]
     ]

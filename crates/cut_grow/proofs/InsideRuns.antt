@@ -2,7 +2,7 @@
 use Rattle.std.specs.Prelude.{All, cond, count_by, eqb, nat_le, nat_lt, not, sum, ◌&&◌, ◌==◌}
 use Rattle.std.specs.List.{AllZip, Contains, list_any}
 use Rattle.std.proofs.Common.{◌≡◌, ℕ, ◌<◌, ◌≤◌, ◌+◌, ◌-◌, Bool, true, false, List, [], ◌∷◌, length, get_or, inl, inr, sym, refl, ap, subst, ◌∙◌, arith}
-use Rattle.std.proofs.lemmas.Bool.{and_from, and_left, and_right, cases_eq, cases_lt, cond-false, cond-true, eq-eqb, le-leb, le-ltb, lt-leb, lt-ltb, ne_eqb}
+use Rattle.std.proofs.lemmas.Bool.{and_from, and_left, and_right, cases_eq, cases_lt, eq-eqb, le-leb, le-ltb, lt-leb, lt-ltb, ne_eqb}
 use Rattle.std.proofs.lemmas.List.Elements.{All-contains, All-head, All-tail}
 use Rattle.std.proofs.lemmas.List.Folds.{list_any_none}
 use Rattle.signal_plan.proofs.Sums.{count_by-cons}
@@ -14,13 +14,14 @@ use Rattle.region_cut.proofs.Anys.{finds}
 use Rattle.cut_grow.specs.Grown.{runs_from}
 use Rattle.cut_grow.specs.Spans.{IsSpan, inside, inside_runs, is_inside}
 use Rattle.cut_grow.specs.declared.span.Span.{Span}
+use Rattle.cut_grow.proofs.Counted.{counted, uncounted}
 use Rattle.cut_grow.proofs.Runs.{behind_first, in_first, runs-low, runs-rise, sum-cons}
 
 one_inside : (from size : ℕ) (span : Span) → is_inside from size span ≡ true → inside (span ∷ []) from size ≡ 1
-one_inside from size span is = ap (λ (b : Bool). 0 + cond b 1 0) is
+one_inside from size span is = omega (arith, count_by-cons (is_inside from size) span [], counted (is_inside from size span) is)
 
 one_outside : (from size : ℕ) (span : Span) → is_inside from size span ≡ false → inside (span ∷ []) from size ≡ 0
-one_outside from size span is = ap (λ (b : Bool). 0 + cond b 1 0) is
+one_outside from size span is = omega (arith, count_by-cons (is_inside from size) span [], uncounted (is_inside from size span) is)
 
 -- no run behind its first place has it
 none-behind : (span : Span) (from : ℕ) (sizes : List ℕ) → span.first < from → inside_runs (span ∷ []) from sizes ≡ 0
@@ -47,7 +48,7 @@ contained span (size ∷ sizes) r from begins ordered ends =
             arith,
             one_inside from size span inside_first,
             none-behind span (from + size) sizes (omega arith),
-            cond-true (eqb first last) 1 0 (eq-eqb first last (first_is ∙ sym last_is)),
+            counted (eqb first last) (eq-eqb first last (first_is ∙ sym last_is)),
           )
       | inr past ↦
           let outside : is_inside from size span ≡ false =
@@ -62,7 +63,7 @@ contained span (size ∷ sizes) r from begins ordered ends =
                   arith,
                   one_outside from size span outside,
                   none-behind span (from + size) sizes across,
-                  cond-false (eqb first last) 1 0 (ne_eqb first last (λ same. omega (arith, same, first_is, last_is, low))),
+                  uncounted (eqb first last) (ne_eqb first last (λ same. omega (arith, same, first_is, last_is, low))),
                 )
             | inr behind ↦
                 let first_is : first ≡ get_or (runs_from (r + 1) sizes) (span.first - from - size) 0 = behind_first r size sizes (span.first - from) (omega arith) in
@@ -71,7 +72,10 @@ contained span (size ∷ sizes) r from begins ordered ends =
                 let first_same : first ≡ get_or (runs_from (r + 1) sizes) (span.first - (from + size)) 0 = first_is ∙ ap (λ p. get_or (runs_from (r + 1) sizes) p 0) first_place in
                 let last_same : last ≡ get_or (runs_from (r + 1) sizes) (span.last - (from + size)) 0 = last_is ∙ ap (λ p. get_or (runs_from (r + 1) sizes) p 0) last_place in
                 let rest = contained span sizes (r + 1) (from + size) behind ordered (omega (arith, sum-cons size sizes)) in
-                rw (first_same, last_same) (omega (arith, one_outside from size span outside, rest))
+                let count : ℕ → ℕ → ℕ = λ a b. cond (eqb a b) 1 0 in
+                let tested : count first last ≡ count (get_or (runs_from (r + 1) sizes) (span.first - (from + size)) 0) (get_or (runs_from (r + 1) sizes) (span.last - (from + size)) 0) =
+                ap (λ n. count n last) first_same ∙ ap (count (get_or (runs_from (r + 1) sizes) (span.first - (from + size)) 0)) last_same in
+                omega (arith, one_outside from size span outside, rest, tested)
           ]
     ]
 
@@ -111,9 +115,9 @@ stays list places sizes connector span is within by_runs same =
     let j : ℕ = get_or (cells_of connector) m e in
     ap not (eq-eqb (region_at list i) (region_at list j) (one k d there ∙ sym (one m e other)))))
 
-cut : (list places sizes : List ℕ) (connector : Connector) (span : Span) → IsSpan places connector span →
+parted : (list places sizes : List ℕ) (connector : Connector) (span : Span) → IsSpan places connector span →
     All (IsByRuns list places sizes) (cells_of connector) → (get_or (runs_from 0 sizes) span.first 0 ≡ get_or (runs_from 0 sizes) span.last 0 → ⊥) → crosses list connector ≡ true
-cut list places sizes connector span is by_runs differ =
+parted list places sizes connector span is by_runs differ =
     let i : ℕ = is.first.0 in
     let j : ℕ = is.last.0 in
     let at_first = All-contains (IsByRuns list places sizes) (cells_of connector) i by_runs is.first.1 in
@@ -134,24 +138,25 @@ one-or-other list places sizes connector span is within by_runs =
     let last_place : span.last - 0 ≡ span.last = omega arith in
     let first : ℕ = get_or (runs_from 0 sizes) span.first 0 in
     let last : ℕ = get_or (runs_from 0 sizes) span.last 0 in
-    let has : inside_runs (span ∷ []) 0 sizes ≡ cond (eqb first last) 1 0 =
+    let count : ℕ → ℕ → ℕ = λ a b. cond (eqb a b) 1 0 in
+    let has : inside_runs (span ∷ []) 0 sizes ≡ count first last =
     contained span sizes 0 0 (omega arith) ordered (omega arith) ∙
-    ap (λ p. cond (eqb (get_or (runs_from 0 sizes) p 0) (get_or (runs_from 0 sizes) (span.last - 0) 0)) 1 0) first_place ∙
-    ap (λ p. cond (eqb first (get_or (runs_from 0 sizes) p 0)) 1 0) last_place in
+    ap (λ p. count (get_or (runs_from 0 sizes) p 0) (get_or (runs_from 0 sizes) (span.last - 0) 0)) first_place ∙
+    ap (λ p. count first (get_or (runs_from 0 sizes) p 0)) last_place in
     elim (cases_eq first last) [
       | inl same ↦
           omega (
             arith,
             has,
-            cond-true (eqb first last) 1 0 (eq-eqb first last same),
-            cond-false (crosses list connector) 1 0 (stays list places sizes connector span is within by_runs same),
+            counted (eqb first last) (eq-eqb first last same),
+            uncounted (crosses list connector) (stays list places sizes connector span is within by_runs same),
           )
       | inr differ ↦
           omega (
             arith,
             has,
-            cond-false (eqb first last) 1 0 (ne_eqb first last differ),
-            cond-true (crosses list connector) 1 0 (cut list places sizes connector span is by_runs differ),
+            uncounted (eqb first last) (ne_eqb first last differ),
+            counted (crosses list connector) (parted list places sizes connector span is by_runs differ),
           )
     ]
 

@@ -1,5 +1,6 @@
 pub mod Bests
 pub mod Connectors
+pub mod Counted
 pub mod EvenSizes
 pub mod GainCounts
 pub mod InsideRuns

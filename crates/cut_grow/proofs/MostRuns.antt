@@ -1,13 +1,14 @@
 -- The most inside so many runs: that it bounds what lies inside any such runs, and by which run last it is reached.
 use Rattle.std.specs.Prelude.{All, cond, count_by, eqb, max, not, sum}
 use Rattle.std.proofs.Common.{◌≡◌, ◌≢◌, ◌⊎◌, ℕ, zero, suc, ◌<◌, ◌≤◌, ◌+◌, ◌-◌, ◌*◌, Bool, true, false, List, [], ◌∷◌, length, inl, inr, sym, refl, ap, subst, ◌∙◌, arith}
-use Rattle.std.proofs.lemmas.Bool.{cases_eq, cases_lt, cond-false, cond-true, eq-eqb, ne_eqb}
+use Rattle.std.proofs.lemmas.Bool.{cases_eq, cases_lt, eq-eqb, ne_eqb}
 use Rattle.std.proofs.lemmas.List.Elements.{All-head, All-tail}
 use Rattle.std.proofs.lemmas.List.Sums.{count_by-le-length}
 use Rattle.signal_plan.proofs.Sums.{count_by-cons}
 use Rattle.cut_grow.specs.Most.{most, most_large, most_next, start_of}
 use Rattle.cut_grow.specs.Spans.{inside, inside_runs, is_inside}
 use Rattle.cut_grow.specs.declared.span.Span.{Span}
+use Rattle.cut_grow.proofs.Counted.{counted, uncounted}
 use Rattle.cut_grow.proofs.Runs.{sum-cons}
 
 -- one run more
@@ -109,16 +110,16 @@ smalls-first : (floor size : ℕ) (sizes : List ℕ) → size ≡ floor →
     (smalls_of floor (size ∷ sizes) ≡ suc (smalls_of floor sizes)) × (larges_of floor (size ∷ sizes) ≡ larges_of floor sizes)
 smalls-first floor size sizes is =
     let test : eqb size floor ≡ true = eq-eqb size floor is in (
-      rw test at (count_by-cons (λ s. eqb s floor) size sizes) ∙ omega arith,
-      rw test at (count_by-cons (λ s. not (eqb s floor)) size sizes) ∙ omega arith,
+      omega (arith, count_by-cons (λ s. eqb s floor) size sizes, counted (eqb size floor) test),
+      omega (arith, count_by-cons (λ s. not (eqb s floor)) size sizes, uncounted (not (eqb size floor)) (ap not test)),
     )
 
 larges-first : (floor size : ℕ) (sizes : List ℕ) → size ≡ floor + 1 →
     (smalls_of floor (size ∷ sizes) ≡ smalls_of floor sizes) × (larges_of floor (size ∷ sizes) ≡ suc (larges_of floor sizes))
 larges-first floor size sizes is =
     let test : eqb size floor ≡ false = ne_eqb size floor (λ same. omega (arith, same)) in (
-      rw test at (count_by-cons (λ s. eqb s floor) size sizes) ∙ omega arith,
-      rw test at (count_by-cons (λ s. not (eqb s floor)) size sizes) ∙ omega arith,
+      omega (arith, count_by-cons (λ s. eqb s floor) size sizes, uncounted (eqb size floor) test),
+      omega (arith, count_by-cons (λ s. not (eqb s floor)) size sizes, counted (not (eqb size floor)) (ap not test)),
     )
 
 pub inside-at_most : (spans : List Span) (floor : ℕ) (sizes : List ℕ) (small large : ℕ) → AreSizes floor sizes →

@@ -35,8 +35,8 @@ next-by net walk first is = ap (λ o. option_map_or (λ x. least_cell net (is_mi
 pub next-beside : (net : Network) (walk : List ℕ) (place next : ℕ) → place < length walk →
     ((k : ℕ) → k < place → is_open net walk (get_or walk k 0) ≡ false) → is_open net walk (get_or walk place 0) ≡ true →
     IsLeast (length net.cells) (is_missing_beside net walk (get_or walk place 0)) next → next_of net walk ≡ next
-next-beside net walk place next within closed open least =
-    let first : position_or_len (is_open net walk) walk ≡ place = position_or_len_is (is_open net walk) walk place 0 (omega arith) closed (λ _. open) in
+next-beside net walk place next within closed opens least =
+    let first : position_or_len (is_open net walk) walk ≡ place = position_or_len_is (is_open net walk) walk place 0 (omega arith) closed (λ _. opens) in
     let here : find (is_open net walk) walk ≡ Some (get_or walk place 0) =
     find_at (is_open net walk) walk ∙ ap (slice_get walk) first ∙ slice_get-get_or walk place 0 within in
     next-by net walk (Some (get_or walk place 0)) here ∙ least-position (length net.cells) (is_missing_beside net walk (get_or walk place 0)) next least

@@ -11,6 +11,7 @@ use Rattle.network_file.specs.Connectors.{are_joined, connector_at, downstream_o
 use Rattle.network_file.specs.declared.connector.Connector.{Connector}
 use Rattle.network_file.specs.declared.connector.Connector.TheVariants.{Link}
 use Rattle.region_cut.proofs.Anys.{finds, found, same_tests}
+use Rattle.cut_grow.proofs.Counted.{counted, true-not_false}
 use Rattle.cut_grow.specs.Sides.{AreJoints, IsSideTable, has_on, side_of, touches_at}
 use Rattle.cut_grow.specs.declared.side.Side.{Side}
 use Rattle.cut_grow.specs.declared.side.Side.TheVariants.{Upstream, Downstream}
@@ -21,11 +22,9 @@ only-one : {X : Type 0} (p : X → Bool) (xs : List X) (a b : ℕ) (d : X) → c
 only-one p [] a b d few first second at_first at_second = absurd (omega arith)
 only-one p (x ∷ xs) zero zero d few first second at_first at_second = refl
 only-one p (x ∷ xs) zero (suc b) d few first second at_first at_second =
-    let more : count_by p (x ∷ xs) ≡ 1 + count_by p xs = rw at_first at (count_by-cons p x xs) in
-    absurd (omega (arith, more, count_by-some p xs b d (omega arith) at_second))
+    absurd (omega (arith, count_by-cons p x xs, counted (p x) at_first, count_by-some p xs b d (omega arith) at_second))
 only-one p (x ∷ xs) (suc a) zero d few first second at_first at_second =
-    let more : count_by p (x ∷ xs) ≡ 1 + count_by p xs = rw at_second at (count_by-cons p x xs) in
-    absurd (omega (arith, more, count_by-some p xs a d (omega arith) at_first))
+    absurd (omega (arith, count_by-cons p x xs, counted (p x) at_second, count_by-some p xs a d (omega arith) at_first))
 only-one p (x ∷ xs) (suc a) (suc b) d few first second at_first at_second =
     ap suc (only-one p xs a b d (omega (arith, count_by-cons p x xs)) (omega arith) (omega arith) at_first at_second)
 
@@ -68,13 +67,10 @@ side-more side cells connectors k a b table before there first second same = rec
       | inr last ↦
           let is : j ≡ k = omega arith in
           let other : has_on side i (connector_at connectors j) ≡ false = subst (λ m. has_on side i (connector_at connectors m) ≡ false) (sym is) old.1 in
-          absurd (differ (sym has ∙ other))
+          absurd (true-not_false (sym has ∙ other))
     ]
   ];
 }
-  where
-    differ : true ≡ false → ⊥
-    differ same = cc
 
 -- the connectors of a cell's sides
 

@@ -16,6 +16,7 @@ use Rattle.cut_grow.specs.Least.{IsLeast}
 use Rattle.cut_grow.specs.Orders.{IsOrder}
 use Rattle.cut_grow.specs.Sides.{IsClosed, IsOpen, is_free}
 use Rattle.cut_grow.specs.Walk.{file_order, is_missing, is_missing_beside, is_open, next_of, walk_of, walk_to}
+use Rattle.cut_grow.proofs.Counted.{true-not_false}
 use Rattle.cut_grow.proofs.NextCells.{closed-from, next-beside, next-lowest, open-from}
 
 -- marks that count themselves
@@ -34,22 +35,19 @@ some_mark (false ∷ marks) all i within = absurd (omega (arith, count_by-cons (
 all_marked : (marks : List Bool) → ((i : ℕ) → i < length marks → get_or marks i false ≡ true) → count_by (λ mark. mark) marks ≡ length marks
 all_marked [] each = refl
 all_marked (true ∷ marks) each = omega (arith, count_by-cons (λ mark. mark) true marks, all_marked marks (λ i within. each (suc i) (omega arith)))
-all_marked (false ∷ marks) each = absurd (differ (each 0 (omega arith)))
-  where
-    differ : false ≡ true → ⊥
-    differ same = cc
+all_marked (false ∷ marks) each = absurd (true-not_false (sym (each 0 (omega arith))))
 
--- the order is the walk so far; the marks say which cells it has; no cell before the first pointer is open, and each cell
+-- the order is the walk so far; the marks say which cells it has; no cell before the first pointer is place, and each cell
 -- before the second is in it
-pub record IsWalking (net : Network) (order : List ℕ) (placed : List Bool) (open lowest : ℕ) : Type 0 where
+pub record IsWalking (net : Network) (order : List ℕ) (placed : List Bool) (place lowest : ℕ) : Type 0 where
   pub so_far : order ≡ walk_to net (length order)
   pub one_each : length placed ≡ length net.cells
   pub marks : (i : ℕ) → get_or placed i false ≡ list_any (eqb i) order
   pub counted : count_by (λ mark. mark) placed ≡ length order
   pub there : All (λ i. i < length net.cells) order
   pub once : (p q : ℕ) → p < length order → q < length order → get_or order p 0 ≡ get_or order q 0 → p ≡ q
-  pub within : open ≤ length order
-  pub closed : (k : ℕ) → k < open → is_open net order (get_or order k 0) ≡ false
+  pub within : place ≤ length order
+  pub closed : (k : ℕ) → k < place → is_open net order (get_or order k 0) ≡ false
   pub low : lowest ≤ length net.cells
   pub full : (i : ℕ) → i < lowest → get_or placed i false ≡ true
 
@@ -89,43 +87,37 @@ walking-none net placed is = record {
 free-missing : (order : List ℕ) (placed : List Bool) (i : ℕ) → get_or placed i false ≡ list_any (eqb i) order → is_free placed i ≡ is_missing order i
 free-missing order placed i same = ap not same
 
-walking-closed : (net : Network) (order : List ℕ) (placed : List Bool) (open lowest x : ℕ) → IsWalking net order placed open lowest →
+walking-closed : (net : Network) (order : List ℕ) (placed : List Bool) (place lowest x : ℕ) → IsWalking net order placed place lowest →
     IsClosed net.connectors placed x → is_open net order x ≡ false
-walking-closed net order placed open lowest x walking none =
+walking-closed net order placed place lowest x walking none =
     closed-from net order x (λ i within.
     ap (λ free. free && are_joined net.connectors x i) (sym (free-missing order placed i (walking.marks i))) ∙ none i (omega (arith, walking.one_each)))
 
-walking-open : (net : Network) (order : List ℕ) (placed : List Bool) (open lowest x : ℕ) → IsWalking net order placed open lowest →
+walking-open : (net : Network) (order : List ℕ) (placed : List Bool) (place lowest x : ℕ) → IsWalking net order placed place lowest →
     IsOpen net.connectors placed x → is_open net order x ≡ true
-walking-open net order placed open lowest x walking some =
+walking-open net order placed place lowest x walking some =
     open-from net order x some.0 (omega (arith, walking.one_each, some.1))
     (ap (λ free. free && are_joined net.connectors x some.0) (sym (free-missing order placed some.0 (walking.marks some.0))) ∙ some.2)
 
--- a cell that isn't open stays so
+-- a cell that isn't place stays so
 missing-before : (order : List ℕ) (next i : ℕ) → is_missing (order ++ next ∷ []) i ≡ true → is_missing order i ≡ true
 missing-before order next i missing = elim (cases_Bool (list_any (eqb i) order)) [
   | inl has ↦
       let still : list_any (eqb i) (order ++ next ∷ []) ≡ true =
       list_any-append (eqb i) order (next ∷ []) ∙ or_left (list_any (eqb i) order) (list_any (eqb i) (next ∷ [])) has in
       let not_missing : is_missing (order ++ next ∷ []) i ≡ false = ap not still in
-      absurd (differ (sym missing ∙ not_missing))
+      absurd (true-not_false (sym missing ∙ not_missing))
   | inr none ↦ ap not none
 ]
-  where
-    differ : true ≡ false → ⊥
-    differ same = cc
 
 closed-stays : (net : Network) (order : List ℕ) (next x : ℕ) → is_open net order x ≡ false → is_open net (order ++ next ∷ []) x ≡ false
-closed-stays net order next x closed = false_from_ne_true (is_open net (order ++ next ∷ []) x) (λ open.
-    let here = found (is_missing_beside net (order ++ next ∷ []) x) (file_order net) open in
+closed-stays net order next x closed = false_from_ne_true (is_open net (order ++ next ∷ []) x) (λ opens.
+    let here = found (is_missing_beside net (order ++ next ∷ []) x) (file_order net) opens in
     let both = and_parts (is_missing (order ++ next ∷ []) here.0) (are_joined net.connectors x here.0) here.2 in
     let before : is_open net order x ≡ true =
     open-from net order x here.0 (Contains-range (length net.cells) here.0 here.1)
     (and_from (is_missing order here.0) (are_joined net.connectors x here.0) (missing-before order next here.0 both.0) both.1) in
-    differ (sym before ∙ closed))
-  where
-    differ : true ≡ false → ⊥
-    differ same = cc
+    true-not_false (sym before ∙ closed))
 
 -- numbers that stand once each, and one more that isn't among them
 once-push : (order : List ℕ) (next : ℕ) → ((p : ℕ) → p < length order → get_or order p 0 ≡ next → ⊥) →
@@ -152,19 +144,19 @@ once-push order next new once p q first second same =
     ]
 
 -- where the two pointers stand before a cell is added
-pub record IsPointed (net : Network) (order : List ℕ) (placed : List Bool) (open lowest next : ℕ) : Type 0 where
-  pub within : open ≤ length order
-  pub closed : (k : ℕ) → k < open → is_open net order (get_or order k 0) ≡ false
+pub record IsPointed (net : Network) (order : List ℕ) (placed : List Bool) (place lowest next : ℕ) : Type 0 where
+  pub within : place ≤ length order
+  pub closed : (k : ℕ) → k < place → is_open net order (get_or order k 0) ≡ false
   pub low : lowest ≤ length net.cells
   pub full : (i : ℕ) → i < lowest → get_or placed i false ≡ true
   pub next : next ≡ next_of net order
   pub there : next < length net.cells
   pub missing : get_or placed next false ≡ false
 
-pub walking-more : (net : Network) (order : List ℕ) (placed : List Bool) (was_open was_lowest open lowest next : ℕ) →
-    IsWalking net order placed was_open was_lowest → IsPointed net order placed open lowest next →
-    IsWalking net (order ++ next ∷ []) (set placed next true) open lowest
-walking-more net order placed was_open was_lowest open lowest next walking pointed =
+pub walking-more : (net : Network) (order : List ℕ) (placed : List Bool) (was_place was_lowest place lowest next : ℕ) →
+    IsWalking net order placed was_place was_lowest → IsPointed net order placed place lowest next →
+    IsWalking net (order ++ next ∷ []) (set placed next true) place lowest
+walking-more net order placed was_place was_lowest place lowest next walking pointed =
     let inside : next < length placed = omega (arith, walking.one_each, pointed.there) in record {
       so_far =
           ap (λ walk. walk ++ next ∷ []) walking.so_far ∙
@@ -186,7 +178,7 @@ walking-more net order placed was_open was_lowest open lowest next walking point
           let before : f (get_or placed next false) ≡ 0 = ap f pointed.missing in
           omega (arith, changed, before, walking.counted, length_push order next);
       there = All-push (λ i. i < length net.cells) order next walking.there pointed.there;
-      once = once-push order next (λ p within same. differ (sym (marked placed order next walking.marks p within same) ∙ pointed.missing)) walking.once;
+      once = once-push order next (λ p within same. true-not_false (sym (marked placed order next walking.marks p within same) ∙ pointed.missing)) walking.once;
       within = omega (arith, pointed.within, length_push order next);
       closed = λ k low.
           subst (λ x. is_open net (order ++ next ∷ []) x ≡ false) (sym (get_or_append_left order (next ∷ []) 0 k (omega (arith, pointed.within))))
@@ -202,31 +194,28 @@ walking-more net order placed was_open was_lowest open lowest next walking point
     or_false true = refl
     or_false false = refl
 
-    differ : true ≡ false → ⊥
-    differ same = cc
-
     marked : (placed : List Bool) (order : List ℕ) (next : ℕ) → ((i : ℕ) → get_or placed i false ≡ list_any (eqb i) order) →
         (p : ℕ) → p < length order → get_or order p 0 ≡ next → get_or placed next false ≡ true
     marked placed order next marks p within same = marks next ∙ list_any_at (eqb next) order p 0 within (eq-eqb next (get_or order p 0) (sym same))
 
--- the pointers after they moved, where the first stands at an open cell
-pub pointed-beside : (net : Network) (order : List ℕ) (placed : List Bool) (was_open was_lowest open lowest next : ℕ) →
-    IsWalking net order placed was_open was_lowest → open < length order →
-    ((k : ℕ) → was_open ≤ k → k < open → IsClosed net.connectors placed (get_or order k 0)) → IsOpen net.connectors placed (get_or order open 0) →
+-- the pointers after they moved, where the first stands at an place cell
+pub pointed-beside : (net : Network) (order : List ℕ) (placed : List Bool) (was_place was_lowest place lowest next : ℕ) →
+    IsWalking net order placed was_place was_lowest → place < length order →
+    ((k : ℕ) → was_place ≤ k → k < place → IsClosed net.connectors placed (get_or order k 0)) → IsOpen net.connectors placed (get_or order place 0) →
     lowest ≤ length placed → ((i : ℕ) → was_lowest ≤ i → i < lowest → get_or placed i false ≡ true) →
-    IsLeast (length placed) (λ i. is_free placed i && are_joined net.connectors (get_or order open 0) i) next →
-    IsPointed net order placed open lowest next
-pointed-beside net order placed was_open was_lowest open lowest next walking inside closed some low full least =
-    let all_closed : (k : ℕ) → k < open → is_open net order (get_or order k 0) ≡ false =
-    λ k before. elim (cases_lt k was_open) [
+    IsLeast (length placed) (λ i. is_free placed i && are_joined net.connectors (get_or order place 0) i) next →
+    IsPointed net order placed place lowest next
+pointed-beside net order placed was_place was_lowest place lowest next walking inside closed some low full least =
+    let all_closed : (k : ℕ) → k < place → is_open net order (get_or order k 0) ≡ false =
+    λ k before. elim (cases_lt k was_place) [
       | inl earlier ↦ walking.closed k earlier
-      | inr later ↦ walking-closed net order placed was_open was_lowest (get_or order k 0) walking (closed k later before)
+      | inr later ↦ walking-closed net order placed was_place was_lowest (get_or order k 0) walking (closed k later before)
     ] in
     let below : next < length placed = elim (cases_lt next (length placed)) [
       | inl lower ↦ lower
-      | inr past ↦ absurd (differ (sym some.2 ∙ least.before some.0 (omega (arith, some.1))))
+      | inr past ↦ absurd (true-not_false (sym some.2 ∙ least.before some.0 (omega (arith, some.1))))
     ] in
-    let both = and_parts (is_free placed next) (are_joined net.connectors (get_or order open 0) next) (least.here below) in
+    let both = and_parts (is_free placed next) (are_joined net.connectors (get_or order place 0) next) (least.here below) in
     record {
       within = omega arith;
       closed = all_closed;
@@ -235,37 +224,34 @@ pointed-beside net order placed was_open was_lowest open lowest next walking ins
         | inl earlier ↦ walking.full i earlier
         | inr later ↦ full i later before
       ];
-      next = sym (next-beside net order open next inside all_closed
-      (walking-open net order placed was_open was_lowest (get_or order open 0) walking some)
+      next = sym (next-beside net order place next inside all_closed
+      (walking-open net order placed was_place was_lowest (get_or order place 0) walking some)
       (record {
         within = omega (arith, walking.one_each, least.within);
         before = λ i lower.
-            ap (λ free. free && are_joined net.connectors (get_or order open 0) i) (sym (free-missing order placed i (walking.marks i))) ∙ least.before i lower;
+            ap (λ free. free && are_joined net.connectors (get_or order place 0) i) (sym (free-missing order placed i (walking.marks i))) ∙ least.before i lower;
         here = λ _.
-            ap (λ free. free && are_joined net.connectors (get_or order open 0) next) (sym (free-missing order placed next (walking.marks next))) ∙ least.here below;
+            ap (λ free. free && are_joined net.connectors (get_or order place 0) next) (sym (free-missing order placed next (walking.marks next))) ∙ least.here below;
       }));
       there = omega (arith, walking.one_each);
       missing = unfree (get_or placed next false) both.0;
     }
   where
-    differ : true ≡ false → ⊥
-    differ same = cc
-
     unfree : (mark : Bool) → not mark ≡ true → mark ≡ false
     unfree true free = cc
     unfree false free = refl
 
--- and where no cell of the order is open
-pub pointed-lowest : (net : Network) (order : List ℕ) (placed : List Bool) (was_open was_lowest open lowest : ℕ) →
-    IsWalking net order placed was_open was_lowest → length order < length net.cells → open ≡ length order →
-    ((k : ℕ) → was_open ≤ k → k < open → IsClosed net.connectors placed (get_or order k 0)) →
+-- and where no cell of the order is place
+pub pointed-lowest : (net : Network) (order : List ℕ) (placed : List Bool) (was_place was_lowest place lowest : ℕ) →
+    IsWalking net order placed was_place was_lowest → length order < length net.cells → place ≡ length order →
+    ((k : ℕ) → was_place ≤ k → k < place → IsClosed net.connectors placed (get_or order k 0)) →
     lowest ≤ length placed → ((i : ℕ) → was_lowest ≤ i → i < lowest → get_or placed i false ≡ true) →
-    (lowest < length placed → get_or placed lowest false ≡ false) → IsPointed net order placed open lowest lowest
-pointed-lowest net order placed was_open was_lowest open lowest walking short ends closed low full free =
-    let all_closed : (k : ℕ) → k < open → is_open net order (get_or order k 0) ≡ false =
-    λ k before. elim (cases_lt k was_open) [
+    (lowest < length placed → get_or placed lowest false ≡ false) → IsPointed net order placed place lowest lowest
+pointed-lowest net order placed was_place was_lowest place lowest walking short ends closed low full free =
+    let all_closed : (k : ℕ) → k < place → is_open net order (get_or order k 0) ≡ false =
+    λ k before. elim (cases_lt k was_place) [
       | inl earlier ↦ walking.closed k earlier
-      | inr later ↦ walking-closed net order placed was_open was_lowest (get_or order k 0) walking (closed k later before)
+      | inr later ↦ walking-closed net order placed was_place was_lowest (get_or order k 0) walking (closed k later before)
     ] in
     let all_full : (i : ℕ) → i < lowest → get_or placed i false ≡ true =
     λ i before. elim (cases_lt i was_lowest) [
@@ -291,9 +277,9 @@ pointed-lowest net order placed was_open was_lowest open lowest walking short en
     }
 
 -- a walk as long as there are cells
-pub walking-all : (net : Network) (order : List ℕ) (placed : List Bool) (open lowest : ℕ) → IsWalking net order placed open lowest →
+pub walking-all : (net : Network) (order : List ℕ) (placed : List Bool) (place lowest : ℕ) → IsWalking net order placed place lowest →
     length order ≡ length net.cells → (order ≡ walk_of net) × IsOrder (length net.cells) order
-walking-all net order placed open lowest walking long = (
+walking-all net order placed place lowest walking long = (
   walking.so_far ∙ ap (walk_to net) long,
   record {
     long = long;

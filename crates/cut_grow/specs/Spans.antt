@@ -10,7 +10,7 @@ pub record ArePlaces (cells : ℕ) (order places : List ℕ) : Type 0 where
   pub long : length places ≡ cells
   pub there : (i : ℕ) → i < cells → slice_index places i < cells
   pub back : (i : ℕ) → i < cells → slice_index order (slice_index places i) ≡ i
-  pub at : (p : ℕ) → p < cells → slice_index places (slice_index order p) ≡ p
+  pub forth : (p : ℕ) → p < cells → slice_index places (slice_index order p) ≡ p
 
 -- the first and the last place of a connector's cells
 pub record IsSpan (places : List ℕ) (connector : Connector) (span : Span) : Type 0 where

@@ -5,7 +5,7 @@
 mod cut_count;
 mod joints;
 mod lowest;
-mod open;
+mod open_cells;
 mod side;
 mod walk;
 

@@ -4,6 +4,6 @@ use Rattle.cut_grow.proofs.walk.walk.Given as goal
 
 abbrev pub invariant-loop : goal.invariant-loop
 invariant-loop l = record {
-  walking : IsWalking l.net l.order.items l.placed.items l.open l.lowest;
+  walking : IsWalking l.net l.order.items l.placed.items l.place l.lowest;
   long : length l.order.items ≡ l.counter;
 }
