@@ -1,14 +1,6 @@
-pub mod Bests
 pub mod Connectors
 pub mod Counted
-pub mod EvenSizes
-pub mod GainCounts
-pub mod InsideRuns
 pub mod Leasts
-pub mod MostRuns
 pub mod NextCells
-pub mod Runs
 pub mod SideTables
-pub mod Tabling
-pub mod Tracing
 pub mod Walking

@@ -105,8 +105,8 @@ pub joints-are : (cells : ℕ) (connectors : List Connector) (out into : List �
     IsSideTable Downstream cells connectors (length connectors) into → ((i : ℕ) → count_by (has_on Upstream i) connectors ≤ 1) →
     ((i : ℕ) → count_by (has_on Downstream i) connectors ≤ 1) → AreJoints cells connectors out into
 joints-are cells connectors out into up down one_out one_in = record {
-  out = up.one_each;
-  into = down.one_each;
+  each_out = up.one_each;
+  each_into = down.one_each;
   joins = λ x i within.
       let by_out : Bool = touches_at connectors (get_or out x 0) i in
       let by_into : Bool = touches_at connectors (get_or into x 0) i in

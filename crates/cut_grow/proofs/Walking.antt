@@ -10,6 +10,7 @@ use Rattle.std.proofs.lemmas.List.Sums.{sum_by-set}
 use Rattle.signal_plan.proofs.Sums.{count_by-cons}
 use Rattle.network_file.specs.Connectors.{are_joined}
 use Rattle.network_file.specs.Network.{Network}
+use Rattle.network_file.specs.declared.connector.Connector.{Connector}
 use Rattle.region_cut.proofs.Anys.{Contains-from_test, found}
 use Rattle.region_cut.proofs.Ranges.{Contains-range}
 use Rattle.cut_grow.specs.Least.{IsLeast}
@@ -149,7 +150,7 @@ pub record IsPointed (net : Network) (order : List ℕ) (placed : List Bool) (pl
   pub closed : (k : ℕ) → k < place → is_open net order (get_or order k 0) ≡ false
   pub low : lowest ≤ length net.cells
   pub full : (i : ℕ) → i < lowest → get_or placed i false ≡ true
-  pub next : next ≡ next_of net order
+  pub is_next : next ≡ next_of net order
   pub there : next < length net.cells
   pub missing : get_or placed next false ≡ false
 
@@ -160,7 +161,7 @@ walking-more net order placed was_place was_lowest place lowest next walking poi
     let inside : next < length placed = omega (arith, walking.one_each, pointed.there) in record {
       so_far =
           ap (λ walk. walk ++ next ∷ []) walking.so_far ∙
-          ap (λ i. walk_to net (length order) ++ i ∷ []) (pointed.next ∙ ap (next_of net) walking.so_far) ∙
+          ap (λ i. walk_to net (length order) ++ i ∷ []) (pointed.is_next ∙ ap (next_of net) walking.so_far) ∙
           sym (walk_to-more net (length order)) ∙ ap (walk_to net) (sym (length_push order next));
       one_each = length-set placed next true ∙ walking.one_each;
       marks = λ i. elim (cases_eq i next) [
@@ -198,7 +199,26 @@ walking-more net order placed was_place was_lowest place lowest next walking poi
         (p : ℕ) → p < length order → get_or order p 0 ≡ next → get_or placed next false ≡ true
     marked placed order next marks p within same = marks next ∙ list_any_at (eqb next) order p 0 within (eq-eqb next (get_or order p 0) (sym same))
 
--- the pointers after they moved, where the first stands at an place cell
+-- the least free cell beside an open one is there
+pub open-least : (connectors : List Connector) (placed : List Bool) (x next : ℕ) → IsOpen connectors placed x →
+    IsLeast (length placed) (λ i. is_free placed i && are_joined connectors x i) next → next < length placed
+open-least connectors placed x next some least = elim (cases_lt next (length placed)) [
+  | inl lower ↦ lower
+  | inr past ↦ absurd (true-not_false (sym some.2 ∙ least.before some.0 (omega (arith, some.1))))
+]
+
+-- the least free cell is there, as long as the order is shorter than all cells
+pub lowest-below : (net : Network) (order : List ℕ) (placed : List Bool) (place was_lowest lowest : ℕ) → IsWalking net order placed place was_lowest →
+    length order < length net.cells → lowest ≤ length placed → ((i : ℕ) → was_lowest ≤ i → i < lowest → get_or placed i false ≡ true) → lowest < length placed
+lowest-below net order placed place was_lowest lowest walking short low full = elim (cases_lt lowest (length placed)) [
+  | inl lower ↦ lower
+  | inr past ↦ absurd (omega (arith, walking.one_each, walking.counted, all_marked placed (λ i within. elim (cases_lt i was_lowest) [
+      | inl earlier ↦ walking.full i earlier
+      | inr later ↦ full i later (omega arith)
+    ])))
+]
+
+-- the pointers after they moved, where the first stands at an open cell
 pub pointed-beside : (net : Network) (order : List ℕ) (placed : List Bool) (was_place was_lowest place lowest next : ℕ) →
     IsWalking net order placed was_place was_lowest → place < length order →
     ((k : ℕ) → was_place ≤ k → k < place → IsClosed net.connectors placed (get_or order k 0)) → IsOpen net.connectors placed (get_or order place 0) →
@@ -211,10 +231,7 @@ pointed-beside net order placed was_place was_lowest place lowest next walking i
       | inl earlier ↦ walking.closed k earlier
       | inr later ↦ walking-closed net order placed was_place was_lowest (get_or order k 0) walking (closed k later before)
     ] in
-    let below : next < length placed = elim (cases_lt next (length placed)) [
-      | inl lower ↦ lower
-      | inr past ↦ absurd (true-not_false (sym some.2 ∙ least.before some.0 (omega (arith, some.1))))
-    ] in
+    let below : next < length placed = open-least net.connectors placed (get_or order place 0) next some least in
     let both = and_parts (is_free placed next) (are_joined net.connectors (get_or order place 0) next) (least.here below) in
     record {
       within = omega arith;
@@ -224,7 +241,7 @@ pointed-beside net order placed was_place was_lowest place lowest next walking i
         | inl earlier ↦ walking.full i earlier
         | inr later ↦ full i later before
       ];
-      next = sym (next-beside net order place next inside all_closed
+      is_next = sym (next-beside net order place next inside all_closed
       (walking-open net order placed was_place was_lowest (get_or order place 0) walking some)
       (record {
         within = omega (arith, walking.one_each, least.within);
@@ -258,16 +275,13 @@ pointed-lowest net order placed was_place was_lowest place lowest walking short 
       | inl earlier ↦ walking.full i earlier
       | inr later ↦ full i later before
     ] in
-    let below : lowest < length placed = elim (cases_lt lowest (length placed)) [
-      | inl lower ↦ lower
-      | inr past ↦ absurd (omega (arith, walking.one_each, walking.counted, all_marked placed (λ i within. all_full i (omega arith))))
-    ] in
+    let below : lowest < length placed = lowest-below net order placed was_place was_lowest lowest walking short low full in
     record {
       within = omega arith;
       closed = all_closed;
       low = omega (arith, walking.one_each);
       full = all_full;
-      next = sym (next-lowest net order lowest (λ k before. all_closed k (omega arith)) (record {
+      is_next = sym (next-lowest net order lowest (λ k before. all_closed k (omega arith)) (record {
         within = omega (arith, walking.one_each);
         before = λ i lower. ap not (sym (walking.marks i) ∙ all_full i lower);
         here = λ _. ap not (sym (walking.marks lowest) ∙ free below);

@@ -4,7 +4,3 @@ pub mod Grown
 pub mod Orders
 pub mod Least
 pub mod Sides
-pub mod Spans
-pub mod Counts
-pub mod Most
-pub mod BestRuns

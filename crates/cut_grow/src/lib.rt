@@ -2,11 +2,11 @@
 //! a walk from cell to cell, one that cuts the fewest connectors.
 #![tactic(auto)]
 
-mod cut_count;
+mod cut_connectors;
 mod joints;
 mod lowest;
 mod open_cells;
 mod side;
 mod walk;
 
-pub use cut_count::cut_count;
+pub use cut_connectors::cut_count;

@@ -10,8 +10,8 @@ use Rattle.network_file.proofs.NetworkFacts.{few_connectors, read_connector}
 use Rattle.region_cut.specs.Joins.{crosses}
 use Rattle.cut_grow.specs.CutConnectors.{cuts}
 use Rattle.cut_grow.proofs.Connectors.{connectors-there}
-use Rattle.cut_grow.proofs.cut_count.cut_count.Goals.{then-is_cut, else-is_cut}
-use Rattle.cut_grow.proofs.cut_count.cut_count.Goals as goal
+use Rattle.cut_grow.proofs.cut_connectors.cut_count.Goals.{then-is_cut, else-is_cut}
+use Rattle.cut_grow.proofs.cut_connectors.cut_count.Goals as goal
 
 pub is_cut-requires : goal.is_cut-requires
 is_cut-requires c =
