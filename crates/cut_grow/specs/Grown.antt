@@ -1,0 +1,33 @@
+-- Grown cuttings: of the cuttings in even runs of the file order or of the walk, those that cut the fewest connectors.
+use Rattle.std.specs.Prelude.{◌≡◌, ℕ, ◌+◌, ◌-◌, ◌/◌, ◌≤◌, ◌⊎◌, List, [], ◌∷◌, ◌++◌, length, map, replicate, All}
+use Rattle.network_file.specs.Cutting.{IsCutting}
+use Rattle.network_file.specs.Network.{Network}
+use Rattle.region_cut.specs.Cuttings.{region_at}
+use Rattle.cut_grow.specs.CutConnectors.{cuts}
+use Rattle.cut_grow.specs.Walk.{file_order, walk_of}
+
+-- the floor or the ceiling of cells by k
+abbrev pub IsEvenSize : (cells k size : ℕ) → Type 0
+IsEvenSize cells k size = (size ≡ cells / k) ⊎ (size ≡ (cells + k - 1) / k)
+
+-- the numbers of runs of these sizes, from r on, each as often as its size says
+abbrev pub runs_from : (r : ℕ) → (sizes : List ℕ) → List ℕ
+runs_from r [] = []
+runs_from r (size ∷ sizes) = replicate size r ++ runs_from (r + 1) sizes
+
+-- a cutting whose k regions are consecutive runs of the order, numbered as they come, of even sizes
+pub record IsInRuns (net : Network) (k : ℕ) (order list : List ℕ) : Type 0 where
+  pub cutting : IsCutting (length net.cells) list
+  pub sizes : List ℕ
+  pub one_each : length sizes ≡ k
+  pub even : All (IsEvenSize (length net.cells) k) sizes
+  pub runs : map (region_at list) order ≡ runs_from 0 sizes
+
+-- a candidate in k regions: a cutting in such runs of the file order or of the walk
+abbrev pub IsCandidate : Network → (k : ℕ) → (list : List ℕ) → Type 0
+IsCandidate net k list = IsInRuns net k (file_order net) list ⊎ IsInRuns net k (walk_of net) list
+
+-- a candidate that cuts no more connectors than any other
+pub record IsGrown (net : Network) (k : ℕ) (list : List ℕ) : Type 0 where
+  pub candidate : IsCandidate net k list
+  pub fewest : (other : List ℕ) → IsCandidate net k other → cuts list net ≤ cuts other net
