@@ -1,22 +1,27 @@
 -- What every network keeps is kept by one more cell, connector or record of the plan.
-use Rattle.std.proofs.Common.{ℕ, zero, suc, ◌≡◌, ◌<◌, ◌≤◌, ◌+◌, Bool, true, false, List, [], ◌∷◌, ◌++◌, Option, Some, None, cond, ◌∙◌, refl, length, arith, length-append, eqb, map}
+use Rattle.std.proofs.Common.{ℕ, zero, suc, ◌≡◌, ◌<◌, ◌≤◌, ◌+◌, Bool, true, false, List, [], ◌∷◌, ◌++◌, Option, Some, None, cond, ◌∙◌, refl, ap, length, arith, length-append, eqb, map}
 use Rattle.std.specs.Prelude.{All, count_by, slice_get, ◌||◌}
 use Rattle.std.specs.List.{list_any}
 use Rattle.std.specs.Cmp.Lexicographic.{nat_list_eq_equiv}
 use Rattle.std.proofs.lemmas.Bool.{eqb-true}
-use Rattle.std.proofs.lemmas.List.{map-append}
-use Rattle.std.proofs.lemmas.List.Elements.{All-head, All-push, All-tail}
+use Rattle.std.proofs.lemmas.List.{length-set, map-append}
+use Rattle.std.proofs.lemmas.List.Elements.{All-head, All-nil, All-push, All-set, All-tail}
 use Rattle.std.proofs.lemmas.List.Folds.{list_any-append}
 use Rattle.std.proofs.lemmas.List.Sums.{sum_by_push, sum_by-cons}
 use Rattle.std.proofs.lemmas.Map.Keys.{IsDistinct-push}
-use Rattle.std.proofs.lemmas.Option.{slice_get_within}
-use Rattle.signal_plan.specs.Records.{DemandRecord, LimitRecord, PlanRecords, SignalRecord, TurnRecord, with_cell, with_demand, with_limit, with_signal, with_turn}
+use Rattle.std.proofs.lemmas.Option.{IfSome_then, slice_get_within}
+use Rattle.signal_plan.specs.Counts.{counts_of, demand_count, limit_count, signal_count, turn_count}
+use Rattle.signal_plan.specs.Green.{is_signalled}
 use Rattle.signal_plan.specs.Limits.{most_steps}
+use Rattle.signal_plan.specs.Records.{CellRecords, DemandRecord, LimitRecord, PlannedCell, PlanRecords, SignalRecord, TurnRecord, bare_cell, planned_at, records_at, with_cell, with_demand, with_limit, with_own_demand, with_own_limit, with_own_signal, with_own_turn, with_records, with_signal, with_turn}
+use Rattle.signal_plan.specs.Sound.{IsSoundTurn}
+use Rattle.signal_plan.specs.declared.plan_counts.PlanCounts.{PlanCounts}
+use Rattle.signal_plan.proofs.Counting.{counts_of-with_cell, counts_of-with_demand, counts_of-with_limit, counts_of-with_signal, counts_of-with_turn}
 use Rattle.network_file.specs.Formats.{most_records}
 use Rattle.network_file.proofs.CellLemmas.{no_name}
 use Rattle.network_file.specs.Cells.{cell_named, is_exit_at, is_gate_at}
 use Rattle.network_file.specs.Connectors.{diverges_from, downstream_of, leads_into, leads_out_of, upstream_of}
-use Rattle.network_file.specs.Network.{HasSoundParts, IsPlanOf, IsSoundCell, IsSoundConnector, IsTurnWithin}
+use Rattle.network_file.specs.Network.{HasSoundParts, IsPlanOf, IsPlannedCell, IsSoundCell, IsSoundConnector}
 use Rattle.network_file.specs.declared.cell.Cell.{Cell}
 use Rattle.network_file.specs.declared.connector.Connector.{Connector}
 use Rattle.network_file.specs.Limits.{most_capacity, most_regions}
@@ -89,25 +94,38 @@ still_sound cells cell connector sound = record {
   weights = sound.weights;
 }
 
+-- what a plan says of a cell of a draft fits the draft with one more cell
+still_planned : (cells : List Cell) (cell : Cell) (planned : PlannedCell) → IsPlannedCell cells planned → IsPlannedCell (cells ++ cell ∷ []) planned
+still_planned cells cell planned fits = record {
+  capacity = fits.capacity;
+  signal = IfSome_then planned.records.signal fits.signal (λ s here.
+      (simp length-append (omega (arith, here.0)), rw (same_exit cells cell s.cell here.0) here.1));
+  limits = fits.limits;
+  demands = λ k d h.
+      let (gate, in_time) = fits.demands k d h in
+      (rw (same_gate cells cell _ (gate-within cells _ gate)) gate, in_time);
+  turns = fits.turns;
+}
+
+-- a cell without records
+bare_planned : (cells : List Cell) (capacity : ℕ) → capacity ≤ most_capacity → IsPlannedCell cells (bare_cell capacity)
+bare_planned cells capacity low =
+    record { capacity = low; signal = tt; limits = All-nil _; demands = All-nil _; turns = All-nil _ }
+
 -- a plan of the cells is one of one cell more
 plan-add_cell : (format : ℕ) (cells : List Cell) (plan : PlanRecords) (cell : Cell) (capacity : ℕ) → IsPlanOf format cells plan → capacity ≤ most_capacity
     → IsPlanOf format (cells ++ cell ∷ []) (with_cell plan capacity)
-plan-add_cell format cells plan cell capacity planned low = record {
-  one_each = simp length-append (omega (arith, planned.one_each));
-  capacities = All-push (λ q. q ≤ most_capacity) plan.cells capacity planned.capacities low;
-  signals = λ k d h.
-      let (there, sends) = planned.signals k d h in
-      (simp length-append (omega (arith, there)), rw (same_exit cells cell _ there) sends);
-  few_limits = planned.few_limits;
-  limits = planned.limits;
-  few_demands = planned.few_demands;
-  demands = λ k d h.
-      let (gate, in_time) = planned.demands k d h in
-      (rw (same_gate cells cell _ (gate-within cells _ gate)) gate, in_time);
-  few_turns = planned.few_turns;
-  turns = planned.turns;
-  no_turns = planned.no_turns;
-}
+plan-add_cell format cells plan cell capacity planned low =
+    let counts = counts_of-with_cell plan capacity in
+    record {
+      one_each = simp length-append (omega (arith, planned.one_each));
+      planned = All-push (IsPlannedCell (cells ++ cell ∷ [])) plan.cells (bare_cell capacity)
+          (λ k d h. still_planned cells cell _ (planned.planned k d h)) (bare_planned _ capacity low);
+      few_limits = omega (arith, planned.few_limits, ap (λ (n : PlanCounts). n.limits) counts);
+      few_demands = omega (arith, planned.few_demands, ap (λ (n : PlanCounts). n.demands) counts);
+      few_turns = omega (arith, planned.few_turns, ap (λ (n : PlanCounts). n.turns) counts);
+      no_turns = λ first. ap (λ (n : PlanCounts). n.turns) counts ∙ planned.no_turns first;
+    }
 
 pub HasSoundParts-add_cell : (format : ℕ) (cells : List Cell) (connectors : List Connector) (plan : PlanRecords) (cell : Cell) (capacity : ℕ)
     → HasSoundParts format cells connectors plan → length cells < most_records format → cell_named cells cell.name ≡ None → IsSoundCell cell → capacity ≤ most_capacity
@@ -121,7 +139,8 @@ HasSoundParts-add_cell format cells connectors plan cell capacity sound room fre
   one_out = sound.one_out;
   one_in = sound.one_in;
   planned = plan-add_cell format cells plan cell capacity sound.planned low;
-  turns_diverge = sound.turns_diverge;
+  turns_diverge = All-push (λ planned. All (λ turn. list_any (diverges_from turn.cell) connectors ≡ true) planned.records.turns) plan.cells (bare_cell capacity)
+      sound.turns_diverge (All-nil _);
 }
 
 pub HasSoundParts-add_connector : (format : ℕ) (cells : List Cell) (connectors : List Connector) (plan : PlanRecords) (connector : Connector)
@@ -140,95 +159,111 @@ HasSoundParts-add_connector format cells connectors plan connector sound room fi
   one_in = λ i. count_by-push (leads_into i) connectors connector (sound.one_in i)
       (All-found (λ down. list_any (leads_into down) connectors ≡ false) i (downstream_of connector) down_free);
   planned = sound.planned;
-  turns_diverge = λ k d h. list_any-kept (diverges_from _) connectors connector (sound.turns_diverge k d h);
+  turns_diverge = λ i p there k d h. list_any-kept (diverges_from _) connectors connector (sound.turns_diverge i p there k d h);
 }
 
--- what every network keeps, with other records of the plan
-with_plan : (format : ℕ) (cells : List Cell) (connectors : List Connector) (old new : PlanRecords) → HasSoundParts format cells connectors old → IsPlanOf format cells new
-    → All (λ turn. list_any (diverges_from turn.cell) connectors ≡ true) new.turns → HasSoundParts format cells connectors new
-with_plan format cells connectors old new sound planned turns_diverge = record {
-  few_cells = sound.few_cells;
-  few_connectors = sound.few_connectors;
-  sound_cells = sound.sound_cells;
-  names = sound.names;
-  sound_connectors = sound.sound_connectors;
-  one_out = sound.one_out;
-  one_in = sound.one_in;
-  planned = planned;
-  turns_diverge = turns_diverge;
-}
+-- what a plan says of a cell that is there
+planned-there : (format : ℕ) (cells : List Cell) (plan : PlanRecords) (cell : ℕ) → IsPlanOf format cells plan → cell < length cells
+    → IsPlannedCell cells (planned_at plan cell)
+planned-there format cells plan cell planned there = planned.planned cell (bare_cell 0) (omega (arith, planned.one_each))
+
+-- the turns of a cell that is there
+turns-there : (cells : List Cell) (connectors : List Connector) (format : ℕ) (plan : PlanRecords) (cell : ℕ) → HasSoundParts format cells connectors plan
+    → cell < length cells → All (λ turn. list_any (diverges_from turn.cell) connectors ≡ true) (records_at plan cell).turns
+turns-there cells connectors format plan cell sound there = sound.turns_diverge cell (bare_cell 0) (omega (arith, sound.planned.one_each))
+
+-- what every network keeps, with other records of a cell
+with_own : (format : ℕ) (cells : List Cell) (connectors : List Connector) (plan : PlanRecords) (cell : ℕ) (own : CellRecords) (counts : PlanCounts)
+    → HasSoundParts format cells connectors plan → IsPlannedCell cells (record (planned_at plan cell) { records = own })
+    → counts_of (with_records plan cell own) ≡ counts → counts.limits ≤ most_records format → counts.demands ≤ most_records format → counts.turns ≤ most_records format
+    → (format ≡ 1 → counts.turns ≡ 0) → All (λ turn. list_any (diverges_from turn.cell) connectors ≡ true) own.turns
+    → HasSoundParts format cells connectors (with_records plan cell own)
+with_own format cells connectors plan cell own counts sound fits are few_limits few_demands few_turns no_turns diverge =
+    let changed : PlannedCell = record (planned_at plan cell) { records = own } in
+    record {
+      few_cells = sound.few_cells;
+      few_connectors = sound.few_connectors;
+      sound_cells = sound.sound_cells;
+      names = sound.names;
+      sound_connectors = sound.sound_connectors;
+      one_out = sound.one_out;
+      one_in = sound.one_in;
+      planned = record {
+        one_each = rw length-set sound.planned.one_each;
+        planned = All-set (IsPlannedCell cells) plan.cells cell changed fits sound.planned.planned;
+        few_limits = omega (arith, few_limits, ap (λ (n : PlanCounts). n.limits) are);
+        few_demands = omega (arith, few_demands, ap (λ (n : PlanCounts). n.demands) are);
+        few_turns = omega (arith, few_turns, ap (λ (n : PlanCounts). n.turns) are);
+        no_turns = λ first. ap (λ (n : PlanCounts). n.turns) are ∙ no_turns first;
+      };
+      turns_diverge = All-set (λ planned. All (λ turn. list_any (diverges_from turn.cell) connectors ≡ true) planned.records.turns) plan.cells cell changed diverge
+          sound.turns_diverge;
+    }
 
 pub HasSoundParts-add_signal : (format : ℕ) (cells : List Cell) (connectors : List Connector) (plan : PlanRecords) (signal : SignalRecord)
-    → HasSoundParts format cells connectors plan → signal.cell < length cells → is_exit_at cells signal.cell ≡ false
+    → HasSoundParts format cells connectors plan → signal.cell < length cells → is_exit_at cells signal.cell ≡ false → is_signalled plan signal.cell ≡ false
     → HasSoundParts format cells connectors (with_signal plan signal)
-HasSoundParts-add_signal format cells connectors plan signal sound there sends =
-    let planned = sound.planned in
-    with_plan format cells connectors plan (with_signal plan signal) sound (record {
-      one_each = planned.one_each;
-      capacities = planned.capacities;
-      signals = All-push (λ s. (s.cell < length cells) × (is_exit_at cells s.cell ≡ false)) plan.signals signal planned.signals (there, sends);
-      few_limits = planned.few_limits;
-      limits = planned.limits;
-      few_demands = planned.few_demands;
-      demands = planned.demands;
-      few_turns = planned.few_turns;
-      turns = planned.turns;
-      no_turns = planned.no_turns;
-    }) sound.turns_diverge
+HasSoundParts-add_signal format cells connectors plan signal sound there sends first =
+    let own = records_at plan signal.cell in
+    let old = planned-there format cells plan signal.cell sound.planned there in
+    let old_turns = turns-there cells connectors format plan signal.cell sound there in
+    with_own format cells connectors plan signal.cell (with_own_signal own signal) (record (counts_of plan) { signals = signal_count plan + 1 }) sound (record {
+      capacity = old.capacity;
+      signal = (there, sends);
+      limits = old.limits;
+      demands = old.demands;
+      turns = old.turns;
+    }) (counts_of-with_signal plan signal (omega (arith, there, sound.planned.one_each)) first) sound.planned.few_limits sound.planned.few_demands sound.planned.few_turns
+    sound.planned.no_turns old_turns
 
 pub HasSoundParts-add_limit : (format : ℕ) (cells : List Cell) (connectors : List Connector) (plan : PlanRecords) (limit : LimitRecord)
-    → HasSoundParts format cells connectors plan → length plan.limits < most_records format → limit.to ≤ most_steps → limit.capacity ≤ most_capacity
+    → HasSoundParts format cells connectors plan → limit.cell < length cells → limit_count plan < most_records format → limit.to ≤ most_steps → limit.capacity ≤ most_capacity
     → HasSoundParts format cells connectors (with_limit plan limit)
-HasSoundParts-add_limit format cells connectors plan limit sound room in_time low =
-    let planned = sound.planned in
-    with_plan format cells connectors plan (with_limit plan limit) sound (record {
-      one_each = planned.one_each;
-      capacities = planned.capacities;
-      signals = planned.signals;
-      few_limits = simp length-append (omega (arith, room));
-      limits = All-push (λ l. (l.to ≤ most_steps) × (l.capacity ≤ most_capacity)) plan.limits limit planned.limits (in_time, low);
-      few_demands = planned.few_demands;
-      demands = planned.demands;
-      few_turns = planned.few_turns;
-      turns = planned.turns;
-      no_turns = planned.no_turns;
-    }) sound.turns_diverge
+HasSoundParts-add_limit format cells connectors plan limit sound there room in_time low =
+    let own = records_at plan limit.cell in
+    let old = planned-there format cells plan limit.cell sound.planned there in
+    let old_turns = turns-there cells connectors format plan limit.cell sound there in
+    with_own format cells connectors plan limit.cell (with_own_limit own limit) (record (counts_of plan) { limits = limit_count plan + 1 }) sound (record {
+      capacity = old.capacity;
+      signal = old.signal;
+      limits = All-push (λ l. (l.to ≤ most_steps) × (l.capacity ≤ most_capacity)) own.limits limit old.limits (in_time, low);
+      demands = old.demands;
+      turns = old.turns;
+    }) (counts_of-with_limit plan limit (omega (arith, there, sound.planned.one_each))) (omega (arith, room)) sound.planned.few_demands sound.planned.few_turns
+    sound.planned.no_turns old_turns
 
 pub HasSoundParts-add_demand : (format : ℕ) (cells : List Cell) (connectors : List Connector) (plan : PlanRecords) (demand : DemandRecord)
-    → HasSoundParts format cells connectors plan → length plan.demands < most_records format → is_gate_at cells demand.cell ≡ true → demand.to ≤ most_steps
+    → HasSoundParts format cells connectors plan → demand.cell < length cells → demand_count plan < most_records format → is_gate_at cells demand.cell ≡ true → demand.to ≤ most_steps
     → HasSoundParts format cells connectors (with_demand plan demand)
-HasSoundParts-add_demand format cells connectors plan demand sound room gate in_time =
-    let planned = sound.planned in
-    with_plan format cells connectors plan (with_demand plan demand) sound (record {
-      one_each = planned.one_each;
-      capacities = planned.capacities;
-      signals = planned.signals;
-      few_limits = planned.few_limits;
-      limits = planned.limits;
-      few_demands = simp length-append (omega (arith, room));
-      demands = All-push (λ d. (is_gate_at cells d.cell ≡ true) × (d.to ≤ most_steps)) plan.demands demand planned.demands (gate, in_time);
-      few_turns = planned.few_turns;
-      turns = planned.turns;
-      no_turns = planned.no_turns;
-    }) sound.turns_diverge
+HasSoundParts-add_demand format cells connectors plan demand sound there room gate in_time =
+    let own = records_at plan demand.cell in
+    let old = planned-there format cells plan demand.cell sound.planned there in
+    let old_turns = turns-there cells connectors format plan demand.cell sound there in
+    with_own format cells connectors plan demand.cell (with_own_demand own demand) (record (counts_of plan) { demands = demand_count plan + 1 }) sound (record {
+      capacity = old.capacity;
+      signal = old.signal;
+      limits = old.limits;
+      demands = All-push (λ d. (is_gate_at cells d.cell ≡ true) × (d.to ≤ most_steps)) own.demands demand old.demands (gate, in_time);
+      turns = old.turns;
+    }) (counts_of-with_demand plan demand (omega (arith, there, sound.planned.one_each))) sound.planned.few_limits (omega (arith, room)) sound.planned.few_turns
+    sound.planned.no_turns old_turns
 
 pub HasSoundParts-add_turn : (format : ℕ) (cells : List Cell) (connectors : List Connector) (plan : PlanRecords) (turn : TurnRecord)
-    → HasSoundParts format cells connectors plan → format ≡ 2 → length plan.turns < most_records format → list_any (diverges_from turn.cell) connectors ≡ true
-    → turn.to ≤ most_steps → IsTurnWithin turn → HasSoundParts format cells connectors (with_turn plan turn)
-HasSoundParts-add_turn format cells connectors plan turn sound second room diverges in_time within =
-    let planned = sound.planned in
-    with_plan format cells connectors plan (with_turn plan turn) sound (record {
-      one_each = planned.one_each;
-      capacities = planned.capacities;
-      signals = planned.signals;
-      few_limits = planned.few_limits;
-      limits = planned.limits;
-      few_demands = planned.few_demands;
-      demands = planned.demands;
-      few_turns = simp length-append (omega (arith, room));
-      turns = All-push (λ t. (t.to ≤ most_steps) × IsTurnWithin t) plan.turns turn planned.turns (in_time, within);
-      no_turns = λ first. cc (first, second);
-    }) (All-push (λ t. list_any (diverges_from t.cell) connectors ≡ true) plan.turns turn sound.turns_diverge diverges)
+    → HasSoundParts format cells connectors plan → turn.cell < length cells → format ≡ 2 → turn_count plan < most_records format → list_any (diverges_from turn.cell) connectors ≡ true
+    → turn.to ≤ most_steps → IsSoundTurn turn
+    → HasSoundParts format cells connectors (with_turn plan turn)
+HasSoundParts-add_turn format cells connectors plan turn sound there second room diverges in_time within =
+    let own = records_at plan turn.cell in
+    let old = planned-there format cells plan turn.cell sound.planned there in
+    let old_turns = turns-there cells connectors format plan turn.cell sound there in
+    with_own format cells connectors plan turn.cell (with_own_turn own turn) (record (counts_of plan) { turns = turn_count plan + 1 }) sound (record {
+      capacity = old.capacity;
+      signal = old.signal;
+      limits = old.limits;
+      demands = old.demands;
+      turns = All-push (λ t. (t.to ≤ most_steps) × IsSoundTurn t) own.turns turn old.turns (in_time, within);
+    }) (counts_of-with_turn plan turn (omega (arith, there, sound.planned.one_each))) sound.planned.few_limits sound.planned.few_demands (omega (arith, room))
+    (λ first. cc (first, second)) (All-push (λ t. list_any (diverges_from t.cell) connectors ≡ true) own.turns turn old_turns diverges)
 
 -- the regions of a draft with one more cell
 pub regions-add_cell : (cells : List Cell) (cell : Cell) (regions : List RegionRecord)

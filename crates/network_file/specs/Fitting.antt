@@ -1,15 +1,16 @@
 -- Which records a draft can take, and the draft with one of them.
-use Rattle.std.specs.Prelude.{◌≡◌, ℕ, ◌<◌, ◌≤◌, length, All, None, true, false}
+use Rattle.std.specs.Prelude.{◌≡◌, ℕ, ◌<◌, ◌≤◌, length, All, None, is_none, true, false}
 use Rattle.std.specs.List.{list_any}
-use Rattle.fixed_flow.specs.Limits.{most_parts}
+use Rattle.signal_plan.specs.Counts.{demand_count, limit_count, turn_count}
 use Rattle.signal_plan.specs.Green.{is_signalled}
-use Rattle.signal_plan.specs.Records.{DemandRecord, LimitRecord, SignalRecord, TurnRecord}
 use Rattle.signal_plan.specs.Limits.{most_steps}
+use Rattle.signal_plan.specs.Records.{DemandRecord, LimitRecord, SignalRecord, TurnRecord}
+use Rattle.signal_plan.specs.Sound.{IsSoundDemand, IsSoundSignal, IsSoundTurn}
 use Rattle.network_file.specs.Cells.{cell_named, is_exit_at, is_gate_at}
 use Rattle.network_file.specs.Connectors.{diverges_from, downstream_of, leads_into, leads_out_of, upstream_of}
 use Rattle.network_file.specs.Draft.{Draft, with_steps, add_cell, add_connector, add_demand, add_limit, add_region, add_signal, add_turn}
 use Rattle.network_file.specs.Formats.{most_records}
-use Rattle.network_file.specs.Network.{IsSoundCell, IsSoundConnector, IsTurnWithin}
+use Rattle.network_file.specs.Network.{IsSoundCell, IsSoundConnector}
 use Rattle.network_file.specs.Regions.{region_in}
 use Rattle.network_file.specs.declared.cell.Cell.{Cell}
 use Rattle.network_file.specs.declared.connector.Connector.{Connector}
@@ -17,6 +18,12 @@ use Rattle.network_file.specs.Limits.{most_capacity, most_regions}
 use Rattle.network_file.specs.declared.entry.Entry.{Entry}
 use Rattle.network_file.specs.declared.entry.Entry.TheVariants as says
 use Rattle.network_file.specs.declared.region_record.RegionRecord.{RegionRecord}
+
+-- the number of steps, where no record said it yet
+pub record FitsSteps (draft : Draft) (steps : ℕ) : Type 0 where
+  pub first : is_none draft.steps ≡ true
+  pub some : 1 ≤ steps
+  pub few : steps ≤ most_steps
 
 -- a cell of this capacity that the draft can take
 pub record FitsCell (draft : Draft) (cell : Cell) (capacity : ℕ) : Type 0 where
@@ -37,34 +44,30 @@ pub record FitsSignal (draft : Draft) (signal : SignalRecord) : Type 0 where
   pub there : signal.cell < length draft.cells
   pub sends : is_exit_at draft.cells signal.cell ≡ false
   pub first : is_signalled draft.plan signal.cell ≡ false
-  pub cycle : signal.cycle ≤ most_steps
-  pub some_green : signal.from < signal.to
-  pub within : signal.to ≤ signal.cycle
+  pub sound : IsSoundSignal signal
 
 pub record FitsLimit (draft : Draft) (limit : LimitRecord) : Type 0 where
-  pub room : length draft.plan.limits < most_records draft.format
+  pub room : limit_count draft.plan < most_records draft.format
   pub there : limit.cell < length draft.cells
   pub some_step : limit.from < limit.to
   pub in_time : limit.to ≤ most_steps
   pub low : limit.capacity ≤ most_capacity
 
 pub record FitsDemand (draft : Draft) (demand : DemandRecord) : Type 0 where
-  pub room : length draft.plan.demands < most_records draft.format
+  pub room : demand_count draft.plan < most_records draft.format
   pub there : demand.cell < length draft.cells
   pub gate : is_gate_at draft.cells demand.cell ≡ true
-  pub some_step : demand.from < demand.to
   pub in_time : demand.to ≤ most_steps
-  pub low : demand.amount ≤ most_parts
+  pub sound : IsSoundDemand demand
 
 -- turning shares of a diverge
 pub record FitsTurn (draft : Draft) (turn : TurnRecord) : Type 0 where
   pub second_format : draft.format ≡ 2
-  pub room : length draft.plan.turns < most_records draft.format
+  pub room : turn_count draft.plan < most_records draft.format
   pub there : turn.cell < length draft.cells
   pub diverges : list_any (diverges_from turn.cell) draft.connectors ≡ true
-  pub some_step : turn.from < turn.to
   pub in_time : turn.to ≤ most_steps
-  pub within : IsTurnWithin turn
+  pub sound : IsSoundTurn turn
 
 -- the region of a cell that has none yet
 pub record FitsRegion (draft : Draft) (region : RegionRecord) : Type 0 where
@@ -75,7 +78,7 @@ pub record FitsRegion (draft : Draft) (region : RegionRecord) : Type 0 where
 
 -- the draft can take what a record says
 abbrev pub Fits : Draft → Entry → Type 0
-Fits draft (says.Steps steps) = (1 ≤ steps) × (steps ≤ most_steps)
+Fits draft (says.Steps steps) = FitsSteps draft steps
 Fits draft (says.Cell cell capacity) = FitsCell draft cell capacity
 Fits draft (says.Connector connector) = FitsConnector draft connector
 Fits draft (says.Signal signal) = FitsSignal draft signal

@@ -1,8 +1,10 @@
 -- A network as contracts see it, and what holds of every network.
-use Rattle.std.specs.Prelude.{◌≡◌, ℕ, ◌+◌, ◌<◌, ◌≤◌, ◌⊎◌, List, [], length, map, eqb, bytes_eq, All, count_by, sum_by, true, false}
+use Rattle.std.specs.Prelude.{◌≡◌, ℕ, ◌+◌, ◌<◌, ◌≤◌, ◌⊎◌, List, [], length, map, eqb, bytes_eq, All, count_by, sum_by, IfSome, true, false}
 use Rattle.std.specs.List.{IsDistinct, list_any}
 use Rattle.fixed_flow.specs.Limits.{most_parts}
-use Rattle.signal_plan.specs.Records.{PlanRecords, TurnRecord}
+use Rattle.signal_plan.specs.Counts.{demand_count, limit_count, turn_count}
+use Rattle.signal_plan.specs.Records.{PlannedCell, PlanRecords}
+use Rattle.signal_plan.specs.Sound.{IsSoundTurn}
 use Rattle.signal_plan.specs.Total.{total_demand}
 use Rattle.signal_plan.specs.Limits.{most_ratio, most_steps}
 use Rattle.network_file.specs.Cells.{is_road, is_exit, is_exit_at, is_gate_at}
@@ -20,7 +22,7 @@ pub record Network : Type 0 where
   pub steps : ℕ
   pub cells : List Cell
   pub connectors : List Connector
-  -- each cell's capacity, and the records of signals, limits, demands and turns
+  -- each cell's capacity, signal, limits, demands and turns
   pub plan : PlanRecords
   -- the number of each cell's region, where the file gives them, and else nothing
   pub regions : List ℕ
@@ -48,27 +50,23 @@ pub record IsSoundConnector (cells : List Cell) (connector : Connector) : Type 0
   pub down_apart : IsDistinct eqb (downstream_of connector)
   pub weights : All (λ weight. (1 ≤ weight) × (weight ≤ most_ratio)) (weights_of connector)
 
--- turning shares within the range of the format
-pub record IsTurnWithin (turn : TurnRecord) : Type 0 where
-  pub some_first : 1 ≤ turn.b1
-  pub first : turn.b1 ≤ most_ratio
-  pub some_second : 1 ≤ turn.b2
-  pub second : turn.b2 ≤ most_ratio
+-- what a plan says of a cell is within the ranges of the format, and what a cell of its kind may have
+pub record IsPlannedCell (cells : List Cell) (planned : PlannedCell) : Type 0 where
+  pub capacity : planned.capacity ≤ most_capacity
+  pub signal : IfSome planned.records.signal (λ signal. (signal.cell < length cells) × (is_exit_at cells signal.cell ≡ false))
+  pub limits : All (λ limit. (limit.to ≤ most_steps) × (limit.capacity ≤ most_capacity)) planned.records.limits
+  pub demands : All (λ demand. (is_gate_at cells demand.cell ≡ true) × (demand.to ≤ most_steps)) planned.records.demands
+  pub turns : All (λ turn. (turn.to ≤ most_steps) × IsSoundTurn turn) planned.records.turns
 
--- the records of a plan are those of these cells, within the ranges of the format
+-- the plan is of these cells, within the ranges of the format
 pub record IsPlanOf (format : ℕ) (cells : List Cell) (plan : PlanRecords) : Type 0 where
-  -- a capacity for each cell
   pub one_each : length plan.cells ≡ length cells
-  pub capacities : All (λ capacity. capacity ≤ most_capacity) plan.cells
-  pub signals : All (λ signal. (signal.cell < length cells) × (is_exit_at cells signal.cell ≡ false)) plan.signals
-  pub few_limits : length plan.limits ≤ most_records format
-  pub limits : All (λ limit. (limit.to ≤ most_steps) × (limit.capacity ≤ most_capacity)) plan.limits
-  pub few_demands : length plan.demands ≤ most_records format
-  pub demands : All (λ demand. (is_gate_at cells demand.cell ≡ true) × (demand.to ≤ most_steps)) plan.demands
-  pub few_turns : length plan.turns ≤ most_records format
-  pub turns : All (λ turn. (turn.to ≤ most_steps) × IsTurnWithin turn) plan.turns
+  pub planned : All (IsPlannedCell cells) plan.cells
+  pub few_limits : limit_count plan ≤ most_records format
+  pub few_demands : demand_count plan ≤ most_records format
+  pub few_turns : turn_count plan ≤ most_records format
   -- format 1 has no turns
-  pub no_turns : format ≡ 1 → plan.turns ≡ []
+  pub no_turns : format ≡ 1 → turn_count plan ≡ 0
 
 -- what holds of the parts of a network, and of a draft of one at each record
 pub record HasSoundParts (format : ℕ) (cells : List Cell) (connectors : List Connector) (plan : PlanRecords) : Type 0 where
@@ -82,7 +80,7 @@ pub record HasSoundParts (format : ℕ) (cells : List Cell) (connectors : List C
   pub one_in : (i : ℕ) → count_by (leads_into i) connectors ≤ 1
   pub planned : IsPlanOf format cells plan
   -- a diverge leads out of the cell of each turn record
-  pub turns_diverge : All (λ turn. list_any (diverges_from turn.cell) connectors ≡ true) plan.turns
+  pub turns_diverge : All (λ planned. All (λ turn. list_any (diverges_from turn.cell) connectors ≡ true) planned.records.turns) plan.cells
 
 -- all that ever enters: first occupancies, and the demand of the steps below T
 abbrev pub load_of : List Cell → PlanRecords → (steps : ℕ) → ℕ

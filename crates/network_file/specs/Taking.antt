@@ -1,6 +1,7 @@
 -- What each kind of record adds to the draft, or the first fault that it has there.
 use Rattle.std.specs.Prelude.{ℕ, ◌-◌, ◌==◌, ◌&&◌, List, Option, Some, None, Result, Ok, is_none, if◌then◌else◌, nat_lt, length, bytes_eq, codes, ok_or}
 use Rattle.fixed_flow.specs.Limits.{most_parts}
+use Rattle.signal_plan.specs.Counts.{demand_count, limit_count, turn_count}
 use Rattle.signal_plan.specs.Limits.{most_steps}
 use Rattle.network_file.specs.Checks.{◌>>=◌, ◌>>◌, must}
 use Rattle.network_file.specs.Draft.{Draft, with_steps, add_cell, add_connector, add_demand, add_limit, add_region, add_signal, add_turn}
@@ -58,9 +59,9 @@ taken_before Link draft = length draft.connectors
 taken_before Merge draft = length draft.connectors
 taken_before Diverge draft = length draft.connectors
 taken_before Signal draft = 0
-taken_before Limit draft = length draft.plan.limits
-taken_before Demand draft = length draft.plan.demands
-taken_before Turn draft = length draft.plan.turns
+taken_before Limit draft = limit_count draft.plan
+taken_before Demand draft = demand_count draft.plan
+taken_before Turn draft = turn_count draft.plan
 taken_before Region draft = 0
 
 unfoldable pub take_steps : Draft → List (List ℕ) → Result Draft Code

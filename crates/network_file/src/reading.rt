@@ -1,5 +1,4 @@
 ghost use Rattle.std.specs.Prelude.{◌≡◌, ◌≤◌, Ok, Some, IfErr, IfOk, length};
-ghost use Rattle.csv.specs.Records.{fields_of};
 ghost use Rattle.network_file.specs.Answers.{Answers, IsFaultOf};
 ghost use Rattle.network_file.specs.FileRecords.{IsReading, file_records_of, records_left};
 ghost use Rattle.network_file.specs.Reading.{cutting_of_draft, network_in_all, network_of, read_records};

@@ -1,5 +1,6 @@
 ghost use Rattle.std.specs.Prelude.{◌≡◌, ◌<◌, IfOk, length};
 ghost use Rattle.csv.specs.Records.{fields_of};
+ghost use Rattle.signal_plan.specs.Counts.{demand_count, limit_count, turn_count};
 ghost use Rattle.network_file.specs.Answers.{Answers, AnswersBy};
 ghost use Rattle.network_file.specs.Fitting.{Fits, with_entry};
 ghost use Rattle.network_file.specs.Formats.{most_records};
@@ -195,7 +196,7 @@ fn read_signal(draft: &NetDraft, row: &ByteRecord) -> Result<Entry, RecordRefusa
 
 #[tactic(auto, unfolding(crate::specs::Taking::take_limit))]
 fn read_limit(draft: &NetDraft, row: &ByteRecord) -> Result<Entry, RecordRefusal>
-    requires { length draft.now.plan.limits < most_records draft.now.format }
+    requires { limit_count draft.now.plan < most_records draft.now.format }
     ensures answer { AnswersBy result (with_entry draft.now) (take_limit draft.now (fields_of row.now)) }
     ensures fits { IfOk result (Fits draft.now) }
 {
@@ -212,7 +213,7 @@ fn read_limit(draft: &NetDraft, row: &ByteRecord) -> Result<Entry, RecordRefusal
 
 #[tactic(auto, unfolding(crate::specs::Taking::take_demand))]
 fn read_demand(draft: &NetDraft, row: &ByteRecord) -> Result<Entry, RecordRefusal>
-    requires { length draft.now.plan.demands < most_records draft.now.format }
+    requires { demand_count draft.now.plan < most_records draft.now.format }
     ensures answer { AnswersBy result (with_entry draft.now) (take_demand draft.now (fields_of row.now)) }
     ensures fits { IfOk result (Fits draft.now) }
 {
@@ -229,7 +230,7 @@ fn read_demand(draft: &NetDraft, row: &ByteRecord) -> Result<Entry, RecordRefusa
 
 #[tactic(auto, unfolding(crate::specs::Taking::take_turn))]
 fn read_turn(draft: &NetDraft, row: &ByteRecord) -> Result<Entry, RecordRefusal>
-    requires room { length draft.now.plan.turns < most_records draft.now.format }
+    requires room { turn_count draft.now.plan < most_records draft.now.format }
     requires second_format { draft.now.format ≡ 2 }
     ensures answer { AnswersBy result (with_entry draft.now) (take_turn draft.now (fields_of row.now)) }
     ensures fits { IfOk result (Fits draft.now) }

@@ -12,7 +12,7 @@ invariant_of-result c =
       format = c.self.invariant.format;
       some_steps = c.self.invariant.some_steps;
       few_steps = c.self.invariant.few_steps;
-      sound = rw plan (HasSoundParts-add_limit draft.format draft.cells draft.connectors draft.plan.value c.args.limit c.self.invariant.sound fits.room fits.in_time fits.low);
+      sound = rw plan (HasSoundParts-add_limit draft.format draft.cells draft.connectors draft.plan.value c.args.limit c.self.invariant.sound fits.there fits.room fits.in_time fits.low);
       regions = c.self.invariant.regions;
       no_regions = c.self.invariant.no_regions;
     }

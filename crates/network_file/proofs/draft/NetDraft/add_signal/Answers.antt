@@ -12,7 +12,7 @@ invariant_of-result c =
       format = c.self.invariant.format;
       some_steps = c.self.invariant.some_steps;
       few_steps = c.self.invariant.few_steps;
-      sound = rw plan (HasSoundParts-add_signal draft.format draft.cells draft.connectors draft.plan.value c.args.signal c.self.invariant.sound fits.there fits.sends);
+      sound = rw plan (HasSoundParts-add_signal draft.format draft.cells draft.connectors draft.plan.value c.args.signal c.self.invariant.sound fits.there fits.sends fits.first);
       regions = c.self.invariant.regions;
       no_regions = c.self.invariant.no_regions;
     }

@@ -12,7 +12,7 @@ invariant_of-result c =
       format = c.self.invariant.format;
       some_steps = c.self.invariant.some_steps;
       few_steps = c.self.invariant.few_steps;
-      sound = rw plan (HasSoundParts-add_turn draft.format draft.cells draft.connectors draft.plan.value c.args.turn c.self.invariant.sound fits.second_format fits.room fits.diverges fits.in_time fits.within);
+      sound = rw plan (HasSoundParts-add_turn draft.format draft.cells draft.connectors draft.plan.value c.args.turn c.self.invariant.sound fits.there fits.second_format fits.room fits.diverges fits.in_time fits.sound);
       regions = c.self.invariant.regions;
       no_regions = c.self.invariant.no_regions;
     }

@@ -21,14 +21,10 @@ sound-empty_draft format known = record {
     one_in = λ i. omega arith;
     planned = record {
       one_each = omega arith;
-      capacities = All-nil _;
-      signals = All-nil _;
+      planned = All-nil _;
       few_limits = omega arith;
-      limits = All-nil _;
       few_demands = omega arith;
-      demands = All-nil _;
       few_turns = omega arith;
-      turns = All-nil _;
       no_turns = λ first. refl;
     };
     turns_diverge = All-nil _;
