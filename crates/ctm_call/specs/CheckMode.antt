@@ -1,5 +1,6 @@
 -- The counts of a network: why there are none, and their text.
 use Rattle.std.specs.Prelude.{◌≡◌, ℕ, List, [], Option, None, ◌++◌, ◌==◌, if◌then◌else◌, length, codes}
+use Rattle.signal_plan.specs.Counts.{demand_count, limit_count, signal_count, turn_count}
 use Rattle.network_file.specs.Network.{Network}
 use Rattle.network_file.specs.Reading.{network_of}
 use Rattle.line_fields.specs.Fields.{count_field}
@@ -14,8 +15,8 @@ unfoldable pub counts_line : Network → List ℕ
 counts_line net =
     (if net.format == 2 then codes "network2" else codes "network")
     ++ count_field (length net.cells) ++ count_field (length net.connectors) ++ count_field net.steps
-    ++ count_field (length net.plan.signals) ++ count_field (length net.plan.limits) ++ count_field (length net.plan.demands)
-    ++ (if net.format == 2 then count_field (length net.plan.turns) else []) ++ codes "\n"
+    ++ count_field (signal_count net.plan) ++ count_field (limit_count net.plan) ++ count_field (demand_count net.plan)
+    ++ (if net.format == 2 then count_field (turn_count net.plan) else []) ++ codes "\n"
 
 abbrev pub IsCheckText : (input : List ℕ) → List ℕ → Type 0
 IsCheckText input text = IsNetworkWith (network_of input) (λ net. text ≡ counts_line net)

@@ -1,4 +1,5 @@
 ghost use Rattle.std.specs.Prelude.{◌≡◌, ◌≤◌, ◌++◌, ◌==◌, [], codes, if◌then◌else◌, length, IfErr, IfOk, None, OnOk};
+ghost use Rattle.signal_plan.specs.Counts.{turn_count};
 ghost use Rattle.network_file.specs.declared.limits.TheConstants.{MOST_BYTES};
 ghost use Rattle.line_fields.specs.Fields.{count_field};
 ghost use Rattle.call_ending.specs.Refusing.{IsRefusalOf};
@@ -56,7 +57,7 @@ fn put_name(text: &mut Vec<u8>, net: &Net) -> Result<(), NoMemory>
 
 // The number of turns, which format 2 has.
 fn put_turns(text: &mut Vec<u8>, net: &Net) -> Result<(), NoMemory>
-    ensures { OnOk result (text.new.items ≡ text.old.items ++ (if net.now.format == 2 then count_field (length net.now.plan.turns) else [])) }
+    ensures { OnOk result (text.new.items ≡ text.old.items ++ (if net.now.format == 2 then count_field (turn_count net.now.plan) else [])) }
 {
     if net.format == 2 {
         put_count(text, net.plan.counts().turns as u64)?;

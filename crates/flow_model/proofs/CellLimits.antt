@@ -6,7 +6,7 @@ use Rattle.ordinary_link.specs.Space.{IsRoomHolding}
 use Rattle.ordinary_link.proofs.Bounds.{sending_flow-le-held, sending_flow-le-capacity, receiving_flow-le-capacity, add-receiving_flow-le-most}
 use Rattle.signal_plan.specs.Capacity.{capacity_at}
 use Rattle.signal_plan.specs.Green.{green_at}
-use Rattle.signal_plan.specs.Records.{LimitRecord}
+use Rattle.signal_plan.specs.Records.{LimitRecord, bare_cell, records_at}
 use Rattle.signal_plan.specs.Limits.{most_steps}
 use Rattle.signal_plan.proofs.Laws as plan
 use Rattle.network_file.specs.Cells.{is_road}
@@ -33,10 +33,10 @@ receiving_at-le-capacity net t i n = receiving_flow-le-capacity n (capacity_at n
 
 pub capacity_at-le : (net : Network) (t i : ℕ) → IsNetwork net → i < length net.cells → capacity_at net.plan i t ≤ most_capacity
 capacity_at-le net t i sound has =
-    let planned = sound.sound.planned in
-    plan.capacity_at-le net.plan i t most_capacity (omega (arith, planned.one_each)) planned.capacities
+    let fits = sound.sound.planned.planned i (bare_cell 0) (omega (arith, sound.sound.planned.one_each)) in
+    plan.capacity_at-le net.plan i t most_capacity fits.capacity
     (All-weaker (λ (l : LimitRecord). (l.to ≤ most_steps) × (l.capacity ≤ most_capacity)) (λ l. l.capacity ≤ most_capacity) (λ l both. both.1)
-    net.plan.limits planned.limits)
+    (records_at net.plan i).limits fits.limits)
 
 -- a road's room is one that the flow rules can take
 pub road_room : (cell : Cell) (n : ℕ) → IsSoundCell cell → n ≤ cell.room →

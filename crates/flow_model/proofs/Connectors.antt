@@ -9,11 +9,12 @@ use Rattle.ordinary_link.proofs.Bounds.{link_flow_of-le-sent, link_flow_of-le-re
 use Rattle.merge_rule.proofs.MergeFacts.{merge_of-first_sends, merge_of-second_sends, merge_of-receives}
 use Rattle.diverge_rule.proofs.DivergeFacts.{diverge_of-conserved, diverge_of-sends, diverge_of-first_receives, diverge_of-second_receives}
 use Rattle.signal_plan.specs.Records.{TurnRecord}
+use Rattle.signal_plan.specs.Sound.{IsSoundTurn}
 use Rattle.signal_plan.specs.Turning.{shares_at}
 use Rattle.signal_plan.specs.Limits.{most_steps}
 use Rattle.signal_plan.proofs.Laws.{shares_at-all}
 use Rattle.network_file.specs.Connectors.{upstream_of, downstream_of, cells_of, leads_out_of, leads_into}
-use Rattle.network_file.specs.Network.{Network, IsNetwork, IsSoundConnector, IsTurnWithin}
+use Rattle.network_file.specs.Network.{Network, IsNetwork, IsPlannedCell, IsSoundConnector}
 use Rattle.network_file.specs.declared.cell.Cell.{Cell}
 use Rattle.network_file.specs.declared.connector.Connector.{Connector}
 use Rattle.network_file.specs.declared.connector.Connector.TheVariants.{Link, Merge, Diverge}
@@ -32,8 +33,9 @@ pub some_shares : (net : Network) (t up b1 b2 : ℕ) → IsNetwork net → 1 ≤
     (1 ≤ (shares_at net.plan up t (b1, b2)).0) × (1 ≤ (shares_at net.plan up t (b1, b2)).1)
 some_shares net t up b1 b2 sound first second =
     shares_at-all (λ shares. (1 ≤ shares.0) × (1 ≤ shares.1)) net.plan up t (b1, b2) (first, second)
-    (All-weaker (λ (turn : TurnRecord). (turn.to ≤ most_steps) × IsTurnWithin turn) (λ turn. (1 ≤ turn.b1) × (1 ≤ turn.b2))
-    (λ turn within. (within.1.some_first, within.1.some_second)) net.plan.turns sound.sound.planned.turns)
+    (All-weaker (IsPlannedCell net.cells) (λ planned. All (λ turn. (1 ≤ turn.b1) × (1 ≤ turn.b2)) planned.records.turns)
+    (λ planned fits. All-weaker (λ (turn : TurnRecord). (turn.to ≤ most_steps) × IsSoundTurn turn) (λ turn. (1 ≤ turn.b1) × (1 ≤ turn.b2))
+    (λ turn within. (within.1.some_first, within.1.some_second)) planned.records.turns fits.turns) net.plan.cells sound.sound.planned.planned)
 
 pub flow_between-conserved : (net : Network) (t : ℕ) (connector : Connector) (n : List ℕ) →
     let flow = flow_between net t connector n in
