@@ -18,6 +18,10 @@ pub(crate) const CORRIDOR_REPORT: &str = "report,3,3; cell,in,0.000000,4.000000,
 cell,a,2.000000,4.000000,2.000000,0.000000; cell,out,2.000000,2.000000,0.000000,0.000000; \
 total,2.000000,4.000000,2.000000,2.000000";
 
+// What comes before the corridor where it is saved with its gate a step ahead of the rest.
+pub(crate) const CORRIDOR_AHEAD: &str =
+    "saved,1,2; step,2; step,1; row,0,2000000,4000000,2000000,2000000,4000000; row,1,0,0,0,0,0; row,1,0,0,0,0,0; net";
+
 // The lines of a text in which `; ` stands for a line end.
 pub(crate) fn lines(alloc: Global, text: &str) -> Result<Vec<u8>, AllocError> {
     let mut lines = text.replace(alloc, "; ", "\n")?.into_bytes();
@@ -58,12 +62,13 @@ pub(crate) fn call_past<R: Threads + Sync, G: Gate>(
     Ok(Ended { status, out, err })
 }
 
-// A call over the corridor whose source, output and standard error pass `chunk` bytes at a time, and fail at these calls of
+// A call over this input whose source, output and standard error pass `chunk` bytes at a time, and fail at these calls of
 // theirs.
 pub(crate) fn failing_call<R: Threads + Sync>(
     rt: &R,
     alloc: Global,
     words: &str,
+    input: &str,
     chunk: usize,
     fails: [&[u64]; 3],
 ) -> Result<Ended<MemSink>, AllocError>
@@ -71,7 +76,7 @@ pub(crate) fn failing_call<R: Threads + Sync>(
 {
     let words = words_of(alloc, words)?;
     let [reads, writes, tells] = fails;
-    let mut source = MemSource::new(lines(alloc, CORRIDOR)?, chunk, reads.to_vec(alloc)?);
+    let mut source = MemSource::new(lines(alloc, input)?, chunk, reads.to_vec(alloc)?);
     let mut out = MemSink::new(alloc, chunk, writes.to_vec(alloc)?);
     let mut err = MemSink::new(alloc, chunk, tells.to_vec(alloc)?);
     let status = ctm(

@@ -11,6 +11,14 @@ const CHAIN_REPORT: &str = "report,4,4; cell,g,0.000000,0.000000,8.000000,12.000
 cell,a,2.000000,8.000000,6.000000,0.000000; cell,b,2.000000,6.000000,4.000000,0.000000; \
 cell,x,4.000000,4.000000,0.000000,0.000000; total,4.000000,0.000000,4.000000,12.000000";
 
+// What comes before the chain where it is saved with its gate a step ahead of the rest.
+const CHAIN_AHEAD: &str =
+    "saved,1,4; step,1; step,0; step,0; step,0; row,0,6000000,0,2000000,6000000,8000000; \
+row,1,0,0,0,0,0; row,2,0,0,0,0,0; row,3,0,0,0,0,0; net";
+
+// The steps 0 to 3 as bits.
+const ALL_FOUR: u64 = 0b1111;
+
 // What `sample --size 1 --seed 0` gives.
 const SAMPLED: &str = "sample,1,0,3,2,42; total,0.000000,58.068940,58.068940,262.344330";
 
@@ -31,8 +39,9 @@ fn two_workers_work_at_once(rt: HostRuntime) -> Result<(), Fail> {
         lines(rt.alloc(), CHAIN_REPORT)?.as_slice()
     );
     assert_eq!(rt; gate.met(), 2, "each waited for the other");
-    assert!(rt;
-        gate.notes.are_complete(4, 4),
+    assert_eq!(rt;
+        gate.notes.steps(),
+        [ALL_FOUR; 4],
         "each region was held at each step"
     );
     Ok(())
@@ -43,7 +52,8 @@ fn a_made_network_is_run_in_its_regions(rt: HostRuntime) -> Result<(), Fail> {
     let gate = Notes::new();
     let words = "sample --size 1 --seed 0 --regions 3 --workers 2";
     let ended = call_past(&rt, rt.alloc(), words, Vec::new(rt.alloc()), &gate)?;
-    assert!(rt; gate.are_complete(3, 42));
+    let all = (1 << 42) - 1;
+    assert_eq!(rt; gate.steps(), [all, all, all, 0]);
     assert_eq!(rt; ended.out.bytes(), lines(rt.alloc(), SAMPLED)?.as_slice());
     Ok(())
 }
@@ -72,12 +82,46 @@ fn workers_that_are_watched_take_every_region_through_every_step(
     let file = lines(rt.alloc(), CHAIN)?;
     let words = "watch --shots 1 --regions 4 --workers 2";
     let ended = call_past(&rt, rt.alloc(), words, file, &gate)?;
-    assert!(rt; gate.are_complete(4, 4));
+    assert_eq!(rt; gate.steps(), [ALL_FOUR; 4]);
     assert!(rt;
         ended
             .out
             .bytes()
             .ends_with(&lines(rt.alloc(), CHAIN_REPORT)?)
+    );
+    Ok(())
+}
+
+#[test]
+fn a_run_is_saved_while_a_worker_is_on_its_way(rt: HostRuntime) -> Result<(), Fail> {
+    let gate = Glance::new();
+    let file = lines(rt.alloc(), CHAIN)?;
+    let words = "save --until 0 --regions 4 --workers 1";
+    let ended = call_past(&rt, rt.alloc(), words, file, &gate)?;
+    assert_eq!(rt;
+        gate.seen.load(Ordering::SeqCst),
+        2,
+        "each waited for the other"
+    );
+    let text = format!(in rt.alloc(); "{CHAIN_AHEAD}; {CHAIN}")?;
+    assert_eq!(rt; ended.out.bytes(), lines(rt.alloc(), &text)?.as_slice());
+    Ok(())
+}
+
+#[test]
+fn regions_go_on_from_their_own_steps(rt: HostRuntime) -> Result<(), Fail> {
+    let gate = Notes::new();
+    let text = format!(in rt.alloc(); "{CHAIN_AHEAD}; {CHAIN}")?;
+    let saved = lines(rt.alloc(), &text)?;
+    let ended = call_past(&rt, rt.alloc(), "resume --workers 2", saved, &gate)?;
+    assert_eq!(rt;
+        gate.steps(),
+        [0b1110, ALL_FOUR, ALL_FOUR, ALL_FOUR],
+        "the gate was held from step 1 on"
+    );
+    assert_eq!(rt;
+        ended.out.bytes(),
+        lines(rt.alloc(), CHAIN_REPORT)?.as_slice()
     );
     Ok(())
 }

@@ -20,14 +20,15 @@ impl Notes {
         }
     }
 
-    // Whether each of so many regions was held at each of so many steps.
-    pub(crate) fn are_complete(&self, regions: usize, steps: u32) -> bool {
-        for noted in self.noted.iter().take(regions) {
-            if noted.load(Ordering::SeqCst).trailing_ones() != steps {
-                return false;
-            }
-        }
-        true
+    // The steps at which each region was held, a bit for each step.
+    pub(crate) fn steps(&self) -> [u64; 4] {
+        let [first, second, third, fourth] = &self.noted;
+        [
+            first.load(Ordering::SeqCst),
+            second.load(Ordering::SeqCst),
+            third.load(Ordering::SeqCst),
+            fourth.load(Ordering::SeqCst),
+        ]
     }
 }
 

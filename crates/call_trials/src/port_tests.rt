@@ -1,4 +1,4 @@
-use crate::calling::{CORRIDOR, CORRIDOR_REPORT, call_past, failing_call, lines};
+use crate::calling::{CORRIDOR, CORRIDOR_AHEAD, CORRIDOR_REPORT, call_past, failing_call, lines};
 use call_ending::Status;
 use region_slots::OpenGate;
 use std::test::Fail;
@@ -6,18 +6,23 @@ use std::test::Fail;
 // Each of the reads fails in turn. The last of them would have found the end, so the one past it is never made.
 #[test]
 fn a_failing_source_ends_the_call(rt: HostRuntime) -> Result<(), Fail> {
-    for (chunk, reads) in [(1, 92), (7, 14)] {
+    let saved = format!(in rt.alloc(); "{CORRIDOR_AHEAD}; {CORRIDOR}")?;
+    for (mode, input, chunk, reads) in [
+        ("run", CORRIDOR, 1, 92),
+        ("run", CORRIDOR, 7, 14),
+        ("resume", saved.as_str(), 7, 30),
+    ] {
         for read in 0..=reads {
             let fails: [&[u64]; 3] = [&[read], &[], &[]];
-            let ended = failing_call(&rt, rt.alloc(), "run", chunk, fails)?;
+            let ended = failing_call(&rt, rt.alloc(), mode, input, chunk, fails)?;
             if read == reads {
-                assert_eq!(rt; ended.status, Status::Done, "no read {read}");
+                assert_eq!(rt; ended.status, Status::Done, "{mode}: no read {read}");
                 continue;
             }
             assert_eq!(rt;
                 ended.status,
                 Status::ReadFault,
-                "read {read} of {chunk} bytes"
+                "{mode}: read {read} of {chunk} bytes"
             );
             assert!(rt; ended.out.bytes().is_empty(), "read {read}");
             assert_eq!(rt; ended.err.bytes(), b"ctm: read fault\n".as_slice());
@@ -32,7 +37,7 @@ fn a_failing_output_has_what_it_took(rt: HostRuntime) -> Result<(), Fail> {
     let report = lines(rt.alloc(), CORRIDOR_REPORT)?;
     for write in 0..=report.len() {
         let fails: [&[u64]; 3] = [&[], &[write as u64], &[]];
-        let ended = failing_call(&rt, rt.alloc(), "run", 1, fails)?;
+        let ended = failing_call(&rt, rt.alloc(), "run", CORRIDOR, 1, fails)?;
         assert_eq!(rt; ended.out.bytes(), &report[..write]);
         if write == report.len() {
             assert_eq!(rt; ended.status, Status::Done, "no write {write}");
@@ -50,10 +55,13 @@ fn a_failing_output_ends_the_call(rt: HostRuntime) -> Result<(), Fail> {
         ("run", 0, b"".as_slice()),
         ("run", 1, b"report,3,3"),
         ("watch", 1, b"shot,1,0.0"),
+        ("save", 0, b""),
+        ("save", 1, b"saved,1,1\n"),
+        ("save --until 3 --regions 3", 2, b"saved,1,3\nstep,3\nste"),
         ("check", 1, b"network,3,"),
         ("convert", 1, b"ctm,2\nstep"),
     ] {
-        let ended = failing_call(&rt, rt.alloc(), mode, 10, [&[], &[write], &[]])?;
+        let ended = failing_call(&rt, rt.alloc(), mode, CORRIDOR, 10, [&[], &[write], &[]])?;
         assert_eq!(rt; ended.status, Status::WriteFault, "{mode}");
         assert_eq!(rt; ended.out.bytes(), begun);
         assert_eq!(rt; ended.err.bytes(), b"ctm: write fault\n".as_slice());
@@ -73,7 +81,7 @@ fn a_failing_standard_error_changes_no_status(rt: HostRuntime) -> Result<(), Fai
         ("run", 0, 0, [0], Status::Done, ""),
     ] {
         let fails: [&[u64]; 3] = [&first[..reads], &first[..writes], &tells];
-        let ended = failing_call(&rt, rt.alloc(), word, 10, fails)?;
+        let ended = failing_call(&rt, rt.alloc(), word, CORRIDOR, 10, fails)?;
         assert_eq!(rt; ended.status, wanted, "{word}");
         assert_eq!(rt; ended.out.bytes().is_empty(), wanted != Status::Done);
         assert_eq!(rt; ended.err.bytes(), told.as_bytes());

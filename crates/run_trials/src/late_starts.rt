@@ -1,0 +1,124 @@
+ghost use Rattle.std.specs.Prelude.{◌≡◌};
+ghost use Rattle.region_cut.specs.Chart.{chart_of};
+ghost use Rattle.region_cut.specs.LawfulSteps.{AreLawful};
+ghost use Rattle.region_step.specs.Start.{Fits};
+
+use crate::networks::network;
+use flow_model::Row;
+use network_file::Net;
+use network_run::regions_from;
+use no_memory::NoMemory;
+use region_cut::{Chart, Cut};
+use region_slots::OpenGate;
+use region_step::{Note, Region, Start};
+use std::alloc::{AllocError, Global};
+use std::process::Abort;
+use std::test::Fail;
+use std::thread::Threads;
+use step_words::is_lawful;
+
+// A gate, a road and an exit.
+const CORRIDOR: &str =
+    "ctm,1; steps,3; gate,in,2,0; road,a,6,2,1,2,0; exit,out,2; link,in,a; link,a,out; \
+demand,in,0,1,4";
+
+// Of the gate, its notes at the steps 2 and 3.
+const GATE_NOTES: [Note; 2] = [
+    Note {
+        n: 2_000_000,
+        gone: 2_000_000,
+    },
+    Note {
+        n: 0,
+        gone: 4_000_000,
+    },
+];
+
+// Of the road and the exit, their notes at the steps 1, 2 and 3.
+const REST_NOTES: [Note; 6] = [
+    Note { n: 0, gone: 0 },
+    Note { n: 0, gone: 0 },
+    Note {
+        n: 2_000_000,
+        gone: 0,
+    },
+    Note { n: 0, gone: 0 },
+    Note {
+        n: 2_000_000,
+        gone: 2_000_000,
+    },
+    Note {
+        n: 2_000_000,
+        gone: 0,
+    },
+];
+
+// The gate at step 2, and the rest at step 1.
+fn gate_ahead(alloc: Global) -> Result<Start, AllocError> {
+    let gate = Row {
+        n: 2_000_000,
+        come: 4_000_000,
+        gone: 2_000_000,
+        wait: 2_000_000,
+    };
+    let empty = Row {
+        n: 0,
+        come: 0,
+        gone: 0,
+        wait: 0,
+    };
+    Ok(Start {
+        steps: vec![in alloc; 2, 1]?,
+        rows: vec![in alloc; gate, empty, empty]?,
+        earlier: vec![in alloc; 4_000_000, 0, 0]?,
+    })
+}
+
+// The regions of the corridor at its last step, gone on from there and recorded so.
+fn recorded_from_there<R: Abort + Threads + Sync>(
+    rt: &R,
+    alloc: Global,
+    every: u64,
+) -> Result<Vec<Region>, Fail> {
+    let net = network(rt, alloc, CORRIDOR)?;
+    let cut = Cut::of(alloc, &net, &[0, 1, 1])?;
+    let chart = Chart::new(alloc, &net, cut)?;
+    let start = gate_ahead(alloc)?;
+    assert!(rt; start.fits(&net, &chart));
+    assert!(rt; is_lawful(&start.steps, &net, &chart));
+    Ok(last_from(rt, alloc, &net, &chart, &start, every)?)
+}
+
+// The regions at the last step, taken there by two workers.
+fn last_from<R: Threads + Sync>(
+    rt: &R,
+    alloc: Global,
+    net: &Net,
+    chart: &Chart,
+    start: &Start,
+    every: u64,
+) -> Result<Vec<Region>, NoMemory>
+    requires chart { chart.now ≡ chart_of net.now chart.now.cut }
+    requires fits { Fits net.now chart.now.cut start.now }
+    requires lawful { AreLawful net.now chart.now.cut start.now.steps }
+{
+    let last = net.steps;
+    regions_from(rt, alloc, net, chart, start, every, last, 2, &OpenGate)
+}
+
+// The regions begin past step 0, at a step that is recorded or before it.
+#[test]
+fn regions_are_noted_from_their_starts_on(rt: HostRuntime) -> Result<(), Fail> {
+    for (every, gate, rest) in [
+        (1, GATE_NOTES.as_slice(), REST_NOTES.as_slice()),
+        (2, GATE_NOTES.as_slice(), &REST_NOTES[2..]),
+        (3, &GATE_NOTES[1..], &REST_NOTES[4..]),
+        (0, &[], &[]),
+    ] {
+        let regions = recorded_from_there(&rt, rt.alloc(), every)?;
+        assert_eq!(rt; regions.len(), 2);
+        assert_eq!(rt; regions[0].trail(), gate, "every {every}");
+        assert_eq!(rt; regions[1].trail(), rest, "every {every}");
+    }
+    Ok(())
+}
