@@ -50,6 +50,20 @@ def write(path: str | Path, content: str | bytes) -> None:
         raise Problem(f"{path}: {reason(error)}") from None
 
 
+def replace(path: str | Path, content: bytes) -> None:
+    """Puts bytes in the place of a file's: whoever is ended meanwhile leaves the old file whole."""
+    path = Path(path)
+    part = path.with_name(path.name + ".part")
+    try:
+        with open(part, "wb") as file:
+            file.write(content)
+            file.flush()
+            os.fsync(file.fileno())
+        os.replace(part, path)
+    except OSError as error:
+        raise Problem(f"{path}: {reason(error)}") from None
+
+
 def beside(path: str | Path, other: str | Path) -> str:
     """The path of a file as another file's folder sees it."""
     return os.path.relpath(path, Path(other).parent)

@@ -1,4 +1,4 @@
-"""What a file is that a command was given: a study, a network, a report or a file of units."""
+"""What a file is that a command was given: a study, a network, a report, a saved run or a file of units."""
 
 from __future__ import annotations
 
@@ -14,6 +14,7 @@ STUDY_KEY = re.compile(rb"^\s*(?:\[+(?:lane|roads|gates|exits)\b|step\s*=|(?:roa
 ADVICE = {"a study": "`ctm-tools build` makes its network and tells what is wrong with it, `ctm-tools run` runs it",
           "a network": "`ctm-tools run` runs it, `ctm-tools lint` tells what is wrong with it",
           "a report": "`ctm-tools table`, `plot` and `compare` read it",
+          "a saved run": "`ctm resume` and `ctm-tools branch` go on from it",
           "a file of units": "it is read with the network or the report that it stands beside"}
 
 
@@ -21,6 +22,8 @@ def kind_of(path: str | Path, content: bytes) -> str | None:
     """What the bytes of a file are, as far as they say it; None where they don't."""
     if content.startswith(b"report,"):
         return "a report"
+    if content.startswith(b"saved,"):
+        return "a saved run"
     if str(path).endswith(SUFFIX):
         return "a file of units"
     if HEADER.match(content):

@@ -69,8 +69,12 @@ def ask(words: Sequence[str], content: bytes, program: str | Path | None = None,
     writer = threading.Thread(target=_write, args=(process.stdin, content))
     reader.start()
     writer.start()
-    out = process.stdout.read()
-    status = process.wait()
+    try:
+        out = process.stdout.read()
+        status = process.wait()
+    except BaseException:  # the caller is interrupted, and nobody waits for an answer any more
+        process.kill()
+        raise
     writer.join()
     reader.join()
     if status == NOT_BUILT and told:
@@ -106,8 +110,13 @@ def run_words(every: int, workers: int = 1, program: str | Path | None = None) -
             raise Problem("this ctm takes no --every, so it records nothing; build the newest")
         words += ["--every", str(every)]
     if workers > 1 and takes("--workers", program):
-        words += ["--regions", str(min(512, 8 * workers)), "--workers", str(workers)]
+        words += ["--regions", str(regions_for(workers)), "--workers", str(workers)]
     return words
+
+
+def regions_for(workers: int) -> int:
+    """Into how many regions a network is cut for so many workers."""
+    return min(512, 8 * workers) if workers > 1 else 1
 
 
 def recording_step(steps: int, cells: int) -> int:

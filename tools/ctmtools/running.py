@@ -13,7 +13,7 @@ from .network_file.warnings import shortened, warnings_of
 from .problem import Problem
 from .program import News, ask, recording_step, run_words
 from .report.reading import Report, report_of
-from .study.network_text import build
+from .study.network_text import Built, build
 from .study.plan import Study
 from .study.reading import read_study
 from .study.telling import told
@@ -32,8 +32,7 @@ def run(content: bytes, name: str, units: Units | None = None, every: int | None
     cells = len(network.cells)
     if every is None:
         every = recording_step(network.steps, cells)
-    workers = workers or processors()
-    answer = ask(run_words(every, workers if cells >= 1000 else 1, program), content, program, news)
+    answer = ask(run_words(every, many_workers(cells, workers), program), content, program, news)
     if answer.status:
         raise Problem(f"{name}: {answer.line or f'ctm ended with status {answer.status}'}")
     report = report_of(answer.out, name)
@@ -48,6 +47,7 @@ class Prepared:
     """A network file that is to be run: its path, its bytes, the network in them, and its units as the report has them.
 
     `told` are the lines that are told before the results: what `build` tells of a study, or the warnings of a network.
+    `built` is what was built of a study.
     """
 
     path: Path
@@ -55,21 +55,35 @@ class Prepared:
     network: Network
     units: Units
     told: list[str]
+    built: Built | None = None
 
 
-def prepare(source: str | Path | Study, target: Path) -> Prepared:
-    """The network of a study, which is built and written beside the report that is to come, or that of a file."""
+def opened(source: str | Path | Study) -> Prepared:
+    """The network of a study, which is built, or that of a file. Nothing is written."""
     if isinstance(source, Study) or is_study(source):
-        path = target.with_suffix(".csv")
-        guard_network(path)
-        built = build(source if isinstance(source, Study) else read_study(source))
-        write_network(built, path)
-        return Prepared(path, built.text.encode(), built.network, built.units, list(told(built)))
+        study = source if isinstance(source, Study) else read_study(source)
+        built = build(study)
+        return Prepared(study.path, built.text.encode(), built.network, built.units, list(told(built)), built)
     path = Path(source)
     content, units = read_as(path, "a network"), read_units(units_path(path))
     network = network_of(content, str(path))
     warnings = [f"warning: {path}: {line}" for line in shortened(warnings_of(network, units))]
-    return Prepared(path, content, network, dataclasses.replace(units, network=beside(path, target)), warnings)
+    return Prepared(path, content, network, units, warnings)
+
+
+def placed(prepared: Prepared, target: Path) -> Prepared:
+    """A network with a place beside the report that is to come: one that was built is written there."""
+    if prepared.built is None:
+        return dataclasses.replace(prepared, units=dataclasses.replace(prepared.units, network=beside(prepared.path, target)))
+    path = target.with_suffix(".csv")
+    guard_network(path)
+    write_network(prepared.built, path)
+    return dataclasses.replace(prepared, path=path)
+
+
+def prepare(source: str | Path | Study, target: Path) -> Prepared:
+    """The network of a study, which is built and written beside the report that is to come, or that of a file."""
+    return placed(opened(source), target)
 
 
 def run_into(target: Path, prepared: Prepared, every: int | None = None, workers: int | None = None,
@@ -78,9 +92,19 @@ def run_into(target: Path, prepared: Prepared, every: int | None = None, workers
     text, report = run(prepared.content, str(prepared.path), prepared.units, every, workers, news=news,
                        network=prepared.network)
     write(target, text)
+    return kept(target, prepared, report)
+
+
+def kept(target: Path, prepared: Prepared, report: Report) -> Report:
+    """The report of a prepared network that stands at a place, with its units, which are written beside it."""
     write_units(units_path(target), prepared.units)
-    report.name = str(target)
+    report.name, report.units, report.network = str(target), prepared.units, prepared.network
     return report
+
+
+def many_workers(cells: int, workers: int | None) -> int:
+    """The threads that so many cells are worth, as many as there are processors where they aren't said."""
+    return (workers or processors()) if cells >= 1000 else 1
 
 
 def is_study(source: str | Path) -> bool:

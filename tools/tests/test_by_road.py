@@ -46,6 +46,21 @@ def test_the_delay_of_a_lane_drop_and_what_it_costs(report):
     assert whole.delay_each.iloc[0] == pytest.approx(461.25 * 3600 / 12900, abs=0.05)
 
 
+def test_a_ramp_is_told_with_what_waits_before_it(report):
+    frame = by_road(report("interchange"), value_of_time=10, by="ramp").set_index("ramp")
+    # Of the ramp's 2,080 vehicles those who come from 06:30 on wait for 180 vehicle-hours, on the ramp and before it.
+    ramp = frame.loc["ramp to a2 (a km 0.50)"]
+    came = 360 * 0.5 + 1800 * 0.5 + 360 * (2 + 53 / 60 + 20 / 3600)
+    assert (ramp.vehicles, ramp.delay, ramp.cost) == pytest.approx((came, 180, 1800), rel=1e-3)
+    assert ramp.delay_each == pytest.approx(180 * 3600 / came, rel=1e-3) and 0 < ramp.queue <= 0.5
+    assert len(frame) == 1  # the motorway parts before the ramp joins it
+
+
+def test_a_gate_that_joins_a_road_is_a_ramp(report):
+    frame = by_road(report("meter"), by="ramp")
+    assert frame.ramp.tolist() == ["north to m30 (m km 4.50)", "town to ramp2 (ramp km 0.30)"]
+
+
 def test_the_states_of_a_network(tmp_path):
     report = reported(corridor(tmp_path, demand='[["06:00", "06:30", 1440]]'))
     states = network_states(report, 900)
@@ -85,7 +100,8 @@ def test_the_commands(tool, reports, tmp_path):
     assert status == 0 and list(rows[0]) == ["time", "step", "road", "vehicles", "flow", "density", "level", "speed", "delay",
                                              "delay_each", "queue", "cost"]
     assert rows[0]["time"].endswith(":00:00") and out.startswith(f"roads.csv: {len(rows)} rows")
-    assert "go with --by road" in tool("table", path, "--interval", "30 min")[2]
+    assert "go with --by road and --by ramp" in tool("table", path, "--interval", "30 min")[2]
+    assert tool("table", path, "--by", "ramp")[1].startswith("time,step,ramp,vehicles,")
     assert "--cell with --by cell" in tool("table", path, "--by", "road", "--cell", "m1")[2]
     for words in (["time-space", path, "--of", "speed"], ["time-space", path, "--of", "flow"], ["mfd", path, "--interval", "10 min"]):
         assert tool("plot", *words, "-o", "p.png")[0] == 0 and (tmp_path / "p.png").stat().st_size > 10_000

@@ -10,8 +10,8 @@ import pytest
 from .examples import TOOLS
 
 TOP = TOOLS.parent
-COMMANDS_IN = {"README.md": 17, "tools/README.md": 7, "examples/README.md": 10, "tools/docs/measures.md": 5,
-               "tools/docs/networks.md": 1, "tools/docs/calibration.md": 0}  # and how many there are at least
+COMMANDS_IN = {"README.md": 17, "tools/README.md": 7, "examples/README.md": 10, "tools/docs/measures.md": 6,
+               "tools/docs/networks.md": 1, "tools/docs/calibration.md": 0, "tools/docs/saved.md": 6}  # and how many there are at least
 PAGES = sorted(str(path.relative_to(TOP)) for path in
                [*TOP.glob("*.md"), *TOP.glob("docs/*.md"), *TOP.glob("tools/docs/*.md"), TOP / "tools/README.md",
                 TOP / "examples/README.md"])
@@ -29,6 +29,8 @@ LEFT_OUT = {
     "./ctm-tools calibrate study.toml --observed det.csv --vary lane.saturation_flow=1800:2400 --vary demand=0.9:1.1":
         "its files are a user's",
     "./ctm-tools diagram detector.csv --lanes 3": "its file is a user's",
+    "./ctm-tools branch SAVED STUDY..": "its files are a user's",
+    "./ctm-tools meter STUDY.toml": "tools/docs/saved.md has one of a study with meters",
     "./ctm-tools calibrate STUDY.toml --observed FILE.csv --vary KEY=LOW:HIGH": "its files are a user's",
     "./ctm-tools diagram FILE.csv": "its file is a user's",
     "./ctm-tools report a.report b.report -o ab.html": "its files are a user's",

@@ -43,6 +43,17 @@ def test_links_in_miles(folder):
     assert "signal J: plan night is left out, since the first one is kept for the whole time" in found.notes
 
 
+def test_speed_limits_by_time_are_told_as_out_of_reach(folder):
+    (folder / "link_tod.csv").write_text("link_tod_id,link_id,time_day,free_speed,lanes,capacity\n1,a,01111100_0600_0900,30,,\n"
+                                         "2,c,01111100_0600_0900,30,1,1400\n3,e,01111100_0600_0900,3,,\n")
+    found = read_folder(folder)
+    assert found.notes[-3:] == [
+        "speed limits by time are out of the model's reach, since a cell is as long as the way of a step at free flow: 2 of "
+        "link_tod.csv at links a, c are left out", "link_tod.csv: 1 rows with lanes by time are left out",
+        "link_tod.csv: 1 rows with capacity by time are left out"]
+    assert found.streets["a"].speed == pytest.approx(72.42048)
+
+
 def test_rings_wait_for_each_other_at_a_barrier():
     rows = [dict(zip(("ring", "barrier", "position", "max_green", "clearance"), row)) for row in (
         ("1", "1", "1", "10", "5"), ("1", "1", "2", "20", "5"), ("2", "1", "1", "15", "5"), ("1", "2", "1", "12", "3"),

@@ -1,10 +1,13 @@
 """Networks of SUMO as studies: streets, lanes for cars, junctions, signals, and traffic by its routes, worked out on paper."""
 
+from pathlib import Path
+
 import plain_model
 import pytest
 
 from ctmtools import Problem, build, read_study
-from ctmtools.imports.sumo import joined, read_network
+from ctmtools.imports import sumo_net, sumolib_net
+from ctmtools.imports.sumo import joined, read_network, streets_of
 from ctmtools.imports.sumo_trips import read_trips
 from ctmtools.report.reading import report_of
 
@@ -23,15 +26,24 @@ NET = """<net version="1.9">
     <tlLogic id="J" type="{sort}" programID="0" offset="10">
         <phase duration="30" state="GGr"/><phase duration="4" state="yyr"/><phase duration="26" state="rrG"/>
     </tlLogic>
-    <junction id="J" type="traffic_light" x="0" y="0"/><junction id="C" type="priority" x="125" y="0"/>
-    <junction id="A" type="dead_end" x="-250" y="0"/>
-    <connection from="a" to="c" fromLane="1" toLane="0" tl="J" linkIndex="0" state="O"/>
-    <connection from="a" to="d" fromLane="2" toLane="0" tl="J" linkIndex="1" state="O"/>
-    <connection from="b" to="c" fromLane="0" toLane="0" tl="J" linkIndex="2" state="o"/>
-    <connection from="c" to="e" fromLane="0" toLane="0" state="M"/>
-    <connection from="d" to="g" fromLane="0" toLane="0" state="M"/>
+    <junction id="J" type="traffic_light" x="0" y="0" incLanes="a_0 a_1 a_2 b_0"/>
+    <junction id="C" type="priority" x="125" y="0" incLanes="c_0"/><junction id="A" type="dead_end" x="-250" y="0" incLanes=""/>
+    {ends}
+    <connection from="a" to="c" fromLane="1" toLane="0" tl="J" linkIndex="0" dir="s" state="O"/>
+    <connection from="a" to="d" fromLane="2" toLane="0" tl="J" linkIndex="1" dir="s" state="O"/>
+    <connection from="b" to="c" fromLane="0" toLane="0" tl="J" linkIndex="2" dir="s" state="o"/>
+    <connection from="c" to="e" fromLane="0" toLane="0" dir="s" state="M"/>
+    <connection from="d" to="g" fromLane="0" toLane="0" dir="s" state="M"/>
 </net>
 """
+ENDS = "".join(f'<junction id="{node}" type="dead_end" x="9" y="9" incLanes=""/>' for node in "BDEFG")
+
+
+def net(sort="static"):
+    """The file of the network, with signals of a sort."""
+    return NET.format(sort=sort, ends=ENDS).replace(' length="', ' shape="0,0 9,9" length="')
+
+
 ROUTES = """<routes>
     <vType id="lorry" length="12"/>
     <route id="straight" edges="a c e"/>
@@ -49,7 +61,7 @@ ROUTES = """<routes>
 @pytest.fixture
 def files(tmp_path):
     """The files of the network and of its routes."""
-    (tmp_path / "town.net.xml").write_text(NET.format(sort="static"))
+    (tmp_path / "town.net.xml").write_text(net())
     (tmp_path / "town.rou.xml").write_text(ROUTES)
     return tmp_path
 
@@ -73,7 +85,7 @@ def test_greens_that_follow_each_other_are_one():
 
 
 def test_an_actuated_signal_is_told(files):
-    (files / "town.net.xml").write_text(NET.format(sort="actuated"))
+    (files / "town.net.xml").write_text(net("actuated"))
     assert "1 signals are actuated (J); the lengths of their phases are kept as fixed ones" in read_network(files / "town.net.xml").notes
 
 
@@ -120,7 +132,7 @@ def test_all_who_come_are_served_where_their_routes_end(tool, files):
 
 
 def test_a_movement_that_is_never_green_is_closed(tool, files):
-    (files / "town.net.xml").write_text(NET.format(sort="static").replace('"rrG"', '"rrr"'))
+    (files / "town.net.xml").write_text(net().replace('"rrG"', '"rrr"'))
     out = tool("import", "sumo", "town.net.xml", "--routes", "town.rou.xml", "-o", "town.toml")[1]
     assert "1 movements at signals are never green in their program, as b to c; they are closed" in out
     made = build(read_study("town.toml"))
@@ -129,7 +141,7 @@ def test_a_movement_that_is_never_green_is_closed(tool, files):
 
 
 def test_a_movement_at_a_signal_that_it_does_not_control_is_free(tool, files):
-    (files / "town.net.xml").write_text(NET.format(sort="static").replace('toLane="0" tl="J" linkIndex="2"', 'toLane="0"'))
+    (files / "town.net.xml").write_text(net().replace('toLane="0" tl="J" linkIndex="2"', 'toLane="0"'))
     out = tool("import", "sumo", "town.net.xml", "--routes", "town.rou.xml", "-o", "town.toml")[1]
     signals = [line.split(",")[1] for line in build(read_study("town.toml")).text.splitlines() if line.startswith("signal,")]
     assert "never green" not in out and signals[0] == "a10"
@@ -138,8 +150,8 @@ def test_a_movement_at_a_signal_that_it_does_not_control_is_free(tool, files):
 
 
 def test_a_merge_a_diverge_and_a_link_have_no_cells_of_their_own(tool, files):
-    net = NET.format(sort="static").replace('tl="J"', "").replace('<connection from="a" to="d" fromLane="2" toLane="0"', "<x")
-    (files / "town.net.xml").write_text(net)
+    text = net().replace('tl="J"', "").replace('<connection from="a" to="d" fromLane="2" toLane="0"', "<x")
+    (files / "town.net.xml").write_text(text)
     tool("import", "sumo", "town.net.xml", "--routes", "town.rou.xml", "-o", "town.toml")
     made = build(read_study("town.toml"))
     kinds = [line.split(",") for line in made.text.splitlines()]
@@ -168,3 +180,78 @@ def test_mistakes_in_the_words(tool, files):
     assert "--step: must be 0.1 s or more" in tool("import", "sumo", "town.net.xml", "--step", "0", "-o", "t.toml")[2]
     (files / "late.rou.xml").write_text('<routes><vehicle depart="9000"><route edges="a d"/></vehicle></routes>')
     assert "no vehicle comes in the first 1 h" in tool("import", "sumo", "town.net.xml", "--routes", "late.rou.xml")[2]
+
+
+SIGNS = """<additional>
+    <variableSpeedSign id="v1" lanes="a_1 a_2"><step time="0" speed="8.3"/><step time="1800" speed="12.5"/></variableSpeedSign>
+    <variableSpeedSign id="v2" lanes="d_0"><step time="600" speed="8.3"/></variableSpeedSign>
+    <inductionLoop id="l" lane="a_1" pos="10" period="60" file="x.xml"/>
+    <rerouter id="r" edges="b"/>
+</additional>
+"""
+
+
+def test_speed_limits_by_time_are_told_as_out_of_reach(tool, files, recording_program):
+    (files / "town.add.xml").write_text(SIGNS)
+    words = ["import", "sumo", "town.net.xml", "--routes", "town.rou.xml", "-o", "town.toml"]
+    told = ("speed limits by time are out of the model's reach, since a cell is as long as the way of a step at free flow: 2 variable "
+            "speed signs are left out; a, d keep their speeds at all times")
+    assert told not in tool(*words)[1]
+    out = tool(*words, "--additional", "town.add.xml")[1]
+    assert f"  {told}\n" in out and "town.add.xml: 1 elements rerouter aren't read" in out and "inductionLoop" not in out
+    # What is told by the import is told by each run too, before its results.
+    status, out, err = tool("run", "town.toml", "--every", "0")
+    assert status == 0 and out.index(told) < out.index("Vehicles")
+    assert "expected <additional> or <routes>, found <net>" in tool(*words, "--additional", "town.net.xml")[2]
+
+
+def test_a_file_of_routes_may_have_speed_signs(tool, files):
+    (files / "town.rou.xml").write_text(ROUTES.replace("</routes>", SIGNS.split("\n", 1)[1].replace("</additional>", "</routes>")))
+    assert "2 variable speed signs are left out" in tool("import", "sumo", "town.net.xml", "--routes", "town.rou.xml")[1]
+
+
+GAMES = Path("/usr/share/sumo/tools/game")
+
+
+@pytest.mark.parametrize("name", ["A10KW/osm", "cross/cross", "grid6/grid6", "ramp/ramp"])
+def test_sumolib_reads_what_the_xml_says_of_a_network_of_sumo(name):
+    pytest.importorskip("sumolib")
+    path = GAMES / f"{name}.net.xml"
+    if not path.exists():
+        pytest.skip("Debian's sumo-tools isn't there")
+    one, two = sumo_net.read(path), sumolib_net.read(path)
+    assert canonical(one) == canonical(two) and streets_of(one) == streets_of(two)
+
+
+def test_a_network_that_sumolib_can_not_read_is_read_by_its_xml(files):
+    (files / "town.net.xml").write_text(net().replace(' incLanes="c_0"', ""))
+    assert sumolib_net.read(files / "town.net.xml") is None and len(read_network(files / "town.net.xml").streets) == 6
+
+
+def canonical(found):
+    """A network whatever the order of its connections and of its signals."""
+    return found.name, found.edges, sorted(found.links, key=repr), sorted(found.logics, key=repr), found.nodes, found.roundabouts
+
+
+@pytest.mark.parametrize("sort", ["static", "actuated"])
+def test_sumolib_reads_what_the_xml_says(files, sort):
+    pytest.importorskip("sumolib")
+    (files / "town.net.xml").write_text(net(sort))
+    one, two = sumo_net.read(files / "town.net.xml"), sumolib_net.read(files / "town.net.xml")
+    assert canonical(one) == canonical(two) and streets_of(one) == streets_of(two) == read_network(files / "town.net.xml")
+
+
+@pytest.mark.parametrize("there", [False, True])
+def test_the_study_is_the_same_with_sumolib_and_without(tool, files, monkeypatch, there):
+    if there:
+        pytest.importorskip("sumolib")
+    monkeypatch.setattr(sumolib_net, "is_there", lambda: there)
+    assert (sumolib_net.read(files / "town.net.xml") is not None) == there
+    (files / "roundabout.net.xml").write_text(net().replace("</net>", '<roundabout nodes="C J" edges="c d"/></net>'))
+    status, out, err = tool("import", "sumo", "roundabout.net.xml", "--routes", "town.rou.xml", "-o", "town.toml")
+    assert status == 0 and out.startswith("town.toml: 5 streets, 1 signals, 632 vehicles") and "1 roundabouts" in out
+    assert tool("import", "sumo", "town.net.xml", "--routes", "town.rou.xml", "-o", "plain.toml")[0] == 0
+    assert build(read_study("town.toml")).text.split("\n", 1)[1] == build(read_study("plain.toml")).text.split("\n", 1)[1]
+    for text, wanted in (("<net>", "no XML"), ("<routes/>", "expected <net>, found <routes>")):
+        (files / "x.net.xml").write_text(text)
+        assert wanted in tool("import", "sumo", "x.net.xml")[2]

@@ -3,6 +3,7 @@
 from itertools import combinations
 
 import numpy
+import pandas
 import plain_model
 import pytest
 from matplotlib.collections import LineCollection
@@ -53,6 +54,22 @@ def assert_readable(figure):
 @pytest.mark.parametrize("name", STUDIES)
 def test_no_name_stands_over_another_and_none_is_cut_off(report, name, kind):
     assert_readable(plot(report(name), kind))
+
+
+def test_the_rates_of_meters_can_be_read(report):
+    from ctmtools.moments.metering import gauge_of
+    from ctmtools.plots.rates import draw
+    from ctmtools.study.plan import Meter
+
+    read = report("meter")
+    gauges = [gauge_of(Meter("ramp"), read.network, read.units)]
+    assert_readable(draw(read, rates_of("ramp", range(0, 2880, 12)), gauges))
+
+
+def rates_of(ramp, steps):
+    """Rates and occupancies that fall and rise again."""
+    return pandas.DataFrame([(step, ramp, 12 + step % 96 / 12, 240 + step % 960) for step in steps],
+                            columns=["step", "ramp", "occupancy", "rate"])
 
 
 @pytest.mark.parametrize("name", STUDIES)

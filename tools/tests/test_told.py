@@ -48,6 +48,9 @@ SLIPS = {
                              "warning: the demands of g overlap from 06:30 on; their amounts add up"),
     "a road shorter than was meant": (STUDY.replace("length = 1\n", "length = 0.9\n"),
                                       "rounded: length of road m: 0.9 km asked, 1 km modelled"),
+    "a speed limit by time": (STUDY + '[[speed_limits]]\nroad = "m"\nfrom = 0.5\nstart = "06:15"\nend = "06:45"\nspeed = 60\n',
+                              "speed_limits[1]: speed limits by time are out of the model's reach, since a cell is as long as "
+                              "the way of a step at the free-flow speed; road m has 90 km/h at all times, and not 60 for a time"),
     "closures that overlap": (STUDY + 2 * '[[closures]]\nroad = "m"\nlanes = 1\n',
                               "closures[1] and closures[2] overlap on road m from km 0 to 1, 06:00 to 07:00: 0 of 2 lanes"),
 }
@@ -101,10 +104,20 @@ def test_nothing_is_told_that_is_as_it_was_asked(tool):
     (["build", EXAMPLES / "bottleneck.csv"], "this is a network, and a study is wanted; `ctm-tools run` runs it"),
     (["build", EXAMPLES / "bottleneck.report"], "this is a report, and a study is wanted"),
     (["lint", EXAMPLES / "bottleneck.report"], "this is a report, and a network is wanted; `ctm-tools table`"),
-    (["run", EXAMPLES / "bottleneck.report"], "this is a report, and a network is wanted")])
+    (["run", EXAMPLES / "bottleneck.report"], "this is a report, and a network is wanted"),
+    (["lint", TOOLS / "tests" / "studies" / "corridor.saved"], "this is a saved run, and a network is wanted; `ctm resume`")])
 def test_another_file_than_is_wanted_is_named(tool, words, told):
     status, out, err = tool(*words)
     assert status == 2 and told in err and err.count("\n") == 1
+
+
+@pytest.mark.parametrize("old, new, key", [
+    ("free_flow_speed = 90", 'free_flow_speed = [["06:00", "06:30", 60]]', "lane.free_flow_speed"),
+    ("lanes = 2\n", 'lanes = 2\nfree_flow_speed = { start = "06:00", end = "06:30", speed = 60 }\n', "roads.m.free_flow_speed")])
+def test_a_speed_by_time_is_refused_as_out_of_reach(tool, tmp_path, old, new, key):
+    (tmp_path / "s.toml").write_text(STUDY.replace(old, new, 1))
+    status, out, err = tool("run", "s.toml")
+    assert status == 2 and f"{key}: speed limits by time are out of the model's reach" in err and not out
 
 
 def test_a_study_under_another_name_is_a_study(tool, tmp_path):
@@ -120,7 +133,8 @@ def test_git_ignores_what_the_commands_write_at_the_top(tmp_path):
     made += [f"{study.stem}.sweep/results.csv" for study in studies]
     made += [f"{study.stem}-{plot}.{ending}" for study in studies for plot in ("queue", "time-space", "difference")
              for ending in ("png", "svg", "pdf")]
-    made += [f"{study.stem}.{ending}" for study in studies for ending in ("html", "geojson")]
+    made += [f"{study.stem}.{ending}" for study in studies for ending in ("html", "geojson", "saved")]
+    made += [f"{study.stem}-metered.{ending}" for study in studies for ending in ("csv", "report", "units.json")]
     subprocess.run(["git", "init", "-q", tmp_path], check=True)
     (tmp_path / ".gitignore").write_bytes((TOOLS.parent / ".gitignore").read_bytes())
     ignored = subprocess.run(["git", "check-ignore", *map(str, made)], cwd=tmp_path, capture_output=True, text=True)

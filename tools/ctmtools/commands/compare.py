@@ -18,7 +18,7 @@ EPILOG = """\b
 Examples:
   ctm-tools compare arterial-0.report arterial-wave.report
   ctm-tools compare plan-a.report plan-b.report --plot difference.png
-  ctm-tools compare plan-a.report plan-b.report -o cells.csv
+  ctm-tools compare plan-a.report plan-b.report -o cells.csv --value-of-time 12
 
 With --plot both reports need records, and the cells of the route are those that both have."""
 
@@ -33,15 +33,16 @@ MOST_ROADS = 6  # so many roads are told with their travel time
 @click.option("--plot", "picture", metavar="FILE.png|svg", type=click.Path(),
               help="Draw the difference of the densities, B less A, as a time-space diagram.")
 @click.option("--road", metavar="ROAD", help="The road to draw; else the longest route.")
+@click.option("--value-of-time", metavar="MONEY", type=click.FloatRange(0), help="What an hour of delay costs.")
 @on_reports
 def command(first: str, second: str, rows: int, output: str | None, picture: str | None, road: str | None,
-            units: str | None, network: str | None) -> None:
+            value_of_time: float | None, units: str | None, network: str | None) -> None:
     """Compare two reports: delay, served vehicles and travel times, the greatest changes first.
 
     A cell's delay counts where vehicles waited, so a shorter queue shows at the cells that it no longer reaches.
     """
     one, two = read_report(first, units, network), read_report(second, units, network)
-    frame, sums = compare(one, two), totals(one, two)
+    frame, sums = compare(one, two), totals(one, two, value_of_time)
     unit = frame.attrs["units"]["delay"]
     click.echo(f"A  {one.title} ({first})\nB  {two.title} ({second})")
     for line in unlike(one, two):
@@ -53,8 +54,8 @@ def command(first: str, second: str, rows: int, output: str | None, picture: str
     for name, row in sums.iterrows():
         part = row.rise / row["first"] if row["first"] else 0
         change = f"{part:+.1%}" if abs(part) >= 0.0005 else ""
-        lines.append((name + (f", {unit}" if name == "delay" else ", vehicles"), told(row["first"]),
-                      told(row["second"]), signed(row.rise), change))
+        of = {"delay": f", {unit}", "cost of the delay": ""}.get(str(name), ", vehicles")
+        lines.append((f"{name}{of}", told(row["first"]), told(row["second"]), signed(row.rise), change))
     click.echo("\n".join(table(lines, right=(1, 2, 3, 4))))
     for line in _travel(travel(one, two)):
         click.echo(line)

@@ -36,6 +36,8 @@ demand and turning shares by --interval. Streets on which nobody drives are left
 @click.argument("network", metavar="NET.net.xml", type=click.Path())
 @click.option("--routes", metavar="FILE.rou.xml", type=click.Path(), multiple=True,
               help="A file of vehicles, trips or flows; may be given again.")
+@click.option("--additional", metavar="FILE.add.xml", type=click.Path(), multiple=True,
+              help="A file of which is told what can't be kept, as speed limits by time; may be given again.")
 @click.option("-o", "--output", metavar="STUDY.toml", type=click.Path(), help="Where the study goes.")
 @click.option("--step", default="2 s", show_default=True, metavar="TIME", help="The length of a step.")
 @click.option("--start", default="00:00", show_default=True, metavar="TIME", help="The clock time of SUMO's second 0.")
@@ -45,17 +47,19 @@ demand and turning shares by --interval. Streets on which nobody drives are left
               help="The spans by which demand and shares change.")
 @click.option("--headway", default=1.4, show_default=True, metavar="SECONDS", type=click.FloatRange(0.5, 5),
               help="Between two vehicles that follow each other; with 7.5 m a vehicle it gives each lane's capacity.")
-def sumo(network: str, routes: tuple[str, ...], output: str | None, step: str, start: str, until: str, after: str,
-         interval: str, headway: float) -> None:
+def sumo(network: str, routes: tuple[str, ...], additional: tuple[str, ...], output: str | None, step: str, start: str,
+         until: str, after: str, interval: str, headway: float) -> None:
     """Make a study of a network of SUMO, and of its routes."""
     from ..imports.sumo import read_network
-    from ..imports.sumo_trips import read_trips
+    from ..imports.sumo_trips import read_additional, read_trips
 
     clock(start, "--start")
     times = {name: seconds(text, name) for name, text in (("--step", step), ("--until", until), ("--interval", interval))}
     found = read_network(network)
     for path in routes:
         read_trips(found, path, times["--until"])
+    for path in additional:
+        read_additional(found, path)
     if routes and not found.trips:
         raise Problem(f"{routes[0]}: no vehicle comes in the first {until}")
     lasting = times["--until"] + seconds(after, "--after", least=0)

@@ -2,12 +2,17 @@
 
 from __future__ import annotations
 
+from pathlib import Path
+
 import click
 
 from ..files import guard_report, report_target
+from ..moments.moment import Moment
+from ..moments.stretches import kept_moment, kept_path, run_in_stretches, stretch_of
+from ..problem import Problem
 from ..report.page import page
 from ..report.reading import Report
-from ..running import prepare, run_into
+from ..running import Prepared, opened, placed, run_into
 from ..units import units_path
 from ..working import working
 
@@ -16,10 +21,15 @@ Examples:
   ctm-tools run examples/bottleneck.toml
   ctm-tools run examples/arterial-wave.toml -o wave.report
   ctm-tools run examples/interchange.csv --every 6
+  ctm-tools run examples/bottleneck.toml --checkpoint "1 h"
 
 A study is built first; its network and units go beside the report. Without -o the report is written into the folder one
 is in. Each step is recorded where the program's limit of 4,000,000 recorded values allows, else each E-th.
-CTM_PROGRAM names another program than ./ctm."""
+CTM_PROGRAM names another program than ./ctm.
+
+With --checkpoint the run goes in stretches, and the moment that was reached stands in FILE.saved beside the report. The same
+call goes on from there where the run was ended, by Ctrl-C or otherwise, and takes the file away once the report is written.
+Such a run isn't recorded, so no queues are told; its report is that of --every 0."""
 
 
 @click.command(epilog=EPILOG)
@@ -27,7 +37,8 @@ CTM_PROGRAM names another program than ./ctm."""
 @click.option("-o", "--output", metavar="FILE.report", type=click.Path(), help="Where the report goes.")
 @click.option("--every", metavar="E", type=click.IntRange(0, 100_000), help="Record each E-th step; 0 records none.")
 @click.option("--workers", metavar="N", type=click.IntRange(1, 16), help="Threads; by default as many as processors.")
-def command(source: str, output: str | None, every: int | None, workers: int | None) -> None:
+@click.option("--checkpoint", metavar="EVERY", help="Keep the run each such time, as \"30 min\", or number of steps.")
+def command(source: str, output: str | None, every: int | None, workers: int | None, checkpoint: str | None) -> None:
     """Run a study or a network by ./ctm, write its report with records, and print a page.
 
     Before the page stands what `build` tells of the study, or the warnings of `lint` of the network. The page has the
@@ -35,18 +46,50 @@ def command(source: str, output: str | None, every: int | None, workers: int | N
     cleared, and what is still inside at the end.
     """
     target = report_target(source, output)
+    if checkpoint is not None and every:
+        raise click.UsageError("--checkpoint: such a run isn't recorded, so it goes without --every")
     if not output:
         guard_report(target)
-    prepared = prepare(source, target)
+    prepared, stretch, begun = opened(source), 0, None
+    if checkpoint is not None:
+        stretch = stretch_of(checkpoint, prepared.units)
+        begun = kept_moment(kept_path(target), prepared.network, prepared.units)
+    prepared = placed(prepared, target)
     for line in prepared.told:
         click.echo(line)
     if prepared.told:
         click.echo()
-    with working("ctm is running"):
-        report = run_into(target, prepared, every, workers, lambda line: click.echo(line, err=True))
+    if not stretch:
+        with working("ctm is running"):
+            report = run_into(target, prepared, every, workers, _news)
+    else:
+        report = _in_stretches(target, prepared, stretch, begun, workers)
     for line in page(report):
         click.echo(line)
     click.echo(f"\nReport {target}{_recorded(report)}, units {units_path(target)}, network {prepared.path}")
+
+
+def _in_stretches(target: Path, prepared: Prepared, stretch: int, begun: Moment | None, workers: int | None) -> Report:
+    """Runs in stretches, and tells from where it goes on."""
+    clock, path = prepared.units.clock, kept_path(target)
+    reached = begun.last if begun else 0
+    if begun:
+        click.echo(f"Goes on from {clock(begun.last)}, which stands in {path}\n")
+
+    def keep(step: int) -> None:
+        nonlocal reached
+        reached = step
+
+    try:
+        with working("ctm is running"):
+            return run_in_stretches(target, prepared, stretch, begun, workers, _news, keep)
+    except KeyboardInterrupt:
+        kept = f"the same call goes on from {clock(reached)}" if reached else "nothing is kept yet"
+        raise Problem(f"stopped; {kept}") from None
+
+
+def _news(line: str) -> None:
+    click.echo(line, err=True)
 
 
 def _recorded(report: Report) -> str:

@@ -27,17 +27,20 @@ to_km, lanes. Flow, density and speed are those from the time to the next one, a
 aren't known, flow is in vehicles a step, density in vehicles a cell, speed in cells a step, and time is the step.
 With --by road a row for each road and gate, and each --interval: time, step, road, vehicles (that left it), flow, density
 (vehicles/km in a lane), level (of service by density, as the Highway Capacity Manual has it for motorways), speed, delay
-(vehicle-hours), delay_each (s), queue (km); with --value-of-time cost too.
-With --totals: cell, occupancy, come, gone (vehicles), delay (vehicle-hours), road, from_km, to_km, lanes at the end."""
+(vehicle-hours), delay_each (s), queue (km); with --value-of-time cost too. With --by ramp the same of each way from a gate to
+the merge that it leads to, with what waits in the gate.
+With --totals: cell, occupancy, come, gone (vehicles), delay (vehicle-hours), road, from_km, to_km, lanes at the end; with
+--value-of-time cost too."""
 
 
 @click.command(epilog=EPILOG)
 @click.argument("report", metavar="REPORT", type=click.Path())
 @click.option("-o", "--output", metavar="FILE.csv", type=click.Path(), help="Where it goes; else to standard output.")
 @click.option("--totals", "ends", is_flag=True, help="The cells at the end, one row each; it needs no records.")
-@click.option("--by", type=click.Choice(["cell", "road"]), default="cell", show_default=True, help="What a row is of.")
-@click.option("--interval", metavar="TIME", help="By road: the span of a row, as \"15 min\"; else the whole time.")
-@click.option("--value-of-time", metavar="MONEY", type=click.FloatRange(0), help="By road: what an hour of delay costs.")
+@click.option("--by", type=click.Choice(["cell", "road", "ramp"]), default="cell", show_default=True, help="What a row is of.")
+@click.option("--interval", metavar="TIME", help="By road or ramp: the span of a row, as \"15 min\"; else the whole time.")
+@click.option("--value-of-time", metavar="MONEY", type=click.FloatRange(0),
+              help="By road or ramp, or with --totals: what an hour of delay costs.")
 @click.option("--cell", "cells", metavar="CELL", multiple=True, help="These cells alone; may be given again.")
 @click.option("--separator", default=",", show_default=True, help="What stands between fields.")
 @click.option("--decimal", default=".", show_default=True, help="The decimal sign.")
@@ -46,12 +49,13 @@ def command(report: str, output: str | None, ends: bool, by: str, interval: str 
             cells: tuple[str, ...], separator: str, decimal: str, units: str | None, network: str | None) -> None:
     """Write a report as a tidy table with a header, for pandas, R and Excel."""
     read = read_report(report, units, network)
-    if by == "road" and (ends or cells) or by == "cell" and (interval or value_of_time is not None):
-        raise click.UsageError("--interval and --value-of-time go with --by road, --totals and --cell with --by cell")
-    if by == "road":
-        frame = by_road(read, float(duration(interval, "--interval")) if interval else None, value_of_time)
+    if by != "cell" and (ends or cells) or by == "cell" and (interval or value_of_time is not None and not ends):
+        raise click.UsageError("--interval and --value-of-time go with --by road and --by ramp, --totals and --cell with --by cell, and "
+                               "--value-of-time with --totals too")
+    if by != "cell":
+        frame = by_road(read, float(duration(interval, "--interval")) if interval else None, value_of_time, by)
     else:
-        frame = totals(read) if ends else states(read)
+        frame = totals(read, value_of_time) if ends else states(read)
     if cells:
         for cell in cells:
             if cell not in read.cells.index:

@@ -10,8 +10,8 @@ import pandas
 
 from ..problem import Problem, one_line
 from ..study.quantities import MILE
-from .streets import Program, Span, Street, Streets, Way
-from .sumo import always, joined
+from .streets import BY_TIME, Program, Span, Street, Streets, Way
+from .sumo import always, joined, named
 
 KILOMETRES = {"km": 1.0, "kilometer": 1.0, "kilometers": 1.0, "m": 0.001, "meter": 0.001, "meters": 0.001,
               "mi": float(MILE), "mile": float(MILE), "miles": float(MILE), "ft": 0.0003048, "feet": 0.0003048}
@@ -27,6 +27,7 @@ def read_folder(folder: str | Path) -> Streets:
     reader.movements()
     reader.signals()
     reader.demand()
+    reader.by_time()
     return reader.found
 
 
@@ -127,6 +128,21 @@ class Reader:
                 raise Problem(f"{self.folder / 'demand.csv'}: there is no link {row.get('link_id')}")
             span = _number(row, "start", 0), _number(row, "end", 3600), _number(row, "flow", 0)
             self.found.gates.setdefault(row["link_id"], []).append(span)
+
+    def by_time(self) -> None:
+        """Notes what the tables of links by time of day say, which isn't kept."""
+        known = {"", *self.found.streets}
+        for name in ("link_tod", "segment_tod"):
+            rows = [row for row in self._rows(name, needed=False) if row.get("link_id", "") in known]
+            limits = [row for row in rows if row.get("free_speed", "").strip()]
+            if limits:
+                links = dict.fromkeys(row["link_id"] for row in limits if row.get("link_id"))
+                where = f" at links {named(list(links))}" if links else ""
+                self.found.notes.append(f"{BY_TIME}: {len(limits)} of {name}.csv{where} are left out")
+            for column in ("lanes", "capacity"):
+                count = sum(bool(row.get(column, "").strip()) for row in rows)
+                if count:
+                    self.found.notes.append(f"{name}.csv: {count} rows with {column} by time are left out")
 
     def _rows(self, name: str, needed: bool = True) -> Rows:
         """The rows of a table as texts; none where the file isn't there and needn't be."""

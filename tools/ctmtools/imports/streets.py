@@ -6,6 +6,7 @@ from dataclasses import dataclass, field
 
 Movement = tuple[str, str]  # a street and the one that it leads into
 Span = tuple[float, float]  # from and to, in seconds
+BY_TIME = "speed limits by time are out of the model's reach, since a cell is as long as the way of a step at free flow"
 
 
 @dataclass

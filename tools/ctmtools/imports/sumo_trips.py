@@ -2,27 +2,49 @@
 
 from __future__ import annotations
 
+from collections import Counter
 from collections.abc import Iterator
 from pathlib import Path
-from xml.etree import ElementTree
 
 import networkx
 
-from .streets import Streets, Trip
-from .sumo import read_xml
+from .streets import BY_TIME, Streets, Trip
+from .sumo import named
+from .sumo_net import Element, read_xml
 
-Element = ElementTree.Element
+CHANGING = ("calibrator", "rerouter", "tlLogic", "WAUT", "taz", "trip", "vehicle", "flow")  # elements that change traffic
 
 
 def read_trips(found: Streets, path: str | Path, until: float) -> None:
     """Puts the trips of a file, until a time, among those of the streets."""
-    root = read_xml(path, "routes")
+    root = read_xml(path, "routes", "additional")
     reader = Reader(found, {route.get("id", ""): route for route in root.iter("route") if route.get("id")}, until)
     for element in root:
         if element.tag in ("vehicle", "trip", "flow"):
             reader.take(element)
     reader.tell(Path(path).name)
     _note_lengths(found, root)
+    note_signs(found, root)
+
+
+def read_additional(found: Streets, path: str | Path) -> None:
+    """Notes what an additional file has that changes traffic and isn't kept."""
+    root = read_xml(path, "additional", "routes")
+    note_signs(found, root)
+    kinds = Counter(element.tag for element in root if element.tag in CHANGING)
+    for kind, count in kinds.items():
+        found.notes.append(f"{Path(path).name}: {count} elements {kind} aren't read")
+
+
+def note_signs(found: Streets, root: Element) -> None:
+    """Notes the speed limits by time, which a study can't have: the streets have one speed at all times."""
+    signs = list(root.iter("variableSpeedSign"))
+    lanes = {lane for sign in signs for lane in [*sign.get("lanes", "").split(), *sign.get("edges", "").split()]}
+    streets = sorted({street for lane in lanes for street in (lane, lane.rpartition("_")[0]) if street in found.streets})
+    if signs:
+        where = f"; {named(streets)} {'keep their speeds' if len(streets) > 1 else 'keeps its speed'} at all times" \
+            if streets else ""
+        found.notes.append(f"{BY_TIME}: {len(signs)} variable speed signs are left out{where}")
 
 
 def _note_lengths(found: Streets, root: Element) -> None:

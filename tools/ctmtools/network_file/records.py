@@ -64,6 +64,11 @@ def _record_at(content: bytes, place: int) -> tuple[tuple[str, ...], int]:
         place += 1
 
 
+def end_of(content: bytes, record: Record) -> int:
+    """The place behind the last byte of a record of a file's bytes."""
+    return _record_at(content, record.place)[1]
+
+
 def line_of(content: bytes, place: int) -> int:
     """The number from 1 of the line that the byte at a place stands in, as an editor counts lines."""
     return 1 + sum(1 for _ in LINE_END.finditer(content, 0, place))

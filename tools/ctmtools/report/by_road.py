@@ -1,4 +1,4 @@
-"""A report by road and gate, and by spans of time: vehicles, density, speed, delay, queue and level of service."""
+"""A report by road and gate or by ramp, and by spans of time: vehicles, density, speed, delay, queue, level of service."""
 
 from __future__ import annotations
 
@@ -9,6 +9,7 @@ import pandas
 
 from ..problem import Problem
 from ..units import MILE_KM
+from .page import where
 from .queues import standing
 from .reading import Report
 from .states import times
@@ -40,8 +41,38 @@ def bounds_of(report: Report, every: float | None) -> list[int]:
     return sorted(set(found))
 
 
-def by_road(report: Report, every: float | None = None, value_of_time: float | None = None) -> pandas.DataFrame:
-    """A row for each span of time and each road or gate.
+def roads_and_gates(report: Report) -> dict[str, list[str]]:
+    """The cells of each road, and each gate."""
+    kinds = report.need_network().kinds
+    return {**report.units.roads, **{f"gate {cell}": [cell] for cell, kind in kinds.items() if kind == "gate"}}
+
+
+def ramps(report: Report) -> dict[str, list[str]]:
+    """For each gate the cells from it to the first junction, where that is a merge: a ramp with what waits before it.
+
+    A motorway that begins at a gate and that a ramp joins is one too, up to there.
+    """
+    network = report.need_network()
+    found = {}
+    for gate, kind in network.kinds.items():
+        cells = [gate] if kind == "gate" else []
+        while cells:
+            ways = list(network.graph.out_edges(cells[-1], data="kind"))
+            if len(ways) != 1 or ways[0][1] in cells:
+                break
+            if ways[0][2] == "merge":
+                found[f"{gate} to {where(report, cells[-1])}" if len(cells) > 1 else f"gate {gate}"] = cells
+                break
+            cells.append(ways[0][1])
+    return found
+
+
+PARTS = {"road": roads_and_gates, "ramp": ramps}
+
+
+def by_road(report: Report, every: float | None = None, value_of_time: float | None = None,
+            by: str = "road") -> pandas.DataFrame:
+    """A row for each span of time and each road or gate; by `ramp` for each ramp, with the gate before it.
 
     `vehicles` have left it and `flow` is that in vehicles/h; `density` is the mean in vehicles/km in a lane and `level`
     its level of service, `speed` the mean in km/h, over place and time; `delay` is in vehicle-hours and `delay_each` in
@@ -49,9 +80,7 @@ def by_road(report: Report, every: float | None = None, value_of_time: float | N
     money an hour, `cost` is what the delay costs. Where units aren't known there are no roads, and gates alone have rows.
     """
     bounds = bounds_of(report, every)
-    units, kinds = report.units, report.need_network().kinds
-    rows = []
-    parts = {**units.roads, **{f"gate {cell}": [cell] for cell, kind in kinds.items() if kind == "gate"}}
+    units, parts, rows = report.units, PARTS[by](report), []
     stands, held, flow = standing(report), report.held, report.flow
     lasting = numpy.diff(report.times)
     for begin, end in zip(bounds, bounds[1:]):
@@ -61,7 +90,7 @@ def by_road(report: Report, every: float | None = None, value_of_time: float | N
             stood, went = held[cells].to_numpy()[inside] * weights, flow[cells].to_numpy()[inside] * weights
             queued = stands[cells].to_numpy()[inside]
             rows.append((begin, name, *_figures(report, cells, stood, went, queued, end - begin)))
-    frame = pandas.DataFrame(rows, columns=["step", "road", *COLUMNS])
+    frame = pandas.DataFrame(rows, columns=["step", by, *COLUMNS])
     frame.insert(0, "time", times(units, frame["step"].to_numpy()))
     frame.insert(6, "level", [level(density) for density in frame.density] if units.known else "")
     if value_of_time is not None:
@@ -81,11 +110,12 @@ def _figures(report: Report, cells: Sequence[str], stood: numpy.ndarray, went: n
     hour, second = (3600 / units.step, units.step) if units.step is not None else (1.0, 1.0)
     lengths = numpy.array([units.length(cell) or numpy.nan for cell in cells]) if units.known else numpy.ones(len(cells))
     vehicles, delay = float(went[:, -1].sum()), float(numpy.clip(stood - went, 0, None).sum())
-    is_gate = numpy.isnan(lengths).any()
+    roads = ~numpy.isnan(lengths)
     lanes = numpy.array([(units.cells.get(cell) or {}).get("lanes", 1) for cell in cells])
-    density = numpy.nan if is_gate else float(stood.sum() / steps / (lengths * lanes).sum())
-    speed = float((went * lengths).sum() * hour / stood.sum()) if not is_gate and stood.sum() > 0 else numpy.nan
-    reach = 0.0 if is_gate or not len(queued) else float((queued * lengths).sum(axis=1).max())
+    lengths, lanes, stood, went, queued = lengths[roads], lanes[roads], stood[:, roads], went[:, roads], queued[:, roads]
+    density = float(stood.sum() / steps / (lengths * lanes).sum()) if roads.any() else numpy.nan
+    speed = float((went * lengths).sum() * hour / stood.sum()) if stood.sum() > 0 else numpy.nan
+    reach = float((queued * lengths).sum(axis=1).max()) if queued.size else 0.0
     each = delay * second / vehicles if vehicles > 0 else numpy.nan
     return vehicles, vehicles / steps * hour, density, speed, float(units.hours(delay)), each, reach
 

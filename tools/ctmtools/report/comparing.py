@@ -1,9 +1,12 @@
-"""Two reports side by side: delay and served vehicles, in all and cell by cell."""
+"""Reports side by side: delay and served vehicles, in all and, of two, cell by cell."""
 
 from __future__ import annotations
 
+from collections.abc import Mapping
+
 import pandas
 
+from ..problem import Problem
 from .reading import Report
 from .travel import road_times
 
@@ -34,16 +37,37 @@ def _served(report: Report) -> pandas.Series:
     return report.cells.gone.where(report.cells.gone > 0, report.cells.come)
 
 
-def totals(first: Report, second: Report) -> pandas.DataFrame:
-    """Vehicles that came, were served and are still inside, and the delay, of both reports, and the rise."""
-    known = first.units.known and second.units.known
-    rows = {}
-    for name, report in (("first", first), ("second", second)):
-        delay = report.units.hours(report.total.delay) if known else report.total.delay
-        rows[name] = pandas.Series({"came": report.total.entered, "served": report.total.left,
-                                    "inside at the end": report.total.inside, "delay": delay})
-    frame = pandas.DataFrame(rows)
+def totals(first: Report, second: Report, value_of_time: float | None = None) -> pandas.DataFrame:
+    """Vehicles that came, were served and are still inside, and the delay, of both reports, and the rise.
+
+    With a value of time, in money an hour, there is a row of what the delay costs.
+    """
+    rows = side_by_side({"first": first, "second": second}, value_of_time)
+    frame = rows[["came", "served", "inside", "delay", *(["cost"] if value_of_time is not None else [])]].T
+    frame = frame.rename(index={"inside": "inside at the end", "cost": "cost of the delay"})
     frame["rise"] = frame["second"] - frame["first"]
+    return frame
+
+
+def side_by_side(reports: Mapping[str, Report], value_of_time: float | None = None) -> pandas.DataFrame:
+    """A row for each report, by its name: what came, was served and is inside at the end, the delay, and its rise.
+
+    The rise is that over the first one's delay, in all and as a part of it. With a value of time, in money an hour, `cost`
+    is what the delay costs.
+    """
+    known = all(report.units.known for report in reports.values())
+    if value_of_time is not None and not known:
+        raise Problem("--value-of-time: the units aren't known, so the delay has no cost")
+    frame = pandas.DataFrame({name: report.total for name, report in reports.items()}).T
+    frame = frame.rename(columns={"entered": "came", "left": "served"})[["came", "served", "inside", "delay"]]
+    if known:
+        frame["delay"] = [report.units.hours(report.total.delay) for report in reports.values()]
+    first = frame.delay.iloc[0]
+    frame["rise"] = frame.delay - first
+    frame["part"] = frame.rise / first if first else float("nan")
+    if value_of_time is not None:
+        frame["cost"] = frame.delay * value_of_time
+    frame.attrs["units"] = {"delay": "vehicle-hours" if known else "vehicle-steps"}
     return frame
 
 

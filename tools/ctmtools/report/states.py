@@ -7,6 +7,7 @@ from collections.abc import Sequence
 import numpy
 import pandas
 
+from ..problem import Problem
 from ..units import Units
 from .queues import queues_in
 from .reading import Report
@@ -48,15 +49,20 @@ def states(report: Report) -> pandas.DataFrame:
     return frame
 
 
-def totals(report: Report) -> pandas.DataFrame:
+def totals(report: Report, value_of_time: float | None = None) -> pandas.DataFrame:
     """A row for each cell at the last step: vehicles that it holds, that came and that went, the delay, and the place.
 
     Delay is in vehicle-hours where the step is known, else in vehicle-steps; road, from_km, to_km and lanes are given
-    where the units are known; the rest is in vehicles.
+    where the units are known; the rest is in vehicles. With a value of time, in money an hour, `cost` is what the delay
+    costs.
     """
     frame = report.cells.rename(columns={"n": "occupancy", "wait": "delay"}).reset_index()
     frame["delay"] = report.units.hours(frame["delay"])
     frame = frame.join(_places(report.units, list(report.cells.index)))
+    if value_of_time is not None:
+        if not report.units.known:
+            raise Problem(f"{report.name}: the units aren't known, so the delay has no cost")
+        frame["cost"] = frame["delay"] * value_of_time
     frame.attrs["units"] = {"occupancy": "vehicles", "come": "vehicles", "gone": "vehicles",
                             "delay": report.units.delay_unit}
     return frame

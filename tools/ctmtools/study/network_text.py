@@ -33,7 +33,7 @@ MADE = "# Made by ctm-tools build"
 class Built:
     """A network made of a study: the text of its file, its units, what was rounded, and remarks on what it is made of.
 
-    `warnings` are lines on what in the study can hardly be meant.
+    `warnings` are lines on what of the study isn't in the network, and on what in it can hardly be meant.
     """
 
     text: str
@@ -85,7 +85,20 @@ class Builder:
         text += "".join("\n".join(["", f"# {comment}", *records]) + "\n" for comment, records in sections if records)
         _check(text)
         remarks = [*self.study.remarks, *self._opened(), *self.limits.overlaps(), *self.signals.remarks]
-        return Built(text, self._units(), self.rounding, remarks, list(implausible(self.study, self.layout)))
+        warnings = [*self._left_out(), *implausible(self.study, self.layout)]
+        return Built(text, self._units(), self.rounding, remarks, warnings)
+
+    def _left_out(self) -> Iterator[str]:
+        """What of the study isn't in the network: meters with feedback, and speed limits by time."""
+        for meter in self.study.meters:
+            yield (f"{meter.place}: a meter with feedback is run by `ctm-tools meter` alone; ramp {meter.ramp} isn't "
+                   "metered here")
+        for limit in self.study.speed_limits:
+            part, cells = limit.part, self.junctions.cells_of(limit.part)
+            kept = sorted({float(cell.section.free_flow_speed) for cell in cells})
+            yield (f"{part.place}: speed limits by time are out of the model's reach, since a cell is as long as the way of a "
+                   f"step at the free-flow speed; road {part.road} has {' and '.join(f'{speed:g}' for speed in kept)} km/h at "
+                   f"all times, and not {told(limit.speed)} for a time")
 
     def _opened(self) -> Iterator[str]:
         """What an opening makes of the room of its cells, which a closed lane has too."""

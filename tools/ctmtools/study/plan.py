@@ -182,6 +182,36 @@ class Opening:
 
 
 @dataclass
+class Meter:
+    """A ramp meter with feedback: the ramp, and the road and km of its detector where these are said.
+
+    `gain` is in vehicles/h for each per cent of occupancy, `occupancy` the set point in per cent of the jam density, where
+    it is said, `interval` in s, and `least` and `most`, where it is said, are rates in vehicles/h. It runs from `start` to
+    `end`, in seconds after the study's start.
+    """
+
+    ramp: str
+    road: str | None = None
+    at: Fraction | None = None
+    gain: Fraction = Fraction(70)
+    occupancy: Fraction | None = None
+    interval: Fraction = Fraction(60)
+    least: Fraction = Fraction(240)
+    most: Fraction | None = None
+    start: Fraction = Fraction(0)
+    end: Fraction | None = None
+    place: str = "meter"
+
+
+@dataclass
+class SpeedLimit:
+    """A speed limit of a part of a road for some time, in km/h, which the model can't have."""
+
+    part: RoadPart
+    speed: Fraction
+
+
+@dataclass
 class Study:
     """A study: its step in s, the clock time of its start in s after midnight, its duration in s, and its parts.
 
@@ -204,3 +234,5 @@ class Study:
     crossings: list[Crossing]
     path: Path
     remarks: list[str] = field(default_factory=list)
+    meters: list[Meter] = field(default_factory=list)
+    speed_limits: list[SpeedLimit] = field(default_factory=list)

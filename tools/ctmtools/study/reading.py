@@ -14,13 +14,25 @@ from .counts import flows_of_counts
 from .crossing_cells import expand
 from .crossings import crossing
 from .entries import Entries, Reader, list_of
-from .plan import Closure, Diverge, Exit, Flow, Gate, Merge, Opening, Road, RoadPart, Section, Signal, Study, Turn
+from .plan import (Closure, Diverge, Exit, Flow, Gate, Merge, Meter, Opening, Road, RoadPart, Section, Signal, SpeedLimit,
+                   Study, Turn)
 from .quantities import clock, density, duration, flow, length, number, shown, speed, title, whole, word
 from .slips import slip_hint
 from .times import Times
 
 LANE = ("free_flow_speed", "wave_speed", "jam_density", "saturation_flow")
-LANE_READERS: dict[str, Reader[Fraction]] = {"free_flow_speed": speed, "wave_speed": speed, "jam_density": density,
+BY_TIME = ("speed limits by time are out of the model's reach: a cell is as long as the way of a step at the free-flow speed, "
+           "so a road has one speed at all times; say a number, and note the limits as [[speed_limits]]")
+
+
+def _free_flow_speed(value: Any, key: str) -> Fraction:
+    """A free-flow speed, which can't change with time."""
+    if isinstance(value, (list, dict)):
+        raise Problem(f"{key}: {BY_TIME}")
+    return speed(value, key)
+
+
+LANE_READERS: dict[str, Reader[Fraction]] = {"free_flow_speed": _free_flow_speed, "wave_speed": speed, "jam_density": density,
                                              "saturation_flow": flow}
 
 
@@ -76,6 +88,8 @@ def _study(entries: Entries, path: Path) -> Study:
     study.closures = [_closure(table, times) for table in entries.list("closures")]
     study.openings = [_opening(table, times) for table in entries.list("openings")]
     study.remarks += entries.take("notes", list_of(title), [])
+    study.meters = [_meter(table, times) for table in entries.list("meters")]
+    study.speed_limits = [_speed_limit(table, times) for table in entries.list("speed_limits")]
     study.crossings = [crossing(table, times) for table in entries.list("junctions")]
     entries.done()
     if not study.roads and not study.gates:
@@ -290,3 +304,21 @@ def _opening(table: Entries, times: Times) -> Opening:
     if opening.lanes == 0:
         raise Problem(f"{table.key('lanes')}: must be above 0")
     return opening
+
+
+def _speed_limit(table: Entries, times: Times) -> SpeedLimit:
+    limit = SpeedLimit(_part(table, times), table.take("speed", speed))
+    table.done()
+    return limit
+
+
+def _meter(table: Entries, times: Times) -> Meter:
+    start, end = times.span(table)
+    meter = Meter(table.take("ramp", word), table.take("road", word, None), table.take("at", length, None),
+                  table.take("gain", number, Meter.gain), table.take("occupancy", number, None),
+                  table.take("interval", duration, Meter.interval), table.take("least", flow, Meter.least),
+                  table.take("most", flow, None), start, end, table.place)
+    table.done()
+    if (meter.road is None) != (meter.at is None):
+        raise Problem(f"{table.key('at')}: a detector has both road and at, or none of them")
+    return meter

@@ -1,0 +1,70 @@
+"""ctm-tools branch"""
+
+from __future__ import annotations
+
+from collections.abc import Iterator, Sequence
+from pathlib import Path
+
+import click
+import pandas
+
+from ..moments.futures import futures_of, reports_of
+from ..moments.moment import read_moment
+from ..report.comparing import side_by_side
+from ..report.page import table, told
+from ..report.unlike import unlike
+from ..units import Units
+from ..working import working
+from .compare import signed
+
+EPILOG = """\b
+Example:
+  ctm-tools build examples/bottleneck.toml
+  ctm save --until 720 < bottleneck.csv > eight.saved
+  ctm-tools branch eight.saved examples/bottleneck.toml closed.toml
+
+The saved moment is near the asked step, at most four steps past it. Up to there each study has to have the cells and
+connectors of the saved network, and at each step the same capacity, green, demand and turning shares; one that differs
+earlier is refused, with what differs and from when on. Runs that go on from a moment aren't recorded; with -o their reports
+are written, for `ctm-tools compare`."""
+
+
+@click.command(epilog=EPILOG)
+@click.argument("saved", metavar="SAVED", type=click.Path())
+@click.argument("sources", metavar="STUDY.toml|NET.csv..", type=click.Path(), nargs=-1, required=True)
+@click.option("-o", "--output", metavar="FOLDER", type=click.Path(), help="Write the reports there.")
+@click.option("-j", "--jobs", metavar="N", type=click.IntRange(1, 256), help="Runs side by side; else as many as processors.")
+@click.option("--value-of-time", metavar="MONEY", type=click.FloatRange(0), help="What an hour of delay costs.")
+def command(saved: str, sources: tuple[str, ...], output: str | None, jobs: int | None, value_of_time: float | None) -> None:
+    """Run several futures of one saved moment, and compare their delays with the first one's."""
+    moment = read_moment(saved)
+    futures = futures_of(moment, saved, sources)
+    with working("ctm is running"):
+        reports = reports_of(moment, futures, jobs, Path(output) if output else None, lambda line: click.echo(line, err=True))
+    (name, first), *others = reports.items()
+    click.echo(f"{saved}: saved at {_when(moment.steps, first.units)}, {len(reports)} futures")
+    for other, report in others:
+        for line in unlike(first, report):
+            click.echo(f"warning: A is {name}, B is {other}: {line}")
+    click.echo()
+    click.echo("\n".join(beside_each_other(side_by_side(reports, value_of_time), "future")))
+    if output:
+        click.echo(f"\nReports in {output}")
+
+
+def _when(steps: Sequence[int], units: Units) -> str:
+    """The moment by its clock time, or the first and the last of those of its regions."""
+    return " to ".join(dict.fromkeys(units.clock(step, True) for step in (min(steps), max(steps))))
+
+
+def beside_each_other(frame: pandas.DataFrame, what: str) -> Iterator[str]:
+    """The lines of a table of reports, a row for each."""
+    heads = [what, "came", "served", "inside", f"delay, {frame.attrs['units']['delay']}", f"against {frame.index[0]}", ""]
+    rows = []
+    for name, row in frame.iterrows():
+        part = f"{row.part:+.1%}" if abs(row.part) >= 0.0005 else ""
+        rows.append([str(name), *map(told, (row.came, row.served, row.inside, row.delay)), signed(row.rise), part])
+        if "cost" in frame:
+            rows[-1].append(told(row.cost))
+    rows[0][5] = ""
+    return table([heads + ["cost"] * ("cost" in frame), *rows], right=range(1, 8))

@@ -1,0 +1,155 @@
+"""ctm-tools meter"""
+
+from __future__ import annotations
+
+from collections.abc import Iterator, Sequence
+from dataclasses import replace
+from fractions import Fraction
+from pathlib import Path
+from typing import Any
+
+import click
+
+from ..files import guard_report, write
+from ..moments.going_on import Runner
+from ..moments.metering import Gauge, Metered, gauge_of, meter
+from ..problem import Problem
+from ..report.by_road import roads_and_gates
+from ..report.comparing import side_by_side
+from ..report.page import table, told, where
+from ..report.reading import Report
+from ..running import Prepared, placed, run_into
+from ..running import run as run_network
+from ..study.network_text import build
+from ..study.plan import Meter, Study
+from ..study.quantities import duration
+from ..study.reading import read_study
+from ..study.telling import told as told_of
+from ..units import units_path
+from ..working import working
+from .branch import beside_each_other
+from .compare import signed
+
+EPILOG = """\b
+Examples:
+  ctm-tools meter examples/feedback.toml
+  ctm-tools meter examples/feedback.toml --gain 80 --plot rates.png --rates rates.csv
+  ctm-tools meter examples/meter.toml --ramp ramp --occupancy 15
+
+A study's [[meters]] have the keys ramp (a road or a gate), road and at (km) of the detector, gain, occupancy, interval,
+least, most, start and end. Occupancies are in per cent of the jam density. Without a detector's place it is the cell behind
+the merge; without a set point it is the occupancy at which the detector's cell carries the most."""
+MOST_PLACES = 6  # so many roads and gates are told with their change of delay
+
+
+@click.command(epilog=EPILOG)
+@click.argument("source", metavar="STUDY.toml", type=click.Path())
+@click.option("--ramp", metavar="RAMP", help="The metered ramp, where the study has no [[meters]].")
+@click.option("--gain", metavar="K", type=click.FloatRange(0, min_open=True),
+              help="Vehicles/h for each per cent of occupancy; by default 70.")
+@click.option("--occupancy", metavar="PERCENT", type=float, help="The set point.")
+@click.option("--interval", metavar="TIME", help="From one rate to the next; by default 1 min.")
+@click.option("--least", metavar="RATE", type=click.FloatRange(0), help="The least rate, vehicles/h; by default 240.")
+@click.option("--most", metavar="RATE", type=click.FloatRange(0), help="The greatest; by default what the ramp can pass.")
+@click.option("-o", "--output", metavar="FILE.report", type=click.Path(), help="Where the report of the metered run goes.")
+@click.option("--rates", metavar="FILE.csv", type=click.Path(), help="Write the rates and occupancies there.")
+@click.option("--plot", "picture", metavar="FILE.png|svg|pdf", type=click.Path(), help="Draw them over time.")
+@click.option("--value-of-time", metavar="MONEY", type=click.FloatRange(0), help="What an hour of delay costs.")
+def command(source: str, ramp: str | None, output: str | None, rates: str | None, picture: str | None,
+            value_of_time: float | None, **figures: Any) -> None:
+    """Run a study with ramp meters that follow the occupancy behind them, by ALINEA, beside one without.
+
+    The run goes from moment to moment: at each the program's saved run is gone on with under the rate that follows from
+    what the detector saw. The report is that of the network with all rates in it.
+    """
+    target = Path(output or Path(source).stem + "-metered.report")
+    if not output:
+        guard_report(target)
+    study = read_study(source)
+    meters = _meters(study, ramp, figures)
+    study.meters = []
+    built = build(study)
+    for line in told_of(built):
+        click.echo(line)
+    try:
+        gauges = [gauge_of(one, built.network, built.units) for one in meters]
+        with working("ctm is running"):
+            without = run_network(built.text.encode(), source, built.units, network=built.network)[1]
+            done = meter(built, gauges, Runner(source, news=_news))
+            metered = Prepared(study.path, done.built.text.encode(), done.built.network, done.built.units, [], done.built)
+            report = run_into(target, placed(metered, target), news=_news)
+    except Problem as problem:
+        raise Problem(f"{source}: {str(problem).removeprefix(f'{source}: ')}") from None
+    click.echo()
+    for line in _page(without, report, gauges, done, value_of_time):
+        click.echo(line)
+    if picture:
+        from ..plots.figure import save, target as picture_target
+        from ..plots.rates import draw
+
+        save(draw(report, done.rates, gauges), picture_target(report, "rates", picture))
+        click.echo(f"\n{picture}")
+    if rates:
+        write(rates, _timed(done, report).to_csv(index=False, float_format="%.6g"))
+    click.echo(f"\nReport {target}, units {units_path(target)}, network {target.with_suffix('.csv')}")
+
+
+def _news(line: str) -> None:
+    click.echo(line, err=True)
+
+
+def _meters(study: Study, ramp: str | None, figures: dict[str, Any]) -> list[Meter]:
+    """The meters of a study, or that of a ramp, with the figures that are said on the command line."""
+    if ramp is not None and study.meters:
+        raise Problem("--ramp: the study says its [[meters]]; take them away, or leave --ramp")
+    if ramp is None and not study.meters:
+        raise Problem(f"{study.path}: has no [[meters]]; say a ramp with --ramp")
+    said: dict[str, Any] = {key: Fraction(value) if isinstance(value, float) else value
+                            for key, value in figures.items() if value is not None}
+    if "interval" in said:
+        said["interval"] = duration(said["interval"], "--interval")
+    return [replace(one, **said) for one in (study.meters or [Meter(ramp or "", place="--meter")])]
+
+
+def _page(without: Report, report: Report, gauges: Sequence[Gauge], done: Metered,
+          value_of_time: float | None) -> Iterator[str]:
+    """What is told of a metered run."""
+    yield f"{without.title}: ramp meters with feedback, ALINEA"
+    yield ""
+    heads = ("ramp", "detector", "set point, %", "gain", "rates, vehicles/h", "least set")
+    rows = [(gauge.meter.ramp, where(report, gauge.detector), f"{gauge.wanted:.4g}", f"{float(gauge.meter.gain):g}",
+             f"{gauge.least:,.6g} to {gauge.most:,.6g}", told(done.rates[done.rates.ramp == gauge.meter.ramp].rate.min()))
+            for gauge in gauges]
+    yield from table([heads, *rows], right=range(2, 6))
+    yield ""
+    frame = side_by_side({"without": without, "metered": report}, value_of_time)
+    yield from beside_each_other(frame, "")
+    yield ""
+    yield from _places(without, report)
+    yield ""
+    rise, unit = frame.rise["metered"], frame.attrs["units"]["delay"]
+    if rise <= -0.005:
+        yield f"The meters lower the delay by {told(-rise)} {unit}, {-frame.part['metered']:.1%}."
+    elif rise >= 0.005:
+        yield f"The meters don't lower the delay: it rises by {told(rise)} {unit}."
+    else:
+        yield "The meters don't lower the delay: it is the same."
+
+
+def _places(without: Report, report: Report) -> Iterator[str]:
+    """The delay of the roads and gates in which it changes most."""
+    changes = []
+    for name, cells in roads_and_gates(report).items():
+        one, two = (report.units.hours(float(each.cells.wait[cells].sum())) for each in (without, report))
+        if abs(two - one) >= 0.005:
+            changes.append((abs(two - one), name, one, two))
+    rows = [(name, told(one), told(two), signed(two - one)) for _, name, one, two in sorted(changes, reverse=True)]
+    if rows:
+        yield from table([("delay, vehicle-hours", "without", "metered", ""), *rows[:MOST_PLACES]], right=(1, 2, 3))
+
+
+def _timed(done: Metered, report: Report) -> Any:
+    """The rates with their clock times."""
+    frame = done.rates.copy()
+    frame.insert(0, "time", [report.units.clock(step, True) for step in frame.step])
+    return frame

@@ -1,0 +1,57 @@
+"""What a network file of SUMO says, read by SUMO's own library, sumolib, where that is there."""
+
+from __future__ import annotations
+
+from importlib.util import find_spec
+from pathlib import Path
+from typing import Any
+from xml.sax import SAXParseException
+
+from ..problem import Problem, one_line
+from .sumo_net import CAR, FUNCTIONS, Edge, Lane, Link, Logic, Net, Node, check_root, name_of
+
+
+def is_there() -> bool:
+    """Whether sumolib can be imported."""
+    return find_spec("sumolib") is not None
+
+
+def read(path: str | Path) -> Net | None:
+    """The network in a file; none where sumolib isn't there, or misses in the file what it needs and the tools don't."""
+    if not is_there():
+        return None
+    check_root(path, "net")
+    try:
+        return _net(path)
+    except (KeyError, IndexError, AttributeError):
+        return None
+    except SAXParseException as error:
+        raise Problem(f"{path}: no XML: {one_line(error.getMessage())}") from None
+
+
+def _net(path: str | Path) -> Net:
+    import sumolib
+
+    net = sumolib.net.readNet(str(path), withPrograms=True, withMacroConnectors=True)
+    edges = [edge for edge in net.getEdges(withInternal=False) if edge.getFunction() in ("", *FUNCTIONS)]
+    nodes = {node.getID(): Node(node.getCoord()[:2], node.getType()) for node in net.getNodes()}
+    links = [_link(link) for edge in edges for links in edge.getOutgoing().values() for link in links]
+    logics = [_logic(signal.getID(), program) for signal in net.getTrafficLights() for program in
+              signal.getPrograms().values()]
+    return Net(name_of(path), [_edge(edge) for edge in edges], links, logics, nodes, len(net.getRoundabouts()))
+
+
+def _edge(edge: Any) -> Edge:
+    lanes = [Lane(lane.getIndex(), lane.getLength(), lane.getSpeed()) for lane in edge.getLanes() if lane.allows(CAR)]
+    return Edge(edge.getID(), edge.getFromNode().getID(), edge.getToNode().getID(), lanes,
+                [place[:2] for place in edge.getRawShape()])
+
+
+def _link(link: Any) -> Link:
+    return Link(link.getFrom().getID(), link.getTo().getID(), link.getFromLane().getIndex(), link.getTLSID(),
+                max(0, link.getTLLinkIndex()), link.getState())
+
+
+def _logic(name: str, program: Any) -> Logic:
+    offset = program.getOffset() if hasattr(program, "getOffset") else program._offset  # older ones don't say it otherwise
+    return Logic(name, program.getType(), float(offset), [(float(phase.duration), phase.state) for phase in program.getPhases()])

@@ -1,0 +1,185 @@
+"""Ramp metering with feedback, by ALINEA, as an example of what saved moments are for.
+
+The run is taken from moment to moment. At each of them the rate of a ramp follows from the occupancy that its detector saw
+since the one before, and is put into the network's plan for the next interval; what was before stays as it was, so the moment
+is one of the changed network too. The law is that of M. Papageorgiou, H. Hadj-Salem and J.-M. Blosseville, "ALINEA: a local
+feedback control law for on-ramp metering", Transportation Research Record 1320, 1991: `rate = rate before + gain · (set point
+- occupancy)`, between a least and a most.
+"""
+
+from __future__ import annotations
+
+from collections.abc import Iterator, Sequence
+from dataclasses import dataclass, replace
+from fractions import Fraction
+from itertools import groupby
+
+import pandas
+
+from ..amounts import PARTS, amount_text, rounded_parts
+from ..network_file.editing import with_records
+from ..network_file.network import Network
+from ..problem import Problem
+from ..study.network_text import Built
+from ..study.plan import Meter
+from ..units import Units
+from .agreement import Plan, last_of, plan_of
+from .going_on import Runner
+from .moment import Moment
+
+HOUR = 3600
+
+
+@dataclass
+class Gauge:
+    """A meter on a network: the cell whose capacity it sets, that of its detector, and its figures.
+
+    `wanted` is the set point in per cent of the jam density; `rate`, `least` and `most` are in vehicles/h; it runs from
+    the step `begin` to the step `end`.
+    """
+
+    meter: Meter
+    cell: str
+    detector: str
+    wanted: float
+    least: float
+    most: float
+    rate: float
+    begin: int
+    end: int
+
+    def adjust(self, occupancy: float) -> None:
+        """Sets the rate by the occupancy, in per cent, that the detector saw in the last interval."""
+        self.rate = alinea(self.rate, float(self.meter.gain), self.wanted, occupancy, self.least, self.most)
+
+
+def alinea(rate: float, gain: float, wanted: float, occupancy: float, least: float, most: float) -> float:
+    """The next rate of a ramp in vehicles/h, by the last one and the occupancy in per cent."""
+    return min(max(rate + gain * (wanted - occupancy), least), most)
+
+
+def gauge_of(meter: Meter, network: Network, units: Units) -> Gauge:
+    """A meter of a study on the network that was built of it."""
+    kinds, place = network.kinds, meter.place
+    cell = units.roads[meter.ramp][-1] if meter.ramp in units.roads else meter.ramp
+    if kinds.get(cell) not in ("road", "gate"):
+        raise Problem(f"{place}.ramp: there is no road and no gate {meter.ramp}")
+    detector = _detector(meter, cell, network, units)
+    step, row = units.step or 1.0, network.cells.loc[detector]
+    most = float(meter.most) if meter.most is not None else float(network.cells.Q[cell]) * HOUR / step
+    critical = min(row.Q, row.N * row.A / (row.A + row.B))
+    wanted = float(meter.occupancy) if meter.occupancy is not None else 100 * critical / row.N
+    if not 0 < wanted < 100:
+        raise Problem(f"{place}.occupancy: must be above 0 and below 100 % of the jam density")
+    if float(meter.least) > most:
+        raise Problem(f"{place}.least: is above the most, {most:g} vehicles/h")
+    end = network.steps if meter.end is None else min(network.steps, round(float(meter.end) / step))
+    return Gauge(meter, cell, detector, wanted, float(meter.least), most, most, round(float(meter.start) / step), end)
+
+
+def _detector(meter: Meter, cell: str, network: Network, units: Units) -> str:
+    """The cell at which occupancy is measured: that at the detector's kilometre, else the one behind the merge."""
+    if meter.road is not None and meter.at is not None:
+        if meter.road not in units.roads:
+            raise Problem(f"{meter.place}.road: there is no road {meter.road}")
+        cells = units.roads[meter.road]
+        length = units.cells[cells[-1]]["to_km"]
+        if float(meter.at) > length + 1e-9:
+            raise Problem(f"{meter.place}.at: km {float(meter.at):g} is beyond road {meter.road}, which has {length:g} km")
+        return next(name for name in cells if float(meter.at) <= units.cells[name]["to_km"] + 1e-9)
+    ways = [(down, way["kind"]) for _, down, way in network.graph.out_edges(cell, data=True)]
+    if len(ways) != 1 or ways[0][1] != "merge" or network.kinds[ways[0][0]] != "road":
+        raise Problem(f"{meter.place}.ramp: {meter.ramp} leads into no merge with a road; say road and at of the detector")
+    return ways[0][0]
+
+
+@dataclass
+class Metered:
+    """A network with the limits that its meters have set, and the moment at the end of their last interval.
+
+    `rates` has a row for each interval and meter: `step`, `ramp`, `occupancy`, that in per cent which the detector saw in the
+    interval before, and `rate` in vehicles/h.
+    """
+
+    built: Built
+    rates: pandas.DataFrame
+    moment: Moment
+
+
+def meter(built: Built, gauges: Sequence[Gauge], runner: Runner) -> Metered:
+    """Runs a built network from interval to interval, and sets the rates of its meters in each."""
+    return Metering(built, gauges, runner).run()
+
+
+class Metering:
+    """The network so far: the limits that were set, and the moment that was reached."""
+
+    def __init__(self, built: Built, gauges: Sequence[Gauge], runner: Runner) -> None:
+        self.own, self.network, self.step = built.text.encode(), built.network, built.units.step or 1.0
+        self.built, self.gauges, self.runner = built, gauges, runner
+        self.width = max(1, round(float(gauges[0].meter.interval) / self.step))
+        if any(gauge.meter.interval != gauges[0].meter.interval for gauge in gauges):
+            raise Problem(f"{gauges[-1].meter.place}.interval: all meters of a study have one interval")
+        cells = [gauge.cell for gauge in gauges]
+        twice = next((gauge for i, gauge in enumerate(gauges) if gauge.cell in cells[:i]), None)
+        if twice:
+            raise Problem(f"{twice.meter.place}.ramp: {twice.meter.ramp} has a meter already")
+        self.plan: Plan = plan_of(self.network)
+        self.places = {name: place for place, name in enumerate(self.network.cells.index)}
+        self.limits: list[str] = []
+        self.rows: list[tuple[int, str, float, float]] = []
+
+    @property
+    def content(self) -> bytes:
+        """The network's bytes with the limits that were set."""
+        return with_records(self.own, self.limits)
+
+    def run(self) -> Metered:
+        """Goes through all intervals."""
+        begin, end = min(gauge.begin for gauge in self.gauges), max(gauge.end for gauge in self.gauges)
+        if begin >= end:
+            raise Problem(f"{self.gauges[0].meter.place}: no interval lies in the study's time")
+        moment = self.runner.moment(self.own, begin) if begin else None
+        seen: dict[str, float] = {}
+        for time in range(begin, end, self.width):
+            until = min(time + self.width, end)
+            for gauge in self.gauges:
+                if gauge.begin <= time < gauge.end:
+                    self._set(gauge, time, until, seen.get(gauge.detector))
+            before, moment = moment, self._go_on(moment, until)
+            seen = {gauge.detector: self._occupancy(gauge.detector, before, moment, until - time) for gauge in self.gauges}
+        assert moment is not None  # there is an interval
+        rates = pandas.DataFrame(self.rows, columns=["step", "ramp", "occupancy", "rate"])
+        units = replace(self.built.units, title=f"{self.built.units.title}, metered")
+        return Metered(replace(self.built, text=self.content.decode(), units=units), rates, moment)
+
+    def _set(self, gauge: Gauge, time: int, until: int, occupancy: float | None) -> None:
+        """Sets the rate of a meter for an interval."""
+        if occupancy is not None:
+            gauge.adjust(occupancy)
+        self.limits += self._records(gauge, time, until)
+        self.rows.append((time, gauge.meter.ramp, float("nan") if occupancy is None else occupancy, gauge.rate))
+
+    def _records(self, gauge: Gauge, time: int, until: int) -> Iterator[str]:
+        """The limits of an interval: the rate, or what the plan has itself where that is less."""
+        parts = rounded_parts(Fraction(gauge.rate * self.step / HOUR))
+        own = last_of(self.plan.limits.get(gauge.cell, []), self.plan.capacity[gauge.cell], until)[time:]
+        place = time
+        for capacity, same in groupby(own.tolist()):
+            end = place + len(list(same))
+            yield f"limit,{gauge.cell},{place},{end},{amount_text(min(parts, capacity))}"
+            place = end
+
+    def _go_on(self, moment: Moment | None, until: int) -> Moment:
+        """The moment at a step, of the network with the limits that were set."""
+        return self.runner.moment(self.content, until) if moment is None else \
+            self.runner.later(moment.of(self.content), until)
+
+    def _occupancy(self, cell: str, before: Moment | None, now: Moment, steps: int) -> float:
+        """The mean occupancy of a cell over so many steps, in per cent of its room.
+
+        What waits in a step is what the cell holds less what leaves it, so both together are the sum of what it held.
+        """
+        rows = [moment.rows[self.places[cell]] for moment in (before, now) if moment is not None]
+        held = rows[-1].wait + rows[-1].gone - (rows[0].wait + rows[0].gone if len(rows) > 1 else 0)
+        return 100 * held / PARTS / steps / float(self.network.cells.N[cell])
