@@ -1,4 +1,4 @@
-ghost use Rattle.std.specs.Prelude.{◌≡◌, ◌<◌, ◌≤◌, ◌++◌, ◌^◌, ℕ, [], All, IfErr, IfOk, None, Ok, OnOk, Option, length, map, slice_index, slice_index_or};
+ghost use Rattle.std.specs.Prelude.{◌≡◌, ◌<◌, ◌≤◌, ◌++◌, ◌∷◌, ◌^◌, ℕ, [], All, IfErr, IfOk, None, Ok, OnOk, Option, length, map, slice_index, slice_index_or};
 ghost use Rattle.network_file.specs.Reading.{network_of};
 ghost use Rattle.network_file.specs.declared.limits.TheConstants.{MOST_BYTES};
 ghost use Rattle.line_fields.specs.Fields.{lines_of};
@@ -82,11 +82,19 @@ fn networks(alloc: Global, pieces: &Pieces) -> Result<Vec<Net>, Refusal>
     let count = pieces.count();
     for p in 0..count {
         match network(alloc, pieces, p) {
-            Ok(net) => nets.push(net)?,
+            Ok(net) => put_network(&mut nets, net)?,
             Err(refusal) => return Err(refusal),
         }
     }
     Ok(nets)
+}
+
+// Appends a network to others.
+fn put_network(nets: &mut Vec<Net>, net: Net) -> Result<(), NoMemory>
+    ensures { OnOk result (nets.new.items ≡ nets.old.items ++ net ∷ []) }
+{
+    nets.push(net)?;
+    Ok(())
 }
 
 // The network of candidate `p`, whose bytes are there for as long as they are read.
@@ -137,7 +145,8 @@ fn chosen<R: Threads + Sync>(rt: &R, alloc: Global, nets: &[Net]) -> Result<Vec<
     ensures { IfOk result (λ text. IsChosenAmong nets.now text.items) }
 {
     let choice = choose(rt, alloc, nets)?;
-    choice_lines(alloc, &choice)
+    let text = choice_lines(alloc, &choice)?;
+    Ok(text)
 }
 
 // The line of each plan, and that of the choice.

@@ -8,13 +8,13 @@ loop-p-init c = rw c.new-nets.ensures.items (none-read (files_of c.args.pieces.n
 
 pub loop-p-preserved : goal.loop-p-preserved
 loop-p-preserved c =
-    subst (AreRead (files_of c.args.pieces.now) (c.loop-p.p + 1)) {x = c.loop-p.nets.items ++ c.in-Ok.net ∷ []} (sym c.in_ok-push-in-Ok.ensures.items)
+    subst (AreRead (files_of c.args.pieces.now) (c.loop-p.p + 1)) {x = c.loop-p.nets.items ++ c.in-Ok.net ∷ []} (sym c.in_ok-put_network-in-Ok.ensures)
     (more-read (files_of c.args.pieces.now) c.loop-p.p c.loop-p.nets.items c.in-Ok.net (omega (arith, c.loop-p-test.true, c.count-count.ensures.count)) c.loop-p.invariant c.in-Ok.ensures.network)
 
 pub returns-in-Err-clause-refusal : goal.returns-in-Err-clause-refusal
 returns-in-Err-clause-refusal c =
     rw (fault-read (files_of c.args.pieces.now) c.loop-p.p c.loop-p.nets.items (omega (arith, c.loop-p-test.true, c.count-count.ensures.count)) c.loop-p.invariant)
-        (c.in-Err.ensures.refusal _)
+    (c.in-Err.ensures.refusal _)
 
 pub returns-clause-networks : goal.returns-clause-networks
 returns-clause-networks c = all-networks (files_of c.args.pieces.now) c.loop-p.p c.loop-p.nets.items (omega (arith, c.loop-p-test.false, c.count-count.ensures.count)) c.loop-p.invariant
