@@ -4,7 +4,7 @@ use Rattle.network_file.proofs.NetworkFacts.{few_cells}
 use Rattle.network_file.specs.Cutting.{IsCutting}
 use Rattle.region_step.specs.Start.{zero_start}
 use Rattle.region_step.proofs.StartLaws.{zero_start-fits, zero_start-lawful, zero_start-true}
-use Rattle.saved_run.specs.Laws.{IsShotOf}
+use Rattle.saved_run.specs.Laws.{IsTrueShot}
 use Rattle.saved_run.specs.SavedText.{saved_text}
 use Rattle.ctm_call.specs.SaveMode.{IsSavedNear}
 use Rattle.ctm_call.specs.WatchMode.{cutting_of}
@@ -21,7 +21,7 @@ returns g c =
     let sound = subst IsNetwork c.net.view_is c.net.invariant in
     let cut : c.in_ok-chart.chart.cut ≡ cutting_of net c.args.request.regions = cutting-is net c.args.request.regions c.in_ok-chart.chart.cut c.in_ok-chart.ensures.own c.in_ok-chart.ensures.even in
     let used : List ℕ = c.in_ok-chart.chart.cut in
-    let shot : IsShotOf c.args.input.now net used (zero_start net used) c.in_ok-room.room = record {
+    let shot : IsTrueShot c.args.input.now net used (zero_start net used) c.in_ok-room.room = record {
       network = c.requires.network;
       sound = sound;
       cutting = subst (λ cells. IsCutting cells used) c.in_ok-chart.ensures.one_each c.regions-regions.ensures.sound.cutting;
