@@ -1,15 +1,12 @@
 -- What leaves a cell and what enters it in a step, by the link between places and by the other connectors.
 use Rattle.std.specs.Prelude.{Bool, not, ◌⊎◌, eqb, slice_index, if◌then◌else◌}
-use Rattle.std.specs.List.{Contains, filter, list_any, range_with_len, sum, sum_by}
+use Rattle.std.specs.List.{Contains, filter, list_any, range_with_len, sum_by}
 use Rattle.std.specs.List.Sorted.{IsStrictlyIncreasing}
-use Rattle.std.proofs.Common.{◌≡◌, ℕ, zero, suc, ◌+◌, ◌<◌, inl, inr, true, false, List, [], ◌∷◌, length, get_or, map, refl, sym, ap, ◌∙◌, subst, add-one, arith}
+use Rattle.std.proofs.Common.{◌≡◌, ℕ, zero, suc, ◌+◌, ◌<◌, inl, inr, true, false, List, [], ◌∷◌, length, get_or, refl, sym, ap, ◌∙◌, subst, add-one, arith}
 use Rattle.std.proofs.lemmas.Bool.{cases_Bool, eq-eqb, eqb-true}
-use Rattle.std.proofs.lemmas.List.{ext_get_or, get_or-map, length-map}
 use Rattle.std.proofs.lemmas.List.Elements.{Contains-get_or}
-use Rattle.std.proofs.lemmas.List.FromFn.{get_or-map-range_with_len, length-map-range_with_len}
-use Rattle.std.proofs.lemmas.List.Sums.{sum-map}
 use Rattle.signal_plan.specs.Capacity.{capacity_at}
-use Rattle.signal_plan.proofs.Sums.{sum_by-zero}
+use Rattle.signal_plan.proofs.Sums.{sum_by_places, sum_by-zero}
 use Rattle.network_file.specs.Cells.{is_gate_at}
 use Rattle.network_file.specs.Connectors.{connector_at, leads_into, leads_out_of}
 use Rattle.network_file.specs.Network.{IsNetwork, Network}
@@ -35,26 +32,14 @@ use Rattle.place_rows.specs.Chains.{AreAround, is_chained, is_joined, is_link, m
 use Rattle.place_rows.proofs.Links.{IsLinkAt, carried-link, carried-none, entering-link, leaving-link, link-is}
 use Rattle.place_rows.proofs.Shares.{in_range, sum-all, sum-none}
 
--- a sum over a list, by the places in it
-sum-places : {X : Type 0} (f : X → ℕ) (xs : List X) (d : X) → sum_by f xs ≡ sum_by (λ k. f (get_or xs k d)) (range_with_len 0 (length xs))
-sum-places f xs d =
-    let at : ℕ → ℕ = λ k. f (get_or xs k d) in
-    let n : ℕ = length xs in
-    let same : map f xs ≡ map at (range_with_len 0 n) =
-    ext_get_or 0 (map f xs) (map at (range_with_len 0 n)) (length-map xs f ∙ sym (length-map-range_with_len at 0 n))
-    (λ k lt.
-    let within : k < n = omega (arith, length-map xs f) in
-    get_or-map f xs k d 0 within ∙ sym (get_or-map-range_with_len at 0 n k k 0 within (omega arith))) in
-    sym (sum-map f xs) ∙ ap sum same ∙ sum-map at (range_with_len 0 n)
-
 outflow-sum : (net : Network) (t i : ℕ) (n : ℕ → ℕ) → outflow net t n i ≡ sum_by (out_by net t n i) (range_with_len 0 (length net.connectors))
 unfolding outflow
-outflow-sum net t i n = sum-places (λ c. leaving i c (flow_of net t n c)) net.connectors (Link 0 0)
+outflow-sum net t i n = sum_by_places (λ c. leaving i c (flow_of net t n c)) net.connectors (Link 0 0)
 
 inflow-sum : (net : Network) (t i : ℕ) (n : ℕ → ℕ) → is_gate_at net.cells i ≡ false →
     inflow net t n i ≡ sum_by (in_by net t n i) (range_with_len 0 (length net.connectors))
 unfolding inflow
-inflow-sum net t i n no_gate = rw no_gate (sum-places (λ c. entering i c (flow_of net t n c)) net.connectors (Link 0 0))
+inflow-sum net t i n no_gate = rw no_gate (sum_by_places (λ c. entering i c (flow_of net t n c)) net.connectors (Link 0 0))
 
 one_of : (a b : ℕ) → list_any (eqb a) (b ∷ []) ≡ true → a ≡ b
 one_of a b listed = elim (cases_Bool (eqb a b)) [
