@@ -95,3 +95,10 @@ module _ (input : List ℕ) (pieces : List (List ℕ)) (same : pieces ≡ pieces
       IfErr result (IsRefusalOf (why_of_candidates 0 (files_of pieces)) ⊥) → IfErr result (IsRefusalOf (choose_refused input) ⊥)
   cut-refusal (Ok text) some few given = tt
   cut-refusal (Err told) some few given = subst (λ why. IsRefusalOf why ⊥ told) (sym (why-cut some few)) given
+
+-- an input that isn't cut tells its separators
+pub plans-told : (input : List ℕ) (found : ℕ) (told : Refusal) → (found ≡ separators_in input) × ((found ≡ 0) ⊎ (most_plans < found)) →
+    IsRefusalOf (Some (plans_refused found)) ⊥ told → IsRefusalOf (choose_refused input) ⊥ told
+plans-told input found told is given =
+    let counted : (separators_in input ≡ 0) ⊎ (most_plans < separators_in input) = subst (λ n. (n ≡ 0) ⊎ (most_plans < n)) is.0 is.1 in
+    subst (λ why. IsRefusalOf why ⊥ told) (sym (refused-plans input counted ∙ ap (λ n. Some (plans_refused n)) (sym is.0))) given
