@@ -28,10 +28,10 @@ called words left IsRead ReadFailed told out err items (Err refusal) given refus
     (refused.0, refused.1, ended-unwritten _ _ IsRead ReadFailed told out err refusal refused.2 unwritten)
 
 -- where the words are refused it ends so
-pub told-words : {A : Type 0} (asked : Option ℕ) (told : Status) (line : Refusal → List ℕ) (out err : SinkUse) (answer : Result A Refusal) → IfErr answer (λ refusal. asked ≡ None → status_of refusal ≡ status.Words) → OnOk answer (asked ≢ None) →
-    IfErr answer (λ refusal. IsUnwritten (status_of refusal) (line refusal) told out err) → asked ≡ None → told ≡ status.Words
-told-words asked told line out err (Ok text) words accepted unwritten none = absurd (accepted none)
-told-words asked told line out err (Err refusal) words accepted unwritten none = unwritten.ends ∙ words none
+pub told-words : {A : Type 0} (asked : Option ℕ) (told : Status) (out err : SinkUse) (answer : Result A Refusal) → IfErr answer (λ refusal. asked ≡ None → status_of refusal ≡ status.Words) → OnOk answer (asked ≢ None) →
+    IfErr answer (λ refusal. IsUnwritten (status_of refusal) (line_of refusal) told out err) → asked ≡ None → told ≡ status.Words
+told-words asked told out err (Ok text) words accepted unwritten none = absurd (accepted none)
+told-words asked told out err (Err refusal) words accepted unwritten none = unwritten.ends ∙ words none
 
 -- and with that status only where they are
 other : (told : Status) → (status_number told ≡ 2 → ⊥) → told ≡ status.Words → ⊥

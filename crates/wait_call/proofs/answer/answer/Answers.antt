@@ -1,5 +1,4 @@
-use Rattle.std.proofs.Common.{◌≡◌, absurd}
-use Rattle.wait_call.proofs.AnswerFacts.{answered_refusal, answered_text, is-asked, refused_input, refused_words}
+use Rattle.wait_call.proofs.AnswerFacts.{answered_refusal, answered_text, refused_input, refused_words}
 use Rattle.wait_call.proofs.answer.answer.Goals as goal
 
 pub returns-in-Err-clause-refusal : goal.returns-in-Err-clause-refusal

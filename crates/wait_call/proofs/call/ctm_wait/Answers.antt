@@ -10,4 +10,4 @@ pub returns-clause-words : goal.returns-clause-words
 returns-clause-words g c = let ended = returns-clause-ended g c in words-told (workers_asked c.args.words.now) ended.0 _ _ _ _ _ ended.2
 
 pub returns-clause-refused : goal.returns-clause-refused
-returns-clause-refused g c = told-words (workers_asked c.args.words.now) _ _ _ _ c.answer-answer.result c.answer-answer.ensures.words c.answer-answer.ensures.accepted c.end.ensures.refusal
+returns-clause-refused g c = told-words (workers_asked c.args.words.now) _ _ _ c.answer-answer.result c.answer-answer.ensures.words c.answer-answer.ensures.accepted c.end.ensures.refusal

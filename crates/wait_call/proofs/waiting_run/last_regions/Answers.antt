@@ -1,6 +1,7 @@
 use Rattle.std.specs.Prelude.{slice_index}
-use Rattle.std.proofs.Common.{◌≡◌, ◌<◌, ap, ◌∙◌, arith}
+use Rattle.std.proofs.Common.{◌≡◌, ◌<◌, ℕ, ap, ◌∙◌, arith}
 use Rattle.region_cut.specs.Cuttings.{region_count}
+use Rattle.region_step.specs.Start.{StartLists, zero_start}
 use Rattle.region_step.proofs.Steps.{zero_start-at}
 use Rattle.border_rows.specs.declared.view.Terms.{Terms}
 use Rattle.network_run.proofs.Ending.{all-ended}
@@ -11,8 +12,10 @@ returns g c =
     let terms : Terms = c.in_ok-field.field.terms in
     let same = c.in_ok-field.ensures.terms in
     let closed = c.close-regions.ensures in
+    let zero : StartLists = zero_start c.args.net.now c.args.chart.now.cut in
+    let started : terms.start.now ≡ zero = ap (λ (t : Terms). t.start.now) same ∙ c.in_ok-start.ensures.start in
     let count : region_count terms.chart.now.cut ≡ region_count c.args.chart.now.cut = ap (λ (t : Terms). region_count t.chart.now.cut) same in
-    all-ended terms c.args.net.now c.args.chart.now _ 0 c.net.inside.steps c.take_to_last.new.pass.knows c.close-regions.result.steps.items c.close-regions.result.regions.items
-    (ap (λ (t : Terms). t.net.now) same) (ap (λ (t : Terms). t.chart.now) same) (ap (λ (t : Terms). t.start.now) same) (ap (λ (t : Terms). t.every) same)
+    all-ended terms c.args.net.now c.args.chart.now zero 0 c.net.inside.steps c.take_to_last.new.pass.knows c.close-regions.result.steps.items c.close-regions.result.regions.items
+    (ap (λ (t : Terms). t.net.now) same) (ap (λ (t : Terms). t.chart.now) same) started (ap (λ (t : Terms). t.every) same)
     closed.stand closed.lawful closed.later (λ r there. c.take_to_last.ensures.seen r (omega (arith, there, count)))
-    (λ r there. omega (arith, closed.reached r there, ap (λ (t : Terms). slice_index t.start.now.steps r) same, c.take_to_last.ensures.reach))
+    (λ r there. omega (arith, closed.reached r there, ap (λ (s : StartLists). slice_index s.steps r) started, zero_start-at c.args.net.now c.args.chart.now.cut r, c.take_to_last.ensures.reach))
