@@ -35,18 +35,18 @@ after : (side : Side) (cells : ℕ) (connectors : List Connector) (k a b i : ℕ
     ((get_or (set (set table a k) b k) i 0 ≡ get_or table i 0) × (has_on side i (connector_at connectors k) ≡ false))
 after side cells connectors k a b i table long first second same = elim (cases_eq i b) [
   | inl second_here ↦ inl (
-      ap (λ j. get_or (set (set table a k) b k) j 0) second_here ∙ get_or-set_same (set table a k) b k 0 (omega (arith, length-set table a k)),
-      sym same ∙ or_right (eqb i a) (eqb i b || false) (or_left (eqb i b) false (eq-eqb i b second_here)),
-    )
+    ap (λ j. get_or (set (set table a k) b k) j 0) second_here ∙ get_or-set_same (set table a k) b k 0 (omega (arith, length-set table a k)),
+    sym same ∙ or_right (eqb i a) (eqb i b || false) (or_left (eqb i b) false (eq-eqb i b second_here)),
+  )
   | inr not_second ↦ elim (cases_eq i a) [
     | inl first_here ↦ inl (
-        get_or-set_other (set table a k) b i k 0 not_second ∙ ap (λ j. get_or (set table a k) j 0) first_here ∙ get_or-set_same table a k 0 (omega (arith, long)),
-        sym same ∙ or_left (eqb i a) (eqb i b || false) (eq-eqb i a first_here),
-      )
+      get_or-set_other (set table a k) b i k 0 not_second ∙ ap (λ j. get_or (set table a k) j 0) first_here ∙ get_or-set_same table a k 0 (omega (arith, long)),
+      sym same ∙ or_left (eqb i a) (eqb i b || false) (eq-eqb i a first_here),
+    )
     | inr not_first ↦ inr (
-        get_or-set_other (set table a k) b i k 0 not_second ∙ get_or-set_other table a i k 0 not_first,
-        sym same ∙ or_from (eqb i a) (eqb i b || false) (ne_eqb i a not_first) (or_from (eqb i b) false (ne_eqb i b not_second) refl),
-      )
+      get_or-set_other (set table a k) b i k 0 not_second ∙ get_or-set_other table a i k 0 not_first,
+      sym same ∙ or_from (eqb i a) (eqb i b || false) (ne_eqb i a not_first) (or_from (eqb i b) false (ne_eqb i b not_second) refl),
+    )
   ]
 ]
 

@@ -212,10 +212,15 @@ pub lowest-below : (net : Network) (order : List ℕ) (placed : List Bool) (plac
     length order < length net.cells → lowest ≤ length placed → ((i : ℕ) → was_lowest ≤ i → i < lowest → get_or placed i false ≡ true) → lowest < length placed
 lowest-below net order placed place was_lowest lowest walking short low full = elim (cases_lt lowest (length placed)) [
   | inl lower ↦ lower
-  | inr past ↦ absurd (omega (arith, walking.one_each, walking.counted, all_marked placed (λ i within. elim (cases_lt i was_lowest) [
+  | inr past ↦ absurd (omega (
+    arith,
+    walking.one_each,
+    walking.counted,
+    all_marked placed (λ i within. elim (cases_lt i was_lowest) [
       | inl earlier ↦ walking.full i earlier
       | inr later ↦ full i later (omega arith)
-    ])))
+    ]),
+  ))
 ]
 
 -- the pointers after they moved, where the first stands at an open cell
@@ -242,14 +247,14 @@ pointed-beside net order placed was_place was_lowest place lowest next walking i
         | inr later ↦ full i later before
       ];
       is_next = sym (next-beside net order place next inside all_closed
-      (walking-open net order placed was_place was_lowest (get_or order place 0) walking some)
-      (record {
-        within = omega (arith, walking.one_each, least.within);
-        before = λ i lower.
-            ap (λ free. free && are_joined net.connectors (get_or order place 0) i) (sym (free-missing order placed i (walking.marks i))) ∙ least.before i lower;
-        here = λ _.
-            ap (λ free. free && are_joined net.connectors (get_or order place 0) next) (sym (free-missing order placed next (walking.marks next))) ∙ least.here below;
-      }));
+          (walking-open net order placed was_place was_lowest (get_or order place 0) walking some)
+          (record {
+            within = omega (arith, walking.one_each, least.within);
+            before = λ i lower.
+                ap (λ free. free && are_joined net.connectors (get_or order place 0) i) (sym (free-missing order placed i (walking.marks i))) ∙ least.before i lower;
+            here = λ _.
+                ap (λ free. free && are_joined net.connectors (get_or order place 0) next) (sym (free-missing order placed next (walking.marks next))) ∙ least.here below;
+          }));
       there = omega (arith, walking.one_each);
       missing = unfree (get_or placed next false) both.0;
     }

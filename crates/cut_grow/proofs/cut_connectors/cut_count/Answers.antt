@@ -42,17 +42,17 @@ loop-k-preserved c =
     let crossed : crosses c.args.list.now (connector_at connectors k) ≡ c.is_cut.result = ap (crosses c.args.list.now) connector ∙ sym c.is_cut.ensures in
     elim c.if-is_cut.branch [
       | then-is_cut w ↦ record {
-          count =
-              w.count-is ∙ ap (λ n. n + 1) c.loop-k.invariant.count ∙
-              sym (count_by_more_yes (crosses c.args.list.now) connectors k (Link 0 0) there (crossed ∙ w.if-is_cut.true));
-          few = omega (arith, w.count-is, c.loop-k.invariant.few);
-        }
+        count =
+            w.count-is ∙ ap (λ n. n + 1) c.loop-k.invariant.count ∙
+            sym (count_by_more_yes (crosses c.args.list.now) connectors k (Link 0 0) there (crossed ∙ w.if-is_cut.true));
+        few = omega (arith, w.count-is, c.loop-k.invariant.few);
+      }
       | else-is_cut w ↦ record {
-          count =
-              w.count-is ∙ c.loop-k.invariant.count ∙
-              sym (count_by_more_no (crosses c.args.list.now) connectors k (Link 0 0) there (crossed ∙ w.if-is_cut.false));
-          few = omega (arith, w.count-is, c.loop-k.invariant.few);
-        }
+        count =
+            w.count-is ∙ c.loop-k.invariant.count ∙
+            sym (count_by_more_no (crosses c.args.list.now) connectors k (Link 0 0) there (crossed ∙ w.if-is_cut.false));
+        few = omega (arith, w.count-is, c.loop-k.invariant.few);
+      }
     ]
 
 pub returns : goal.returns

@@ -60,7 +60,6 @@ returns-clause-order c =
 
 pub loop-preserved : goal.loop-preserved
 loop-preserved c =
-
     let connectors : c.as_slice-connectors.result.now ≡ c.args.net.now.connectors = c.as_slice-connectors.ensures.value ∙ ap (λ net. net.connectors) c.net.view_is in
     let marks : c.deref.result.now ≡ c.loop.placed.items = c.deref.ensures.value in
     let marks_again : c.deref-in-loop-2.result.now ≡ c.loop.placed.items = c.deref-in-loop-2.ensures.value in

@@ -27,6 +27,9 @@ loop-other-preserved c =
       omega (arith, ap (λ v. v.share) knows, inv.1, fewer, one.seat.share),
       omega (arith, ap (λ v. v.reach) knows, inv.2, one.seat.reach),
       All-fewer (HasCome field) left other come,
-      inr (λ r there. omega (arith, ap (λ v. slice_index v.seen r) knows,
-          united-all c.loop-other.pass.knows other.knows (region_count field.terms.chart.now.cut) field.terms.net.now.steps inv.0.counts.seen one.seen r there)),
+      inr (λ r there. omega (
+        arith,
+        ap (λ v. slice_index v.seen r) knows,
+        united-all c.loop-other.pass.knows other.knows (region_count field.terms.chart.now.cut) field.terms.net.now.steps inv.0.counts.seen one.seen r there,
+      )),
     )
