@@ -11,7 +11,7 @@ read-requires c = omega (arith, c.requires.few_bytes, ap length (c.deref.ensures
 pub returns-in-Ok-clause-network : goal.returns-in-Ok-clause-network
 returns-in-Ok-clause-network c = ap network_of (sym (c.deref.ensures.value ∙ c.in_ok-file.ensures)) ∙ c.in-Ok.ensures.network
 
-pub returns-in-Err-clause-refusal : goal.returns-in-Err-clause-refusal
-returns-in-Err-clause-refusal c = λ later.
+pub returns-clause-refusal : goal.returns-clause-refusal
+returns-clause-refusal c = λ later.
     subst (λ (file : List ℕ). IsRefusalOf (why_of_candidate c.args.p (network_of file) later) ⊥ c.refused_candidate.result) (c.deref.ensures.value ∙ c.in_ok-file.ensures)
     (told-candidate c.args.p (network_of c.deref.result.now) c.in-Err.refusal c.refused_candidate.result later c.in-Err.ensures.refusal c.refused_candidate.ensures)
