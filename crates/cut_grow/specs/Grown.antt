@@ -10,20 +10,22 @@ use Rattle.cut_grow.specs.Walk.{file_order, walk_of}
 abbrev pub IsEvenSize : (cells k size : ℕ) → Type 0
 IsEvenSize cells k size = (size ≡ cells / k) ⊎ (size ≡ (cells + k - 1) / k)
 
--- consecutive runs of these sizes, of which each cell has the number, from r on
+-- the numbers of runs of these sizes, from r on, each as often as its size says
 abbrev pub runs_from : (r : ℕ) → (sizes : List ℕ) → List ℕ
 runs_from r [] = []
 runs_from r (size ∷ sizes) = replicate size r ++ runs_from (r + 1) sizes
 
--- a candidate in k regions: a cutting whose regions are consecutive runs of one of the two orders, numbered as they come
-pub record IsCandidate (net : Network) (k : ℕ) (list : List ℕ) : Type 0 where
+-- a cutting whose k regions are consecutive runs of the order, numbered as they come, of even sizes
+pub record IsInRuns (net : Network) (k : ℕ) (order list : List ℕ) : Type 0 where
   pub cutting : IsCutting (length net.cells) list
-  pub order : List ℕ
-  pub known : (order ≡ file_order net) ⊎ (order ≡ walk_of net)
   pub sizes : List ℕ
   pub one_each : length sizes ≡ k
   pub even : All (IsEvenSize (length net.cells) k) sizes
   pub runs : map (region_at list) order ≡ runs_from 0 sizes
+
+-- a candidate in k regions: a cutting in such runs of the file order or of the walk
+abbrev pub IsCandidate : Network → (k : ℕ) → (list : List ℕ) → Type 0
+IsCandidate net k list = IsInRuns net k (file_order net) list ⊎ IsInRuns net k (walk_of net) list
 
 -- a candidate that cuts no more connectors than any other
 pub record IsGrown (net : Network) (k : ℕ) (list : List ℕ) : Type 0 where

@@ -40,8 +40,8 @@ touches_at connectors k i = nat_lt k (length connectors) && touches i (connector
 
 -- two tables by which each cell shares a connector with exactly the cells of two connectors
 pub record AreJoints (cells : ℕ) (connectors : List Connector) (out into : List ℕ) : Type 0 where
-  pub out : length out ≡ cells
-  pub into : length into ≡ cells
+  pub each_out : length out ≡ cells
+  pub each_into : length into ≡ cells
   pub joins : (x i : ℕ) → x < cells → are_joined connectors x i ≡ (touches_at connectors (get_or out x 0) i || touches_at connectors (get_or into x 0) i)
 
 -- cell i isn't marked as placed

@@ -36,12 +36,7 @@ impl Joints {
     }
 
     /// The least cell not placed that shares a connector with a cell, or the number of cells where there is none.
-    pub(crate) fn least_beside(
-        &self,
-        connectors: &[Connector],
-        placed: &[bool],
-        cell: u32,
-    ) -> u32
+    pub(crate) fn least_beside(&self, connectors: &[Connector], placed: &[bool], cell: u32) -> u32
         requires few { length placed.now < 2 ^ 32 }
         requires there { AreThere (length placed.now) connectors.now }
         requires joints { AreJoints (length placed.now) connectors.now self.now.out.items self.now.into.items }
@@ -85,7 +80,9 @@ fn least_of(connectors: &[Connector], placed: &[bool], k: u32) -> u32
         return placed.len() as u32;
     }
     let [a, b, c] = three_cells(connectors[k as usize]);
-    if_free(placed, a).min(if_free(placed, b)).min(if_free(placed, c))
+    if_free(placed, a)
+        .min(if_free(placed, b))
+        .min(if_free(placed, c))
 }
 
 // A cell where it isn't placed, and else the number of cells.

@@ -1,12 +1,12 @@
-//! Grows a cutting of a network along its roads: of the cuttings into even runs of cells, in the order of the file or of
-//! a walk from cell to cell, one that cuts the fewest connectors.
+//! How many connectors of a network a cutting cuts, and the walk over all its cells, in which each stands behind one that
+//! it shares a connector with where it can.
 #![tactic(auto)]
 
-mod cut_count;
+mod cut_connectors;
 mod joints;
 mod lowest;
-mod open;
+mod open_cells;
 mod side;
 mod walk;
 
-pub use cut_count::cut_count;
+pub use cut_connectors::cut_count;

@@ -17,11 +17,15 @@ impl Side {
         ensures cells { result ≡ two_cells self connector }
         ensures same { (test : ℕ → Bool) → list_any test result ≡ list_any test (side_of self connector) }
     {
-        match (self, connector) {
-            (Side::Upstream, Connector::Link { up, .. } | Connector::Diverge { up, .. }) => [up, up],
-            (Side::Upstream, Connector::Merge { up1, up2, .. }) => [up1, up2],
-            (Side::Downstream, Connector::Link { down, .. } | Connector::Merge { down, .. }) => [down, down],
-            (Side::Downstream, Connector::Diverge { down1, down2, .. }) => [down1, down2],
+        match self {
+            Side::Upstream => match connector {
+                Connector::Link { up, .. } | Connector::Diverge { up, .. } => [up, up],
+                Connector::Merge { up1, up2, .. } => [up1, up2],
+            },
+            Side::Downstream => match connector {
+                Connector::Link { down, .. } | Connector::Merge { down, .. } => [down, down],
+                Connector::Diverge { down1, down2, .. } => [down1, down2],
+            },
         }
     }
 }

@@ -4,7 +4,7 @@ ghost use Rattle.cut_grow.specs.Walk.{walk_of};
 
 use crate::joints::Joints;
 use crate::lowest::first_free;
-use crate::open::first_open;
+use crate::open_cells::first_open;
 use network_file::Net;
 use no_memory::NoMemory;
 use std::alloc::Global;
@@ -19,13 +19,13 @@ pub(crate) fn walk(alloc: Global, net: &Net) -> Result<Vec<u32>, NoMemory>
     let joints = Joints::of(alloc, connectors, cells)?;
     let mut placed = vec![in alloc; false; cells as usize]?;
     let mut order = Vec::new(alloc);
-    let mut open = 0;
+    let mut place = 0;
     let mut lowest = 0;
     for _ in 0..cells {
-        open = first_open(connectors, &joints, &placed, &order, open);
+        place = first_open(connectors, &joints, &placed, &order, place);
         lowest = first_free(&placed, lowest);
-        let next = if open < order.len() {
-            joints.least_beside(connectors, &placed, order[open])
+        let next = if place < order.len() {
+            joints.least_beside(connectors, &placed, order[place])
         } else {
             lowest
         };
