@@ -1,6 +1,17 @@
+pub mod Bests
 pub mod Connectors
 pub mod Counted
+pub mod EvenSizes
+pub mod GainCounts
+pub mod GainsReady
+pub mod GrownCuttings
+pub mod InsideRuns
 pub mod Leasts
+pub mod MostRuns
 pub mod NextCells
+pub mod RunNumbers
 pub mod SideTables
+pub mod Spanning
+pub mod Tabling
+pub mod Tracing
 pub mod Walking

