@@ -40,6 +40,21 @@ def test_help_has_the_modes_options_and_ranges_of_the_page(without_rt):
     assert {name: default for name, _, _, default in terms} == DEFAULTS
 
 
+def test_the_manual_has_the_modes_options_and_ranges_of_the_page():
+    manual = (TOP / "docs/ctm.1").read_text().replace("\\-", "-")
+    synopsis = manual.partition(".SH SYNOPSIS")[2].partition(".SH DESCRIPTION")[0]
+    calls = re.split(r"^\.B ctm ", synopsis, flags=re.MULTILINE)[1:]
+    assert {call.split()[0]: sorted(re.findall(r"--(\w+)", call)) for call in calls} == \
+        {mode: sorted(options) for mode, options in MODES.items()}
+    description, _, options = manual.partition(".SH DESCRIPTION")[2].partition(".SH OPTIONS")
+    assert set(re.findall(r"^\.TP\n\.B (\w+)$", description, re.MULTILINE)) == set(MODES)
+    terms = {}
+    for told in options.partition(".SH FILES")[0].split("\n.TP\n.BI --")[1:]:
+        terms[told.split()[0]] = re.search(r"from (\d+) to (\d+)(?:, and|; with) (\d+)(?:, and)? where", told).groups()
+    assert {name: (int(least), int(most)) for name, (least, most, _) in terms.items()} == RANGES
+    assert {name: default for name, (_, _, default) in terms.items()} == DEFAULTS
+
+
 def words_at_the_ends():
     for option, (least, most) in RANGES.items():
         mode = next(mode for mode, options in MODES.items() if option in options)

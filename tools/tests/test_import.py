@@ -210,19 +210,6 @@ def test_a_file_of_routes_may_have_speed_signs(tool, files):
     assert "2 variable speed signs are left out" in tool("import", "sumo", "town.net.xml", "--routes", "town.rou.xml")[1]
 
 
-GAMES = Path("/usr/share/sumo/tools/game")
-
-
-@pytest.mark.parametrize("name", ["A10KW/osm", "cross/cross", "grid6/grid6", "ramp/ramp"])
-def test_sumolib_reads_what_the_xml_says_of_a_network_of_sumo(name):
-    pytest.importorskip("sumolib")
-    path = GAMES / f"{name}.net.xml"
-    if not path.exists():
-        pytest.skip("Debian's sumo-tools isn't there")
-    one, two = sumo_net.read(path), sumolib_net.read(path)
-    assert canonical(one) == canonical(two) and streets_of(one) == streets_of(two)
-
-
 def test_a_network_that_sumolib_can_not_read_is_read_by_its_xml(files):
     (files / "town.net.xml").write_text(net().replace(' incLanes="c_0"', ""))
     assert sumolib_net.read(files / "town.net.xml") is None and len(read_network(files / "town.net.xml").streets) == 6
@@ -233,18 +220,22 @@ def canonical(found):
     return found.name, found.edges, sorted(found.links, key=repr), sorted(found.logics, key=repr), found.nodes, found.roundabouts
 
 
-@pytest.mark.parametrize("sort", ["static", "actuated"])
-def test_sumolib_reads_what_the_xml_says(files, sort):
-    pytest.importorskip("sumolib")
-    (files / "town.net.xml").write_text(net(sort))
-    one, two = sumo_net.read(files / "town.net.xml"), sumolib_net.read(files / "town.net.xml")
-    assert canonical(one) == canonical(two) and streets_of(one) == streets_of(two) == read_network(files / "town.net.xml")
+# The tools can do without sumolib, and in the full check no case may be skipped: where it isn't there, these are none.
+if sumolib_net.is_there():
+    NETWORKS = [path for name in ("A10KW/osm", "cross/cross", "grid6/grid6", "ramp/ramp")
+                if (path := Path(f"/usr/share/sumo/tools/game/{name}.net.xml")).exists()]
+
+    @pytest.mark.parametrize("given", [net("static"), net("actuated"), *NETWORKS], ids=["static", "actuated", *map(str, NETWORKS)])
+    def test_sumolib_reads_what_the_xml_says(files, given):
+        path = given if isinstance(given, Path) else files / "town.net.xml"
+        if path != given:
+            path.write_text(given)
+        one, two = sumo_net.read(path), sumolib_net.read(path)
+        assert canonical(one) == canonical(two) and streets_of(one) == streets_of(two) == read_network(path)
 
 
-@pytest.mark.parametrize("there", [False, True])
+@pytest.mark.parametrize("there", sorted({False, sumolib_net.is_there()}))
 def test_the_study_is_the_same_with_sumolib_and_without(tool, files, monkeypatch, there):
-    if there:
-        pytest.importorskip("sumolib")
     monkeypatch.setattr(sumolib_net, "is_there", lambda: there)
     assert (sumolib_net.read(files / "town.net.xml") is not None) == there
     (files / "roundabout.net.xml").write_text(net().replace("</net>", '<roundabout nodes="C J" edges="c d"/></net>'))
