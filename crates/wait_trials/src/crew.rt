@@ -55,5 +55,8 @@ fn meet<R: Abort + Threads + Wait + Sync>(rt: &R, field: &Field, mut pass: Pass,
     let other = field.share(&mut pass);
     parked(rt, field, &mut [pass, other], last, &Board::new(), &gate);
     assert!(rt; gate.took_place(), "each waited for the other");
-    assert!(rt; gate.is_complete(4), "each region was held at each step");
+    assert!(rt;
+        gate.is_complete(0b1111),
+        "each region was held at each step"
+    );
 }

@@ -32,11 +32,11 @@ impl Meeting {
         self.met.iter().all(|met| met.load(Ordering::SeqCst) == 1)
     }
 
-    // Whether each of the regions was held at each of the first so many steps, and at no other.
-    pub(crate) fn is_complete(&self, steps: u32) -> bool {
+    // Whether each of the regions was held at each of these steps, of which each has a bit, and at no other.
+    pub(crate) fn is_complete(&self, steps: u64) -> bool {
         self.noted
             .iter()
-            .all(|noted| noted.load(Ordering::SeqCst) == (1 << steps) - 1)
+            .all(|noted| noted.load(Ordering::SeqCst) == steps)
     }
 }
 

@@ -26,7 +26,10 @@ fn two_workers_that_wait_work_at_once(rt: HostRuntime) -> Result<(), Fail> {
     assert_eq!(rt; ended.out.bytes(), CHAIN_REPORT);
     assert!(rt; ended.err.bytes().is_empty());
     assert!(rt; gate.took_place(), "each waited for the other");
-    assert!(rt; gate.is_complete(4), "each region was held at each step");
+    assert!(rt;
+        gate.is_complete(0b1111),
+        "each region was held at each step"
+    );
     Ok(())
 }
 
