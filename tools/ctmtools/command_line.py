@@ -21,6 +21,7 @@ COMMANDS = {"build": "Make the network file of a study.", "run": "Run a study or
             "export": "Write a report in the format of another program.", "compare": "Compare two reports.",
             "sweep": "Run a study over varied values.",
             "choose": "Choose among plans of varied values by one call of the program for 16.",
+            "optimise": "Search for the timing of signals with the least delay.",
             "branch": "Run several futures of a saved moment.",
             "meter": "Run ramp meters with feedback.",
             "calibrate": "Find values by which a study is nearest to detectors.",
