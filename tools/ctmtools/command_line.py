@@ -20,6 +20,8 @@ COMMANDS = {"build": "Make the network file of a study.", "run": "Run a study or
             "report": "Make a page for a browser of a report, or of two.",
             "export": "Write a report in the format of another program.", "compare": "Compare two reports.",
             "sweep": "Run a study over varied values.",
+            "choose": "Choose among plans of varied values by one call of the program for 16.",
+            "optimise": "Search for the timing of signals with the least delay.",
             "branch": "Run several futures of a saved moment.",
             "meter": "Run ramp meters with feedback.",
             "calibrate": "Find values by which a study is nearest to detectors.",

@@ -11,7 +11,8 @@ from .examples import TOOLS
 
 TOP = TOOLS.parent
 COMMANDS_IN = {"README.md": 17, "tools/README.md": 7, "examples/README.md": 10, "tools/docs/measures.md": 6,
-               "tools/docs/networks.md": 1, "tools/docs/calibration.md": 0, "tools/docs/saved.md": 6}  # and how many there are at least
+               "tools/docs/networks.md": 1, "tools/docs/calibration.md": 0, "tools/docs/saved.md": 6,
+               "tools/docs/plans.md": 2}  # and how many there are at least
 PAGES = sorted(str(path.relative_to(TOP)) for path in
                [*TOP.glob("*.md"), *TOP.glob("docs/*.md"), *TOP.glob("tools/docs/*.md"), TOP / "tools/README.md",
                 TOP / "examples/README.md"])
@@ -30,6 +31,7 @@ LEFT_OUT = {
         "its files are a user's",
     "./ctm-tools diagram detector.csv --lanes 3": "its file is a user's",
     "./ctm-tools branch SAVED STUDY..": "its files are a user's",
+    "./ctm-tools optimise STUDY.toml --signals": "tools/docs/plans.md has one of a study with signals",
     "./ctm-tools meter STUDY.toml": "tools/docs/saved.md has one of a study with meters",
     "./ctm-tools calibrate STUDY.toml --observed FILE.csv --vary KEY=LOW:HIGH": "its files are a user's",
     "./ctm-tools diagram FILE.csv": "its file is a user's",

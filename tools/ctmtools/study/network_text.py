@@ -71,6 +71,17 @@ class Builder:
 
     def build(self) -> Built:
         """The built network."""
+        sections = self.sections()
+        form = self.form([record for _, records in sections for record in records])
+        text = "\n".join([*self._head(), f"ctm,{form}", f"steps,{self.scale.steps}"]) + "\n"
+        text += "".join("\n".join(["", f"# {comment}", *records]) + "\n" for comment, records in sections if records)
+        _check(text)
+        remarks = [*self.study.remarks, *self._opened(), *self.limits.overlaps(), *self.signals.remarks]
+        warnings = [*self._left_out(), *implausible(self.study, self.layout)]
+        return Built(text, self._units(), self.rounding, remarks, warnings)
+
+    def sections(self) -> list[tuple[str, list[str]]]:
+        """The records behind that of the steps, sort by sort, each sort with the comment that tells its fields."""
         made: list[tuple[str, Iterable[str]]] = [
             ("gate,name,Q,first", self._gates()), ("road,name,N,Q,A,B,first", self._roads()),
             ("exit,name,Q", self._exits()),
@@ -78,15 +89,11 @@ class Builder:
              "turn,cell,from,to,B1,B2", [*self.junctions.connectors, *self.junctions.turns]),
             ("signal,cell,cycle,offset,from,to", self.signals.records), ("limit,cell,from,to,Q", self.limits.records()),
             ("demand,gate,from,to,vehicles in a step", demands(self.study, self.scale))]
-        sections = [(comment, list(records)) for comment, records in made]
-        large = _is_large([record for _, records in sections for record in records])
-        form = 2 if self.junctions.turns or large else 1
-        text = "\n".join([*self._head(), f"ctm,{form}", f"steps,{self.scale.steps}"]) + "\n"
-        text += "".join("\n".join(["", f"# {comment}", *records]) + "\n" for comment, records in sections if records)
-        _check(text)
-        remarks = [*self.study.remarks, *self._opened(), *self.limits.overlaps(), *self.signals.remarks]
-        warnings = [*self._left_out(), *implausible(self.study, self.layout)]
-        return Built(text, self._units(), self.rounding, remarks, warnings)
+        return [(comment, list(records)) for comment, records in made]
+
+    def form(self, records: Iterable[str]) -> int:
+        """The format of a file with these records, 1 where they are of it."""
+        return 2 if self.junctions.turns or _is_large(records) else 1
 
     def _left_out(self) -> Iterator[str]:
         """What of the study isn't in the network: meters with feedback, and speed limits by time."""

@@ -1,0 +1,71 @@
+"""ctm-tools choose"""
+
+from __future__ import annotations
+
+from pathlib import Path
+
+import click
+import pandas
+
+from ..files import write
+from ..plans.choosing import Choice
+from ..problem import one_line
+from ..report.page import table, told
+from ..study.network_text import build
+from ..study.telling import warned
+from ..sweeps.task import study
+from ..sweeps.variations import shown, variation
+
+EPILOG = """\b
+Examples:
+  ctm-tools choose examples/arterial-ten.toml --vary signals.offset=0:150:10
+  ctm-tools choose examples/grid.toml --vary junctions.2.offset=0:75:5 --vary junctions.3.offset=0,40
+
+Keys and values are those of `ctm-tools sweep`. The program's mode `choose` gets what all plans have as the base and what
+is varied as plans behind it, up to 16 in a call: signals, closures, shares, priorities, limits and demands. What changes
+cells or steps, as roads.m.lanes or step, can't stand behind a base; `sweep` takes it, and has queues and travel times
+too."""
+
+
+@click.command(epilog=EPILOG)
+@click.argument("source", metavar="STUDY.toml", type=click.Path())
+@click.option("--vary", "varied", metavar="KEY=VALUES", multiple=True, required=True,
+              help="A key and its values; may be given again.")
+@click.option("-o", "--output", metavar="FILE.csv", type=click.Path(), help="Write all rows there.")
+@click.option("--rows", default=20, show_default=True, type=click.IntRange(1), help="How many rows are told.")
+def command(source: str, varied: tuple[str, ...], output: str | None, rows: int) -> None:
+    """Have the program choose among all combinations of varied values, and tell them, the least delay first.
+
+    Of equal delays the first combination is the first.
+    """
+    choice = Choice(source, [variation(text) for text in varied])
+    first = next(iter(choice.candidates))
+    for line in warned(build(study(choice.tasks[first]))):
+        click.echo(line)
+    count = len(choice.candidates)
+    with click.progressbar(length=count, label=f"{count} plans", show_pos=True,
+                           file=click.get_text_stream("stderr")) as bar:
+        for done in choice.run():
+            bar.update(done)
+    _tell(choice, choice.frame(), rows)
+    if output:
+        frame = choice.frame()
+        for key in choice.keys:
+            frame[key] = frame[key].map(shown)
+        write(output, frame.to_csv(index=False, float_format="%.6f"))
+        click.echo(f"\n{Path(output)}")
+
+
+def _tell(choice: Choice, frame: pandas.DataFrame, rows: int) -> None:
+    """Prints the best rows."""
+    same = frame.rounded.iloc[0] if len(frame) > 1 and frame.rounded.nunique() == 1 else ""
+    lines = [(*choice.keys, "delay (vehicle-hours)", "")]
+    for _, row in frame.head(rows).iterrows():
+        remark = f"failed: {one_line(row.error)}" if row.error else \
+            f"rounded: {row.rounded}" if row.rounded not in ("", same) else ""
+        lines.append((*(shown(row[key]) for key in choice.keys), "" if row.error else told(row.delay_vehicle_hours), remark))
+    click.echo("\n".join(table(lines, right=range(len(choice.keys) + 1))))
+    if len(frame) > rows:
+        click.echo(f"  and {len(frame) - rows} more rows")
+    if same:
+        click.echo(f"  Rounded in each of them: {same}")

@@ -1,0 +1,97 @@
+"""ctm-tools optimise"""
+
+from __future__ import annotations
+
+from fractions import Fraction
+from pathlib import Path
+from typing import Any
+
+import click
+
+from ..files import write
+from ..plans.searching import Search, moved_to
+from ..plans.timing import Point
+from ..problem import Problem
+from ..report.page import kilometre, table, told
+from ..study.quantities import duration
+from ..study.reading import read_values
+from ..study.writing import study_text
+from ..sweeps.task import Task, measure
+
+EPILOG = """\b
+Examples:
+  ctm-tools optimise examples/arterial-ten.toml --signals --generations 10
+  ctm-tools optimise examples/grid.toml --signals --least-green 15 --seed 3 -o grid.search
+
+Varied in whole steps are when each stop line of `signals` turns green, when the cycle of each junction with phases
+begins, and how its phases part the green among them; cycles, the time between greens and the greens of `signals` stay.
+The search is scipy's differential evolution, with the program's delays as its measure; what it finds needn't be the best
+plan there is.
+
+What was tried is kept in FOLDER/tried.csv and isn't run again: the same call goes on where it was stopped, and with more
+generations beyond its end. FOLDER/best.toml is the study with the best plan of all that were tried."""
+
+
+@click.command(epilog=EPILOG)
+@click.argument("source", metavar="STUDY.toml", type=click.Path())
+@click.option("--signals", is_flag=True, required=True, help="Vary the timing of the signals.")
+@click.option("--generations", default=30, show_default=True, type=click.IntRange(1, 100_000),
+              help="How often plans are made of the best so far.")
+@click.option("--population", default=48, show_default=True, type=click.IntRange(5, 10_000), help="Plans in each of them.")
+@click.option("--seed", default=1, show_default=True, type=click.IntRange(0, 2**32 - 1), help="Where the draws start.")
+@click.option("--least-green", metavar="TIME", default="10", show_default=True, help="Of each phase of a junction, in s.")
+@click.option("-o", "--output", metavar="FOLDER", type=click.Path(), help="Where it goes; else STUDY.optimise here.")
+def command(source: str, signals: bool, generations: int, population: int, seed: int, least_green: str,
+            output: str | None) -> None:
+    """Search for the timing of a study's signals with the least delay, and write the study with it."""
+    folder = Path(output or Path(source).stem + ".optimise")
+    search = Search(source, folder, _least(least_green))
+    if search.earlier:
+        click.echo(f"{search.earlier} plans stand in {search.tried.path} already")
+    try:
+        best = search.run(generations, population, seed, lambda generation, runs, hours: click.echo(
+            f"generation {generation} of {generations}: {runs} runs, least delay {told(hours)} vehicle-hours", err=True))
+    except KeyboardInterrupt:
+        raise Problem(f"stopped after {search.runs} runs; the same call goes on with what is missing") from None
+    target = folder / "best.toml"
+    values = moved_to(search.timing.changed(best), Path(source), target)
+    write(target, study_text(values, f"{source} with the best of {len(search.tried.delays)} plans that were tried"))
+    _tell(search, best, source, target)
+
+
+def _least(text: str) -> Fraction:
+    try:
+        value: Any = Fraction(text)
+    except (ValueError, ZeroDivisionError):
+        value = text
+    return duration(value, "--least-green")
+
+
+def _tell(search: Search, best: Point, source: str, target: Path) -> None:
+    """Prints what the best plan changes, and the measures before and after it."""
+    start = search.timing.start
+    rows: list[tuple[str, ...]] = [("", "turns green at (s)", "now", "green (s)", "now")]
+    for (place, first, greens), (_, now, split) in zip(search.timing.rows(start), search.timing.rows(best)):
+        rows.append((place, told(float(first)), told(float(now)), *(
+            "/".join(told(float(green)) for green in each) for each in (greens, split))))
+    click.echo("\n".join(table(rows, right=range(1, 5))))
+    before, after = (_measured(path, str(search.program)) for path in (source, str(target)))
+    rows = [("", "before", "after")]
+    for name, label in (("delay_vehicle_hours", "delay (vehicle-hours)"), ("longest_queue_km", "longest queue (km)"),
+                        ("most_waiting_vehicles", "most waiting"), ("served_vehicles", "served"),
+                        ("inside_vehicles", "inside"), ("travel_time_min", "travel time (min)")):
+        shown = kilometre if name == "longest_queue_km" else told
+        rows.append((label, *("-" if one[name] != one[name] else shown(one[name]) for one in (before, after))))
+    click.echo("\n" + "\n".join(table(rows, right=(1, 2))))
+    old, new = before["delay_vehicle_hours"], after["delay_vehicle_hours"]
+    part = f"{1 - new / old:.1%} less delay" if old else "No delay before"
+    click.echo(f"\n{part}; {search.runs} runs in this call, {len(search.tried.delays)} plans tried in all\n"
+               f"{search.tried.path}, {target}")
+
+
+def _measured(path: str, program: str) -> dict[str, Any]:
+    """The measures of a study's run."""
+    found = measure(Task(read_values(path), path, {}, program))
+    if found["error"]:
+        raise Problem(found["error"])
+    return found

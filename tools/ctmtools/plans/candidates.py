@@ -1,0 +1,99 @@
+"""Candidates: networks that differ in what may stand behind a base, and the program's answer on which is the best."""
+
+from __future__ import annotations
+
+from collections.abc import Iterator, Sequence
+from dataclasses import dataclass, field
+from fractions import Fraction
+from functools import cached_property
+from pathlib import Path
+
+from ..network_file.kinds import CELLS
+from ..problem import Problem
+from ..program import ask
+from ..study.network_text import Builder
+from ..study.plan import Study
+from ..study.rounding import Rounding
+
+MOST_PLANS = 16  # of one call, docs/FORMAT.md
+MOST_BYTES = 16_777_216  # of its input
+WORDS_REFUSED = 2
+
+
+@dataclass(frozen=True)
+class Candidate:
+    """A network as its format, its steps and its records behind these; `rounding` is what was rounded in the making."""
+
+    form: int
+    steps: int
+    records: tuple[str, ...]
+    rounding: Rounding = field(repr=False, compare=False)
+
+    @cached_property
+    def cells(self) -> list[str]:
+        """The records of its cells, which stand in the base."""
+        return [record for record in self.records if record.partition(",")[0] in CELLS]
+
+    @cached_property
+    def groups(self) -> dict[tuple[str, str], list[str]]:
+        """Its records by kind and first cell; a diverge and its turns, which stand behind it, are one group."""
+        found: dict[tuple[str, str], list[str]] = {}
+        for record in self.records:
+            kind, cell = record.split(",", 2)[:2]
+            found.setdefault(("diverge" if kind == "turn" else kind, cell), []).append(record)
+        return found
+
+
+def candidate(study: Study) -> Candidate:
+    """The candidate that a study makes."""
+    builder = Builder(study)
+    records = tuple(record for _, records in builder.sections() for record in records)
+    return Candidate(builder.form(records), builder.scale.steps, records, builder.rounding)
+
+
+def beyond_a_plan(one: Candidate, other: Candidate) -> str | None:
+    """What differs between two candidates that no plan behind a common base can say, or None where a plan can."""
+    if one.steps != other.steps:
+        return f"the steps, {one.steps} and {other.steps}"
+    if len(one.cells) != len(other.cells):
+        return f"the number of cells, {len(one.cells)} and {len(other.cells)}"
+    return next((f"a cell, `{first}` and `{second}`" for first, second in zip(one.cells, other.cells)
+                 if first != second), None)
+
+
+def question(candidates: Sequence[Candidate]) -> bytes:
+    """The input of `choose`: the base, which is what all candidates have, and behind it what each has beyond that."""
+    first, *others = candidates
+    common = {key for key, records in first.groups.items() if all(other.groups.get(key) == records for other in others)}
+    lines = [f"ctm,{max(one.form for one in candidates)}", f"steps,{first.steps}"]
+    lines += [record for key, records in first.groups.items() if key in common for record in records]
+    for one in candidates:
+        lines += ["==", *(record for key, records in one.groups.items() if key not in common for record in records)]
+    return "".join(f"{line}\n" for line in lines).encode()
+
+
+def judged(candidates: Sequence[Candidate], program: str | Path | None = None) -> Iterator[list[Fraction]]:
+    """The delays of candidates with the same cells, in vehicle-steps, group by group as the program was asked."""
+    most, begin = MOST_PLANS, 0
+    while begin < len(candidates):
+        group = candidates[begin:begin + most]
+        content = question(group)
+        if len(content) > MOST_BYTES and len(group) > 1:
+            most = len(group) // 2
+            continue
+        yield delays(content, len(group), program)
+        begin += len(group)
+
+
+def delays(content: bytes, count: int, program: str | Path | None = None) -> list[Fraction]:
+    """The delays of so many plans behind a base, in vehicle-steps, as the program answers them."""
+    answer = ask(["choose"], content, program)
+    if answer.status == WORDS_REFUSED:
+        raise Problem("this ctm has no mode choose; build the newest")
+    if answer.status:
+        raise Problem(answer.line or f"ctm ended with status {answer.status}")
+    rows = [line.split(",") for line in answer.out.decode().splitlines()]
+    found = [Fraction(row[2]) for row in rows if row[0] == "plan"]
+    if len(found) != count or not rows or rows[-1] != ["choice", str(found.index(min(found)))]:
+        raise Problem(f"the program's answer isn't that of {count} plans")
+    return found

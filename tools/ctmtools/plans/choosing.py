@@ -1,0 +1,80 @@
+"""The choice among all combinations of varied values, each a plan behind a base that all have."""
+
+from __future__ import annotations
+
+from collections.abc import Iterator, Sequence
+from fractions import Fraction
+from pathlib import Path
+from typing import Any
+
+import pandas
+
+from ..problem import Problem
+from ..program import program_path
+from ..study.reading import read_values
+from ..sweeps.task import Task, rounded, study
+from ..sweeps.variations import Variation, combinations
+from .candidates import Candidate, beyond_a_plan, candidate, judged
+
+
+class Choice:
+    """The plans of a study over varied values, and their delays as the program answers them."""
+
+    def __init__(self, source: str | Path, variations: Sequence[Variation]) -> None:
+        values, program = read_values(source), str(program_path())
+        self.keys = [one.key for one in variations]
+        self.tasks = [Task(values, str(source), changes, program) for changes in combinations(variations)]
+        self.step = study(Task(values, str(source), {}, program)).step
+        self.errors: dict[int, str] = {}  # by the number of a plan that can't be built
+        self.delays: dict[int, Fraction] = {}  # by the number of a plan, in vehicle-steps
+        self.candidates = dict(self._built())
+        if not self.candidates:
+            raise Problem(f"no plan can be built; the first: {self.errors[0]}")
+        self._check()
+
+    def _built(self) -> Iterator[tuple[int, Candidate]]:
+        for i, task in enumerate(self.tasks):
+            try:
+                yield i, candidate(study(task))
+            except Problem as problem:
+                self.errors[i] = str(problem)
+
+    def _check(self) -> None:
+        """Refuses, by its name, a key that changes what stands in the base."""
+        first = next(iter(self.candidates))
+        for i, other in self.candidates.items():
+            what = beyond_a_plan(self.candidates[first], other)
+            if what:
+                raise Problem(f"--vary {self._blamed(first, i)}: changes {what}, which a plan behind a base can't; "
+                              "ctm-tools sweep runs such studies one by one")
+
+    def _blamed(self, first: int, other: int) -> str:
+        """The first key by which alone a plan differs so from the first, or all that differ where no one does it."""
+        base = self.tasks[first].changes
+        for i, one in self.candidates.items():
+            differing = [key for key in self.keys if self.tasks[i].changes[key] != base[key]]
+            if len(differing) == 1 and beyond_a_plan(self.candidates[first], one):
+                return differing[0]
+        return ", ".join(key for key in self.keys if self.tasks[other].changes[key] != base[key])
+
+    def run(self) -> Iterator[int]:
+        """Has the program judge the plans, and gives how many each of its calls judged."""
+        numbers = list(self.candidates)
+        for found in judged(list(self.candidates.values())):
+            self.delays.update(zip(numbers[len(self.delays):], found))
+            yield len(found)
+
+    def frame(self) -> pandas.DataFrame:
+        """A row for each plan: the varied values, its delay in vehicle-hours, what was rounded, and why it failed.
+
+        The least delay is first, of equals the first plan, and those that failed are last.
+        """
+        order = [*sorted(self.delays, key=lambda i: (self.delays[i], i)), *self.errors]
+        return pandas.DataFrame([self._row(i) for i in order])
+
+    def _row(self, number: int) -> dict[str, Any]:
+        failed = number in self.errors
+        delay = float("nan") if failed else float(self.delays[number] * self.step / 3600)
+        return {**self.tasks[number].changes, "delay_vehicle_hours": delay,
+                "rounded": "" if failed else rounded(self.candidates[number].rounding),
+                "error": self.errors.get(number, "")}

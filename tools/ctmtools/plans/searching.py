@@ -1,0 +1,88 @@
+"""The search for the timing of signals with the least delay, by scipy's differential evolution over whole numbers."""
+
+from __future__ import annotations
+
+import os
+from collections.abc import Callable, Sequence
+from fractions import Fraction
+from pathlib import Path
+from typing import Any
+
+import numpy
+
+from ..program import program_path
+from ..study.reading import read_values, study_of
+from ..sweeps.task import Task, fingerprint
+from .candidates import MOST_PLANS, candidate, judged
+from .timing import Point, Timing
+from .tried import Tried
+
+FILE = "tried.csv"
+News = Callable[[int, int, float], object]  # takes the generation, the runs so far, and the least delay in vehicle-hours
+
+
+class Search:
+    """A search over the timing of a study's signals, the program its judge; what was tried isn't run again."""
+
+    def __init__(self, source: str | Path, folder: Path, least_green: Fraction = Fraction(10)) -> None:
+        self.path, values = Path(source), read_values(source)
+        self.timing = Timing(values, self.path, least_green)
+        mark = fingerprint(Task(values, str(source), {"least green": least_green}, ""))
+        self.program, self.runs = program_path(), 0
+        self.tried = Tried(folder / FILE, mark)
+        self.earlier = len(self.tried.delays)
+
+    def hours(self, point: Point) -> float:
+        """The delay of a point that was tried, in vehicle-hours."""
+        return float(self.tried.delays[point] * self.timing.step / 3600)
+
+    def run(self, generations: int, population: int = 48, seed: int = 1, news: News | None = None) -> Point:
+        """The best point that was tried, after so many generations of so many plans.
+
+        The draws are those of the seed, so the same call tries the same plans.
+        """
+        from scipy.optimize import differential_evolution
+
+        most = numpy.array(self.timing.most)
+        moved = numpy.flatnonzero(most)  # a variable that can't be turned is none to scipy
+        start = numpy.array(self.timing.start)
+        first = numpy.random.default_rng(seed).integers(0, most + 1, size=(population, len(most)))
+        first[0] = start
+        done = 0
+
+        def delays(columns: Any) -> Any:
+            points = numpy.tile(start, (columns.shape[1], 1))
+            points[:, moved] = numpy.rint(columns.T)
+            return numpy.array([float(delay) for delay in self._judged([tuple(map(int, point)) for point in points])])
+
+        def told(*_: Any, **__: Any) -> None:
+            nonlocal done
+            done += 1
+            if news:
+                news(done, self.runs, self.hours(self.tried.best))
+
+        differential_evolution(delays, [(0, int(one)) for one in most[moved]], integrality=numpy.ones(len(moved), bool),
+                               vectorized=True, updating="deferred", init=first[:, moved].astype(float), seed=seed,
+                               maxiter=generations, tol=0, polish=False, callback=told)
+        return self.tried.best
+
+    def _judged(self, points: Sequence[Point]) -> list[Fraction]:
+        """The delays of points, those that weren't tried judged by the program in groups."""
+        new = [point for point in dict.fromkeys(points) if point not in self.tried.delays]
+        for begin in range(0, len(new), MOST_PLANS):
+            group = new[begin:begin + MOST_PLANS]
+            candidates = [candidate(study_of(self.timing.changed(point), self.path)) for point in group]
+            found = [delay for part in judged(candidates, self.program) for delay in part]
+            for point, delay in zip(group, found):
+                self.tried.put(point, delay)
+            self.runs += len(group)
+        return [self.tried.delays[point] for point in points]
+
+
+def moved_to(values: dict[str, Any], source: Path, target: Path) -> dict[str, Any]:
+    """A study's values for a file in another place: files of counts are named as they are seen from there."""
+    for gate in values.get("gates", {}).values():
+        demand = gate.get("demand")
+        if isinstance(demand, dict) and "counts" in demand:
+            demand["counts"] = os.path.relpath(source.parent / demand["counts"], target.parent)
+    return values
