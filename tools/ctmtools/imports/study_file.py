@@ -10,6 +10,7 @@ from math import floor
 import networkx
 
 from ..study.rounding import told
+from ..study.writing import quoted
 from .streets import Movement, Street, Streets, Way
 from .traffic import EXIT, GATE, Traffic
 
@@ -360,9 +361,3 @@ def _numbers(row: Sequence[float]) -> str:
 
 def _matrix(rows: Sequence[Sequence[float]]) -> str:
     return f"[{', '.join(map(_numbers, rows))}]"
-
-
-def quoted(text: str) -> str:
-    """A text of TOML."""
-    escaped = text.replace("\\", "\\\\").replace('"', '\\"')
-    return '"' + "".join(letter if letter.isprintable() else " " for letter in escaped) + '"'

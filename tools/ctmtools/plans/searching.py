@@ -44,7 +44,7 @@ class Search:
         from scipy.optimize import differential_evolution
 
         most = numpy.array(self.timing.most)
-        moved = numpy.flatnonzero(most)  # a variable that can't be turned is none to scipy
+        moved = numpy.flatnonzero(most)  # scipy takes no variable of a single value
         start = numpy.array(self.timing.start)
         first = numpy.random.default_rng(seed).integers(0, most + 1, size=(population, len(most)))
         first[0] = start

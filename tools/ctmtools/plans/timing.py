@@ -10,6 +10,7 @@ from pathlib import Path
 from typing import Any
 
 from ..problem import Problem
+from ..study.plan import Signal
 from ..study.quantities import duration
 from ..study.reading import study_of
 
@@ -80,16 +81,7 @@ class Timing:
         study = study_of(copy.deepcopy(values), path)
         self.values, self.step = values, study.step
         self.lines: list[Line] = []
-        signals = iter(study.signals)
-        for entry, table in enumerate(values.get("signals", [])):
-            several = isinstance(table.get("at"), list)
-            for number in range(len(table["at"]) if several else 1):
-                signal = next(signals)
-                place = f"signals[{entry + 1}]" + f", line {number + 1}" * several
-                cycle, green = self._steps(signal.cycle, 1), self._steps(signal.green, 1)
-                before = next((i for i in reversed(range(len(self.lines))) if self.lines[i].cycle == cycle and
-                               self._road(self.lines[i].entry) == signal.road), None)
-                self.lines.append(Line(entry, place, cycle, green, self._steps(signal.first_green) % cycle, before))
+        self._put_lines(study.signals)
         least = max(1, -int(-least_green // self.step))
         self.junctions = [self._crossroads(entry, table, least) for entry, table in enumerate(values.get("junctions", []))
                           if table.get("phases")]
@@ -99,8 +91,17 @@ class Timing:
         if not any(self.most):
             raise Problem(f"{path}: has no signal whose timing can be varied")
 
-    def _road(self, entry: int) -> str:
-        return str(self.values["signals"][entry]["road"])
+    def _put_lines(self, signals: Sequence[Signal]) -> None:
+        """The stop lines of the entries of `signals`, of which these are the first signals of the study."""
+        tables = [len(table["at"]) if isinstance(table.get("at"), list) else 0 for table in self.values.get("signals", [])]
+        places = [(entry, number) for entry, count in enumerate(tables) for number in range(count or 1)]
+        last: dict[tuple[str, int], int] = {}  # by road and cycle
+        for i, ((entry, number), signal) in enumerate(zip(places, signals)):
+            cycle = self._steps(signal.cycle, 1)
+            place = f"signals[{entry + 1}]" + (f", line {number + 1}" if tables[entry] else "")
+            self.lines.append(Line(entry, place, cycle, self._steps(signal.green, 1),
+                                   self._steps(signal.first_green) % cycle, last.get((signal.road, cycle))))
+            last[signal.road, cycle] = i
 
     def _steps(self, seconds: Fraction, least: int = 0) -> int:
         return max(least, round(seconds / self.step))

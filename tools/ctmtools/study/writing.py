@@ -8,8 +8,6 @@ from collections.abc import Iterator, Mapping
 from fractions import Fraction
 from typing import Any
 
-from ..imports.study_file import quoted
-
 BARE = re.compile(r"[A-Za-z0-9_-]+")
 MOST_DECIMALS = 30
 
@@ -63,3 +61,9 @@ def _decimal(number: Fraction) -> str:
     places = next((n for n in range(1, MOST_DECIMALS + 1) if 10 ** n % number.denominator == 0), 9)
     digits = f"{abs(round(number * 10 ** places)):0{places + 1}d}"
     return f"{'-' * (number < 0)}{digits[:-places]}.{digits[-places:]}"
+
+
+def quoted(text: str) -> str:
+    """A text of TOML."""
+    escaped = text.replace("\\", "\\\\").replace('"', '\\"')
+    return '"' + "".join(letter if letter.isprintable() else " " for letter in escaped) + '"'
