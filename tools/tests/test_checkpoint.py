@@ -42,7 +42,13 @@ def stand_in(folder, program, call, does):
 def started(program, code="from ctmtools.command_line import main"):
     words = [str(word) for word in WORDS]
     return subprocess.Popen([sys.executable, "-c", f"{code}\nmain({words!r})"], env={**ENV, "CTM_PROGRAM": program},
-                            stdout=subprocess.PIPE, stderr=subprocess.STDOUT, text=True)
+                            stdout=subprocess.PIPE, stderr=subprocess.STDOUT, text=True,
+                            preexec_fn=heeds_an_interrupt)
+
+
+def heeds_an_interrupt():
+    """Also where these tests run behind a shell that has interrupts ignored."""
+    signal.signal(signal.SIGINT, signal.SIG_DFL)
 
 
 def test_a_run_in_stretches_has_the_report_of_the_whole_run(tool, program, tmp_path, whole):
