@@ -76,7 +76,7 @@ pub fn run_rows(
     Ok(rows)
 }
 
-/// The delay of such regions: the waits of all cells, parts times steps. At most 100,000 waits of 64 bits fit in 128.
+/// The delay of such regions: the waits of all cells, parts times steps. At most 200,000 waits of 64 bits fit in 128.
 pub fn run_delay(
     alloc: Global,
     net: &Net,

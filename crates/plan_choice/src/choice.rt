@@ -17,7 +17,7 @@ pub struct Choice {
 }
 
 /// The delays of 1 to 16 networks, and the first network with the least delay. All networks are run at once where the
-/// threads can be made. No sum of delays overflows: a network has at most 100,000 cells, and the wait of each fits in 64
+/// threads can be made. No sum of delays overflows: a network has at most 200,000 cells, and the wait of each fits in 64
 /// bits.
 pub fn choose<R: Threads + Sync>(rt: &R, alloc: Global, nets: &[Net]) -> Result<Choice, NoMemory>
     requires some { 1 ≤ length nets.now }
