@@ -2,7 +2,8 @@
 use Rattle.std.specs.Prelude.{slice_index}
 use Rattle.std.specs.List.{sum}
 use Rattle.std.proofs.Common.{◌≡◌, ◌≢◌, ℕ, ◌+◌, ◌<◌, ◌≤◌, inl, inr, List, length, refl, sym, ap, subst, ◌∙◌, arith}
-use Rattle.std.proofs.lemmas.Bool.{cases_lt}
+use Rattle.std.proofs.lemmas.Bool.{cases_eq, cases_lt}
+use Rattle.std.proofs.lemmas.List.{get_or-set_other, get_or-set_same}
 use Rattle.std.proofs.lemmas.List.Sums.{sum_by-set}
 use Rattle.region_cut.specs.Cuttings.{region_count}
 use Rattle.border_rows.specs.Kinds.{found_taken, looked, raised}
@@ -12,7 +13,7 @@ use Rattle.region_slots.specs.FieldView.{HasCounts}
 use Rattle.region_slots.specs.Turning.{IsBehind, IsMoved, IsWithin}
 use Rattle.region_slots.specs.declared.turn.Turn.{Turn}
 use Rattle.region_slots.specs.declared.turn.Turn.TheVariants.{Behind, Ended, Held, Moved}
-use Rattle.parked_crew.specs.Sweeping.{HasSwept, counted, none}
+use Rattle.parked_crew.specs.Sweeping.{HasSwept, counted, none, tries_at}
 use Rattle.parked_crew.specs.declared.swept.Swept.{Swept}
 
 -- what no turn has changed is kept
@@ -47,6 +48,8 @@ within-more old view new goal before after = record {
 pub swept-none : (view : View) (goal : ℕ) → HasSwept 0 goal view view none
 swept-none view goal = record {
   keeps = within-none view goal;
+  tried = λ r within. absurd (omega (arith, within));
+  others = λ r past. refl;
   turns = refl;
   moved = omega arith;
   held = omega arith;
@@ -56,6 +59,40 @@ swept-none view goal = record {
 
 raised-sum : (counts : List ℕ) (r : ℕ) → r < length counts → sum (raised counts r) ≡ sum counts + 1
 raised-sum counts r there = omega (arith, sum_by-set (λ n. n) counts r (slice_index counts r + 1) 0 there)
+
+-- one region was tried
+record IsTried (old new : View) (r : ℕ) : Type 0 where
+  pub own : tries_at new r ≡ tries_at old r + 1
+  pub others : (p : ℕ) → p ≢ r → tries_at new p ≡ tries_at old p
+
+raised-own : (counts : List ℕ) (r : ℕ) → r < length counts → slice_index (raised counts r) r ≡ slice_index counts r + 1
+raised-own counts r there = get_or-set_same counts r (slice_index counts r + 1) 0 there
+
+raised-other : (counts : List ℕ) (r p : ℕ) → p ≢ r → slice_index (raised counts r) p ≡ slice_index counts p
+raised-other counts r p other = get_or-set_other counts r p (slice_index counts r + 1) 0 other
+
+tried-looked : (old new : View) (r : ℕ) → new.held_found ≡ old.held_found → new.looks ≡ raised old.looks r → r < length old.looks → IsTried old new r
+tried-looked old new r held looks there = record {
+  own = omega (arith, ap (λ l. slice_index l r) held, ap (λ l. slice_index l r) looks, raised-own old.looks r there);
+  others = λ p other. omega (arith, ap (λ l. slice_index l p) held, ap (λ l. slice_index l p) looks, raised-other old.looks r p other);
+}
+
+tried-held : (old new : View) (r : ℕ) → new.held_found ≡ raised old.held_found r → new.looks ≡ old.looks → r < length old.held_found → IsTried old new r
+tried-held old new r held looks there = record {
+  own = omega (arith, ap (λ l. slice_index l r) looks, ap (λ l. slice_index l r) held, raised-own old.held_found r there);
+  others = λ p other. omega (arith, ap (λ l. slice_index l p) looks, ap (λ l. slice_index l p) held, raised-other old.held_found r p other);
+}
+
+-- and with it each of those up to it, and none behind it
+more-tried : (old view new : View) (r goal : ℕ) (swept : Swept) → HasSwept r goal old view swept → IsTried view new r → (p : ℕ) → p < r + 1 → tries_at new p ≡ tries_at old p + 1
+more-tried old view new r goal swept before one p within = elim (cases_eq p r) [
+  | inl is ↦ subst (λ k. tries_at new k ≡ tries_at old k + 1) (sym is) (omega (arith, one.own, before.others r (omega arith)))
+  | inr other ↦ omega (arith, one.others p other, before.tried p (omega (arith, within, other)))
+]
+
+more-others : (old view new : View) (r goal : ℕ) (swept : Swept) → HasSwept r goal old view swept → IsTried view new r → (p : ℕ) → r + 1 ≤ p → tries_at new p ≡ tries_at old p
+more-others old view new r goal swept before one p past =
+    omega (arith, one.others p (λ is. absurd (omega (arith, is, past))), before.others p (omega (arith, past)))
 
 -- Of the turns before, and of one more, all found their region at goal or past it only where each did.
 more-ended : (old view new : View) (r goal : ℕ) (swept : Swept) (one : ℕ) → HasSwept r goal old view swept → IsWithin view new goal → (one ≢ 0 → (one ≡ 1) × (goal ≤ slice_index new.seen r)) →
@@ -77,8 +114,11 @@ unfolding counted
 swept-more terms old view new goal r swept Held there has before after held ended behind moved =
     let is = held refl in
     let within : r < length view.held_found = omega (arith, there, has.held_found) in
+    let one = tried-held view new r (ap (λ (v : View). v.held_found) is) (ap (λ (v : View). v.looks) is) within in
     record {
       keeps = within-more old view new goal before.keeps after;
+      tried = more-tried old view new r goal swept before one;
+      others = more-others old view new r goal swept before one;
       turns = omega (arith, before.turns);
       moved = omega (arith, before.moved, ap (λ (v : View). v.moves) is);
       held = omega (arith, before.held, ap (λ (v : View). sum v.held_found) is, raised-sum view.held_found r within);
@@ -87,8 +127,12 @@ swept-more terms old view new goal r swept Held there has before after held ende
     }
 swept-more terms old view new goal r swept (Ended s) there has before after held ended behind moved =
     let is = ended s refl in
+    let within : r < length view.looks = omega (arith, there, has.looks) in
+    let one = tried-looked view new r (ap (λ (v : View). v.held_found) is.1) (ap (λ (v : View). v.looks) is.1) within in
     record {
       keeps = within-more old view new goal before.keeps after;
+      tried = more-tried old view new r goal swept before one;
+      others = more-others old view new r goal swept before one;
       turns = omega (arith, before.turns);
       moved = omega (arith, before.moved, ap (λ (v : View). v.moves) is.1);
       held = omega (arith, before.held, ap (λ (v : View). sum v.held_found) is.1);
@@ -97,8 +141,12 @@ swept-more terms old view new goal r swept (Ended s) there has before after held
     }
 swept-more terms old view new goal r swept (Behind q s) there has before after held ended behind moved =
     let is = behind q s refl in
+    let within : r < length view.looks = omega (arith, there, has.looks) in
+    let one = tried-looked view new r is.still.alike.held_found is.looks within in
     record {
       keeps = within-more old view new goal before.keeps after;
+      tried = more-tried old view new r goal swept before one;
+      others = more-others old view new r goal swept before one;
       turns = omega (arith, before.turns);
       moved = omega (arith, before.moved, is.still.moves);
       held = omega (arith, before.held, ap sum is.still.alike.held_found);
@@ -107,8 +155,12 @@ swept-more terms old view new goal r swept (Behind q s) there has before after h
     }
 swept-more terms old view new goal r swept (Moved s) there has before after held ended behind moved =
     let is = moved s refl in
+    let within : r < length view.looks = omega (arith, there, has.looks) in
+    let one = tried-looked view new r is.alike.held_found is.looks within in
     record {
       keeps = within-more old view new goal before.keeps after;
+      tried = more-tried old view new r goal swept before one;
+      others = more-others old view new r goal swept before one;
       turns = omega (arith, before.turns);
       moved = omega (arith, before.moved, is.moves);
       held = omega (arith, before.held, ap sum is.alike.held_found);
