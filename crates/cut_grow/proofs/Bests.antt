@@ -1,8 +1,7 @@
 -- The cutting in the best runs of an order is the best in even runs of it.
-use Rattle.std.specs.Prelude.{All, count_by, eqb, map, slice_index, sum}
-use Rattle.std.specs.List.{AllZip, Contains, list_any, range_with_len}
-use Rattle.std.proofs.Common.{◌≡◌, ◌⊎◌, ℕ, ◌<◌, ◌≤◌, ◌+◌, ◌-◌, ◌*◌, ◌/◌, ◌%◌, true, List, [], ◌∷◌, length, get_or, inl, inr, sym, refl, ap, subst, ◌∙◌, arith}
-use Rattle.std.proofs.lemmas.Bool.{cases_eq}
+use Rattle.std.specs.Prelude.{All, eqb, map, slice_index, sum}
+use Rattle.std.specs.List.{AllZip, list_any, range_with_len}
+use Rattle.std.proofs.Common.{◌≡◌, ℕ, ◌<◌, ◌≤◌, ◌+◌, ◌-◌, ◌/◌, ◌%◌, List, [], ◌∷◌, length, get_or, inl, inr, sym, ap, subst, ◌∙◌, arith}
 use Rattle.std.proofs.lemmas.Grind.{same_number_lists}
 use Rattle.std.proofs.lemmas.List.{get_or-map, get_or_default, length-map}
 use Rattle.std.proofs.lemmas.List.Elements.{All-contains, All-cons, All-head, All-map, All-nil, All-tail, All-weaker, Contains-get_or}
@@ -12,14 +11,13 @@ use Rattle.network_file.specs.Limits.{most_regions}
 use Rattle.network_file.specs.Network.{IsNetwork, Network}
 use Rattle.network_file.specs.declared.connector.Connector.{Connector}
 use Rattle.region_cut.specs.Cuttings.{region_at}
-use Rattle.region_cut.specs.Joins.{crosses}
 use Rattle.region_cut.proofs.Anys.{test_from_Contains}
 use Rattle.region_cut.proofs.Cuttings.{greatest-below}
 use Rattle.region_cut.proofs.EvenCutting.{all_pass}
 use Rattle.region_cut.proofs.Ranges.{Contains-range}
 use Rattle.cut_grow.specs.BestRuns.{AreBestRuns, IsBestIn, IsSize}
 use Rattle.cut_grow.specs.CutConnectors.{cuts}
-use Rattle.cut_grow.specs.Grown.{IsInRuns, runs_from}
+use Rattle.cut_grow.specs.Grown.{runs_from}
 use Rattle.cut_grow.specs.Most.{most, start_of}
 use Rattle.cut_grow.specs.Orders.{IsOrder}
 use Rattle.cut_grow.specs.Sides.{AreThere}
@@ -29,7 +27,7 @@ use Rattle.cut_grow.specs.declared.span.Span.{Span}
 use Rattle.cut_grow.proofs.Connectors.{connectors-there}
 use Rattle.cut_grow.proofs.EvenSizes.{even-counts, even-sizes, floor-some, sizes-even, sizes-whole}
 use Rattle.cut_grow.proofs.InsideRuns.{IsByRuns, inside-or-cut}
-use Rattle.cut_grow.proofs.MostRuns.{AreSizes, inside-at_most, larges_of, most-none, smalls_of}
+use Rattle.cut_grow.proofs.MostRuns.{AreSizes, inside-at_most, larges_of, smalls_of}
 use Rattle.cut_grow.proofs.RunNumbers.{length-runs_from, runs-each, runs-high}
 
 -- spans lie among the places

@@ -1,6 +1,5 @@
 -- What the table asks of the gains of both sizes of even runs.
-use Rattle.std.specs.List.{AllZip}
-use Rattle.std.proofs.Common.{◌≡◌, ℕ, ◌<◌, ◌≤◌, ◌+◌, ◌-◌, ◌/◌, ◌%◌, ◌^◌, List, length, ap, sym, subst, div-le_self, arith, ◌∙◌}
+use Rattle.std.proofs.Common.{◌≡◌, ℕ, ◌<◌, ◌≤◌, ◌+◌, ◌-◌, ◌/◌, ◌%◌, ◌^◌, length, ap, sym, subst, div-le_self, arith, ◌∙◌}
 use Rattle.cut_grow.specs.Most.{AreGainsOf, start_of}
 use Rattle.cut_grow.specs.Spans.{AreGains}
 use Rattle.cut_grow.specs.declared.gains.Gains.{Gains}

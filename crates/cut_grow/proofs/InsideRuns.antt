@@ -1,7 +1,7 @@
 -- A connector lies inside a run, or the cutting in these runs cuts it.
-use Rattle.std.specs.Prelude.{All, cond, count_by, eqb, nat_le, nat_lt, not, sum, ◌&&◌, ◌==◌}
-use Rattle.std.specs.List.{AllZip, Contains, list_any}
-use Rattle.std.proofs.Common.{◌≡◌, ℕ, ◌<◌, ◌≤◌, ◌+◌, ◌-◌, Bool, true, false, List, [], ◌∷◌, ◌++◌, length, get_or, take, inl, inr, sym, refl, ap, subst, ◌∙◌, arith}
+use Rattle.std.specs.Prelude.{All, cond, count_by, eqb, nat_le, nat_lt, not, sum, ◌==◌}
+use Rattle.std.specs.List.{AllZip, list_any}
+use Rattle.std.proofs.Common.{◌≡◌, ℕ, ◌<◌, ◌≤◌, ◌+◌, ◌-◌, true, false, List, [], ◌∷◌, ◌++◌, length, get_or, take, inl, inr, sym, refl, ap, subst, ◌∙◌, arith}
 use Rattle.std.proofs.lemmas.Bool.{and_from, and_left, and_right, cases_eq, cases_lt, eq-eqb, le-leb, le-ltb, lt-leb, lt-ltb, ne_eqb}
 use Rattle.std.proofs.lemmas.List.{take_more}
 use Rattle.std.proofs.lemmas.List.Elements.{All-contains, All-head, All-tail}

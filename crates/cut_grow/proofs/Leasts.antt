@@ -1,7 +1,7 @@
 -- The least number below a bound that passes a test, of two tests and of a filter.
 use Rattle.std.specs.Prelude.{◌&&◌, ◌||◌, min}
 use Rattle.std.specs.List.{position_or_len, range_with_len}
-use Rattle.std.proofs.Common.{◌≡◌, ℕ, ◌<◌, ◌≤◌, Bool, true, false, get_or, length, inl, inr, sym, refl, subst, ◌∙◌, zero-add, arith}
+use Rattle.std.proofs.Common.{◌≡◌, ℕ, ◌<◌, Bool, true, false, get_or, inl, inr, sym, refl, subst, ◌∙◌, zero-add, arith}
 use Rattle.std.proofs.lemmas.Bool.{cases_lt, or_from, or_left, or_right}
 use Rattle.std.proofs.lemmas.List.FromFn.{get_or-range_with_len, length-range_with_len}
 use Rattle.std.proofs.lemmas.List.Sums.{position_or_len_is}

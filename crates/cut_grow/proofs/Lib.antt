@@ -2,9 +2,9 @@ pub mod Bests
 pub mod Connectors
 pub mod Counted
 pub mod EvenSizes
+pub mod FileOrder
 pub mod GainCounts
 pub mod GainsReady
-pub mod GrownCuttings
 pub mod InsideRuns
 pub mod Leasts
 pub mod MostRuns

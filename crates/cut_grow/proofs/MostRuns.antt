@@ -1,11 +1,11 @@
 -- The most inside so many runs: that it bounds what lies inside any such runs, and by which run last it is reached.
-use Rattle.std.specs.Prelude.{All, cond, count_by, eqb, max, not, sum}
-use Rattle.std.proofs.Common.{◌≡◌, ◌≢◌, ◌⊎◌, ℕ, zero, suc, ◌<◌, ◌≤◌, ◌+◌, ◌-◌, ◌*◌, Bool, true, false, List, [], ◌∷◌, length, inl, inr, sym, refl, ap, subst, ◌∙◌, arith}
-use Rattle.std.proofs.lemmas.Bool.{cases_eq, cases_lt, eq-eqb, ne_eqb}
+use Rattle.std.specs.Prelude.{All, count_by, eqb, max, not, sum}
+use Rattle.std.proofs.Common.{◌≡◌, ◌≢◌, ◌⊎◌, ℕ, zero, suc, ◌≤◌, ◌+◌, ◌-◌, ◌*◌, true, false, List, [], ◌∷◌, length, inl, inr, refl, ap, subst, ◌∙◌, arith}
+use Rattle.std.proofs.lemmas.Bool.{eq-eqb, ne_eqb}
 use Rattle.std.proofs.lemmas.List.Elements.{All-head, All-tail}
 use Rattle.std.proofs.lemmas.List.Sums.{count_by-le-length}
 use Rattle.signal_plan.proofs.Sums.{count_by-cons}
-use Rattle.cut_grow.specs.Most.{most, most_large, most_next, start_of}
+use Rattle.cut_grow.specs.Most.{most, start_of}
 use Rattle.cut_grow.specs.Spans.{inside, inside_runs, is_inside}
 use Rattle.cut_grow.specs.declared.span.Span.{Span}
 use Rattle.cut_grow.proofs.Counted.{counted, uncounted}

@@ -1,5 +1,5 @@
 -- The numbers of runs: how many there are, that they rise, and that each run has its number.
-use Rattle.std.specs.Prelude.{All, replicate, sum, sum_by}
+use Rattle.std.specs.Prelude.{All, replicate, sum}
 use Rattle.std.specs.List.{Contains}
 use Rattle.std.proofs.Common.{◌≡◌, ℕ, zero, suc, ◌<◌, ◌≤◌, ◌+◌, ◌-◌, List, [], ◌∷◌, ◌++◌, length, get_or, inl, inr, sym, refl, ap, subst, ◌∙◌, arith}
 use Rattle.std.proofs.lemmas.Bool.{cases_lt}

@@ -12,7 +12,7 @@ use Rattle.network_file.specs.declared.connector.Connector.{Connector}
 use Rattle.network_file.specs.declared.connector.Connector.TheVariants.{Link}
 use Rattle.region_cut.proofs.Anys.{finds, found, same_tests}
 use Rattle.cut_grow.proofs.Counted.{counted, true-not_false}
-use Rattle.cut_grow.specs.Sides.{AreJoints, IsSideTable, has_on, side_of, touches_at}
+use Rattle.cut_grow.specs.Sides.{AreJoints, IsSideTable, has_on, touches_at}
 use Rattle.cut_grow.specs.declared.side.Side.{Side}
 use Rattle.cut_grow.specs.declared.side.Side.TheVariants.{Upstream, Downstream}
 

@@ -1,20 +1,16 @@
 -- The answer by its cases.
-use Rattle.std.proofs.Common.{◌≡◌, ◌≢◌, ℕ, ◌+◌, ◌<◌, ◌≤◌, Bool, true, false, List, Option, Some, None, Result, Ok, Err, IfOk, IfErr, String, Global, IfSome, refl, sym, subst, ap, ◌∙◌, length, nat_lt, if◌then◌else◌, arith, rules}
+use Rattle.std.proofs.Common.{◌≡◌, ◌≢◌, ℕ, ◌<◌, ◌≤◌, List, Option, Some, None, Result, Ok, Err, IfOk, IfErr, String, Global, IfSome, refl, sym, subst, ap, ◌∙◌, length, rules}
 use Rattle.network_file.specs.Network.{Network}
 use Rattle.network_file.specs.Reading.{network_of}
 use Rattle.network_file.specs.declared.fault.NetFault.{NetFault}
-use Rattle.delay_report.specs.Report.{report_of}
-use Rattle.call_ending.specs.Refusing.{IsRefusalOf, Why, status_of}
-use Rattle.call_ending.specs.Status.{status_number}
+use Rattle.call_ending.specs.Refusing.{IsRefusalOf, Why}
 use Rattle.call_ending.specs.declared.refusal.Refusal.{Refusal}
 use Rattle.call_ending.specs.declared.refusal.Refusal.TheVariants as refusal
-use Rattle.call_ending.specs.declared.status.Status.{Status}
-use Rattle.call_ending.specs.declared.status.Status.TheVariants as status
 use Rattle.ctm_call.specs.Input.{large_input}
 use Rattle.ctm_call.specs.NetworkInput.{why_of_network}
 use Rattle.ctm_call.specs.Words.{words_refused}
 use Rattle.ctm_call.proofs.AnswerFacts.{allowed, some_input}
-use Rattle.wait_call.specs.Answer.{Answer, IsTextOf, answer_by, answer_of, answer_of_file, answer_to, most_input, why_in}
+use Rattle.wait_call.specs.Answer.{IsTextOf, answer_by, answer_of, answer_of_file, answer_to, most_input, why_in}
 use Rattle.wait_call.specs.Words.{workers_asked}
 
 pub answer_to-too_large : (input : List ℕ) → most_input < length input → answer_to input ≡ Err large_input

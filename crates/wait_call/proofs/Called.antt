@@ -11,8 +11,7 @@ use Rattle.call_ending.specs.declared.status.Status.{Status}
 use Rattle.call_ending.specs.declared.status.Status.TheVariants as status
 use Rattle.call_ending.proofs.Ended.{ended-unwritten, ended-written}
 use Rattle.ctm_call.specs.Input.{large_input}
-use Rattle.wait_call.specs.Answer.{Answer, IsTextOf, answer_by, answer_of, answer_of_file, answer_to, most_input, why_in}
-use Rattle.wait_call.specs.Words.{workers_asked}
+use Rattle.wait_call.specs.Answer.{IsTextOf, answer_by, answer_of, answer_of_file, most_input, why_in}
 
 pub called : {A : Type 0} (words : List (String Global)) (left : Option (List ℕ)) (IsRead ReadFailed : Type 0) (told : Status) (out err : SinkUse)
     (items : A → List ℕ) (answer : Result A Refusal) →

@@ -1,13 +1,10 @@
 -- Passes that are shared off and united again.
-use Rattle.std.specs.Prelude.{All, max, slice_index, slice_index_or}
-use Rattle.std.proofs.Common.{◌≡◌, ℕ, ◌+◌, ◌<◌, ◌≤◌, inl, inr, List, [], ◌∷◌, ◌++◌, length, refl, sym, ap, subst, ◌∙◌, arith}
-use Rattle.std.proofs.lemmas.Bool.{cases_lt}
-use Rattle.std.proofs.lemmas.List.{length-append}
+use Rattle.std.specs.Prelude.{All, max, slice_index}
+use Rattle.std.proofs.Common.{◌≡◌, ℕ, ◌<◌, List, length, ◌∙◌, arith}
 use Rattle.std.proofs.lemmas.List.FromFn.{get_or-map-range_with_len}
 use Rattle.border_rows.specs.Kinds.{united}
 use Rattle.border_rows.specs.declared.view.View.{View}
-use Rattle.region_cut.specs.Cuttings.{region_count}
-use Rattle.region_slots.specs.FieldView.{FieldValue, IsPassOf, PassValue}
+use Rattle.region_slots.specs.FieldView.{FieldValue, PassValue}
 use Rattle.parked_crew.specs.Parking.{AreBrought, ArePassesOf, HasSeenAll}
 use Rattle.wait_call.specs.Seats.{HasCome, IsSeat}
 

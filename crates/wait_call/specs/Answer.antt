@@ -5,8 +5,7 @@ use Rattle.network_file.specs.Network.{Network}
 use Rattle.network_file.specs.Reading.{network_of}
 use Rattle.network_file.specs.declared.fault.NetFault.{NetFault}
 use Rattle.delay_report.specs.Report.{report_of}
-use Rattle.call_ending.specs.Refusing.{IsRefusalOf, Why}
-use Rattle.call_ending.specs.declared.refusal.Refusal.{Refusal}
+use Rattle.call_ending.specs.Refusing.{Why}
 use Rattle.ctm_call.specs.Input.{large_input}
 use Rattle.ctm_call.specs.NetworkInput.{network_refused}
 use Rattle.ctm_call.specs.Words.{words_refused}

@@ -1,5 +1,5 @@
 -- The passes of the workers, before and after the run.
-use Rattle.std.specs.Prelude.{◌≡◌, ◌≤◌, ℕ}
+use Rattle.std.specs.Prelude.{◌≡◌, ◌≤◌}
 use Rattle.region_cut.specs.Cuttings.{region_count}
 use Rattle.region_slots.specs.FieldView.{FieldValue, IsPassOf, PassValue}
 use Rattle.parked_crew.specs.Parking.{HasSeenAll}

@@ -1,12 +1,11 @@
 use Rattle.std.specs.Prelude.{All, map, slice_index, sum}
 use Rattle.std.specs.List.{AllZip}
-use Rattle.std.proofs.Common.{◌≡◌, ℕ, ◌<◌, ◌≤◌, ◌+◌, ◌-◌, ◌*◌, ◌/◌, ◌%◌, ◌^◌, List, length, get_or, refl, ap, arith, subst, sym, ◌∙◌}
+use Rattle.std.proofs.Common.{◌≡◌, ℕ, ◌<◌, ◌+◌, ◌-◌, ◌*◌, ◌/◌, ◌%◌, List, length, get_or, refl, ap, arith, subst, sym, ◌∙◌}
 use Rattle.std.proofs.lemmas.List.{get_or_default}
 use Rattle.network_file.specs.Network.{IsNetwork}
-use Rattle.network_file.specs.declared.connector.Connector.{Connector}
 use Rattle.network_file.proofs.NetworkFacts.{few_cells, few_connectors, few_records}
 use Rattle.cut_grow.specs.Grown.{runs_from}
-use Rattle.cut_grow.specs.Most.{AreGainsOf, most, start_of}
+use Rattle.cut_grow.specs.Most.{most}
 use Rattle.cut_grow.specs.Spans.{AreGains, ArePlaces, AreWithin, IsSpan}
 use Rattle.cut_grow.specs.declared.gains.Gains.{Gains}
 use Rattle.cut_grow.specs.declared.sizes.Sizes.{Sizes}

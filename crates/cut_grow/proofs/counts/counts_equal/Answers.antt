@@ -1,5 +1,5 @@
-use Rattle.std.specs.Prelude.{count_by, eqb}
-use Rattle.std.proofs.Common.{◌≡◌, ℕ, ◌<◌, ◌≤◌, ◌+◌, length, get_or, set, take, arith, ap, subst, sym, ◌∙◌}
+use Rattle.std.specs.Prelude.{eqb}
+use Rattle.std.proofs.Common.{◌≡◌, ℕ, ◌<◌, ◌≤◌, ◌+◌, length, get_or, set, take, arith, ap, ◌∙◌}
 use Rattle.std.proofs.lemmas.List.{get_or_default, length-set, length-take-le}
 use Rattle.std.proofs.lemmas.List.Sums.{count_by-le-length}
 use Rattle.cut_grow.proofs.GainCounts.{equal-more}

@@ -1,7 +1,7 @@
 use Rattle.std.specs.List.{range_with_len}
-use Rattle.std.proofs.Common.{◌≡◌, ℕ, length, ap, arith, subst, sym, ◌∙◌}
+use Rattle.std.proofs.Common.{◌≡◌, length, ap, arith, subst, sym, ◌∙◌}
 use Rattle.cut_grow.specs.Orders.{IsOrder}
-use Rattle.cut_grow.proofs.GrownCuttings.{file-order}
+use Rattle.cut_grow.proofs.FileOrder.{file-order}
 use Rattle.cut_grow.proofs.growing.grow.Goals as goal
 
 pub best_in-requires-clause-order : goal.best_in-requires-clause-order

@@ -1,10 +1,8 @@
-use Rattle.std.specs.Prelude.{All}
 use Rattle.std.specs.List.{list_any}
-use Rattle.std.proofs.Common.{◌≡◌, ℕ, ◌<◌, [], ◌∷◌, length, get_or, eqb, ap, arith, sym, ◌∙◌}
+use Rattle.std.proofs.Common.{◌<◌, get_or, eqb, ap, arith, sym, ◌∙◌}
 use Rattle.network_file.specs.Connectors.{connector_at}
 use Rattle.network_file.specs.declared.connector.Connector.{Connector}
 use Rattle.network_file.specs.declared.connector.Connector.TheVariants.{Link}
-use Rattle.cut_grow.specs.Sides.{has_on}
 use Rattle.cut_grow.proofs.Connectors.{two-all, two-is}
 use Rattle.cut_grow.proofs.SideTables.{side-more}
 use Rattle.cut_grow.proofs.joints.by_cell.Goals as goal

@@ -1,5 +1,5 @@
-use Rattle.std.specs.Prelude.{map, slice_index, sum}
-use Rattle.std.proofs.Common.{◌≡◌, ℕ, ◌<◌, ◌+◌, List, [], ◌∷◌, ◌++◌, length, get_or, take, ap, arith, sym, ◌∙◌}
+use Rattle.std.specs.Prelude.{map, slice_index}
+use Rattle.std.proofs.Common.{◌≡◌, ℕ, ◌<◌, [], ◌∷◌, ◌++◌, length, get_or, take, ap, arith, sym, ◌∙◌}
 use Rattle.std.proofs.lemmas.List.{get_or_default, map_more}
 use Rattle.cut_grow.specs.Grown.{runs_from}
 use Rattle.cut_grow.proofs.RunNumbers.{length-runs_from}

@@ -1,5 +1,5 @@
 use Rattle.std.proofs.Common.{arith}
-use Rattle.cut_grow.proofs.Spanning.{greatest_of, least_of, span-is}
+use Rattle.cut_grow.proofs.Spanning.{span-is}
 use Rattle.cut_grow.proofs.span.span_of.Goals as goal
 
 pub returns : goal.returns

@@ -1,12 +1,7 @@
 use Rattle.std.specs.List.{AllZip}
-use Rattle.std.proofs.Common.{◌≡◌, List, [], ◌∷◌, ◌++◌, get_or, refl, subst, sym, take, ◌+◌}
-use Rattle.std.proofs.lemmas.List.{get_or_default}
-use Rattle.std.proofs.lemmas.List.Elements.{all_zip_more}
-use Rattle.network_file.specs.Connectors.{connector_at}
-use Rattle.network_file.specs.declared.connector.Connector.{Connector}
+use Rattle.std.proofs.Common.{◌≡◌, [], ◌∷◌, ◌++◌, subst, sym, take, ◌+◌}
 use Rattle.network_file.specs.declared.connector.Connector.TheVariants.{Link}
 use Rattle.cut_grow.specs.Spans.{IsSpan}
-use Rattle.cut_grow.specs.declared.span.Span.{Span}
 use Rattle.cut_grow.proofs.InsideRuns.{zip_more}
 use Rattle.cut_grow.proofs.span.spans.Goals as goal
 

@@ -1,4 +1,4 @@
-use Rattle.std.proofs.Common.{◌≡◌, ℕ, suc, ◌+◌, ◌-◌, max, ap, arith, sym, ◌∙◌}
+use Rattle.std.proofs.Common.{◌≡◌, ℕ, ◌+◌, ◌-◌, ap, arith, ◌∙◌}
 use Rattle.cut_grow.specs.Most.{most, start_of}
 use Rattle.cut_grow.specs.Spans.{inside}
 use Rattle.cut_grow.proofs.MostRuns.{most-by}

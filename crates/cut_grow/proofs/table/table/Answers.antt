@@ -1,4 +1,4 @@
-use Rattle.std.proofs.Common.{◌≡◌, ℕ, ◌≤◌, ◌+◌, ◌*◌, ◌/◌, ◌%◌, List, [], ◌∷◌, ◌++◌, length, ap, arith, subst, sym, ◌∙◌, mul_comm}
+use Rattle.std.proofs.Common.{◌≡◌, ℕ, ◌≤◌, ◌+◌, ◌*◌, ◌/◌, ◌%◌, [], ◌∷◌, ◌++◌, length, ap, arith, subst, sym, ◌∙◌, mul_comm}
 use Rattle.std.proofs.lemmas.List.{length_push}
 use Rattle.cut_grow.specs.Most.{IsTable}
 use Rattle.cut_grow.proofs.Tabling.{table-more}

@@ -1,7 +1,7 @@
-use Rattle.std.proofs.Common.{◌≡◌, ℕ, ◌<◌, ◌≤◌, ◌+◌, ◌*◌, ◌^◌, length, get_or, mul-le-mul, ap, arith, sym, ◌∙◌}
+use Rattle.std.proofs.Common.{◌≡◌, ℕ, ◌<◌, ◌≤◌, ◌+◌, ◌*◌, ◌^◌, length, get_or, mul-le-mul, ap, arith, ◌∙◌}
 use Rattle.std.proofs.lemmas.List.{get_or_default}
 use Rattle.std.proofs.lemmas.List.Sums.{count_by-le-length}
-use Rattle.cut_grow.specs.Most.{most, start_of}
+use Rattle.cut_grow.specs.Most.{start_of}
 use Rattle.cut_grow.specs.Spans.{inside, is_inside}
 use Rattle.cut_grow.proofs.MostRuns.{most-few}
 use Rattle.cut_grow.proofs.Tabling.{start-large}

@@ -1,5 +1,5 @@
 use Rattle.std.specs.Prelude.{replicate, slice_index}
-use Rattle.std.proofs.Common.{◌≡◌, ◌<◌, ℕ, ap, subst, ◌∙◌, arith}
+use Rattle.std.proofs.Common.{◌≡◌, ℕ, ap, subst, ◌∙◌, arith}
 use Rattle.network_file.specs.Network.{Network}
 use Rattle.region_cut.specs.Cuttings.{region_count}
 use Rattle.region_step.specs.Standing.{AllStand}
