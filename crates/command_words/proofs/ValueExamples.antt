@@ -1,4 +1,4 @@
--- Texts and what they stand for among words, which no option of today has.
+-- Texts and what they stand for among words.
 use Rattle.std.specs.Prelude.{codes}
 use Rattle.std.proofs.Common.{◌≡◌, [], ◌∷◌, Some, None, refl}
 use Rattle.command_words.specs.Values.{OptionValues, value_among, words}

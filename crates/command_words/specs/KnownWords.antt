@@ -4,7 +4,7 @@ use Rattle.clap.specs.Words.{App, Rule, new_app, new_rule, with_rule}
 use Rattle.clap.specs.Simple.{on_top}
 use Rattle.command_words.specs.Settings.{terms_of}
 use Rattle.command_words.specs.declared.setting.Setting.{Setting}
-use Rattle.command_words.specs.declared.setting.Setting.TheVariants.{Regions, Workers, Every, Shots, Until, Size, Seed}
+use Rattle.command_words.specs.declared.setting.Setting.TheVariants.{Regions, Cutting, Parts, Workers, Every, Shots, Until, Size, Seed}
 
 -- an option is known by its word behind `--` alone, and takes one value
 abbrev pub option_rule : Setting → Rule
@@ -19,7 +19,7 @@ abbrev pub bare_command : App
 bare_command = on_top (λ shape. record shape { no_binary_name = true }) (new_app (codes "ctm"))
 
 abbrev pub all_options : List Setting
-all_options = Regions ∷ Workers ∷ Every ∷ Shots ∷ Until ∷ Size ∷ Seed ∷ []
+all_options = Regions ∷ Cutting ∷ Parts ∷ Workers ∷ Every ∷ Shots ∷ Until ∷ Size ∷ Seed ∷ []
 
 -- it knows every option, in every mode
 unfoldable pub command : App

@@ -1,8 +1,8 @@
 -- The options: the word of each, its values, and its default.
-use Rattle.std.specs.Prelude.{ℕ, List, Option, codes}
-use Rattle.command_words.specs.Values.{IsAmong, OptionValues, numbers, value_among}
+use Rattle.std.specs.Prelude.{ℕ, List, [], ◌∷◌, Option, codes}
+use Rattle.command_words.specs.Values.{IsAmong, OptionValues, numbers, value_among, words}
 use Rattle.command_words.specs.declared.setting.Setting.{Setting}
-use Rattle.command_words.specs.declared.setting.Setting.TheVariants.{Regions, Workers, Every, Shots, Until, Size, Seed}
+use Rattle.command_words.specs.declared.setting.Setting.TheVariants.{Regions, Cutting, Parts, Workers, Every, Shots, Until, Size, Seed}
 
 pub record SettingTerms : Type 0 where
   -- the word behind `--`
@@ -16,6 +16,8 @@ terms word values default = record { word = word; values = values; default = def
 
 abbrev pub terms_of : Setting → SettingTerms
 terms_of Regions = terms (codes "regions") (numbers 1 512) 1
+terms_of Cutting = terms (codes "cut") (words (codes "even" ∷ codes "grown" ∷ [])) 0
+terms_of Parts = terms (codes "parts") (numbers 1 64) 4
 terms_of Workers = terms (codes "workers") (numbers 1 16) 1
 terms_of Every = terms (codes "every") (numbers 0 100_000) 0
 terms_of Shots = terms (codes "shots") (numbers 1 64) 4

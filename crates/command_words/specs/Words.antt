@@ -1,5 +1,5 @@
 -- What the words on the command line ask for.
-use Rattle.std.specs.Prelude.{ℕ, Bool, List, Option, Some, None, if◌then◌else◌, codes}
+use Rattle.std.specs.Prelude.{ℕ, Bool, eqb, List, Option, Some, None, if◌then◌else◌, codes}
 use Rattle.clap.specs.Walk.{first_of, is_empty}
 use Rattle.clap.specs.Words.{Row, fault_of, matches_of}
 use Rattle.command_words.specs.KnownWords.{command}
@@ -9,7 +9,7 @@ use Rattle.command_words.specs.Settings.{IsAllowed, terms_of, value_spelled}
 use Rattle.command_words.specs.declared.mode.Mode.{Mode}
 use Rattle.command_words.specs.declared.request.Request.{Request}
 use Rattle.command_words.specs.declared.setting.Setting.{Setting}
-use Rattle.command_words.specs.declared.setting.Setting.TheVariants.{Regions, Workers, Every, Shots, Until, Size, Seed}
+use Rattle.command_words.specs.declared.setting.Setting.TheVariants.{Regions, Cutting, Parts, Workers, Every, Shots, Until, Size, Seed}
 
 -- an option that isn't given has its default, and one that the mode hasn't is refused
 abbrev pub value_given : Mode → Setting → Option (List ℕ) → Option ℕ
@@ -26,13 +26,27 @@ request_in found = do
   word ← first_of (codes "mode") found
   mode ← mode_named word
   regions ← value_of mode Regions found
+  cutting ← value_of mode Cutting found
+  parts ← value_of mode Parts found
   workers ← value_of mode Workers found
   every ← value_of mode Every found
   shots ← value_of mode Shots found
   until ← value_of mode Until found
   size ← value_of mode Size found
   seed ← value_of mode Seed found
-  Some (record { mode = mode; regions = regions; workers = workers; every = every; shots = shots; until = until; size = size; seed = seed })
+  Some (record {
+    mode = mode;
+    regions = regions;
+    -- the second of its words
+    grown = eqb cutting 1;
+    parts = parts;
+    workers = workers;
+    every = every;
+    shots = shots;
+    until = until;
+    size = size;
+    seed = seed;
+  })
 
 -- `clap` finds no fault with the words
 abbrev pub are_taken : List (List ℕ) → Bool
@@ -45,6 +59,7 @@ request_of words = if are_taken words then request_in (matches_of command words)
 -- each value is within its option's range
 pub record IsInRange (request : Request) : Type 0 where
   pub regions : IsAllowed Regions request.regions
+  pub parts : IsAllowed Parts request.parts
   pub workers : IsAllowed Workers request.workers
   pub every : IsAllowed Every request.every
   pub shots : IsAllowed Shots request.shots

@@ -16,6 +16,8 @@ pub(crate) fn known_words<'a>(alloc: Global) -> Result<Command<'a>, AllocError>
     Command::new(alloc, "ctm")
         .no_binary_name(true)
         .arg(option(alloc, Setting::Regions))?
+        .arg(option(alloc, Setting::Cutting))?
+        .arg(option(alloc, Setting::Parts))?
         .arg(option(alloc, Setting::Workers))?
         .arg(option(alloc, Setting::Every))?
         .arg(option(alloc, Setting::Shots))?

@@ -2,7 +2,7 @@
 //!
 //! ```text
 //! match read_words(alloc, &words) {
-//!     Ok(request) => ..                    // the mode and seven values, each within its range
+//!     Ok(request) => ..                    // the mode and the values of the options, each within its range
 //!     Err(WordsRefusal::Refused) => ..     // the program doesn't take the words
 //!     Err(WordsRefusal::NoMemory) => ..    // memory was refused, which says nothing of the words
 //! }

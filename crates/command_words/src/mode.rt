@@ -18,6 +18,10 @@ pub enum Mode {
     Resume,
     /// Runs a network with each of several plans, and writes their delays and the plan with the least.
     Choose,
+    /// Takes the network through its steps in parts, each in another cutting, and writes the report.
+    Recut,
+    /// Cuts the network, and writes how many connectors that cuts and the region of each cell.
+    Cut,
     /// Reads the network and writes its counts.
     Check,
     /// Writes the network again, in the newest form of the file.
@@ -36,6 +40,8 @@ impl Mode {
             "save" => Some(Mode::Save),
             "resume" => Some(Mode::Resume),
             "choose" => Some(Mode::Choose),
+            "recut" => Some(Mode::Recut),
+            "cut" => Some(Mode::Cut),
             "check" => Some(Mode::Check),
             "convert" => Some(Mode::Convert),
             _ => None,
@@ -48,18 +54,24 @@ impl Mode {
     {
         match (self, setting) {
             (Mode::Run, Setting::Regions | Setting::Workers | Setting::Every) => true,
+            (Mode::Run, Setting::Cutting) => true,
             (Mode::Run, _) => false,
             (Mode::Watch, Setting::Regions | Setting::Workers | Setting::Every) => true,
-            (Mode::Watch, Setting::Shots) => true,
+            (Mode::Watch, Setting::Cutting | Setting::Shots) => true,
             (Mode::Watch, _) => false,
             (Mode::Sample, Setting::Regions | Setting::Workers) => true,
             (Mode::Sample, Setting::Size | Setting::Seed) => true,
             (Mode::Sample, _) => false,
             (Mode::Save, Setting::Until | Setting::Regions | Setting::Workers) => true,
+            (Mode::Save, Setting::Cutting) => true,
             (Mode::Save, _) => false,
             (Mode::Resume, Setting::Workers) => true,
             (Mode::Resume, _) => false,
             (Mode::Choose, _) => false,
+            (Mode::Recut, Setting::Parts | Setting::Regions | Setting::Workers) => true,
+            (Mode::Recut, _) => false,
+            (Mode::Cut, Setting::Regions) => true,
+            (Mode::Cut, _) => false,
             (Mode::Check, _) => false,
             (Mode::Convert, _) => false,
         }

@@ -7,7 +7,7 @@ use crate::known_words::{MODE, known_words};
 use crate::mode::Mode;
 use crate::refusal::{WordsRefusal, refusal_by};
 use crate::request::Request;
-use crate::setting::Setting;
+use crate::setting::{GROWN, Setting};
 use clap::ArgMatches;
 use std::alloc::Global;
 
@@ -34,6 +34,8 @@ fn requested(matches: &ArgMatches) -> Option<Request>
     Some(Request {
         mode,
         regions: value(matches, mode, Setting::Regions)?,
+        grown: value(matches, mode, Setting::Cutting)? == GROWN,
+        parts: value(matches, mode, Setting::Parts)?,
         workers: value(matches, mode, Setting::Workers)?,
         every: value(matches, mode, Setting::Every)?,
         shots: value(matches, mode, Setting::Shots)?,

@@ -7,6 +7,10 @@ pub struct Request {
     pub mode: Mode,
     /// Into how many regions the network is cut, 1 to 512.
     pub regions: u32,
+    /// Whether the regions are grown along the roads, and not even in the order of the file.
+    pub grown: bool,
+    /// Into how many parts of about as many steps a run is cut, each in a cutting of its own, 1 to 64.
+    pub parts: u32,
     /// How many workers take the regions through the steps, 1 to 16.
     pub workers: u32,
     /// Every how many steps the state is recorded, up to 100,000; 0 for never.

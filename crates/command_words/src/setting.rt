@@ -4,11 +4,18 @@ ghost use Rattle.command_words.specs.Values.{AreFew, values_kept};
 
 use crate::values::Values;
 
+/// The place of the word for grown regions among the values of [`Setting::Cutting`].
+pub(crate) const GROWN: u32 = 1;
+
 /// An option of the command line.
 #[derive(Clone, Copy, Debug, PartialEq, Eq)]
 pub enum Setting {
     /// Into how many regions the network is cut.
     Regions,
+    /// How the network is cut: into even regions of the order of the file, or into grown ones.
+    Cutting,
+    /// Into how many parts a run is cut, each in a cutting of its own.
+    Parts,
     /// How many workers take the regions through the steps.
     Workers,
     /// Every how many steps the state is recorded; 0 for never.
@@ -56,12 +63,11 @@ impl Setting {
         ensures few { AreFew (terms_of self).values }
         ensures default { result.default ≡ (terms_of self).default }
     {
-        // Each line has its line in `terms_of` (specs/Settings.antt). Of an option whose value is a word, here red where
-        // it isn't given, they would be
-        //     Setting::Colour => Terms::new("colour", Values::Words(&["red", "green"]), 0),
-        //     terms_of Colour = terms (codes "colour") (words (codes "red" ∷ codes "green" ∷ [])) 0
+        // Each line has its line in `terms_of` (specs/Settings.antt).
         match self {
             Setting::Regions => Terms::new("regions", Values::Numbers(1, 512), 1),
+            Setting::Cutting => Terms::new("cut", Values::Words(&["even", "grown"]), 0),
+            Setting::Parts => Terms::new("parts", Values::Numbers(1, 64), 4),
             Setting::Workers => Terms::new("workers", Values::Numbers(1, 16), 1),
             Setting::Every => Terms::new("every", Values::Numbers(0, 100_000), 0),
             Setting::Shots => Terms::new("shots", Values::Numbers(1, 64), 4),
