@@ -5,7 +5,7 @@ use Rattle.network_file.specs.Network.{Network}
 use Rattle.network_file.specs.Reading.{network_of}
 use Rattle.network_file.specs.declared.fault.NetFault.{NetFault}
 use Rattle.command_words.specs.declared.mode.Mode.{Mode}
-use Rattle.command_words.specs.declared.mode.Mode.TheVariants.{Run, Watch, Sample, Check, Choose, Convert, Save, Resume}
+use Rattle.command_words.specs.declared.mode.Mode.TheVariants.{Run, Watch, Sample, Check, Choose, Convert, Cut, Recut, Save, Resume}
 use Rattle.command_words.specs.declared.request.Request.{Request}
 use Rattle.saved_run.specs.Content.{Content}
 use Rattle.saved_run.specs.Loading.{cutting_in, start_in}
@@ -90,6 +90,8 @@ other-by Watch task =
     (λ net. other-first (why_unrecorded net task.request.every) (why_unshown net task.request.shots) (other-unrecorded net task.request.every) (other-unshown net task.request.shots))
 other-by Sample task = other-network (network_of task.input) (λ net. None) (λ net. tt)
 other-by Choose task = other-choose task.input
+other-by Recut task = other-network (network_of task.input) (λ net. None) (λ net. tt)
+other-by Cut task = other-network (network_of task.input) (λ net. None) (λ net. tt)
 other-by Check task = other-network (network_of task.input) (λ net. None) (λ net. tt)
 other-by Convert task = other-network (network_of task.input) (λ net. None) (λ net. tt)
 other-by Save task = other-network (network_of task.input) (λ net. None) (λ net. tt)

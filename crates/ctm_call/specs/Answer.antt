@@ -2,13 +2,15 @@
 use Rattle.std.specs.Prelude.{ℕ, List, Option, Some, None, String, nat_lt, if◌then◌else◌, length, Result, Ok, Err}
 use Rattle.std.specs.declared.alloc.Global.{Global}
 use Rattle.command_words.specs.declared.mode.Mode.{Mode}
-use Rattle.command_words.specs.declared.mode.Mode.TheVariants.{Run, Watch, Sample, Save, Resume, Choose, Check, Convert}
+use Rattle.command_words.specs.declared.mode.Mode.TheVariants.{Run, Watch, Sample, Save, Resume, Choose, Recut, Cut, Check, Convert}
 use Rattle.command_words.specs.declared.request.Request.{Request}
 use Rattle.call_ending.specs.Refusing.{Why}
 use Rattle.ctm_call.specs.CheckMode.{IsCheckText, check_refused}
 use Rattle.ctm_call.specs.ChooseMode.{IsChooseText, choose_refused}
 use Rattle.ctm_call.specs.ConvertMode.{IsConvertText, convert_refused}
+use Rattle.ctm_call.specs.CutMode.{IsCutText, cut_refused}
 use Rattle.ctm_call.specs.Input.{large_input, most_input}
+use Rattle.ctm_call.specs.RecutMode.{IsRecutText, recut_refused}
 use Rattle.ctm_call.specs.ResumeMode.{IsResumeText, resume_refused}
 use Rattle.ctm_call.specs.RunMode.{IsRunText, run_refused}
 use Rattle.ctm_call.specs.SampleMode.{IsSampleText, sample_refused}
@@ -29,6 +31,8 @@ why_by Sample task = sample_refused task
 why_by Save task = save_refused task
 why_by Resume task = resume_refused task
 why_by Choose task = choose_refused task.input
+why_by Recut task = recut_refused task
+why_by Cut task = cut_refused task
 why_by Check task = check_refused task.input
 why_by Convert task = convert_refused task.input
 
@@ -40,6 +44,8 @@ IsTextBy Sample task text = IsSampleText task text
 IsTextBy Save task text = IsSaveText task text
 IsTextBy Resume task text = IsResumeText task text
 IsTextBy Choose task text = IsChooseText task.input text
+IsTextBy Recut task text = IsRecutText task text
+IsTextBy Cut task text = IsCutText task text
 IsTextBy Check task text = IsCheckText task.input text
 IsTextBy Convert task text = IsConvertText task.input text
 

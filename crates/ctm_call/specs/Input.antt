@@ -2,7 +2,7 @@
 use Rattle.std.specs.Prelude.{◌≡◌, ℕ, ◌+◌, Bool, true, false, List, Option, Some, None, IfSome, if◌then◌else◌, ⊤, codes}
 use Rattle.std.specs.Io.KnownBytes.{IsAtEnd}
 use Rattle.command_words.specs.declared.mode.Mode.{Mode}
-use Rattle.command_words.specs.declared.mode.Mode.TheVariants.{Run, Watch, Sample, Save, Resume, Choose, Check, Convert}
+use Rattle.command_words.specs.declared.mode.Mode.TheVariants.{Run, Watch, Sample, Save, Resume, Choose, Recut, Cut, Check, Convert}
 use Rattle.command_words.specs.declared.request.Request.{Request}
 use Rattle.net_make.specs.Made.{made}
 use Rattle.call_ending.specs.Refusing.{Why}
@@ -16,6 +16,8 @@ reads_source Sample = false
 reads_source Save = true
 reads_source Resume = true
 reads_source Choose = true
+reads_source Recut = true
+reads_source Cut = true
 reads_source Check = true
 reads_source Convert = true
 
@@ -27,6 +29,8 @@ most_input Sample = 16_777_216
 most_input Save = 16_777_216
 most_input Resume = 67_108_864
 most_input Choose = 16_777_216
+most_input Recut = 16_777_216
+most_input Cut = 16_777_216
 most_input Check = 16_777_216
 most_input Convert = 16_777_216
 

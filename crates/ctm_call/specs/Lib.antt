@@ -2,9 +2,11 @@ pub mod Answer
 pub mod CheckMode
 pub mod ChooseMode
 pub mod ConvertMode
+pub mod CutMode
 pub mod Input
 pub mod NetworkInput
 pub mod Recording
+pub mod RecutMode
 pub mod ResumeMode
 pub mod RunMode
 pub mod SampleMode

@@ -11,7 +11,9 @@ ghost use Rattle.ctm_call.specs.Words.{requested};
 use crate::check_mode::check_text;
 use crate::choose_mode::choose_text;
 use crate::convert_mode::convert_text;
+use crate::cut_mode::cut_text;
 use crate::input::input_of;
+use crate::recut_mode::recut_text;
 use crate::resume_mode::resume_text;
 use crate::run_mode::run_text;
 use crate::sample_mode::sample_text;
@@ -72,6 +74,8 @@ fn text_of<R: Threads + Sync, G: Gate>(
         Mode::Save => saved(rt, alloc, request, input, gate),
         Mode::Resume => resume_text(rt, alloc, request, input, gate),
         Mode::Choose => choose_text(rt, alloc, input),
+        Mode::Recut => recut_text(rt, alloc, request, input, gate),
+        Mode::Cut => cut_text(alloc, request, input),
         Mode::Check => check_text(alloc, input),
         Mode::Convert => convert_text(alloc, input),
     }

@@ -51,7 +51,8 @@ fn reads_source(mode: Mode) -> bool
 {
     match mode {
         Mode::Run | Mode::Watch | Mode::Save | Mode::Resume => true,
-        Mode::Choose | Mode::Check | Mode::Convert => true,
+        Mode::Choose | Mode::Recut | Mode::Cut => true,
+        Mode::Check | Mode::Convert => true,
         Mode::Sample => false,
     }
 }
@@ -62,7 +63,8 @@ fn most_input(mode: Mode) -> usize
 {
     match mode {
         Mode::Run | Mode::Watch | Mode::Sample | Mode::Save => MOST_BYTES,
-        Mode::Choose | Mode::Check | Mode::Convert => MOST_BYTES,
+        Mode::Choose | Mode::Recut | Mode::Cut => MOST_BYTES,
+        Mode::Check | Mode::Convert => MOST_BYTES,
         Mode::Resume => MOST_SAVED_BYTES,
     }
 }
