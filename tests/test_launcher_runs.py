@@ -30,7 +30,7 @@ def test_the_line_of_the_program_comes_first_and_then_why_the_words_are_refused(
     status, out, err = built.call("drive")
     assert (status, out) == (2, "")
     assert err.splitlines() == ["ctm: words refused",
-                                "./ctm: drive is no mode; the modes are run watch sample save resume choose check convert; "
+                                "./ctm: drive is no mode; the modes are run watch sample save resume choose recut cut check convert; "
                                 "./ctm --help shows the words"]
 
 

@@ -18,14 +18,15 @@ def rows_of(heading, page=FORMAT):
 
 
 MODES = {row[0].strip("`"): re.findall(r"`--(\w+)`", row[1]) for row in rows_of("Mode")}
-RANGES = {row[0].strip("`-"): tuple(map(int, re.fullmatch(r"whole number (\d+) to (\d+)", row[1]).groups()))
-          for row in rows_of("Option")}
-DEFAULTS = {row[0].strip("`-"): row[2] for row in rows_of("Option")}
+OPTIONS = {row[0].strip("`-"): row[1:3] for row in rows_of("Option")}
+RANGES = {name: tuple(map(int, values.split()[2::2])) for name, (values, _) in OPTIONS.items() if "number" in values}
+WORDS = {name: re.findall(r"`(\w+)`", values) for name, (values, _) in OPTIONS.items() if "number" not in values}
+DEFAULTS = {name: default.strip("`") for name, (_, default) in OPTIONS.items()}
 REFUSED = [shlex.split(example)[1:] for row in rows_of("Words") for example in re.findall(r"`(ctm[^`]*)`", row[1])]
 
 
 def test_the_page_has_the_tables_that_are_read():
-    assert (len(MODES), len(RANGES), len(DEFAULTS)) == (8, 7, 7)
+    assert (len(MODES), len(RANGES), len(DEFAULTS), WORDS) == (10, 8, 9, {"cut": ["even", "grown"]})
     assert len(REFUSED) >= 20
 
 
@@ -33,11 +34,13 @@ def test_help_has_the_modes_options_and_ranges_of_the_page(without_rt):
     status, out, err = without_rt.call("--help")
     assert (status, err) == (0, "")
     modes, _, options = out.partition("An option takes")
+    words = re.findall(r"^  --(\w+) WORD .*; (\w+) or (\w+), and (\w+) where", options, re.MULTILINE)
+    assert {name: [one, other] for name, one, other, _ in words} == WORDS
     shown = dict(re.findall(r"^  (\w+) .*\n(?: +options: (.*))?", modes, re.MULTILINE))
     assert {mode: words.replace("--", "").split() for mode, words in shown.items()} == MODES
     terms = re.findall(r"^  --(\w+) .*; from (\d+) to (\d+), and (\d+) where", options, re.MULTILINE)
     assert {name: (int(least), int(most)) for name, least, most, _ in terms} == RANGES
-    assert {name: default for name, _, _, default in terms} == DEFAULTS
+    assert {name: default for name, _, _, default in [*terms, *words]} == DEFAULTS
 
 
 def test_the_manual_has_the_modes_options_and_ranges_of_the_page():
@@ -48,11 +51,12 @@ def test_the_manual_has_the_modes_options_and_ranges_of_the_page():
         {mode: sorted(options) for mode, options in MODES.items()}
     description, _, options = manual.partition(".SH DESCRIPTION")[2].partition(".SH OPTIONS")
     assert set(re.findall(r"^\.TP\n\.B (\w+)$", description, re.MULTILINE)) == set(MODES)
-    terms = {}
-    for told in options.partition(".SH FILES")[0].split("\n.TP\n.BI --")[1:]:
-        terms[told.split()[0]] = re.search(r"from (\d+) to (\d+)(?:, and|; with) (\d+)(?:, and)? where", told).groups()
+    told = {it.split()[0]: it for it in options.partition(".SH FILES")[0].split("\n.TP\n.BI --")[1:]}
+    terms = {name: re.search(r"from (\d+) to (\d+)(?:, and|; with) (\d+)(?:, and)? where", told[name]).groups() for name in RANGES}
     assert {name: (int(least), int(most)) for name, (least, most, _) in terms.items()} == RANGES
-    assert {name: default for name, (_, _, default) in terms.items()} == DEFAULTS
+    words = {name: re.findall(r"^\.BR (\w+) ,$", told[name], re.MULTILINE) for name in WORDS}
+    assert words == WORDS
+    assert {name: default for name, (_, _, default) in terms.items()} | {name: own[0] for name, own in words.items()} == DEFAULTS
 
 
 def words_at_the_ends():
@@ -60,9 +64,14 @@ def words_at_the_ends():
         mode = next(mode for mode, options in MODES.items() if option in options)
         for value in {least - 1, least, most, most + 1}:
             yield [mode, f"--{option}={value}"]
+    for option, words in WORDS.items():
+        mode = next(mode for mode, options in MODES.items() if option in options)
+        for value in [*words, *(word.upper() for word in words), " ".join(words), "", "0"]:
+            yield [mode, f"--{option}={value}"]
     for mode, options in MODES.items():
         yield [mode]
         yield from ([mode, f"--{option}", "1"] for option in RANGES)
+        yield from ([mode, f"--{option}", word] for option, words in WORDS.items() for word in words)
 
 
 OTHER_WORDS = [["--regions", "2", "run"], ["--regions=2", "run"], ["--", "run"], ["run", "--regions", "3", "--"],
@@ -93,11 +102,16 @@ def test_words_are_refused_where_the_program_refuses_them(words, run, without_rt
     (["run", "--regions"], ["--regions has no value", "from 1 to 512"]),
     (["run", "--regions", "3", "--regions", "4"], ["--regions stands twice"]),
     (["check", "--every", "60"], ["check has no option --every", "it has none"]),
-    (["run", "--shots", "1"], ["run has no option --shots", "--regions --workers --every"]),
-    (["run", "--reg", "3"], ["--reg is no option", "--regions --workers"]),
+    (["run", "--shots", "1"], ["run has no option --shots", "--regions --cut --workers --every"]),
+    (["run", "--reg", "3"], ["--reg is no option", "--regions --cut"]),
     (["run", "-r", "3"], ["-r is no option"]),
-    (["drive"], ["drive is no mode", "run watch sample save resume choose check convert"]),
-    ([], ["no mode is given", "run watch sample save resume choose check convert"]),
+    (["run", "--cut", "odd"], ["--cut takes even or grown, and not odd"]),
+    (["run", "--cut=even grown"], ["--cut takes even or grown, and not even\\ grown"]),
+    (["run", "--cut"], ["--cut has no value; it takes even or grown"]),
+    (["recut", "--parts", "0"], ["--parts takes", "from 1 to 64", "and not 0"]),
+    (["cut", "--cut", "grown"], ["cut has no option --cut", "it has --regions"]),
+    (["drive"], ["drive is no mode", "run watch sample save resume choose recut cut check convert"]),
+    ([], ["no mode is given", "run watch sample save resume choose recut cut check convert"]),
     (["run", "check"], ["check is a word too many"]),
     (["--", "run", "--regions", "3"], ["--regions stands behind two dashes"]),
     (["run", "ctm"], ["a network is read from standard input: ./ctm run < ctm"]),

@@ -8,8 +8,8 @@ from conftest import BYTES, SECONDS, hold, limit
 from messages import READ_FAULT, TOO_LARGE, WORDS, WRITE_FAULT
 from worked import CORRIDOR, REPORT, lines
 
-READING = pytest.mark.parametrize("mode", ["run", "watch", "save", "resume", "choose", "check", "convert"])
-WRITING = pytest.mark.parametrize("mode", ["run", "watch", "save", "check", "convert"])
+READING = pytest.mark.parametrize("mode", ["run", "watch", "save", "resume", "choose", "recut", "cut", "check", "convert"])
+WRITING = pytest.mark.parametrize("mode", ["run", "watch", "save", "recut", "cut", "check", "convert"])
 
 
 @pytest.fixture
