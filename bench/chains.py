@@ -5,6 +5,7 @@ what is said of the machine.
 import hashlib
 import os
 import platform
+import random
 import shutil
 import subprocess
 import tempfile
@@ -31,8 +32,10 @@ def amount_of(parts):
     return f"{parts // 1_000_000}.{parts % 1_000_000:06}"
 
 
-def corridor(size, seed, dense=False):
-    """The lines of the made network of docs/FORMAT.md. Where it is dense, demand comes in all steps and not in 20."""
+def corridor(size, seed, dense=False, steps=None):
+    """The lines of the made network of docs/FORMAT.md, or with so many steps. Where it is dense, demand comes in all steps
+    and not in 20.
+    """
 
     def draws():
         state = seed
@@ -40,7 +43,7 @@ def corridor(size, seed, dense=False):
             state = (6364136223846793005 * state + 1442695040888963407) % 2**64
             yield state >> 32
 
-    draw, steps = draws(), 40 + 2 * size
+    draw, steps = draws(), steps or 40 + 2 * size
     last = steps if dense else 20
     yield from ("ctm,1", f"steps,{steps}", "gate,g,2,0")
     for i in range(size):
@@ -65,6 +68,20 @@ def corridor(size, seed, dense=False):
         yield f"signal,m{i},6,{next(draw) % 6},0,4"
     if size >= 2:
         yield f"limit,m{next(draw) % size},10,20,1"
+
+
+def large(lines):
+    """The same network in format 2, which allows twice as many cells."""
+    return ["ctm,2", *list(lines)[1:]]
+
+
+def shuffled(lines, seed):
+    """The same network with its cells in a random order. The connectors and the other records stand behind them as before."""
+    lines = list(lines)
+    cells = [line for line in lines if line.startswith(("road,", "gate,", "exit,"))]
+    rest = [line for line in lines[2:] if not line.startswith(("road,", "gate,", "exit,"))]
+    random.Random(seed).shuffle(cells)
+    return [*lines[:2], *cells, *rest]
 
 
 def lines_of(lines):

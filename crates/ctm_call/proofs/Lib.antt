@@ -4,5 +4,4 @@ pub mod Choosing
 pub mod Resumed
 pub mod Resuming
 pub mod Saved
-pub mod UsedCutting
 pub mod WordsStatus

@@ -1,5 +1,5 @@
 -- A grown cutting of a network: why there is none, and its text.
-use Rattle.std.specs.Prelude.{◌≡◌, ℕ, ◌++◌, List, Option, None, codes, length, min}
+use Rattle.std.specs.Prelude.{◌≡◌, ℕ, ◌≤◌, ◌++◌, List, Option, None, codes, length}
 use Rattle.network_file.specs.Cells.{name_at}
 use Rattle.network_file.specs.Network.{Network}
 use Rattle.network_file.specs.Reading.{network_of}
@@ -10,6 +10,7 @@ use Rattle.cut_grow.specs.Grown.{IsGrown}
 use Rattle.call_ending.specs.Refusing.{Why}
 use Rattle.ctm_call.specs.NetworkInput.{IsNetworkWith, why_of_network}
 use Rattle.ctm_call.specs.Task.{Task}
+use Rattle.ctm_call.specs.UsedCutting.{regions_asked}
 
 abbrev pub cut_refused : Task → Option Why
 cut_refused task = why_of_network (network_of task.input) (λ net. None)
@@ -23,8 +24,8 @@ unfoldable pub region_line : (name : List ℕ) → (region : ℕ) → List ℕ
 region_line name region = codes "cell," ++ name ++ count_field region ++ codes "\n"
 
 -- the text of a cutting into k regions, which a list has for each cell
-unfoldable pub cutting_lines : Network → (k : ℕ) → (list : List ℕ) → List ℕ
-cutting_lines net k list =
+unfoldable pub cutting_text : Network → (k : ℕ) → (list : List ℕ) → List ℕ
+cutting_text net k list =
     cut_line k (cuts (even_cutting (length net.cells) k) net) (cuts list net)
     ++ lines_of (λ i. region_line (name_at net.cells i) (region_at list i)) (length net.cells)
 
@@ -32,8 +33,10 @@ cutting_lines net k list =
 pub record ShowsGrown (net : Network) (k : ℕ) (text : List ℕ) : Type 0 where
   pub list : List ℕ
   pub grown : IsGrown net k list
-  pub lines : text ≡ cutting_lines net k list
+  -- it cuts no more than the even one
+  pub no_more : cuts list net ≤ cuts (even_cutting (length net.cells) k) net
+  pub text_is : text ≡ cutting_text net k list
 
--- in so many regions as are asked for, or as there are cells; the regions of the file aren't looked at
+-- the regions of the file aren't looked at
 abbrev pub IsCutText : Task → List ℕ → Type 0
-IsCutText task text = IsNetworkWith (network_of task.input) (λ net. ShowsGrown net (min task.request.regions (length net.cells)) text)
+IsCutText task text = IsNetworkWith (network_of task.input) (λ net. ShowsGrown net (regions_asked net task.request) text)

@@ -12,5 +12,6 @@ pub mod RunMode
 pub mod SampleMode
 pub mod SaveMode
 pub mod Task
+pub mod UsedCutting
 pub mod WatchMode
 pub mod Words

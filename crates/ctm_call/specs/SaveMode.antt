@@ -1,6 +1,7 @@
 -- A run that is saved near a step: why it has no text, and which texts it may have.
 use Rattle.std.specs.Prelude.{◌≡◌, ℕ, zero, suc, List, Option, None, length, map, min, slice_index}
 use Rattle.std.specs.List.{range_with_len}
+use Rattle.command_words.specs.declared.request.Request.{Request}
 use Rattle.network_file.specs.Network.{Network}
 use Rattle.network_file.specs.Reading.{network_of}
 use Rattle.flow_model.specs.State.{occupancy, row_at, state_at}
@@ -15,7 +16,7 @@ use Rattle.network_run.specs.Near.{near_end}
 use Rattle.call_ending.specs.Refusing.{Why}
 use Rattle.ctm_call.specs.NetworkInput.{IsNetworkWith, why_of_network}
 use Rattle.ctm_call.specs.Task.{Task}
-use Rattle.ctm_call.specs.WatchMode.{cutting_of}
+use Rattle.ctm_call.specs.UsedCutting.{IsCuttingOf}
 
 abbrev pub save_refused : Task → Option Why
 save_refused task = why_of_network (network_of task.input) (λ net. None)
@@ -47,5 +48,11 @@ pub record IsSavedNear (net : Network) (cut : List ℕ) (until : ℕ) (input : L
   -- it is read again as a run of this network, cut so, that goes on from there as from the beginning
   pub begins : BeginsTrue (content_of text) net cut
 
+-- a run that is saved so, in a cutting for the request
+pub record IsSavedRun (net : Network) (request : Request) (input : List ℕ) (text : List ℕ) : Type 0 where
+  pub cut : List ℕ
+  pub cutting : IsCuttingOf net request cut
+  pub near : IsSavedNear net cut request.until input text
+
 abbrev pub IsSaveText : Task → List ℕ → Type 0
-IsSaveText task text = IsNetworkWith (network_of task.input) (λ net. IsSavedNear net (cutting_of net task.request.regions) task.request.until task.input text)
+IsSaveText task text = IsNetworkWith (network_of task.input) (λ net. IsSavedRun net task.request task.input text)

@@ -1,9 +1,8 @@
 -- A run that is watched: why it has no text, and which texts it may have.
-use Rattle.std.specs.Prelude.{◌≡◌, ℕ, ◌*◌, ◌==◌, ◌++◌, List, Option, Some, None, length, min, nat_lt, if◌then◌else◌, codes}
+use Rattle.std.specs.Prelude.{◌≡◌, ℕ, ◌*◌, ◌++◌, List, Option, Some, None, length, nat_lt, if◌then◌else◌, codes}
 use Rattle.command_words.specs.declared.request.Request.{Request}
 use Rattle.network_file.specs.Network.{Network}
 use Rattle.network_file.specs.Reading.{network_of}
-use Rattle.region_cut.specs.Cuttings.{even_cutting}
 use Rattle.snapshot.specs.Shots.{AreShots}
 use Rattle.delay_report.specs.Report.{report_of}
 use Rattle.call_ending.specs.Refusing.{Why}
@@ -11,6 +10,7 @@ use Rattle.call_ending.specs.declared.status.Status.TheVariants as status
 use Rattle.ctm_call.specs.NetworkInput.{IsNetworkWith, why_of_network}
 use Rattle.ctm_call.specs.Recording.{why_unrecorded}
 use Rattle.ctm_call.specs.Task.{Task}
+use Rattle.ctm_call.specs.UsedCutting.{IsCuttingOf}
 
 -- how many rows the shots show: cells times shots
 abbrev pub shown_rows : Network → (shots : ℕ) → ℕ
@@ -31,17 +31,14 @@ first_why None later = later
 abbrev pub watch_refused : Task → Option Why
 watch_refused task = why_of_network (network_of task.input) (λ net. first_why (why_unrecorded net task.request.every) (why_unshown net task.request.shots))
 
--- the cutting of a run: the file's where it has one, and else the even one into so many regions, or as many as there are
--- cells
-abbrev pub cutting_of : Network → (regions : ℕ) → List ℕ
-cutting_of net regions = if length net.regions == 0 then even_cutting (length net.cells) (min regions (length net.cells)) else net.regions
-
--- the text of a run that is watched: its shots, of which each shows the regions at lawful steps between two goals, the rows
--- of the plain recurrences at each region's own step, books that balance and roads that keep their room (`AreShots`), and
--- then the report
+-- the text of a run that is watched, in a cutting for the request: its shots, of which each shows the regions at lawful steps
+-- between two goals, the rows of the plain recurrences at each region's own step, books that balance and roads that keep their
+-- room (`AreShots`), and then the report
 pub record HasShotsAndReport (net : Network) (request : Request) (whole : List ℕ) : Type 0 where
+  pub cut : List ℕ
+  pub cutting : IsCuttingOf net request cut
   pub shots : List ℕ
-  pub are : AreShots net (cutting_of net request.regions) request.shots shots
+  pub are : AreShots net cut request.shots shots
   pub text : whole ≡ shots ++ report_of net request.every
 
 abbrev pub IsWatchText : Task → List ℕ → Type 0

@@ -7,7 +7,8 @@
 //!   `sample_mode`, `save_mode`, `resume_mode`, `choose_mode`, `recut_mode`, `cut_mode`, `check_mode`, `convert_mode`, each with its definition of the
 //!   same name in specs/. The tables by mode are `text_of` here, `reads_source` and `most_input` in `input`, and those of
 //!   specs/Answer.antt and specs/Input.antt.
-//! - `network_input` reads a network, or tells its fault; `recording` says how much a run may record.
+//! - `network_input` reads a network, or tells its fault; `recording` says how much a run may record, and `used_cutting`
+//!   in which regions it is.
 //! - `command_line` has the words that a program was called with.
 #![tactic(auto)]
 
@@ -26,6 +27,7 @@ mod resume_mode;
 mod run_mode;
 mod sample_mode;
 mod save_mode;
+mod used_cutting;
 mod watch_mode;
 mod words;
 

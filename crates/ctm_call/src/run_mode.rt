@@ -8,11 +8,12 @@ ghost use Rattle.ctm_call.specs.Task.{task_of};
 
 use crate::network_input::network_in;
 use crate::recording::{large_record, records_too_much};
+use crate::used_cutting::chart_asked;
 use call_ending::Refusal;
 use command_words::Request;
 use delay_report::run_report;
 use network_file::Net;
-use network_run::{charted, last_regions};
+use network_run::last_regions;
 use no_memory::NoMemory;
 use region_slots::Gate;
 use std::alloc::Global;
@@ -54,7 +55,7 @@ fn report_of_run<R: Threads + Sync, G: Gate>(
 {
     let _steps = net.steps;
     let every = u64::from(request.every);
-    let chart = charted(alloc, net, request.regions)?;
+    let chart = chart_asked(alloc, net, request)?;
     let regions = last_regions(rt, alloc, net, &chart, every, request.workers, gate)?;
     run_report(alloc, net, &chart, &regions, every)
 }

@@ -3,15 +3,15 @@ ghost use Rattle.command_words.specs.Words.{IsInRange};
 ghost use Rattle.network_file.specs.Reading.{network_of};
 ghost use Rattle.network_file.specs.declared.limits.TheConstants.{MOST_BYTES};
 ghost use Rattle.call_ending.specs.Refusing.{IsRefusalOf};
-ghost use Rattle.ctm_call.specs.SaveMode.{IsSaveText, IsSavedNear, save_refused};
+ghost use Rattle.ctm_call.specs.SaveMode.{IsSaveText, IsSavedRun, save_refused};
 ghost use Rattle.ctm_call.specs.Task.{task_of};
-ghost use Rattle.ctm_call.specs.WatchMode.{cutting_of};
 
 use crate::network_input::network_in;
+use crate::used_cutting::chart_asked;
 use call_ending::Refusal;
 use command_words::Request;
 use network_file::Net;
-use network_run::{charted, room_near};
+use network_run::room_near;
 use no_memory::NoMemory;
 use region_slots::Gate;
 use saved_run::save_text;
@@ -49,11 +49,11 @@ fn saved_near<R: Threads + Sync, G: Gate>(
     requires in_range { IsInRange request }
     requires network { network_of input.now ≡ Ok net.now }
     requires few_bytes { length input.now ≤ MOST_BYTES }
-    ensures { IfOk result (λ text. IsSavedNear net.now (cutting_of net.now request.regions) request.until input.now text.items) }
+    ensures { IfOk result (λ text. IsSavedRun net.now request input.now text.items) }
 {
     let _steps = net.steps;
     let until = u64::from(request.until);
-    let chart = charted(alloc, net, request.regions)?;
+    let chart = chart_asked(alloc, net, request)?;
     let _regions = chart.regions();
     let room = room_near(rt, alloc, net, &chart, until, request.workers, gate)?;
     let text = save_text(alloc, &chart, &room, input)?;

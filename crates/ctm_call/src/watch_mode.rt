@@ -7,11 +7,12 @@ ghost use Rattle.ctm_call.specs.WatchMode.{HasShotsAndReport, IsWatchText, large
 
 use crate::network_input::network_in;
 use crate::recording::{large_record, records_too_much};
+use crate::used_cutting::chart_asked;
 use call_ending::{Cause, Line, Refusal};
 use command_words::Request;
 use delay_report::run_report;
 use network_file::Net;
-use network_run::{Watched, charted, watched_regions};
+use network_run::{Watched, watched_regions};
 use no_memory::NoMemory;
 use region_slots::Gate;
 use std::alloc::Global;
@@ -73,7 +74,7 @@ fn shots_and_report<R: Threads + Sync, G: Gate>(
 {
     let _steps = net.steps;
     let every = u64::from(request.every);
-    let chart = charted(alloc, net, request.regions)?;
+    let chart = chart_asked(alloc, net, request)?;
     let Watched { mut shots, regions } = watched_regions(
         rt,
         alloc,

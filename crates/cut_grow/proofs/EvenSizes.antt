@@ -10,10 +10,10 @@ use Rattle.cut_grow.specs.Most.{start_of}
 use Rattle.cut_grow.specs.declared.sizes.Sizes.{Sizes}
 use Rattle.cut_grow.proofs.MostRuns.{AreSizes, larges_of, sizes-sum, smalls_of}
 
-ceiling-even : (cells k : ℕ) → 1 ≤ k → cells % k ≡ 0 → (cells + k - 1) / k ≡ cells / k
+pub ceiling-even : (cells k : ℕ) → 1 ≤ k → cells % k ≡ 0 → (cells + k - 1) / k ≡ cells / k
 ceiling-even cells k some none = div-eq_of_lt-le {k = cells / k} k {m = cells + k - 1} (omega arith) (omega arith)
 
-ceiling-more : (cells k : ℕ) → 1 ≤ k → 1 ≤ cells % k → (cells + k - 1) / k ≡ cells / k + 1
+pub ceiling-more : (cells k : ℕ) → 1 ≤ k → 1 ≤ cells % k → (cells + k - 1) / k ≡ cells / k + 1
 ceiling-more cells k some more = div-eq_of_lt-le {k = cells / k + 1} k {m = cells + k - 1} (omega arith) (omega arith)
 
 -- no run is empty

@@ -1,6 +1,7 @@
 pub mod Bests
 pub mod Connectors
 pub mod Counted
+pub mod EvenRuns
 pub mod EvenSizes
 pub mod FileOrder
 pub mod GainCounts

@@ -2,6 +2,8 @@ ghost use Rattle.std.specs.Prelude.{◌≡◌, ◌<◌, ◌≤◌, ◌^◌, IfOk
 ghost use Rattle.std.specs.List.{range_with_len};
 ghost use Rattle.network_file.specs.declared.limits.TheConstants.{MOST_REGIONS};
 ghost use Rattle.network_file.specs.Cutting.{IsCutting};
+ghost use Rattle.region_cut.specs.Cuttings.{even_cutting};
+ghost use Rattle.cut_grow.specs.CutConnectors.{cuts};
 ghost use Rattle.cut_grow.specs.Grown.{IsGrown};
 
 use crate::best::best_in;
@@ -18,6 +20,8 @@ pub fn grow(alloc: Global, net: &Net, k: u32) -> Result<Vec<u32>, NoMemory>
     requires few { k ≤ MOST_REGIONS }
     requires cells { k ≤ length net.now.cells }
     ensures grown { IfOk result (λ list. IsGrown net.now k list.items) }
+    // The even cutting is one of those among which it has the fewest.
+    ensures no_more { IfOk result (λ list. cuts list.items net.now ≤ cuts (even_cutting (length net.now.cells) k) net.now) }
     // `Cut::of` takes it.
     ensures cutting { IfOk result (λ list. IsCutting (length net.now.cells) list.items) }
 {

@@ -7,9 +7,7 @@ use Rattle.region_step.proofs.StartLaws.{zero_start-fits, zero_start-lawful, zer
 use Rattle.saved_run.specs.Laws.{IsTrueShot}
 use Rattle.saved_run.specs.SavedText.{saved_text}
 use Rattle.ctm_call.specs.SaveMode.{IsSavedNear}
-use Rattle.ctm_call.specs.WatchMode.{cutting_of}
 use Rattle.ctm_call.proofs.Saved.{shown-run}
-use Rattle.ctm_call.proofs.UsedCutting.{cutting-is}
 use Rattle.ctm_call.proofs.save_mode.saved_near.Goals as goal
 
 pub save_text-requires-clause-few : goal.save_text-requires-clause-few
@@ -19,7 +17,6 @@ pub returns : goal.returns
 returns g c =
     let net = c.args.net.now in
     let sound = subst IsNetwork c.net.view_is c.net.invariant in
-    let cut : c.in_ok-chart.chart.cut ≡ cutting_of net c.args.request.regions = cutting-is net c.args.request.regions c.in_ok-chart.chart.cut c.in_ok-chart.ensures.own c.in_ok-chart.ensures.even in
     let used : List ℕ = c.in_ok-chart.chart.cut in
     let shot : IsTrueShot c.args.input.now net used (zero_start net used) c.in_ok-room.room = record {
       network = c.requires.network;
@@ -36,5 +33,8 @@ returns g c =
       saved = c.in_ok-text.ensures.text ∙ ap saved_text (shown-run net c.in_ok-chart.chart.cut c.in_ok-room.room sound c.in_ok-chart.ensures.one_each c.in_ok-room.ensures.snapshot c.args.input.now);
       begins = c.in_ok-text.ensures.true_start net (zero_start net used) shot;
     } in
-    subst (λ pieces. IsSavedNear net pieces c.args.request.until c.args.input.now c.in_ok-text.text.items) cut
-    (subst (λ until. IsSavedNear net c.in_ok-chart.chart.cut until c.args.input.now c.in_ok-text.text.items) c.from-until.ensures near)
+    record {
+      cut = used;
+      cutting = c.in_ok-chart.ensures.cutting;
+      near = subst (λ until. IsSavedNear net c.in_ok-chart.chart.cut until c.args.input.now c.in_ok-text.text.items) c.from-until.ensures near;
+    }

@@ -1,20 +1,18 @@
 use Rattle.std.proofs.Common.{◌≡◌, ◌++◌, List, ℕ, ap, subst, sym, ◌∙◌}
 use Rattle.snapshot.specs.Shots.{AreShots}
 use Rattle.delay_report.specs.Report.{report_of}
-use Rattle.ctm_call.specs.WatchMode.{cutting_of}
-use Rattle.ctm_call.proofs.UsedCutting.{cutting-is}
 use Rattle.ctm_call.proofs.watch_mode.shots_and_report.Goals as goal
 
 pub returns : goal.returns
 returns g c =
     let net = c.args.net.now in
-    let cut : c.in_ok-chart.chart.cut ≡ cutting_of net c.args.request.regions = cutting-is net c.args.request.regions c.in_ok-chart.chart.cut c.in_ok-chart.ensures.own c.in_ok-chart.ensures.even in
     let report : c.deref-2.result.now ≡ report_of net c.args.request.every = c.deref-2.ensures.value ∙ c.in_ok-report.ensures ∙ ap (report_of net) c.from-every.ensures in
     let same : c.in_ok-shots.shots.items ≡ c.in_ok-shots.field-0.shots.items = sym (ap (λ shots. shots.items) c.in_ok-shots.shots-is) in
     record {
+      cut = c.in_ok-chart.chart.cut;
+      cutting = c.in_ok-chart.ensures.cutting;
       shots = c.in_ok-shots.shots.items;
-      are = subst (λ pieces. AreShots net pieces c.args.request.shots c.in_ok-shots.shots.items) cut
-          (subst (AreShots net c.in_ok-chart.chart.cut c.args.request.shots) (sym same) c.in_ok-shots.ensures.shots);
+      are = subst (AreShots net c.in_ok-chart.chart.cut c.args.request.shots) (sym same) c.in_ok-shots.ensures.shots;
       text = c.in_ok-extend_from_slice.ensures.items ∙ ap (λ (last : List ℕ). c.in_ok-shots.field-0.shots.items ++ last) report ∙
           ap (λ (first : List ℕ). first ++ report_of net c.args.request.every) (sym same);
     }
