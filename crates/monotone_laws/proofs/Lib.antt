@@ -3,3 +3,7 @@ pub mod Curves
 pub mod OneMove
 pub mod OneStep
 pub mod GoneLaw
+pub mod Area
+pub mod TwoSums
+pub mod EasedDelay
+pub mod RunningMost

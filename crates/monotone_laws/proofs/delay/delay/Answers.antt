@@ -2,8 +2,8 @@ use Rattle.std.proofs.lemmas.List.{take_all}
 use Rattle.flow_model.specs.State.{delay_of}
 use Rattle.monotone_laws.proofs.delay.delay.Goals as goal
 
-pub returns-clause-sum : goal.returns-clause-sum
+pub returns : goal.returns
 unfolding delay_of
-returns-clause-sum c =
+returns c =
     let whole = take_all c.loop-row.row-index c.args.rows.now c.loop-row-test.false in
-    rw whole at c.loop-row.invariant.0
+    record { sum = rw whole at c.loop-row.invariant.0 }
