@@ -7,3 +7,4 @@ pub mod Area
 pub mod TwoSums
 pub mod EasedDelay
 pub mod RunningMost
+pub mod Surplus

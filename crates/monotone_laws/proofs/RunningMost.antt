@@ -1,7 +1,7 @@
 -- The most that a curve has been up to a step.
 use Rattle.std.proofs.Common.{◌≡◌, ℕ, zero, suc, max, add-one, ◌+◌, ◌≤◌, arith}
 
-pub most_by : (f : ℕ → ℕ) → (t : ℕ) → ℕ
+abbrev pub most_by : (f : ℕ → ℕ) → (t : ℕ) → ℕ
 most_by f zero = f 0
 most_by f (suc t) = max (most_by f t) (f (suc t))
 
