@@ -8,3 +8,4 @@ pub mod TwoSums
 pub mod EasedDelay
 pub mod RunningMost
 pub mod Surplus
+pub mod DemandDelay
