@@ -1,0 +1,11 @@
+pub mod Linked
+pub mod Curves
+pub mod OneMove
+pub mod OneStep
+pub mod GoneLaw
+pub mod Area
+pub mod TwoSums
+pub mod EasedDelay
+pub mod RunningMost
+pub mod Surplus
+pub mod DemandDelay

@@ -1,0 +1,42 @@
+-- One move by a link, as plain numbers: by u at most what has gone out of a cell in one network passes what has in the other.
+use Rattle.std.proofs.Common.{◌≡◌, inl, inr, ℕ, Bool, true, false, min, ◌+◌, ◌-◌, ◌*◌, ◌/◌, ◌≤◌, ap, arith, refl}
+use Rattle.std.proofs.Math.Nat.{div-mul-le_self, mul-le-mul_left, mul-le-mul_right}
+use Rattle.std.proofs.lemmas.Bool.{cases_lt}
+use Rattle.std.proofs.lemmas.Nat.{le-div}
+use Rattle.ordinary_link.specs.Sending.{sending_flow}
+
+times_sum : (a y d : ℕ) → a * (y + d) ≡ a * y + a * d
+times_sum a y d = grind arith
+
+floors : (a b x y d : ℕ) → 1 ≤ b → a ≤ b → x ≤ y + d → a * x / b ≤ a * y / b + d
+floors a b x y d some ratio less =
+    let q : ℕ = a * x / b in
+    elim (cases_lt q d) [
+      | inl few ↦ omega arith
+      | inr many ↦
+          let over : d + (q - d) ≡ q = omega arith in
+          let first : q * b ≤ a * x = div-mul-le_self (a * x) b in
+          let second : a * x ≤ a * (y + d) = mul-le-mul_left a less in
+          let third : a * d ≤ b * d = mul-le-mul_right d ratio in
+          let parts : (d + (q - d)) * b ≡ b * d + (q - d) * b = sums_times d (q - d) b in
+          let whole : (d + (q - d)) * b ≡ q * b = ap (λ k. k * b) over in
+          let rest : (q - d) * b ≤ a * y = omega (arith, times_sum a y d) in
+          let last : q - d ≤ a * y / b = le-div (q - d) (a * y) b some rest in
+          omega arith
+    ]
+  where
+    sums_times : (d e b : ℕ) → (d + e) * b ≡ b * d + e * b
+    sums_times d e b = grind arith
+
+-- of so much more empty space at most as much more can be received
+pub space_on : (a b x y g h : ℕ) → 1 ≤ b → a ≤ b → x + g ≤ y + h → g ≤ h → g + a * x / b ≤ h + a * y / b
+space_on a b x y g h some ratio space less =
+    let more : a * x / b ≤ a * y / b + (h - g) = floors a b x y (h - g) some ratio (omega arith) in
+    omega arith
+
+-- what a cell sends, and what it has sent, where the one that it sends to can receive r
+pub sends_on : (g h n m q p r s u : ℕ) (green shown : Bool) → g ≤ h + u → n + g ≤ m + h + u → q ≤ p → (green ≡ true → shown ≡ true) →
+    g + r ≤ h + s + u → g + min (sending_flow n q green) r ≤ h + min (sending_flow m p shown) s + u
+sends_on g h n m q p r s u false shown gone all capacity light receives = omega arith
+sends_on g h n m q p r s u true true gone all capacity light receives = omega arith
+sends_on g h n m q p r s u true false gone all capacity light receives = let dark = light refl in cc

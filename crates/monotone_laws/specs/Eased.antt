@@ -1,0 +1,29 @@
+-- When a network lets through no less than another.
+use Rattle.std.specs.Prelude.{◌≡◌, ℕ, ◌<◌, ◌≤◌, length, slice_get, Some, true}
+use Rattle.signal_plan.specs.Capacity.{capacity_at}
+use Rattle.signal_plan.specs.Green.{green_at}
+use Rattle.network_file.specs.Network.{Network}
+use Rattle.network_file.specs.declared.cell.Cell.{Cell}
+
+-- the second cell has no less room, and else they are the same but for their names
+pub record IsRoomier (one two : Cell) : Type 0 where
+  pub kind : two.kind ≡ one.kind
+  pub num : two.num ≡ one.num
+  pub den : two.den ≡ one.den
+  pub first : two.first ≡ one.first
+  pub room : one.room ≤ two.room
+
+-- the second network has the same links and steps, rooms and capacities no less, and green wherever the first has it;
+-- nothing is said of the demands
+pub record IsEased (one two : Network) : Type 0 where
+  pub steps : two.steps ≡ one.steps
+  pub connectors : two.connectors ≡ one.connectors
+  pub one_each : length two.cells ≡ length one.cells
+  pub cells : (i : ℕ) (a b : Cell) → slice_get one.cells i ≡ Some a → slice_get two.cells i ≡ Some b → IsRoomier a b
+  pub capacity : (i t : ℕ) → i < length one.cells → t < one.steps → capacity_at one.plan i t ≤ capacity_at two.plan i t
+  pub green : (i t : ℕ) → i < length one.cells → t < one.steps → green_at one.plan i t ≡ true → green_at two.plan i t ≡ true
+
+-- each is eased against the other: they differ in the names of their cells and in their demands alone
+pub record AreAlike (one two : Network) : Type 0 where
+  pub there : IsEased one two
+  pub back : IsEased two one

@@ -1,0 +1,4 @@
+pub mod Demands
+pub mod Eased
+pub mod Links
+pub mod Moments

@@ -1,0 +1,15 @@
+ghost use Rattle.std.specs.Prelude.{◌≡◌, ◌*◌, ◌≤◌, ◌^◌, length};
+ghost use Rattle.flow_model.specs.State.{delay_of};
+
+use flow_model::Row;
+
+/// The waits of all cells, parts times steps.
+pub(crate) fn delay(rows: &[Row]) -> u128
+    ensures sum { result ≡ delay_of rows.now }
+{
+    let mut sum = 0u128;
+    for row in rows {
+        sum += u128::from(row.wait);
+    }
+    sum
+}
