@@ -1,0 +1,4 @@
+pub mod Areas
+pub mod Bottlenecks
+pub mod CellSteps
+pub mod Travels

@@ -1,0 +1,36 @@
+-- What a cell can pass in a range of steps, and when it passes as much.
+use Rattle.std.specs.Prelude.{◌≡◌, ℕ, ◌+◌, ◌-◌, ◌*◌, ◌<◌, ◌≤◌, length, sum_by, true}
+use Rattle.std.specs.List.{range_with_len}
+use Rattle.signal_plan.specs.Capacity.{capacity_at}
+use Rattle.signal_plan.specs.Green.{green_at}
+use Rattle.network_file.specs.Connectors.{connector_at}
+use Rattle.network_file.specs.Network.{Network}
+use Rattle.network_file.specs.declared.connector.Connector.TheVariants.{Link}
+use Rattle.flow_model.specs.Limits.{receiving_at}
+use Rattle.flow_model.specs.State.{occupancy, state_at}
+use Rattle.traffic_laws.specs.Curves.{departed}
+
+-- its capacities at the steps of the range together
+unfoldable pub capacity_over : Network → (i from to : ℕ) → ℕ
+capacity_over net i from to = sum_by (capacity_at net.plan i) (range_with_len from (to - from))
+
+-- at one capacity: that, times the steps of the range
+abbrev pub IsRateTimesSteps : Network → (i from to most : ℕ) → Type 0
+IsRateTimesSteps net i from to most =
+    (q : ℕ) → ((s : ℕ) → from ≤ s → s < to → capacity_at net.plan i s ≡ q) → most ≡ q * (to - from)
+
+-- no more goes out of the cell in the range
+abbrev pub PassesAtMost : Network → (i from to most : ℕ) → Type 0
+PassesAtMost net i from to most = departed net i to ≤ departed net i from + most
+
+-- at step s the cell is green and holds what it can pass, and the cell downstream of its link can receive that
+pub record IsFedAndDrained (net : Network) (i down s : ℕ) : Type 0 where
+  pub green : green_at net.plan i s ≡ true
+  pub fed : capacity_at net.plan i s ≤ occupancy (state_at net s) i
+  pub drained : capacity_at net.plan i s ≤ receiving_at net s down (occupancy (state_at net s) down)
+
+-- where it is so at each step of the range, exactly as much goes out
+abbrev pub PassesAllWhereFed : Network → (i from to most : ℕ) → Type 0
+PassesAllWhereFed net i from to most =
+    (k down : ℕ) → k < length net.connectors → connector_at net.connectors k ≡ Link i down →
+    ((s : ℕ) → from ≤ s → s < to → IsFedAndDrained net i down s) → departed net i to ≡ departed net i from + most

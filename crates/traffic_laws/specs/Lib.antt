@@ -1,0 +1,5 @@
+pub mod Area
+pub mod Bottleneck
+pub mod Curves
+pub mod TimeSpent
+pub mod Times
