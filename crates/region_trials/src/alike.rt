@@ -5,10 +5,10 @@ ghost use Rattle.region_step.specs.Opened.{IsIn};
 ghost use Rattle.plain_region.specs.Opened.{IsIn as IsInPlain};
 ghost use Rattle.region_trials.specs.Rounds.{AllAt};
 
-use plain_region::PlainRegion;
 use crate::rounds::step_all;
 use network_file::Net;
 use no_memory::NoMemory;
+use plain_region::PlainRegion;
 use region_cut::Chart;
 use region_step::Region;
 

@@ -8,9 +8,9 @@ ghost use Rattle.region_step.specs.Region.{RegionState};
 ghost use Rattle.region_step.specs.Start.{Fits};
 ghost use Rattle.region_trials.specs.Rounds.{IsAt, IsShaped};
 
-use plain_region::PlainRegion;
 use network_file::Net;
 use no_memory::NoMemory;
+use plain_region::PlainRegion;
 use region_cut::Chart;
 use region_step::{Region, Start};
 use std::alloc::Global;

@@ -1,4 +1,5 @@
-ghost use Rattle.std.specs.Prelude.{◌≡◌, ◌<◌, ℕ, IfOk, length, slice_index};
+ghost use Rattle.std.specs.Prelude.{◌≡◌, ◌<◌, ◌≤◌, ℕ, length, slice_index};
+ghost use Rattle.network_file.specs.declared.limits.TheConstants.{MOST_REGIONS};
 ghost use Rattle.region_cut.specs.Chart.{chart_of};
 ghost use Rattle.region_step.specs.Start.{Fits};
 
@@ -35,7 +36,10 @@ fn differ_evenly(
     regions: u32,
     every: u64,
     plain_every: u64,
-) -> Result<Option<u64>, NoMemory> {
+) -> Result<Option<u64>, NoMemory>
+    requires some { 1 ≤ regions }
+    requires few { regions ≤ MOST_REGIONS }
+{
     let cut = cutting(alloc, net, regions)?;
     differ_at(alloc, net, cut, every, plain_every)
 }

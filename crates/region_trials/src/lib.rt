@@ -1,5 +1,5 @@
 //! Trials of `PlainRegion` beside `Region`: both are taken through the same networks, in several cuttings, and compared at
-//! each step. And of lists that are no cutting. There is nothing here but tests.
+//! each step. There is nothing here but tests.
 #![tactic(auto)]
 
 #[cfg(test)]
@@ -8,8 +8,6 @@ mod alike;
 mod bodies;
 #[cfg(test)]
 mod body_tests;
-#[cfg(test)]
-mod cut_tests;
 #[cfg(test)]
 mod networks;
 #[cfg(test)]
