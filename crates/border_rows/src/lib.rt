@@ -6,8 +6,6 @@
 
 mod places;
 mod span;
-#[cfg(test)]
-mod tests;
 mod view;
 
 pub use places::Places;

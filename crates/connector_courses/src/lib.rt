@@ -13,8 +13,6 @@ mod demand_course;
 mod idling;
 mod limits;
 mod rule;
-#[cfg(test)]
-mod tests;
 mod weight_course;
 mod weight_pair;
 

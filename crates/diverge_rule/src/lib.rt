@@ -6,8 +6,6 @@
 
 mod flow;
 mod split;
-#[cfg(test)]
-mod tests;
 
 pub use flow::{diverge_by_whole, diverge_flow};
 pub use split::Split;

@@ -11,8 +11,6 @@ mod median;
 mod printing;
 mod share;
 mod spelling;
-#[cfg(test)]
-mod tests;
 mod text;
 mod whole_number;
 

@@ -11,8 +11,6 @@ mod cell_sums;
 mod connector_flight;
 mod network_books;
 mod sums;
-#[cfg(test)]
-mod tests;
 
 pub use balance::books;
 pub use connector_flight::flight;

@@ -5,7 +5,5 @@
 #![tactic(auto)]
 
 mod flow;
-#[cfg(test)]
-mod tests;
 
 pub use flow::{merge_by_share, merge_flow};

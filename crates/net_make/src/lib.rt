@@ -15,7 +15,5 @@ mod incident;
 mod making;
 mod numbers;
 mod signals;
-#[cfg(test)]
-mod tests;
 
 pub use making::make;

@@ -19,27 +19,3 @@ pub fn receiving(n: u64, q: u64, room: Option<Room>) -> u64
         Some(room) => q.min(room.space_flow(n)),
     }
 }
-
-#[cfg(test)]
-mod tests {
-    use super::*;
-    use crate::{link_flow, sending};
-
-    #[test]
-    fn takes_the_least_of_what_is_sent_capacity_and_space(rt: HostRuntime) {
-        let room = Some(Room {
-            most: 10,
-            num: 1,
-            den: 2,
-        });
-        for (n, q, want) in [(0, 9, 5), (0, 4, 4), (3, 9, 3), (9, 9, 0), (10, 9, 0)] {
-            assert_eq!(rt; receiving(n, q, room), want, "at {n}");
-        }
-        assert_eq!(rt; receiving(99, 4, None), 4);
-        assert_eq!(rt; sending(7, 9, true), 7);
-        assert_eq!(rt; sending(7, 5, true), 5);
-        assert_eq!(rt; sending(7, 5, false), 0);
-        assert_eq!(rt; link_flow(5, 3), 3);
-        assert_eq!(rt; link_flow(2, 3), 2);
-    }
-}

@@ -6,8 +6,6 @@ mod link;
 mod marks;
 mod send;
 mod step;
-#[cfg(test)]
-mod tests;
 mod wait;
 
 pub use link::link_row;

@@ -11,8 +11,6 @@ mod part;
 mod place;
 mod space;
 mod step;
-#[cfg(test)]
-mod tests;
 
 pub use capacity::link_capacity;
 pub use chain::sweep;

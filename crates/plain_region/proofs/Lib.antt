@@ -2,4 +2,3 @@ pub mod Places
 pub mod Changes
 pub mod Carrying
 pub mod Advancing
-pub mod Telling

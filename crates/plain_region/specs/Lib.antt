@@ -4,4 +4,3 @@ pub mod Opening
 pub mod Plain
 pub mod Opened
 pub mod Carrying
-pub mod Rounds

@@ -28,8 +28,6 @@ mod record_changes;
 mod signal;
 mod span;
 mod step_plan;
-#[cfg(test)]
-mod tests;
 mod turn;
 
 pub use bounds::{MOST_CELLS, MOST_PARTS, MOST_RATIO, MOST_RECORDS, MOST_STEPS};

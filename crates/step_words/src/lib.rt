@@ -4,8 +4,6 @@
 
 mod lawful;
 mod raise;
-#[cfg(test)]
-mod tests;
 
 pub use lawful::is_lawful;
 pub use raise::rise;
