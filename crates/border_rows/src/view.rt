@@ -19,7 +19,7 @@ pub struct Hold {
     pub region: u64,
     /// Whether the seat knows the step at which it took the region.
     pub known: bool,
-    /// That step.
+    /// The step at which the seat took the region, where it is known.
     pub step: u64,
     /// The neighbours that it has found at that step or past it.
     pub cleared: [u64; 0],

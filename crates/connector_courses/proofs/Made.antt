@@ -8,7 +8,6 @@ use Rattle.network_file.specs.Connectors.{connector_at}
 use Rattle.network_file.specs.Network.{IsNetwork, IsSoundConnector, Network}
 use Rattle.network_file.specs.declared.connector.Connector.{Connector}
 use Rattle.network_file.specs.declared.connector.Connector.TheVariants.{Link, Merge, Diverge}
-use Rattle.flow_model.specs.Between.{flow_between}
 use Rattle.network_file.proofs.NetworkFacts.{connector_at-sound, read_connector}
 use Rattle.connector_courses.specs.Courses.{limits_by}
 use Rattle.connector_courses.specs.Flows.{ConnectorValues, carried_by, flow_at, limits_of}
@@ -42,7 +41,6 @@ flow-made net rule cells weights course t n made before =
 
 pub made-link : (net : Network) (up down : ℕ) (weights : WeightCourse) (course : ConnectorValues) → IsNetwork net →
     IsSoundConnector net.cells (Link up down) → IsMadeOf net Linking (up ∷ down ∷ down ∷ []) weights course → IsCourseOf net (Link up down) course
-unfolding flow_between
 made-link net up down weights course sound connector made = record {
   rule = made.rule_is;
   flow = λ t n before held.
@@ -55,7 +53,6 @@ made-link net up down weights course sound connector made = record {
 pub made-merge : (net : Network) (up1 up2 down p1 p2 : ℕ) (weights : WeightCourse) (course : ConnectorValues) → IsNetwork net →
     IsSoundConnector net.cells (Merge up1 up2 down p1 p2) → ((t : ℕ) → weights_at weights t ≡ (p1, p2)) →
     IsMadeOf net Merging (up1 ∷ up2 ∷ down ∷ []) weights course → IsCourseOf net (Merge up1 up2 down p1 p2) course
-unfolding flow_between
 made-merge net up1 up2 down p1 p2 weights course sound connector are made = record {
   rule = made.rule_is;
   flow = λ t n before held.
@@ -69,7 +66,6 @@ made-merge net up1 up2 down p1 p2 weights course sound connector are made = reco
 pub made-diverge : (net : Network) (up down1 down2 b1 b2 : ℕ) (weights : WeightCourse) (course : ConnectorValues) → IsNetwork net →
     IsSoundConnector net.cells (Diverge up down1 down2 b1 b2) → ((t : ℕ) → weights_at weights t ≡ shares_at net.plan up t (b1, b2)) →
     IsMadeOf net Diverging (up ∷ down1 ∷ down2 ∷ []) weights course → IsCourseOf net (Diverge up down1 down2 b1 b2) course
-unfolding flow_between
 made-diverge net up down1 down2 b1 b2 weights course sound connector are made = record {
   rule = made.rule_is;
   flow = λ t n before held.

@@ -16,9 +16,8 @@ use Rattle.flow_model.specs.Bounds.{IsHeldInBounds}
 use Rattle.flow_model.specs.Limits.{receiving_at, room_at, room_by, sending_at}
 use Rattle.flow_model.proofs.CellKinds.{cell_at}
 use Rattle.flow_model.proofs.CellLimits.{capacity_at-le}
-use Rattle.place_sweep.specs.Space.{HasSpace, IsSpaceOf, let_in}
+use Rattle.place_sweep.specs.Space.{HasSpace, IsSpaceOf, boundless, let_in}
 use Rattle.place_sweep.specs.declared.space.Space.{Space}
-use Rattle.place_sweep.specs.declared.space.TheConstants.{BOUNDLESS}
 use Rattle.connector_courses.specs.Courses.{most_by}
 use Rattle.connector_courses.specs.Flows.{received}
 
@@ -47,8 +46,8 @@ has-space net t i n sound before has bounds =
     let exit = rw here.1 at bounds.exit in
     rw here.1 (of_kind here.0 here.0.kind n q road (λ is. omega (arith, gate is)) (λ is. omega (arith, exit is)))
   where
-    of_kind : (cell : Cell) (kind : Kind) (n q : ℕ) → (is_road kind ≡ true → n ≤ cell.room) → (is_gate kind ≡ true → n + q ≤ BOUNDLESS) →
-        (is_exit kind ≡ true → n + q ≤ BOUNDLESS) → HasSpace n q (room_by kind cell)
+    of_kind : (cell : Cell) (kind : Kind) (n q : ℕ) → (is_road kind ≡ true → n ≤ cell.room) → (is_gate kind ≡ true → n + q ≤ boundless) →
+        (is_exit kind ≡ true → n + q ≤ boundless) → HasSpace n q (room_by kind cell)
     of_kind cell Road n q road gate exit = road refl
     of_kind cell Gate n q road gate exit = gate refl
     of_kind cell Exit n q road gate exit = exit refl

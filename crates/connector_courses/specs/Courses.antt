@@ -1,10 +1,10 @@
 -- What bounds the flow of a connector from step to step.
 use Rattle.std.specs.Prelude.{◌≡◌, ℕ, ◌<◌, ◌≤◌, Bool, true, false, List, Option, Some, None, slice_index, if◌then◌else◌}
 use Rattle.signal_plan.specs.Capacity.{capacity_at}
-use Rattle.signal_plan.specs.Green.{green_at}
+use Rattle.signal_plan.specs.Green.{green_at, is_green_by}
 use Rattle.signal_plan.specs.Records.{PlanRecords}
 use Rattle.signal_plan.specs.Limits.{most_steps}
-use Rattle.timelines.specs.Courses.{light_at, value_at}
+use Rattle.timelines.specs.Courses.{value_at}
 use Rattle.connector_courses.specs.Weights.{AreWeights, weights_at}
 use Rattle.connector_courses.specs.declared.cell_course.CellCourse.{CellCourse}
 use Rattle.connector_courses.specs.declared.courses.Courses.{Courses}
@@ -15,7 +15,7 @@ use Rattle.connector_courses.specs.declared.weight_course.WeightCourse.{WeightCo
 
 -- the most that the cell sends or receives in step t
 unfoldable pub cell_most : CellCourse → (t : ℕ) → ℕ
-cell_most cell t = if light_at cell.signal t then value_at cell.capacity t else 0
+cell_most cell t = if is_green_by cell.signal t then value_at cell.capacity t else 0
 
 -- the light of a cell that sends; one that receives is never held back
 abbrev pub green_by : PlanRecords → (cell : ℕ) → (sends : Bool) → (t : ℕ) → Bool

@@ -5,7 +5,7 @@ use Rattle.network_file.specs.Network.{Network}
 use Rattle.network_file.specs.declared.connector.Connector.{Connector}
 use Rattle.network_file.specs.declared.connector.Connector.TheVariants.{Link, Merge, Diverge}
 use Rattle.flow_model.specs.Bounds.{AreHeldInBounds}
-use Rattle.flow_model.specs.Between.{flow_between}
+use Rattle.flow_model.specs.Flows.{flow_between}
 use Rattle.flow_model.specs.Limits.{room_at}
 use Rattle.place_sweep.specs.Space.{IsSpaceOf}
 use Rattle.connector_courses.specs.Courses.{limits_by}

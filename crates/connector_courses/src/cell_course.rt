@@ -1,5 +1,6 @@
 ghost use Rattle.std.specs.Prelude.{◌≡◌, ◌≤◌, ◌<◌, ℕ, IfOk, length, if◌then◌else◌};
-ghost use Rattle.timelines.specs.Courses.{IsSteady, light_at};
+ghost use Rattle.signal_plan.specs.Green.{is_green_by};
+ghost use Rattle.timelines.specs.Courses.{IsSteady};
 ghost use Rattle.connector_courses.specs.Courses.{cell_most, green_by, most_by};
 
 use no_memory::NoMemory;
@@ -55,7 +56,7 @@ impl CellCourse {
 // The signal of a cell that sends.
 fn signal_by(plan: &Plan, cell: u32, sends: bool) -> Option<Signal>
     requires has_cell { cell < length plan.now.cells }
-    ensures { (t : ℕ) → light_at result t ≡ green_by plan.now cell sends t }
+    ensures { (t : ℕ) → is_green_by result t ≡ green_by plan.now cell sends t }
 {
     if sends { plan.signal(cell) } else { None }
 }

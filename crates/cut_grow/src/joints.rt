@@ -18,7 +18,7 @@ pub(crate) struct Joints {
 }
 
 impl Joints {
-    /// Those of connectors of which at most one leads out of each cell, and at most one into it.
+    /// The joints of connectors of which at most one leads out of each cell, and at most one into it.
     pub(crate) fn of(
         alloc: Global,
         connectors: &[Connector],

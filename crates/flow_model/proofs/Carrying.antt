@@ -1,23 +1,20 @@
 -- A connector carries its flow, one move after the other: what leaves each cell upstream, and then what enters each cell downstream.
-use Rattle.std.specs.Prelude.{All, map, if◌then◌else◌, ◌==◌}
-use Rattle.std.proofs.Common.{◌≡◌, ℕ, zero, suc, ◌+◌, ◌<◌, ◌≤◌, true, false, List, [], ◌∷◌, length, get_or, take, set, arith, refl, sym, ap, subst, ◌∙◌}
+use Rattle.std.specs.Prelude.{map, if◌then◌else◌, ◌==◌}
+use Rattle.std.proofs.Common.{◌≡◌, ℕ, zero, suc, ◌+◌, ◌<◌, ◌≤◌, true, List, [], ◌∷◌, length, get_or, take, set, arith, refl, sym, ap, subst, ◌∙◌}
 use Rattle.std.proofs.lemmas.Bool.{eq-eqb}
 use Rattle.std.proofs.lemmas.List.{get_or-map, get_or_append_left, length-append, take_all}
-use Rattle.std.proofs.lemmas.List.Elements.{All-append, All-weaker}
 use Rattle.signal_plan.specs.Demand.{demand_at}
-use Rattle.network_file.specs.Cells.{is_exit_at, is_gate_at}
 use Rattle.network_file.specs.Connectors.{upstream_of, downstream_of, cells_of, connector_at}
 use Rattle.network_file.specs.Network.{Network, IsNetwork}
 use Rattle.network_file.specs.declared.connector.Connector.{Connector}
 use Rattle.network_file.specs.declared.connector.Connector.TheVariants.{Link, Merge, Diverge}
 use Rattle.flow_model.specs.Bounds.{AreHeldInBounds, AreInBounds, IsHeldInBounds}
-use Rattle.flow_model.specs.Between.{flow_between}
-use Rattle.flow_model.specs.Flows.{flow_of, sent_by, received_by, amount_beside, leaving, entering, outflow, inflow}
+use Rattle.flow_model.specs.Flows.{flow_between, flow_of, sent_by, received_by, amount_beside, leaving, entering, outflow, inflow}
 use Rattle.flow_model.specs.State.{row_at, occupancy, next_rows}
 use Rattle.flow_model.specs.Moves.{CanLeave, CanEnter, row_less, row_more, with_connectors}
 use Rattle.flow_model.specs.declared.row.Row.{Row}
 use Rattle.flow_model.specs.declared.carried.Flow.{Flow}
-use Rattle.network_file.proofs.NetworkFacts.{connector_at-sound}
+use Rattle.network_file.proofs.NetworkFacts.{cells_there, connector_at-sound}
 use Rattle.flow_model.proofs.Connectors.{entering-other, get_or-append_behind}
 use Rattle.flow_model.proofs.FirstConnectors.{inflow-more, inflow-with_connectors-le, outflow-more, outflow-with_connectors-le}
 use Rattle.flow_model.proofs.Flows.{inflow-gate, leads_into-gate}
@@ -166,21 +163,12 @@ moves-in net t k outs j cell parts rows now flow carried within few place parts_
 
 -- what the cells of a connector hold
 
-cells_there : (net : Network) (k : ℕ) → IsNetwork net → k < length net.connectors →
-    All (λ i. i < length net.cells) (cells_of (connector_at net.connectors k))
-cells_there net k sound there =
-    let connector : Connector = connector_at net.connectors k in
-    let fits = connector_at-sound net k sound there in
-    All-append (λ i. i < length net.cells) (upstream_of connector) (downstream_of connector)
-    (All-weaker (λ i. (i < length net.cells) × (is_exit_at net.cells i ≡ false)) (λ i. i < length net.cells) (λ i both. both.0) (upstream_of connector) fits.up)
-    (All-weaker (λ i. (i < length net.cells) × (is_gate_at net.cells i ≡ false)) (λ i. i < length net.cells) (λ i both. both.0) (downstream_of connector) fits.down)
-
 cells_held : (net : Network) (t k : ℕ) (rows : List Row) → IsNetwork net → k < length net.connectors → AreInBounds net t rows →
     AreHeldInBounds net t (cells_of (connector_at net.connectors k)) (map (occupancy rows) (cells_of (connector_at net.connectors k)))
 cells_held net t k rows sound there bounds =
     let cells : List ℕ = cells_of (connector_at net.connectors k) in
     record {
-      each = λ j within. rw (get_or-map (occupancy rows) cells j 0 0 within) ((bounds.each (get_or cells j 0) (cells_there net k sound there j 0 within)).held);
+      each = λ j within. rw (get_or-map (occupancy rows) cells j 0 0 within) ((bounds.each (get_or cells j 0) (cells_there net.cells _ (connector_at-sound net k sound there) j 0 within)).held);
     }
 
 -- three cells have three occupancies, and two have two
@@ -194,7 +182,7 @@ three n (Diverge up down1 down2 b1 b2) ups downs up_long down_long all = refl
 two : (net : Network) (t : ℕ) (n : ℕ → ℕ) (connector : Connector) → length (upstream_of connector) ≡ 1 → length (downstream_of connector) ≡ 1 →
     let cells = cells_of connector in
     flow_of net t n connector ≡ flow_between net t connector (n (get_or cells 0 0) ∷ n (get_or cells 1 0) ∷ 0 ∷ [])
-unfolding flow_between flow_of
+unfolding flow_of
 two net t n (Link up down) up_long down_long = refl
 two net t n (Merge up1 up2 down p1 p2) up_long down_long = absurd (omega arith)
 two net t n (Diverge up down1 down2 b1 b2) up_long down_long = absurd (omega arith)
@@ -202,7 +190,7 @@ two net t n (Diverge up down1 down2 b1 b2) up_long down_long = absurd (omega ari
 three_flow : (net : Network) (t : ℕ) (n : ℕ → ℕ) (connector : Connector) (ups downs : ℕ) → length (upstream_of connector) ≡ ups →
     length (downstream_of connector) ≡ downs → ups + downs ≡ 3 → let cells = cells_of connector in
     flow_between net t connector (n (get_or cells 0 0) ∷ n (get_or cells 1 0) ∷ n (get_or cells 2 0) ∷ []) ≡ flow_of net t n connector
-unfolding flow_between flow_of
+unfolding flow_of
 three_flow net t n (Link up down) ups downs up_long down_long all = absurd (omega arith)
 three_flow net t n (Merge up1 up2 down p1 p2) ups downs up_long down_long all = refl
 three_flow net t n (Diverge up down1 down2 b1 b2) ups downs up_long down_long all = refl
@@ -229,8 +217,8 @@ two_held net t k cells rows sound there bounds is up_long down_long =
     of_place : length (cells_of (connector_at net.connectors k)) ≡ 2 → (j : ℕ) → j < length (cells_of (connector_at net.connectors k)) →
         IsHeldInBounds net t (get_or (cells_of (connector_at net.connectors k)) j 0)
         (get_or (occupancy rows (get_or (cells_of (connector_at net.connectors k)) 0 0) ∷ occupancy rows (get_or (cells_of (connector_at net.connectors k)) 1 0) ∷ 0 ∷ []) j 0)
-    of_place long zero within = (bounds.each _ (cells_there net k sound there 0 0 within)).held
-    of_place long (suc zero) within = (bounds.each _ (cells_there net k sound there 1 0 within)).held
+    of_place long zero within = (bounds.each _ (cells_there net.cells _ (connector_at-sound net k sound there) 0 0 within)).held
+    of_place long (suc zero) within = (bounds.each _ (cells_there net.cells _ (connector_at-sound net k sound there) 1 0 within)).held
     of_place long (suc (suc j)) within = absurd (omega arith)
 
 pub three_carried : (net : Network) (t k ups downs : ℕ) (cells : List ℕ) (rows : List Row) (flow : Flow) → IsNetwork net → t < net.steps →

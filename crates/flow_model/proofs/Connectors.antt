@@ -20,8 +20,7 @@ use Rattle.network_file.specs.declared.connector.Connector.{Connector}
 use Rattle.network_file.specs.declared.connector.Connector.TheVariants.{Link, Merge, Diverge}
 use Rattle.flow_model.specs.Limits.{sending_at, receiving_at}
 use Rattle.flow_model.specs.FlowLaw.{SendsAtMost, ReceivesAtMost}
-use Rattle.flow_model.specs.Between.{flow_between}
-use Rattle.flow_model.specs.Flows.{flow_of, sent_by, received_by, amount_beside, leaving, entering}
+use Rattle.flow_model.specs.Flows.{flow_between, flow_of, sent_by, received_by, amount_beside, leaving, entering}
 use Rattle.flow_model.specs.declared.carried.Flow.{Flow}
 
 -- the weights of a merge are not both 0
@@ -40,7 +39,6 @@ some_shares net t up b1 b2 sound first second =
 pub flow_between-conserved : (net : Network) (t : ℕ) (connector : Connector) (n : List ℕ) →
     let flow = flow_between net t connector n in
     flow.out1 + flow.out2 ≡ flow.in1 + flow.in2
-unfolding flow_between
 flow_between-conserved net t (Link up down) n = refl
 flow_between-conserved net t (Merge up1 up2 down p1 p2) n = omega arith
 flow_between-conserved net t (Diverge up down1 down2 b1 b2) n =
@@ -52,7 +50,6 @@ flow_between-conserved net t (Diverge up down1 down2 b1 b2) n =
 
 pub flow_between-sends : (net : Network) (t : ℕ) (connector : Connector) (n : List ℕ) → IsSoundConnector net.cells connector →
     SendsAtMost net t connector n (flow_between net t connector n)
-unfolding flow_between
 flow_between-sends net t (Link up down) n sound zero within =
     link_flow_of-le-sent (sending_at net t up (slice_index n 0)) (receiving_at net t down (slice_index n 1))
 flow_between-sends net t (Link up down) n sound (suc j) within = absurd (omega arith)
@@ -70,7 +67,6 @@ flow_between-sends net t (Diverge up down1 down2 b1 b2) n sound (suc j) within =
 
 pub flow_between-receives : (net : Network) (t : ℕ) (connector : Connector) (n : List ℕ) → IsSoundConnector net.cells connector →
     ReceivesAtMost net t connector n (flow_between net t connector n)
-unfolding flow_between
 flow_between-receives net t (Link up down) n sound zero within =
     link_flow_of-le-received (sending_at net t up (slice_index n 0)) (receiving_at net t down (slice_index n 1))
 flow_between-receives net t (Link up down) n sound (suc j) within = absurd (omega arith)
@@ -87,19 +83,11 @@ flow_between-receives net t (Diverge up down1 down2 b1 b2) n sound (suc zero) wi
 flow_between-receives net t (Diverge up down1 down2 b1 b2) n sound (suc (suc j)) within = absurd (omega arith)
 
 -- the same where cell i holds n i
-pub flow_between-map : (net : Network) (t : ℕ) (n : ℕ → ℕ) (connector : Connector) →
-    flow_between net t connector (map n (cells_of connector)) ≡ flow_of net t n connector
-unfolding flow_between flow_of
-flow_between-map net t n (Link up down) = refl
-flow_between-map net t n (Merge up1 up2 down p1 p2) = refl
-flow_between-map net t n (Diverge up down1 down2 b1 b2) = refl
-
 pub flow_of-conserved : (net : Network) (t : ℕ) (n : ℕ → ℕ) (connector : Connector) →
     let flow = flow_of net t n connector in
     flow.out1 + flow.out2 ≡ flow.in1 + flow.in2
-flow_of-conserved net t n connector =
-    subst (λ (flow : Flow). flow.out1 + flow.out2 ≡ flow.in1 + flow.in2) (flow_between-map net t n connector)
-    (flow_between-conserved net t connector (map n (cells_of connector)))
+unfolding flow_of
+flow_of-conserved net t n connector = flow_between-conserved net t connector (map n (cells_of connector))
 
 -- what stands beside a cell
 
@@ -157,24 +145,24 @@ held_down n up down i j within here =
 -- what leaves cell i by a connector is at most what the cell can send, and nothing where the connector leads out of others
 pub leaving-le : (net : Network) (t i : ℕ) (n : ℕ → ℕ) (connector : Connector) → IsSoundConnector net.cells connector →
     leaving i connector (flow_of net t n connector) ≤ (if leads_out_of i connector then sending_at net t i (n i) else 0)
+unfolding flow_of
 leaving-le net t i n connector sound =
     let up : List ℕ = upstream_of connector in
     let down : List ℕ = downstream_of connector in
     let sends : SendsAtMost net t connector (map n (cells_of connector)) (flow_of net t n connector) =
-    subst (SendsAtMost net t connector (map n (cells_of connector))) (flow_between-map net t n connector)
-    (flow_between-sends net t connector (map n (cells_of connector)) sound) in
+    flow_between-sends net t connector (map n (cells_of connector)) sound in
     amount_beside-le i (sending_at net t i (n i)) up (sent_by (flow_of net t n connector)) sound.up_apart
     (λ j within here. rw (here, held_up n up down i j within here) at (sends j within))
 
 -- what enters it
 pub entering-le : (net : Network) (t i : ℕ) (n : ℕ → ℕ) (connector : Connector) → IsSoundConnector net.cells connector →
     entering i connector (flow_of net t n connector) ≤ (if leads_into i connector then receiving_at net t i (n i) else 0)
+unfolding flow_of
 entering-le net t i n connector sound =
     let up : List ℕ = upstream_of connector in
     let down : List ℕ = downstream_of connector in
     let receives : ReceivesAtMost net t connector (map n (cells_of connector)) (flow_of net t n connector) =
-    subst (ReceivesAtMost net t connector (map n (cells_of connector))) (flow_between-map net t n connector)
-    (flow_between-receives net t connector (map n (cells_of connector)) sound) in
+    flow_between-receives net t connector (map n (cells_of connector)) sound in
     amount_beside-le i (receiving_at net t i (n i)) down (received_by (flow_of net t n connector)) sound.down_apart
     (λ j within here. rw (here, held_down n up down i j within here) at (receives j within))
 

@@ -9,12 +9,11 @@ use Rattle.network_file.specs.Cells.{is_gate_at}
 use Rattle.network_file.specs.Connectors.{upstream_of, downstream_of, cells_of, leads_out_of, leads_into, touches, are_joined}
 use Rattle.network_file.specs.Network.{Network}
 use Rattle.network_file.specs.declared.connector.Connector.{Connector}
-use Rattle.flow_model.specs.Between.{flow_between}
-use Rattle.flow_model.specs.Flows.{flow_of, leaving, entering, outflow, inflow}
+use Rattle.flow_model.specs.Flows.{flow_between, flow_of, leaving, entering, outflow, inflow}
 use Rattle.flow_model.specs.Rows.{next_row}
 use Rattle.flow_model.specs.declared.row.Row.{Row}
 use Rattle.signal_plan.proofs.Sums.{sum_by-same}
-use Rattle.flow_model.proofs.Connectors.{leaving-other, entering-other, flow_between-map}
+use Rattle.flow_model.proofs.Connectors.{leaving-other, entering-other}
 
 or_left : (a b : Bool) → a ≡ true → (a || b) ≡ true
 or_left true b left = refl
@@ -35,9 +34,8 @@ map_agree n m (cell ∷ cells) agree =
 
 flow_of-agree : (net : Network) (t : ℕ) (n m : ℕ → ℕ) (connector : Connector) → ((j : ℕ) → touches j connector ≡ true → n j ≡ m j) →
     flow_of net t n connector ≡ flow_of net t m connector
-flow_of-agree net t n m connector agree =
-    sym (flow_between-map net t n connector) ∙ ap (flow_between net t connector) (map_agree n m (cells_of connector) agree) ∙
-    flow_between-map net t m connector
+unfolding flow_of
+flow_of-agree net t n m connector agree = ap (flow_between net t connector) (map_agree n m (cells_of connector) agree)
 
 -- a cell that a connector leads out of or into is one of its own
 pub leads_out_of-touches : (i : ℕ) (connector : Connector) → leads_out_of i connector ≡ true → touches i connector ≡ true

@@ -1,12 +1,12 @@
 -- What moves in a step, where cell i holds n i.
-use Rattle.std.specs.Prelude.{ℕ, ◌==◌, ◌+◌, List, [], ◌∷◌, sum_by, if◌then◌else◌}
+use Rattle.std.specs.Prelude.{ℕ, ◌==◌, ◌+◌, List, [], ◌∷◌, map, slice_index, sum_by, if◌then◌else◌}
 use Rattle.ordinary_link.specs.LinkFlow.{link_flow_of}
 use Rattle.merge_rule.specs.Merge.{merge_of}
 use Rattle.diverge_rule.specs.Diverge.{diverge_of}
 use Rattle.signal_plan.specs.Demand.{demand_at}
 use Rattle.signal_plan.specs.Turning.{shares_at}
 use Rattle.network_file.specs.Cells.{is_gate_at}
-use Rattle.network_file.specs.Connectors.{upstream_of, downstream_of}
+use Rattle.network_file.specs.Connectors.{cells_of, upstream_of, downstream_of}
 use Rattle.network_file.specs.Network.{Network}
 use Rattle.network_file.specs.declared.connector.Connector.{Connector}
 use Rattle.network_file.specs.declared.connector.Connector.TheVariants.{Link, Merge, Diverge}
@@ -27,15 +27,22 @@ abbrev pub diverge_carries : (s r1 r2 b1 b2 : ℕ) → Flow
 diverge_carries s r1 r2 b1 b2 =
     let split = diverge_of s r1 r2 b1 b2 in record { out1 = split.out; out2 = 0; in1 = split.to1; in2 = split.to2 }
 
--- what a connector carries in step t; a diverge by its shares of that step
-unfoldable pub flow_of : Network → (t : ℕ) → (n : ℕ → ℕ) → Connector → Flow
-flow_of net t n (Link up down) = link_carries (sending_at net t up (n up)) (receiving_at net t down (n down))
-flow_of net t n (Merge up1 up2 down p1 p2) =
-    merge_carries (sending_at net t up1 (n up1)) (sending_at net t up2 (n up2)) (receiving_at net t down (n down)) p1 p2
-flow_of net t n (Diverge up down1 down2 b1 b2) =
+-- what a connector carries in step t where its cells hold these amounts, in the order of its fields; a diverge by its shares
+-- of that step
+abbrev pub flow_between : Network → (t : ℕ) → Connector → (held : List ℕ) → Flow
+flow_between net t (Link up down) held =
+    link_carries (sending_at net t up (slice_index held 0)) (receiving_at net t down (slice_index held 1))
+flow_between net t (Merge up1 up2 down p1 p2) held =
+    merge_carries (sending_at net t up1 (slice_index held 0)) (sending_at net t up2 (slice_index held 1))
+    (receiving_at net t down (slice_index held 2)) p1 p2
+flow_between net t (Diverge up down1 down2 b1 b2) held =
     let shares = shares_at net.plan up t (b1, b2) in
-    diverge_carries (sending_at net t up (n up)) (receiving_at net t down1 (n down1)) (receiving_at net t down2 (n down2))
-    shares.0 shares.1
+    diverge_carries (sending_at net t up (slice_index held 0)) (receiving_at net t down1 (slice_index held 1))
+    (receiving_at net t down2 (slice_index held 2)) shares.0 shares.1
+
+-- the same where cell i holds n i
+unfoldable pub flow_of : Network → (t : ℕ) → (n : ℕ → ℕ) → Connector → Flow
+flow_of net t n connector = flow_between net t connector (map n (cells_of connector))
 
 -- two lists beside a connector's cells: what leaves each upstream, and what enters each downstream
 abbrev pub sent_by : Flow → List ℕ

@@ -1,4 +1,3 @@
-pub mod Between
 pub mod Bounds
 pub mod FlowLaw
 pub mod Flows

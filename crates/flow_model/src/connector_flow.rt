@@ -1,7 +1,7 @@
 ghost use Rattle.std.specs.Prelude.{◌≡◌, ◌+◌, ◌<◌, length};
 ghost use Rattle.network_file.specs.Connectors.{cells_of, connector_at};
 ghost use Rattle.network_file.specs.Network.{IsSoundConnector};
-ghost use Rattle.flow_model.specs.Between.{flow_between};
+ghost use Rattle.flow_model.specs.Flows.{flow_between};
 ghost use Rattle.flow_model.specs.FlowLaw.{SendsAtMost, ReceivesAtMost};
 ghost use Rattle.flow_model.specs.Bounds.{AreHeldInBounds};
 
@@ -26,7 +26,6 @@ pub fn flow(net: &Net, t: u64, k: u32, n: [u64; 3]) -> Flow
 }
 
 // What a connector of the network carries.
-#[tactic(auto, unfolding(crate::specs::Between::flow_between))]
 fn carried_by(net: &Net, t: u64, connector: Connector, n: [u64; 3]) -> Flow
     requires sound { IsSoundConnector net.now.cells connector }
     requires in_time { t < net.now.steps }

@@ -1,8 +1,10 @@
 -- What a network says of its cells and connectors, for the crates above.
+use Rattle.std.specs.Prelude.{All}
 use Rattle.std.proofs.Common.{ℕ, ◌≡◌, ◌==◌, ◌<◌, ◌≤◌, ◌^◌, Bool, true, false, List, [], length, get_or, slice_index_or, cond, sym, ap, ◌∙◌, arith}
 use Rattle.std.proofs.lemmas.List.{get_or-map, get_or_default}
-use Rattle.network_file.specs.Cells.{name_at}
-use Rattle.network_file.specs.Connectors.{connector_at}
+use Rattle.std.proofs.lemmas.List.Elements.{All-append, All-weaker}
+use Rattle.network_file.specs.Cells.{is_exit_at, is_gate_at, name_at}
+use Rattle.network_file.specs.Connectors.{cells_of, connector_at, downstream_of, upstream_of}
 use Rattle.network_file.specs.Formats.{most_records}
 use Rattle.network_file.specs.Network.{IsNetwork, IsSoundConnector, Network}
 use Rattle.network_file.specs.declared.cell.Cell.{Cell}
@@ -37,3 +39,10 @@ read_connector items connectors k connector same has read =
 -- the connector of a number is sound
 pub connector_at-sound : (net : Network) (k : ℕ) → IsNetwork net → k < length net.connectors → IsSoundConnector net.cells (connector_at net.connectors k)
 connector_at-sound net k is_network there = is_network.sound.sound_connectors k (Link 0 0) there
+
+-- the cells of a connector are there
+pub cells_there : (cells : List Cell) (connector : Connector) → IsSoundConnector cells connector → All (λ i. i < length cells) (cells_of connector)
+cells_there cells connector sound =
+    All-append (λ i. i < length cells) (upstream_of connector) (downstream_of connector)
+    (All-weaker (λ i. (i < length cells) × (is_exit_at cells i ≡ false)) (λ i. i < length cells) (λ i both. both.0) (upstream_of connector) sound.up)
+    (All-weaker (λ i. (i < length cells) × (is_gate_at cells i ≡ false)) (λ i. i < length cells) (λ i both. both.0) (downstream_of connector) sound.down)

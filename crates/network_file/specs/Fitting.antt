@@ -77,15 +77,15 @@ pub record FitsRegion (draft : Draft) (region : RegionRecord) : Type 0 where
   pub few : region.number < most_regions
 
 -- the draft can take what a record says
-abbrev pub Fits : Draft → Entry → Type 0
-Fits draft (says.Steps steps) = FitsSteps draft steps
-Fits draft (says.Cell cell capacity) = FitsCell draft cell capacity
-Fits draft (says.Connector connector) = FitsConnector draft connector
-Fits draft (says.Signal signal) = FitsSignal draft signal
-Fits draft (says.Limit limit) = FitsLimit draft limit
-Fits draft (says.Demand demand) = FitsDemand draft demand
-Fits draft (says.Turn turn) = FitsTurn draft turn
-Fits draft (says.Region region) = FitsRegion draft region
+abbrev pub FitsEntry : Draft → Entry → Type 0
+FitsEntry draft (says.Steps steps) = FitsSteps draft steps
+FitsEntry draft (says.Cell cell capacity) = FitsCell draft cell capacity
+FitsEntry draft (says.Connector connector) = FitsConnector draft connector
+FitsEntry draft (says.Signal signal) = FitsSignal draft signal
+FitsEntry draft (says.Limit limit) = FitsLimit draft limit
+FitsEntry draft (says.Demand demand) = FitsDemand draft demand
+FitsEntry draft (says.Turn turn) = FitsTurn draft turn
+FitsEntry draft (says.Region region) = FitsRegion draft region
 
 -- the draft with what a record says
 abbrev pub with_entry : Draft → Entry → Draft

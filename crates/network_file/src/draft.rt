@@ -1,6 +1,6 @@
 ghost use Rattle.std.specs.Prelude.{◌≡◌, ◌≤◌, ◌⊎◌, IfOk, length};
 ghost use Rattle.network_file.specs.Draft.{add_cell, add_connector, add_demand, add_limit, add_region, add_signal, add_turn, empty_draft, with_steps};
-ghost use Rattle.network_file.specs.Fitting.{Fits, FitsCell, FitsConnector, FitsDemand, FitsLimit, FitsRegion, FitsSignal, FitsTurn, with_entry};
+ghost use Rattle.network_file.specs.Fitting.{FitsEntry, FitsCell, FitsConnector, FitsDemand, FitsLimit, FitsRegion, FitsSignal, FitsTurn, with_entry};
 ghost use Rattle.network_file.specs.Taking.{taken_before};
 ghost use Rattle.network_file.specs.declared.limits.TheConstants.{MOST_BYTES};
 
@@ -76,7 +76,7 @@ impl NetDraft {
 
     /// With what a record says.
     pub(crate) fn add(self, entry: Entry) -> Result<NetDraft, NoMemory>
-        requires { Fits self entry }
+        requires { FitsEntry self entry }
         ensures { IfOk result (λ more. more ≡ with_entry self entry) }
     {
         match entry {

@@ -2,7 +2,7 @@ ghost use Rattle.std.specs.Prelude.{◌≡◌, ◌<◌, IfOk, length};
 ghost use Rattle.csv.specs.Records.{fields_of};
 ghost use Rattle.signal_plan.specs.Counts.{demand_count, limit_count, turn_count};
 ghost use Rattle.network_file.specs.Answers.{Answers, AnswersBy};
-ghost use Rattle.network_file.specs.Fitting.{Fits, with_entry};
+ghost use Rattle.network_file.specs.Fitting.{FitsEntry, with_entry};
 ghost use Rattle.network_file.specs.Formats.{most_records};
 ghost use Rattle.network_file.specs.Taking.{take_demand, take_diverge, take_exit, take_gate, take_limit, take_link, take_merge, take_record, take_region, take_road, take_signal, take_steps, take_turn};
 
@@ -41,7 +41,7 @@ pub(crate) fn take_record(
 #[tactic(auto, unfolding(crate::specs::Taking::take_record))]
 fn read_record(alloc: Global, draft: &NetDraft, row: &ByteRecord) -> Result<Entry, RecordRefusal>
     ensures answer { AnswersBy result (with_entry draft.now) (take_record draft.now (fields_of row.now)) }
-    ensures fits { IfOk result (Fits draft.now) }
+    ensures fits { IfOk result (FitsEntry draft.now) }
 {
     let Some(kind) = RecordKind::named(draft.format, field(row, 0)) else {
         return Err(RecordRefusal::Fault(Code::BadKind));
@@ -71,7 +71,7 @@ fn read_record(alloc: Global, draft: &NetDraft, row: &ByteRecord) -> Result<Entr
 #[tactic(auto, unfolding(crate::specs::Taking::take_steps))]
 fn read_steps(draft: &NetDraft, row: &ByteRecord) -> Result<Entry, RecordRefusal>
     ensures answer { AnswersBy result (with_entry draft.now) (take_steps draft.now (fields_of row.now)) }
-    ensures fits { IfOk result (Fits draft.now) }
+    ensures fits { IfOk result (FitsEntry draft.now) }
 {
     if draft.steps.is_some() {
         return Err(RecordRefusal::Fault(Code::Repeated));
@@ -84,7 +84,7 @@ fn read_steps(draft: &NetDraft, row: &ByteRecord) -> Result<Entry, RecordRefusal
 fn read_road(alloc: Global, draft: &NetDraft, row: &ByteRecord) -> Result<Entry, RecordRefusal>
     requires { length draft.now.cells < most_records draft.now.format }
     ensures answer { AnswersBy result (with_entry draft.now) (take_road draft.now (fields_of row.now)) }
-    ensures fits { IfOk result (Fits draft.now) }
+    ensures fits { IfOk result (FitsEntry draft.now) }
 {
     let name = new_name(alloc, &draft.cells, field(row, 1))?;
     let room = amount_within(MOST_ROOM, field(row, 2))?;
@@ -106,7 +106,7 @@ fn read_road(alloc: Global, draft: &NetDraft, row: &ByteRecord) -> Result<Entry,
 fn read_gate(alloc: Global, draft: &NetDraft, row: &ByteRecord) -> Result<Entry, RecordRefusal>
     requires { length draft.now.cells < most_records draft.now.format }
     ensures answer { AnswersBy result (with_entry draft.now) (take_gate draft.now (fields_of row.now)) }
-    ensures fits { IfOk result (Fits draft.now) }
+    ensures fits { IfOk result (FitsEntry draft.now) }
 {
     let name = new_name(alloc, &draft.cells, field(row, 1))?;
     let capacity = amount_within(MOST_CAPACITY, field(row, 2))?;
@@ -119,7 +119,7 @@ fn read_gate(alloc: Global, draft: &NetDraft, row: &ByteRecord) -> Result<Entry,
 fn read_exit(alloc: Global, draft: &NetDraft, row: &ByteRecord) -> Result<Entry, RecordRefusal>
     requires { length draft.now.cells < most_records draft.now.format }
     ensures answer { AnswersBy result (with_entry draft.now) (take_exit draft.now (fields_of row.now)) }
-    ensures fits { IfOk result (Fits draft.now) }
+    ensures fits { IfOk result (FitsEntry draft.now) }
 {
     let name = new_name(alloc, &draft.cells, field(row, 1))?;
     let capacity = amount_within(MOST_CAPACITY, field(row, 2))?;
@@ -131,7 +131,7 @@ fn read_exit(alloc: Global, draft: &NetDraft, row: &ByteRecord) -> Result<Entry,
 fn read_link(draft: &NetDraft, row: &ByteRecord) -> Result<Entry, RecordRefusal>
     requires { length draft.now.connectors < most_records draft.now.format }
     ensures answer { AnswersBy result (with_entry draft.now) (take_link draft.now (fields_of row.now)) }
-    ensures fits { IfOk result (Fits draft.now) }
+    ensures fits { IfOk result (FitsEntry draft.now) }
 {
     let up = upstream(&draft.cells, &draft.connectors, None, field(row, 1))?;
     let down = downstream(&draft.cells, &draft.connectors, None, field(row, 2))?;
@@ -142,7 +142,7 @@ fn read_link(draft: &NetDraft, row: &ByteRecord) -> Result<Entry, RecordRefusal>
 fn read_merge(draft: &NetDraft, row: &ByteRecord) -> Result<Entry, RecordRefusal>
     requires { length draft.now.connectors < most_records draft.now.format }
     ensures answer { AnswersBy result (with_entry draft.now) (take_merge draft.now (fields_of row.now)) }
-    ensures fits { IfOk result (Fits draft.now) }
+    ensures fits { IfOk result (FitsEntry draft.now) }
 {
     let up1 = upstream(&draft.cells, &draft.connectors, None, field(row, 1))?;
     let up2 = upstream(&draft.cells, &draft.connectors, Some(up1), field(row, 2))?;
@@ -161,7 +161,7 @@ fn read_merge(draft: &NetDraft, row: &ByteRecord) -> Result<Entry, RecordRefusal
 fn read_diverge(draft: &NetDraft, row: &ByteRecord) -> Result<Entry, RecordRefusal>
     requires { length draft.now.connectors < most_records draft.now.format }
     ensures answer { AnswersBy result (with_entry draft.now) (take_diverge draft.now (fields_of row.now)) }
-    ensures fits { IfOk result (Fits draft.now) }
+    ensures fits { IfOk result (FitsEntry draft.now) }
 {
     let up = upstream(&draft.cells, &draft.connectors, None, field(row, 1))?;
     let down1 = downstream(&draft.cells, &draft.connectors, None, field(row, 2))?;
@@ -179,7 +179,7 @@ fn read_diverge(draft: &NetDraft, row: &ByteRecord) -> Result<Entry, RecordRefus
 #[tactic(auto, unfolding(crate::specs::Taking::take_signal))]
 fn read_signal(draft: &NetDraft, row: &ByteRecord) -> Result<Entry, RecordRefusal>
     ensures answer { AnswersBy result (with_entry draft.now) (take_signal draft.now (fields_of row.now)) }
-    ensures fits { IfOk result (Fits draft.now) }
+    ensures fits { IfOk result (FitsEntry draft.now) }
 {
     let cell = signal_cell(&draft.cells, &*draft.plan, field(row, 1))?;
     let cycle = whole_within(1, MOST_STEPS, field(row, 2))?;
@@ -198,7 +198,7 @@ fn read_signal(draft: &NetDraft, row: &ByteRecord) -> Result<Entry, RecordRefusa
 fn read_limit(draft: &NetDraft, row: &ByteRecord) -> Result<Entry, RecordRefusal>
     requires { limit_count draft.now.plan < most_records draft.now.format }
     ensures answer { AnswersBy result (with_entry draft.now) (take_limit draft.now (fields_of row.now)) }
-    ensures fits { IfOk result (Fits draft.now) }
+    ensures fits { IfOk result (FitsEntry draft.now) }
 {
     let cell = known_cell(&draft.cells, field(row, 1))?;
     let (from, to) = range_within(MOST_STEPS, field(row, 2), field(row, 3))?;
@@ -215,7 +215,7 @@ fn read_limit(draft: &NetDraft, row: &ByteRecord) -> Result<Entry, RecordRefusal
 fn read_demand(draft: &NetDraft, row: &ByteRecord) -> Result<Entry, RecordRefusal>
     requires { demand_count draft.now.plan < most_records draft.now.format }
     ensures answer { AnswersBy result (with_entry draft.now) (take_demand draft.now (fields_of row.now)) }
-    ensures fits { IfOk result (Fits draft.now) }
+    ensures fits { IfOk result (FitsEntry draft.now) }
 {
     let cell = demand_gate(&draft.cells, field(row, 1))?;
     let (from, to) = range_within(MOST_STEPS, field(row, 2), field(row, 3))?;
@@ -233,7 +233,7 @@ fn read_turn(draft: &NetDraft, row: &ByteRecord) -> Result<Entry, RecordRefusal>
     requires room { turn_count draft.now.plan < most_records draft.now.format }
     requires second_format { draft.now.format ≡ 2 }
     ensures answer { AnswersBy result (with_entry draft.now) (take_turn draft.now (fields_of row.now)) }
-    ensures fits { IfOk result (Fits draft.now) }
+    ensures fits { IfOk result (FitsEntry draft.now) }
 {
     let cell = turn_cell(&draft.cells, &draft.connectors, field(row, 1))?;
     let (from, to) = range_within(MOST_STEPS, field(row, 2), field(row, 3))?;
@@ -251,7 +251,7 @@ fn read_turn(draft: &NetDraft, row: &ByteRecord) -> Result<Entry, RecordRefusal>
 fn read_region(draft: &NetDraft, row: &ByteRecord) -> Result<Entry, RecordRefusal>
     requires { draft.now.format ≡ 2 }
     ensures answer { AnswersBy result (with_entry draft.now) (take_region draft.now (fields_of row.now)) }
-    ensures fits { IfOk result (Fits draft.now) }
+    ensures fits { IfOk result (FitsEntry draft.now) }
 {
     let cell = region_cell(&draft.cells, &draft.regions, field(row, 1))?;
     let number = whole_within(0, MOST_REGIONS - 1, field(row, 2))?;

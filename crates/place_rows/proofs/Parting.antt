@@ -11,8 +11,7 @@ use Rattle.network_file.specs.Network.{Network}
 use Rattle.network_file.specs.declared.connector.Connector.{Connector}
 use Rattle.network_file.specs.declared.connector.Connector.TheVariants.{Link, Merge, Diverge}
 use Rattle.flow_model.specs.Bounds.{AreHeldInBounds, IsHeldInBounds}
-use Rattle.flow_model.specs.Between.{flow_between}
-use Rattle.flow_model.specs.Flows.{entering, flow_of, leaving}
+use Rattle.flow_model.specs.Flows.{flow_between, entering, flow_of, leaving}
 use Rattle.flow_model.specs.declared.carried.Flow.{Flow}
 use Rattle.place_sweep.specs.Parts.{parts_at}
 use Rattle.place_sweep.specs.declared.part.Part.{Part}
@@ -79,7 +78,7 @@ held-seen n cells halo places put i (Halo j) seen (there, is) = sym (seen.around
 pub flow_between-three : (net : Network) (t : ℕ) (connector : Connector) (n : ℕ → ℕ) →
     flow_between net t connector (n (slice_index (three_cells connector) 0) ∷ n (slice_index (three_cells connector) 1) ∷ n (slice_index (three_cells connector) 2) ∷ []) ≡
     flow_of net t n connector
-unfolding flow_between flow_of
+unfolding flow_of
 flow_between-three net t (Link up down) n = refl
 flow_between-three net t (Merge up1 up2 down p1 p2) n = refl
 flow_between-three net t (Diverge up down1 down2 b1 b2) n = refl

@@ -26,11 +26,10 @@ use Rattle.flow_model.proofs.CellLimits.{capacity_at-le}
 use Rattle.flow_model.proofs.Flows.{inflow-gate}
 use Rattle.place_sweep.specs.Parts.{parts_at}
 use Rattle.place_sweep.specs.Places.{link_in, link_out, place_at}
-use Rattle.place_sweep.specs.Space.{HasSpace, IsSpaceOf}
+use Rattle.place_sweep.specs.Space.{HasSpace, IsSpaceOf, boundless}
 use Rattle.place_sweep.specs.Steps.{CanStep, stepped}
 use Rattle.place_sweep.specs.declared.part.Part.{Part}
 use Rattle.place_sweep.specs.declared.place.Place.{Place}
-use Rattle.place_sweep.specs.declared.space.TheConstants.{BOUNDLESS}
 use Rattle.place_sweep.proofs.Flows.{held-fits}
 use Rattle.place_rows.specs.Chains.{AreAround, most_out, odd_ones}
 use Rattle.place_rows.specs.Placed.{ArePlacesInBounds, ArePlaced, CanAdvance, PlacedCells}
@@ -128,13 +127,13 @@ moved net t n cells connectors ties places outs carried ins sound around has num
 }
 
 -- a cell has space for what it holds and a step's capacity
-pub has-space : (net : Network) (t i n q : ℕ) → i < length net.cells → IsHeldInBounds net t i n → n + q ≤ BOUNDLESS → HasSpace n q (room_at net.cells i)
+pub has-space : (net : Network) (t i n q : ℕ) → i < length net.cells → IsHeldInBounds net t i n → n + q ≤ boundless → HasSpace n q (room_at net.cells i)
 has-space net t i n q has bounds few =
     let here = cell_at net.cells i has in
     let room = rw here.1 at bounds.road in
     rw here.1 (of_kind here.0 here.0.kind n q room few)
   where
-    of_kind : (cell : Cell) (kind : Kind) (n q : ℕ) → (is_road kind ≡ true → n ≤ cell.room) → n + q ≤ BOUNDLESS → HasSpace n q (room_by kind cell)
+    of_kind : (cell : Cell) (kind : Kind) (n q : ℕ) → (is_road kind ≡ true → n ≤ cell.room) → n + q ≤ boundless → HasSpace n q (room_by kind cell)
     of_kind cell Road n q road few = road refl
     of_kind cell Gate n q road few = few
     of_kind cell Exit n q road few = few

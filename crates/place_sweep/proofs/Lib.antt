@@ -3,3 +3,4 @@ pub mod Sets
 pub mod PartSums
 pub mod Factors
 pub mod Flows
+pub mod Limits

@@ -7,10 +7,6 @@ use Rattle.place_sweep.specs.declared.place.Place.{Place}
 pub place_at-past : (places : List Place) (p : ℕ) → length places ≤ p → place_at places p ≡ no_place
 place_at-past places p past = get_or_past places p no_place past
 
-pub link_out-le-held : (places : List Place) (p : ℕ) → link_out places p ≤ (place_at places p).n
-unfolding link_out
-link_out-le-held places p = omega arith
-
 pub link_out-carried : (places : List Place) (p : ℕ) → link_out places p ≡ carried (place_at places p) (place_at places (p + 1))
 unfolding link_out
 link_out-carried places p = refl

@@ -8,8 +8,7 @@ use Rattle.network_file.specs.Network.{IsNetwork, Network}
 use Rattle.network_file.specs.declared.connector.Connector.{Connector}
 use Rattle.network_file.specs.declared.connector.Connector.TheVariants.{Link, Merge, Diverge}
 use Rattle.flow_model.specs.Bounds.{AreHeldInBounds, IsHeldInBounds, IsRowInBounds}
-use Rattle.flow_model.specs.Between.{flow_between}
-use Rattle.flow_model.specs.Flows.{inflow, outflow}
+use Rattle.flow_model.specs.Flows.{flow_between, inflow, outflow}
 use Rattle.flow_model.specs.Rows.{moved_row}
 use Rattle.flow_model.specs.State.{occupancy, row_at}
 use Rattle.flow_model.specs.declared.carried.Flow.{Flow}

@@ -1,26 +1,19 @@
 -- The cells of a network's connectors.
 use Rattle.std.specs.Prelude.{All, eqb}
 use Rattle.std.specs.List.{Contains, list_any}
-use Rattle.std.proofs.Common.{◌≡◌, ℕ, ◌<◌, Bool, true, false, List, length, get_or, sym, ◌∙◌}
-use Rattle.std.proofs.lemmas.List.Elements.{All-append, All-contains, All-weaker, Contains-get_or}
-use Rattle.network_file.specs.Cells.{is_exit_at, is_gate_at}
-use Rattle.network_file.specs.Connectors.{cells_of, connector_at, downstream_of, touches, upstream_of}
+use Rattle.std.proofs.Common.{◌≡◌, ℕ, ◌<◌, Bool, true, List, length, get_or, sym, ◌∙◌}
+use Rattle.std.proofs.lemmas.List.Elements.{All-contains, Contains-get_or}
+use Rattle.network_file.specs.Connectors.{cells_of, connector_at, touches}
 use Rattle.network_file.specs.Network.{IsNetwork, IsSoundConnector, Network}
 use Rattle.network_file.specs.declared.connector.Connector.{Connector}
 use Rattle.network_file.specs.declared.connector.Connector.TheVariants.{Link}
+use Rattle.network_file.proofs.NetworkFacts.{cells_there}
 use Rattle.region_cut.proofs.Anys.{Contains-from_test, test_from_Contains}
-
--- the cells of a connector are there
-cells_there : (net : Network) (connector : Connector) → IsSoundConnector net.cells connector → All (λ i. i < length net.cells) (cells_of connector)
-cells_there net connector sound =
-    All-append (λ i. i < length net.cells) (upstream_of connector) (downstream_of connector)
-    (All-weaker (λ i. (i < length net.cells) × (is_exit_at net.cells i ≡ false)) (λ i. i < length net.cells) (λ i both. both.0) (upstream_of connector) sound.up)
-    (All-weaker (λ i. (i < length net.cells) × (is_gate_at net.cells i ≡ false)) (λ i. i < length net.cells) (λ i both. both.0) (downstream_of connector) sound.down)
 
 pub touches-there : (net : Network) (connector : Connector) (i : ℕ) → IsNetwork net → Contains net.connectors connector → touches i connector ≡ true → i < length net.cells
 touches-there net connector i sound has touched =
     All-contains (λ j. j < length net.cells) (cells_of connector) i
-    (cells_there net connector (All-contains (IsSoundConnector net.cells) net.connectors connector sound.sound.sound_connectors has))
+    (cells_there net.cells connector (All-contains (IsSoundConnector net.cells) net.connectors connector sound.sound.sound_connectors has))
     (Contains-from_test (cells_of connector) i touched)
 
 -- a list in which each cell of a connector is found, and no other

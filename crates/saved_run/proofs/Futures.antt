@@ -1,13 +1,14 @@
 -- Two networks that agree below step u are in the same state up to it, so that what was saved of the one by then is a true start of the other.
-use Rattle.std.specs.Prelude.{All, if◌then◌else◌, map, sum_by}
+use Rattle.std.specs.Prelude.{All, if◌then◌else◌, map, slice_index, sum_by}
 use Rattle.std.specs.List.{range_with_len}
 use Rattle.std.proofs.Common.{◌≡◌, ℕ, zero, suc, ◌<◌, ◌≤◌, List, length, refl, sym, ap, subst, ◌∙◌, arith}
 use Rattle.network_file.specs.Cells.{is_gate_at}
+use Rattle.network_file.specs.Connectors.{cells_of}
 use Rattle.network_file.specs.Network.{IsNetwork, Network}
 use Rattle.network_file.specs.declared.connector.Connector.{Connector}
 use Rattle.network_file.specs.declared.connector.Connector.TheVariants.{Link, Merge, Diverge}
 use Rattle.flow_model.specs.Bounds.{IsHeldInBounds, IsRowInBounds}
-use Rattle.flow_model.specs.Flows.{entering, flow_of, inflow, leaving, outflow}
+use Rattle.flow_model.specs.Flows.{entering, flow_between, flow_of, inflow, leaving, outflow}
 use Rattle.flow_model.specs.Limits.{receiving_at, room_at, sending_at}
 use Rattle.flow_model.specs.Rows.{first_row, moved_row, next_row}
 use Rattle.flow_model.specs.State.{next_rows, occupancy, row_at, state_at}
@@ -37,13 +38,22 @@ module _ (net other : Network) (u : ℕ) (agree : AgreeBelow net other u) where
   unfolding receiving_at
   receiving-same t i n below = let capacity = agree.capacities i t below in let room = ap (λ cells. room_at cells i) agree.cells in rw (capacity, room) refl
 
+  between-same : (t : ℕ) (connector : Connector) (held : List ℕ) → t < u → flow_between other t connector held ≡ flow_between net t connector held
+  between-same t (Link up down) held below =
+      rw (sending-same t up (slice_index held 0) below, receiving-same t down (slice_index held 1) below) refl
+  between-same t (Merge up1 up2 down p1 p2) held below =
+      rw (sending-same t up1 (slice_index held 0) below, sending-same t up2 (slice_index held 1) below, receiving-same t down (slice_index held 2) below) refl
+  between-same t (Diverge up down1 down2 b1 b2) held below =
+      rw (
+        sending-same t up (slice_index held 0) below,
+        receiving-same t down1 (slice_index held 1) below,
+        receiving-same t down2 (slice_index held 2) below,
+        agree.shares up t (b1, b2) below,
+      ) refl
+
   flow-same : (t : ℕ) (n : ℕ → ℕ) (connector : Connector) → t < u → flow_of other t n connector ≡ flow_of net t n connector
   unfolding flow_of
-  flow-same t n (Link up down) below = rw (sending-same t up (n up) below, receiving-same t down (n down) below) refl
-  flow-same t n (Merge up1 up2 down p1 p2) below =
-      rw (sending-same t up1 (n up1) below, sending-same t up2 (n up2) below, receiving-same t down (n down) below) refl
-  flow-same t n (Diverge up down1 down2 b1 b2) below =
-      rw (sending-same t up (n up) below, receiving-same t down1 (n down1) below, receiving-same t down2 (n down2) below, agree.shares up t (b1, b2) below) refl
+  flow-same t n connector below = between-same t connector (map n (cells_of connector)) below
 
   outflow-same : (t : ℕ) (n : ℕ → ℕ) (i : ℕ) → t < u → outflow other t n i ≡ outflow net t n i
   unfolding outflow

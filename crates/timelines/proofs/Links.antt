@@ -2,16 +2,17 @@
 use Rattle.std.specs.Prelude.{Bool, Option, Some, None, is_some}
 use Rattle.std.proofs.Common.{◌≡◌, ℕ, false, refl}
 use Rattle.place_sweep.specs.Capacity.{link_capacity_of}
+use Rattle.signal_plan.specs.Green.{is_green_by}
 use Rattle.signal_plan.specs.Records.{SignalRecord}
-use Rattle.timelines.specs.Courses.{Course, LinkValues, light_at, most_at, value_at}
+use Rattle.timelines.specs.Courses.{Course, LinkValues, most_at, value_at}
 
 pub most-same : (link : LinkValues) (s t : ℕ) → value_at link.up s ≡ value_at link.up t → value_at link.down s ≡ value_at link.down t →
-    light_at link.signal s ≡ light_at link.signal t → most_at link s ≡ most_at link t
+    is_green_by link.signal s ≡ is_green_by link.signal t → most_at link s ≡ most_at link t
 unfolding most_at
 most-same link s t up down light = rw (up, down, light) refl
 
 pub most-is : (link : LinkValues) (t q_up q_down : ℕ) (green : Bool) → q_up ≡ value_at link.up t → q_down ≡ value_at link.down t →
-    green ≡ light_at link.signal t → link_capacity_of q_up q_down green ≡ most_at link t
+    green ≡ is_green_by link.signal t → link_capacity_of q_up q_down green ≡ most_at link t
 unfolding most_at
 most-is link t q_up q_down green up down light = rw (up, down, light) refl
 
@@ -21,6 +22,6 @@ pub most-moved : (link : LinkValues) (up down : Course) (s t : ℕ) → up ≡ r
 unfolding most_at
 most-moved link up down s t is_up is_down = rw (is_up, is_down) refl
 
-pub light-none : (signal : Option SignalRecord) (s t : ℕ) → is_some signal ≡ false → light_at signal s ≡ light_at signal t
+pub light-none : (signal : Option SignalRecord) (s t : ℕ) → is_some signal ≡ false → is_green_by signal s ≡ is_green_by signal t
 light-none None s t none = refl
 light-none (Some signal) s t none = cc

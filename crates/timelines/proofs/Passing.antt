@@ -20,10 +20,6 @@ passed-more start changes k value t d there due = record {
       rw now at (in_force-take_more start changes k d s there);
 }
 
--- later it is still so
-pub passed-later : (start : ℕ) (changes : List (Change ℕ)) (come value t u : ℕ) → t ≤ u → HasPassed start changes come value t → HasPassed start changes come value u
-passed-later start changes come value t u later passed = record { stays = λ s from. passed.stays s (omega arith) }
-
 -- up to the next change this is in force
 pub come-value : (start : ℕ) (changes : List (Change ℕ)) (come value t s : ℕ) → HasCome start changes come value t → t ≤ s →
     ((c : Change ℕ) → come < length changes → s < (get_or changes come c).step) → in_force start changes s ≡ value

@@ -1,10 +1,9 @@
 -- The course of a value over the steps.
-use Rattle.std.specs.Prelude.{◌≡◌, ℕ, ◌<◌, ◌≤◌, Bool, true, List, Option}
-use Rattle.std.specs.Option.{option_map_or}
+use Rattle.std.specs.Prelude.{◌≡◌, ℕ, ◌<◌, ◌≤◌, List, Option}
 use Rattle.place_sweep.specs.Capacity.{link_capacity_of}
 use Rattle.signal_plan.specs.Capacity.{capacity_at}
 use Rattle.signal_plan.specs.Changes.{in_force}
-use Rattle.signal_plan.specs.Green.{green_at, shows_green}
+use Rattle.signal_plan.specs.Green.{green_at, is_green_by}
 use Rattle.signal_plan.specs.Records.{PlanRecords, SignalRecord}
 use Rattle.signal_plan.specs.declared.change.Change.{Change}
 
@@ -25,13 +24,9 @@ pub record LinkValues : Type 0 where
   pub signal : Option SignalRecord
   pub step : ℕ
 
--- the light of a cell with this signal, or with none
-abbrev pub light_at : Option SignalRecord → (t : ℕ) → Bool
-light_at signal t = option_map_or (shows_green t) signal true
-
 -- the most that the link carries in step t, whatever its cells hold
 unfoldable pub most_at : LinkValues → (t : ℕ) → ℕ
-most_at link t = link_capacity_of (value_at link.up t) (value_at link.down t) (light_at link.signal t)
+most_at link t = link_capacity_of (value_at link.up t) (value_at link.down t) (is_green_by link.signal t)
 
 -- the same by the plan, of the link from one cell to another
 unfoldable pub most_between : PlanRecords → (up down t : ℕ) → ℕ

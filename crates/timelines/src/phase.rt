@@ -1,6 +1,6 @@
 ghost use Rattle.std.specs.Prelude.{◌≡◌, ◌≤◌, ◌<◌, ◌+◌, ◌-◌, ◌%◌, ℕ};
-ghost use Rattle.signal_plan.specs.Green.{shows_green};
-ghost use Rattle.timelines.specs.Courses.{IsSteady, light_at};
+ghost use Rattle.signal_plan.specs.Green.{is_green_by, shows_green};
+ghost use Rattle.timelines.specs.Courses.{IsSteady};
 
 use crate::now::Now;
 use signal_plan::{MOST_STEPS, Signal};
@@ -8,8 +8,8 @@ use signal_plan::{MOST_STEPS, Signal};
 /// Whether a cell with this signal, or with none, may send in step `t`.
 pub fn light(signal: Option<Signal>, t: u64) -> Now<bool>
     requires in_time { t ≤ MOST_STEPS }
-    ensures green { result.value ≡ light_at signal t }
-    ensures steady { IsSteady (light_at signal) t result.until }
+    ensures green { result.value ≡ is_green_by signal t }
+    ensures steady { IsSteady (is_green_by signal) t result.until }
     ensures later { t < result.until }
 {
     match signal {

@@ -1,8 +1,8 @@
 use Rattle.std.proofs.Common.{◌≡◌, refl, ap, sym, ◌∙◌}
 use Rattle.signal_plan.specs.Capacity.{capacity_at}
 use Rattle.signal_plan.specs.Changes.{in_force}
-use Rattle.signal_plan.specs.Green.{green_at}
-use Rattle.timelines.specs.Courses.{light_at, most_at, most_between, value_at}
+use Rattle.signal_plan.specs.Green.{green_at, is_green_by}
+use Rattle.timelines.specs.Courses.{most_at, most_between, value_at}
 use Rattle.timelines.proofs.Starts.{in_force-start}
 use Rattle.timelines.proofs.link_course.LinkCourse.new.Goals as goal
 
@@ -18,5 +18,5 @@ returns-clause-course c = λ t.
     ap (λ course. value_at course t) c.new-2.ensures ∙ ap (λ start. in_force start c.in_ok-of_down.of_down.items t)
     (c.capacity-2.ensures ∙ sym (c.in_ok-of_down.ensures.in_force 0))
     ∙ in_force-start _ t c.in_ok-of_down.of_down.items ∙ c.in_ok-of_down.ensures.in_force t in
-    let light : light_at c.signal.result t ≡ green_at plan c.args.up t = ap (λ signal. light_at signal t) c.signal.ensures in
+    let light : is_green_by c.signal.result t ≡ green_at plan c.args.up t = ap (λ signal. is_green_by signal t) c.signal.ensures in
     rw (up, down, light) refl
