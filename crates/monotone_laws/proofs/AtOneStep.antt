@@ -1,5 +1,5 @@
 -- The laws of two networks, of rows at one step.
-use Rattle.std.proofs.Common.{◌≡◌, ℕ, ◌<◌, ◌≤◌, List, length, arith, ap}
+use Rattle.std.proofs.Common.{◌≡◌, ℕ, ◌<◌, ◌≤◌, List, length, arith}
 use Rattle.network_file.specs.Network.{IsNetwork, Network}
 use Rattle.flow_model.specs.State.{delay_of}
 use Rattle.flow_model.specs.declared.row.Row.{Row}
