@@ -10,7 +10,7 @@ import pytest
 from .examples import TOOLS
 
 TOP = TOOLS.parent
-COMMANDS_IN = {"README.md": 17, "tools/README.md": 7, "examples/README.md": 10, "tools/docs/measures.md": 6,
+COMMANDS_IN = {"README.md": 17, "tools/README.md": 7, "examples/README.md": 12, "tools/docs/measures.md": 6,
                "tools/docs/networks.md": 1, "tools/docs/calibration.md": 0, "tools/docs/saved.md": 6,
                "tools/docs/plans.md": 2}  # and how many there are at least
 PAGES = sorted(str(path.relative_to(TOP)) for path in

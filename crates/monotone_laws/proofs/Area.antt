@@ -1,7 +1,7 @@
 -- The delay of a network, step by step: it and all that has gone out of cells grow together by what is inside.
 use Rattle.std.specs.Prelude.{not, sum_by, if◌then◌else◌}
 use Rattle.std.specs.List.{range_with_len}
-use Rattle.std.proofs.Common.{◌≡◌, inl, inr, ℕ, true, false, ◌+◌, ◌-◌, ◌<◌, ◌≤◌, List, length, arith, refl, ap, ◌∙◌}
+use Rattle.std.proofs.Common.{◌≡◌, inl, inr, ℕ, ◌+◌, ◌-◌, ◌<◌, ◌≤◌, List, length, arith, refl, ap, ◌∙◌}
 use Rattle.std.proofs.lemmas.Bool.{cases_Bool}
 use Rattle.signal_plan.proofs.Sums.{sum_by-same, sum_by-zero, sum_by_places, sum_by_splits}
 use Rattle.network_file.specs.Cells.{is_exit_at, is_gate_at}

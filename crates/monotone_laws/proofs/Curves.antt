@@ -10,7 +10,6 @@ use Rattle.network_file.specs.Cells.{is_exit_at, is_gate_at}
 use Rattle.network_file.specs.Connectors.{downstream_of, leads_out_of, upstream_of}
 use Rattle.network_file.specs.Network.{IsNetwork, Network}
 use Rattle.network_file.specs.declared.connector.Connector.{Connector}
-use Rattle.network_file.specs.declared.connector.Connector.TheVariants.{Link}
 use Rattle.flow_model.specs.Bounds.{first_at}
 use Rattle.flow_model.specs.Flows.{flow_of, leaving, outflow}
 use Rattle.flow_model.specs.Limits.{receiving_at, sending_at}

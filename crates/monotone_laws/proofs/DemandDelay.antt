@@ -1,7 +1,7 @@
 -- More demand, in each step, to the same network: there is more inside, and so the delay is no less.
 use Rattle.std.specs.Prelude.{sum_by, if◌then◌else◌}
 use Rattle.std.specs.List.{range_with_len}
-use Rattle.std.proofs.Common.{◌≡◌, inl, inr, ℕ, zero, suc, add-one, true, false, ◌+◌, ◌-◌, ◌<◌, ◌≤◌, [], List, length, get_or, arith, refl, ap, sym, ◌∙◌}
+use Rattle.std.proofs.Common.{◌≡◌, inl, inr, ℕ, zero, suc, add-one, true, false, ◌+◌, ◌<◌, ◌≤◌, [], length, get_or, arith, refl, ap, sym, ◌∙◌}
 use Rattle.std.proofs.lemmas.Bool.{cases_Bool}
 use Rattle.std.proofs.lemmas.List.Elements.{All-from_get_or}
 use Rattle.std.proofs.lemmas.List.Sums.{sum_by-cons}
@@ -26,7 +26,7 @@ use Rattle.monotone_laws.proofs.Curves.{come, come-gate, gone}
 use Rattle.monotone_laws.proofs.EasedDelay.{same-initial}
 use Rattle.monotone_laws.proofs.Linked.{IsLinked, linked-down, linked-up, out-cases}
 use Rattle.monotone_laws.proofs.OneStep.{same-exit, same-gate}
-use Rattle.monotone_laws.proofs.RunningMost.{le-most_by, most_by, most_by-rising}
+use Rattle.monotone_laws.proofs.RunningMost.{le-most_by, most_by-rising}
 use Rattle.monotone_laws.proofs.Surplus.{AreBusier, goes-later, goes-no_faster, more_in, more_out, most-linked, most_in, most_in-none, most_out, most_out-none}
 use Rattle.monotone_laws.proofs.TwoSums.{sum_by-no_less}
 

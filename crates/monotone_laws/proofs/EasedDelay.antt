@@ -1,7 +1,7 @@
 -- In an eased network with the same demands there is no more inside, and so the delay is no more.
 use Rattle.std.specs.Prelude.{sum_by}
 use Rattle.std.specs.List.{range_with_len}
-use Rattle.std.proofs.Common.{◌≡◌, inl, inr, ℕ, zero, suc, add-one, true, false, ◌+◌, ◌<◌, ◌≤◌, length, arith, refl, ap, subst, sym, ◌∙◌}
+use Rattle.std.proofs.Common.{◌≡◌, inl, inr, ℕ, zero, suc, add-one, true, false, ◌+◌, ◌<◌, ◌≤◌, length, arith, refl, ap, sym, ◌∙◌}
 use Rattle.std.proofs.lemmas.Bool.{cases_Bool}
 use Rattle.signal_plan.specs.Total.{demand_from}
 use Rattle.signal_plan.proofs.Laws.{demand_from_next, demand_from_none}
@@ -9,14 +9,14 @@ use Rattle.signal_plan.proofs.Sums.{sum_by-same}
 use Rattle.network_file.specs.Cells.{is_exit_at, is_gate_at}
 use Rattle.network_file.specs.Network.{Network}
 use Rattle.network_file.specs.declared.cell.Cell.{Cell}
-use Rattle.flow_model.specs.State.{delay_of, state_at}
+use Rattle.flow_model.specs.State.{state_at}
 use Rattle.flow_ledger.specs.Books.{entered_of, initial_of, left_of}
 use Rattle.flow_ledger.proofs.BooksLaws.{state-balance}
 use Rattle.flow_ledger.proofs.ConnectorSums.{All-below}
 use Rattle.monotone_laws.specs.Demands.{MoreByEachStep, SameDemands}
 use Rattle.monotone_laws.specs.Eased.{IsEased}
 use Rattle.monotone_laws.proofs.Area.{area-next, area-zero, cells_below, delay_by, entered-cells, entered_cell, inside, left-cells, left_cell, passed}
-use Rattle.monotone_laws.proofs.Curves.{come, come-gate, gone}
+use Rattle.monotone_laws.proofs.Curves.{come-gate, gone}
 use Rattle.monotone_laws.proofs.GoneLaw.{come-law, gone-law}
 use Rattle.monotone_laws.proofs.OneStep.{AreEased, same-exit, same-gate}
 use Rattle.monotone_laws.proofs.TwoSums.{sum_by-beside, sum_by-no_less}

@@ -1,5 +1,5 @@
 -- In an eased network no less has gone out of any cell, and no less has come in, where the demands come no later.
-use Rattle.std.proofs.Common.{◌≡◌, inl, inr, ℕ, zero, suc, add-one, true, false, ◌+◌, ◌<◌, ◌≤◌, length, arith}
+use Rattle.std.proofs.Common.{◌≡◌, inl, inr, ℕ, zero, suc, add-one, true, ◌+◌, ◌<◌, ◌≤◌, length, arith}
 use Rattle.std.proofs.lemmas.Bool.{cases_Bool}
 use Rattle.network_file.specs.Cells.{is_gate_at}
 use Rattle.network_file.specs.Network.{Network}

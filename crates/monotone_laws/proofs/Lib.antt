@@ -9,3 +9,4 @@ pub mod EasedDelay
 pub mod RunningMost
 pub mod Surplus
 pub mod DemandDelay
+pub mod AtOneStep

@@ -1,5 +1,5 @@
 -- Which cells the links of a network join.
-use Rattle.std.specs.Prelude.{All, Any, eqb, ◌||◌}
+use Rattle.std.specs.Prelude.{eqb, ◌||◌}
 use Rattle.std.specs.List.{list_any}
 use Rattle.std.proofs.Common.{◌≡◌, ◌⊎◌, inl, inr, ℕ, Bool, true, false, ◌<◌, length, arith, refl, sym, ap, subst, ◌∙◌}
 use Rattle.std.proofs.lemmas.Bool.{cases_Bool, eqb-true}

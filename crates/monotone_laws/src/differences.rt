@@ -1,6 +1,6 @@
-ghost use Rattle.std.specs.Prelude.{◌≡◌, ◌+◌, ◌<◌, length};
+ghost use Rattle.std.specs.Prelude.{◌≡◌, ◌+◌, ◌<◌, ◌≤◌, length};
 ghost use Rattle.flow_model.specs.State.{delay_of};
-ghost use Rattle.flow_ledger.specs.Flight.{gone_of};
+ghost use Rattle.flow_ledger.specs.Flight.{come_of, gone_of};
 ghost use Rattle.monotone_laws.specs.Demands.{MoreByEachStep, MoreInEachStep, SameDemands};
 ghost use Rattle.monotone_laws.specs.Eased.{AreAlike, IsEased};
 ghost use Rattle.monotone_laws.specs.Links.{HasLinksAlone};
@@ -18,7 +18,11 @@ pub fn more_gone(one: &Net, two: &Net, first: &[Row], second: &[Row], cell: u32)
     requires rows { StandAtOneStep one.now two.now first.now second.now }
     requires has_cell { cell < length one.now.cells }
     ensures more { gone_of first.now cell + result ≡ gone_of second.now cell }
+
+    // Nor has less come into it.
+    ensures come { come_of first.now cell ≤ come_of second.now cell }
 {
+    let (_one, _two) = (one.steps, two.steps);
     second[cell as usize].gone - first[cell as usize].gone
 }
 
@@ -30,6 +34,7 @@ pub fn delay_saved(one: &Net, two: &Net, first: &[Row], second: &[Row]) -> u128
     requires rows { StandAtOneStep one.now two.now first.now second.now }
     ensures saved { delay_of second.now + result ≡ delay_of first.now }
 {
+    let (_one, _two) = (one.steps, two.steps);
     delay(first) - delay(second)
 }
 
@@ -41,5 +46,6 @@ pub fn delay_added(one: &Net, two: &Net, first: &[Row], second: &[Row]) -> u128
     requires rows { StandAtOneStep one.now two.now first.now second.now }
     ensures added { delay_of first.now + result ≡ delay_of second.now }
 {
+    let (_one, _two) = (one.steps, two.steps);
     delay(second) - delay(first)
 }

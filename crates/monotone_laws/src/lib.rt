@@ -1,11 +1,13 @@
 //! Monotony of networks of links alone: more room, more capacity and more green never lessen what has passed a cell,
 //! and never raise the delay; more demand never lessens either (docs/MODEL.md).
 //!
-//! None of it holds where streams merge or part. The laws stand in the contracts of three differences, which could go
-//! below 0 without them. No call takes memory.
+//! Where streams merge more capacity can add delay; of diverges nothing is said. The laws stand in the contracts of
+//! three differences, which without them could go below 0. No call takes memory.
 #![tactic(auto)]
 
 mod delay;
 mod differences;
+mod links;
 
 pub use differences::{delay_added, delay_saved, more_gone};
+pub use links::has_links_alone;

@@ -1,9 +1,16 @@
 use Rattle.std.proofs.Common.{◌≤◌, arith, subst}
-use Rattle.monotone_laws.proofs.DemandDelay.{more-delay}
+use Rattle.network_file.specs.Network.{IsNetwork}
+use Rattle.flow_model.specs.State.{delay_of}
+use Rattle.monotone_laws.proofs.AtOneStep.{delay-no_less}
 use Rattle.monotone_laws.proofs.differences.delay_added.Goals as goal
 
+more : (c : goal.After-delay-2) → delay_of c.args.first.now ≤ delay_of c.args.second.now
+more c =
+    delay-no_less c.args.one.now c.args.two.now c.args.first.now c.args.second.now (subst IsNetwork c.one.view_is c.one.invariant)
+    (subst IsNetwork c.two.view_is c.two.invariant) c.requires.links c.requires.alike c.requires.demands c.requires.rows
+
 pub overflow_sub-result : goal.overflow_sub-result
-overflow_sub-result c = ?
+overflow_sub-result c = omega (arith, more c)
 
 pub returns : goal.returns
-returns c = ?
+returns c = record { added = omega (arith, more c) }
