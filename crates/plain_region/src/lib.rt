@@ -2,7 +2,7 @@
 //! its flow by what its cells hold, and then each row changes by what entered and left its cell.
 //!
 //! `PlainRegion` is opened, told of its halo and advanced as `Region` of `region_step` is, and comes to the same states.
-//! No program runs it: `region_trials` takes both through the same networks and compares them.
+//! No program runs it: `run_trials` takes both through the same networks and compares them.
 #![tactic(auto)]
 
 mod carry;

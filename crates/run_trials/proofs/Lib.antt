@@ -1,1 +1,1 @@
-pub mod Enlisting
+pub mod Telling

@@ -1,4 +1,4 @@
-ghost use Rattle.std.specs.Prelude.{◌≡◌};
+ghost use Rattle.std.specs.Prelude.{◌≡◌, length};
 ghost use Rattle.region_cut.specs.Chart.{chart_of};
 ghost use Rattle.region_cut.specs.LawfulSteps.{AreLawful};
 ghost use Rattle.region_step.specs.Start.{Fits};
@@ -78,15 +78,30 @@ fn gate_ahead(alloc: Global) -> Result<Start, AllocError> {
 fn recorded_from_there<R: Abort + Threads + Sync>(
     rt: &R,
     alloc: Global,
+    net: &Net,
     every: u64,
-) -> Result<Vec<Region>, Fail> {
-    let net = network(rt, alloc, CORRIDOR)?;
-    let cut = Cut::of(alloc, &net, &[0, 1, 1])?;
-    let chart = Chart::new(alloc, &net, cut)?;
+) -> Result<Vec<Region>, NoMemory> {
+    match Cut::of(alloc, net, &[0, 1, 1]) {
+        Ok(cut) => recorded_in(rt, alloc, net, cut, every),
+        Err(_) => Err(NoMemory),
+    }
+}
+
+// The same in the regions of a cutting.
+fn recorded_in<R: Abort + Threads + Sync>(
+    rt: &R,
+    alloc: Global,
+    net: &Net,
+    cut: Cut,
+    every: u64,
+) -> Result<Vec<Region>, NoMemory>
+    requires { length cut ≡ length net.now.cells }
+{
+    let chart = Chart::new(alloc, net, cut)?;
     let start = gate_ahead(alloc)?;
-    assert!(rt; start.fits(&net, &chart));
-    assert!(rt; is_lawful(&start.steps, &net, &chart));
-    Ok(last_from(rt, alloc, &net, &chart, &start, every)?)
+    assert!(rt; start.fits(net, &chart));
+    assert!(rt; is_lawful(&start.steps, net, &chart));
+    last_from(rt, alloc, net, &chart, &start, every)
 }
 
 // The regions at the last step, taken there by two workers.
@@ -106,19 +121,33 @@ fn last_from<R: Threads + Sync>(
     regions_from(rt, alloc, net, chart, start, every, last, 2, &OpenGate)
 }
 
+// Looks at the notes of the two regions, recorded so.
+fn check_notes<R: Abort + Threads + Sync>(
+    rt: &R,
+    alloc: Global,
+    net: &Net,
+    every: u64,
+    gate: &[Note],
+    rest: &[Note],
+) -> Result<(), NoMemory> {
+    let regions = recorded_from_there(rt, alloc, net, every)?;
+    assert!(rt; regions.len() == 2);
+    assert_eq!(rt; regions[0].trail(), gate, "every {every}");
+    assert_eq!(rt; regions[1].trail(), rest, "every {every}");
+    Ok(())
+}
+
 // The regions begin past step 0, at a step that is recorded or before it.
 #[test]
 fn regions_are_noted_from_their_starts_on(rt: HostRuntime) -> Result<(), Fail> {
+    let net = network(&rt, rt.alloc(), CORRIDOR)?;
     for (every, gate, rest) in [
         (1, GATE_NOTES.as_slice(), REST_NOTES.as_slice()),
         (2, GATE_NOTES.as_slice(), &REST_NOTES[2..]),
         (3, &GATE_NOTES[1..], &REST_NOTES[4..]),
         (0, &[], &[]),
     ] {
-        let regions = recorded_from_there(&rt, rt.alloc(), every)?;
-        assert_eq!(rt; regions.len(), 2);
-        assert_eq!(rt; regions[0].trail(), gate, "every {every}");
-        assert_eq!(rt; regions[1].trail(), rest, "every {every}");
+        check_notes(&rt, rt.alloc(), &net, every, gate, rest)?;
     }
     Ok(())
 }

@@ -1,8 +1,7 @@
-ghost use Rattle.std.specs.Prelude.{◌≡◌, ◌≤◌, length};
+ghost use Rattle.std.specs.Prelude.{◌≡◌, ◌≤◌, All, length};
 ghost use Rattle.region_cut.specs.Chart.{chart_of};
 ghost use Rattle.snapshot.specs.Rooms.{IsRoomFor};
 ghost use Rattle.region_slots.specs.FieldView.{IsPassOf};
-ghost use Rattle.network_run.specs.Enlisted.{AreEnlisted, IsEnlisted};
 
 use flow_ledger::Books;
 use network_file::Net;
@@ -13,7 +12,7 @@ use std::alloc::Global;
 use std::sync::atomic::{AtomicU64, Ordering};
 use std::thread::{Threads, for_each_mut, yield_now};
 use step_words::is_lawful;
-use worker_claim::{Member, drive};
+use worker_claim::drive;
 
 // The last step of the chain.
 const LAST: u64 = 200;
@@ -82,81 +81,92 @@ impl Gate for Found {
     fn watched(&self, done: bool) {}
 }
 
-// Has four members call the field at once: two take turns, one looks, and one shoots.
+// Has four passes call the field at once: two take turns, one looks, and one shoots.
 pub(crate) fn call_at_once<R: Threads + Sync>(
     rt: &R,
     alloc: Global,
     net: &Net,
     chart: &Chart,
     field: &Field,
-    members: &mut [Member],
+    pass: &mut Pass,
     found: &Found,
     goal: u64,
 )
     requires network { (field.now.terms.net.now ≡ net.now) × (field.now.terms.chart.now ≡ chart.now) }
     requires charted { chart.now ≡ chart_of net.now chart.now.cut }
     requires one_each { length chart.now.cut ≡ length net.now.cells }
-    requires enlisted { AreEnlisted field.now goal members.old }
+    requires belongs { IsPassOf field.now pass.old }
+    requires seats { 5 ≤ pass.old.knows.share }
     requires in_time { goal ≤ field.now.terms.net.now.steps }
-    ensures many { length members.new ≡ length members.old }
-    ensures enlisted { AreEnlisted field.now goal members.new }
+    ensures belongs { IsPassOf field.now pass.new }
 {
-    let work = move |k: usize, member: &mut Member|
-        requires { IsEnlisted field.now goal member.old × (goal ≤ field.now.terms.net.now.steps)
-            × (field.now.terms.net.now ≡ net.now) × (field.now.terms.chart.now ≡ chart.now)
-            × (chart.now ≡ chart_of net.now chart.now.cut) × (length chart.now.cut ≡ length net.now.cells) }
-        ensures { IsEnlisted field.entry.now goal member.new }
-    {
-        match k {
-            0 | 1 => take_turns(field, member, found, goal),
-            2 => look_round(field, member, goal),
-            _ => shoot(alloc, net, chart, field, member, found, goal),
-        }
-    };
-    for_each_mut(rt, members, 4, &work);
+    let first = field.share(pass);
+    let second = field.share(pass);
+    let third = field.share(pass);
+    let fourth = field.share(pass);
+    let mut passes = [first, second, third, fourth];
+    each_calls(rt, alloc, net, chart, field, &mut passes, found, goal);
 }
 
-// Drives to the goal.
-fn take_turns(field: &Field, member: &mut Member, found: &Found, goal: u64)
-    requires enlisted { IsEnlisted field.now goal member.old }
-    requires in_time { goal ≤ field.now.terms.net.now.steps }
-    ensures enlisted { IsEnlisted field.now goal member.new }
-{
-    drive(
-        field,
-        &mut member.pass,
-        goal,
-        1_000_000,
-        member.first,
-        found,
-    );
-}
-
-// Looks at all regions, again and again.
-fn look_round(field: &Field, member: &mut Member, goal: u64)
-    requires enlisted { IsEnlisted field.now goal member.old }
-    ensures enlisted { IsEnlisted field.now goal member.new }
-{
-    for k in 0..2_000u32 {
-        field.look(&mut member.pass, k % field.regions());
-    }
-}
-
-// Takes shots with three tries each, until so many have shown the field, one of them on the way.
-fn shoot(
+// Has these passes call the field at once.
+fn each_calls<R: Threads + Sync>(
+    rt: &R,
     alloc: Global,
     net: &Net,
     chart: &Chart,
     field: &Field,
-    member: &mut Member,
+    passes: &mut [Pass],
     found: &Found,
     goal: u64,
 )
     requires network { (field.now.terms.net.now ≡ net.now) × (field.now.terms.chart.now ≡ chart.now) }
     requires charted { chart.now ≡ chart_of net.now chart.now.cut }
     requires one_each { length chart.now.cut ≡ length net.now.cells }
-    requires enlisted { IsEnlisted field.now goal member.old }
-    ensures enlisted { IsEnlisted field.now goal member.new }
+    requires belong { All (IsPassOf field.now) passes.old }
+    requires in_time { goal ≤ field.now.terms.net.now.steps }
+{
+    let work = move |k: usize, pass: &mut Pass|
+        requires { IsPassOf field.now pass.old × (goal ≤ field.now.terms.net.now.steps)
+            × (field.now.terms.net.now ≡ net.now) × (field.now.terms.chart.now ≡ chart.now)
+            × (chart.now ≡ chart_of net.now chart.now.cut) × (length chart.now.cut ≡ length net.now.cells) }
+    {
+        match k {
+            0 | 1 => take_turns(field, pass, found, goal, k == 0),
+            2 => look_round(field, pass),
+            _ => shoot(alloc, net, chart, field, pass, found),
+        }
+    };
+    for_each_mut(rt, passes, 4, &work);
+}
+
+// Drives to the goal, from far from where the other begins.
+fn take_turns(field: &Field, pass: &mut Pass, found: &Found, goal: u64, is_first: bool)
+    requires belongs { IsPassOf field.now pass.old }
+    requires in_time { goal ≤ field.now.terms.net.now.steps }
+    ensures belongs { IsPassOf field.now pass.new }
+{
+    let half = field.regions() / 2;
+    let first = if is_first { 0 } else { half };
+    drive(field, pass, goal, 1_000_000, first, found);
+}
+
+// Looks at all regions, again and again.
+fn look_round(field: &Field, pass: &mut Pass)
+    requires belongs { IsPassOf field.now pass.old }
+    ensures belongs { IsPassOf field.now pass.new }
+{
+    for k in 0..2_000u32 {
+        field.look(pass, k % field.regions());
+    }
+}
+
+// Takes shots with three tries each, until so many have shown the field, one of them on the way.
+fn shoot(alloc: Global, net: &Net, chart: &Chart, field: &Field, pass: &mut Pass, found: &Found)
+    requires network { (field.now.terms.net.now ≡ net.now) × (field.now.terms.chart.now ≡ chart.now) }
+    requires charted { chart.now ≡ chart_of net.now chart.now.cut }
+    requires one_each { length chart.now.cut ≡ length net.now.cells }
+    requires belongs { IsPassOf field.now pass.old }
+    ensures belongs { IsPassOf field.now pass.new }
 {
     let Ok(mut room) = ShotRoom::new(alloc, net, chart) else {
         return;
@@ -165,7 +175,7 @@ fn shoot(
         if found.taken() >= SHOTS && found.midway() > 0 {
             return;
         }
-        if field.shot(&mut member.pass, &mut room, 3) == Shot::Taken {
+        if field.shot(pass, &mut room, 3) == Shot::Taken {
             let sound = is_lawful(room.steps(), net, chart) && balances(room.books(net));
             found.note(sound, is_midway(room.steps()));
         }

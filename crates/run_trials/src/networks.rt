@@ -1,11 +1,8 @@
-ghost use Rattle.std.specs.Prelude.{◌≡◌, All, IfOk, length};
-ghost use Rattle.region_step.specs.Opened.{IsOf};
+ghost use Rattle.std.specs.Prelude.{◌≡◌, IfOk, length};
 
 use flow_model::{Row, first_rows, plain_step};
 use network_file::{MOST_BYTES, Net};
 use no_memory::NoMemory;
-use region_cut::Chart;
-use region_step::Region;
 use std::alloc::{AllocError, Global};
 use std::process::Abort;
 use std::test::Fail;
@@ -66,40 +63,14 @@ fn blank_rows(alloc: Global, net: &Net) -> Result<Vec<Row>, NoMemory>
     }; net.cells.len()]?)
 }
 
-// The rows at each step, one step of the whole network after the other.
-pub(crate) fn whole_steps(alloc: Global, net: &Net) -> Result<Vec<Vec<Row>>, NoMemory> {
-    let mut steps = Vec::new(alloc);
+// The rows at the last step, one step of the whole network after the other.
+pub(crate) fn whole_steps(alloc: Global, net: &Net) -> Result<Vec<Row>, NoMemory> {
     let mut now = blank_rows(alloc, net)?;
     first_rows(net, &mut now);
     for t in 0..net.steps {
         let mut next = blank_rows(alloc, net)?;
         plain_step(net, t, &now, &mut next);
-        steps.push(now)?;
         now = next;
     }
-    steps.push(now)?;
-    Ok(steps)
-}
-
-// The rows of regions, in the order of the file.
-pub(crate) fn rows_of<R: Abort>(
-    rt: &R,
-    alloc: Global,
-    net: &Net,
-    chart: &Chart,
-    regions: &[Region],
-) -> Result<Vec<Row>, Fail>
-    requires { All (IsOf chart.now) regions.now }
-{
-    let mut rows = blank_rows(alloc, net)?;
-    for region in regions {
-        let cells = chart.cells(region.number());
-        assert!(rt; cells.len() <= 4);
-        for p in 0..cells.len() {
-            let i = cells[p] as usize;
-            assert!(rt; i < rows.len());
-            rows[i] = region.row(p as u32);
-        }
-    }
-    Ok(rows)
+    Ok(now)
 }

@@ -1,8 +1,0 @@
-use Rattle.region_trials.specs.Rounds.{AllAt, AllTold}
-use Rattle.region_trials.proofs.rounds.step_all.Given as goal
-
-abbrev pub invariant-loop-r : goal.invariant-loop-r
-invariant-loop-r g l = record {
-  at : AllAt (g.B.Body.is_in l.net l.chart) g.B.Body.state l.net l.chart l.t l.bodies;
-  told : AllTold g.B.Body.state l.net l.chart l.r l.bodies;
-}

@@ -1,0 +1,10 @@
+use Rattle.region_step.specs.Opened.{IsIn}
+use Rattle.plain_region.specs.Opened.{IsIn as IsInPlain}
+use Rattle.run_trials.specs.Rounds.{AllAt}
+use Rattle.run_trials.proofs.alike.first_difference.Given as goal
+
+abbrev pub invariant-loop-t : goal.invariant-loop-t
+invariant-loop-t l = record {
+  at : AllAt (IsIn l.net l.chart) (λ region. region.state) l.net l.chart l.t l.regions;
+  plain_at : AllAt (IsInPlain l.net l.chart) (λ region. region.state) l.net l.chart l.t l.plain;
+}

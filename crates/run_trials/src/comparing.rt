@@ -1,0 +1,67 @@
+ghost use Rattle.std.specs.Prelude.{◌≡◌, length};
+ghost use Rattle.region_cut.specs.Chart.{chart_of};
+ghost use Rattle.region_slots.specs.FieldView.{IsPassOf};
+ghost use Rattle.snapshot.specs.Rooms.{IsRoomFor};
+
+use crate::calls::{Calls, SEATS, make_calls};
+use crate::networks::whole_steps;
+use flow_model::Row;
+use network_file::Net;
+use no_memory::NoMemory;
+use region_cut::Chart;
+use region_slots::{Field, OpenGate, Pass, Shot};
+use region_step::Start;
+use snapshot::ShotRoom;
+use std::alloc::Global;
+use std::process::Abort;
+use std::thread::Threads;
+use worker_claim::drive;
+
+// Compares the rows of a field after such calls, taken to the last step, with those of whole steps.
+pub(crate) fn compare_rows<R: Abort + Threads + Sync>(
+    rt: &R,
+    alloc: Global,
+    net: &Net,
+    chart: &Chart,
+    calls: Calls,
+) -> Result<(), NoMemory>
+    requires chart { chart.now ≡ chart_of net.now chart.now.cut }
+    requires one_each { length chart.now.cut ≡ length net.now.cells }
+{
+    let rows = whole_steps(alloc, net)?;
+    compare_with(rt, alloc, net, chart, calls, &rows)
+}
+
+// The same with these rows.
+fn compare_with<R: Abort + Threads + Sync>(
+    rt: &R,
+    alloc: Global,
+    net: &Net,
+    chart: &Chart,
+    calls: Calls,
+    rows: &[Row],
+) -> Result<(), NoMemory>
+    requires chart { chart.now ≡ chart_of net.now chart.now.cut }
+    requires one_each { length chart.now.cut ≡ length net.now.cells }
+{
+    let mut room = ShotRoom::new(alloc, net, chart)?;
+    let start = Start::zero(alloc, net, chart)?;
+    let (field, mut pass) = Field::open(alloc, net, chart, &start, 0, SEATS)?;
+    make_calls(rt, alloc, net, chart, &field, &mut pass, calls);
+    show_last(rt, &field, &mut pass, &mut room, net.steps);
+    assert!(rt; room.rows() == rows, "the rows of whole steps");
+    Ok(())
+}
+
+// Takes all regions to the last step, and shows them.
+fn show_last<R: Abort>(rt: &R, field: &Field, pass: &mut Pass, room: &mut ShotRoom, last: u64)
+    requires belongs { IsPassOf field.now pass.old }
+    requires room { IsRoomFor field.now.terms.chart.now room.old }
+    requires in_time { last ≡ field.now.terms.net.now.steps }
+{
+    let _regions = field.regions();
+    let driven = drive(field, pass, last, 4096, 0, &OpenGate);
+    assert!(rt; driven.all, "all regions are at the last step");
+    let shot = field.shot(pass, room, 1);
+    assert_eq!(rt; shot, Shot::Taken);
+}
