@@ -1,4 +1,4 @@
--- What moves in a step, where cell i holds n i.
+-- What moves in a step, by what the cells hold.
 use Rattle.std.specs.Prelude.{ℕ, ◌==◌, ◌+◌, List, [], ◌∷◌, map, slice_index, sum_by, if◌then◌else◌}
 use Rattle.ordinary_link.specs.LinkFlow.{link_flow_of}
 use Rattle.merge_rule.specs.Merge.{merge_of}
