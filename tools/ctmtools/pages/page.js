@@ -18,8 +18,13 @@ function value(name, cell, frame) {
   return one(data.reports[state.view], name, cell, frame);
 }
 function most() { return Math.max(...data.reports.map(report => report[state.quantity].most)) || 1; }
+// Blue for less and red for more; what doesn't differ is near to the paper, light or dark.
+function difference() {
+  if (!dark.matches) return part => d3.interpolateRdBu(1 - part);
+  return d3.piecewise(d3.interpolateRgb, ["#9fd0ff", "#3b7fc4", "#23262b", "#c9552b", "#ffb48f"]);
+}
 function colours() {
-  if (compared()) return d3.scaleDiverging(part => d3.interpolateRdBu(1 - part)).domain([-most(), 0, most()]);
+  if (compared()) return d3.scaleDiverging(difference()).domain([-most(), 0, most()]);
   const inks = dark.matches ? part => d3.interpolateInferno(0.2 + 0.8 * part) : part => d3.interpolateYlOrRd(0.1 + 0.9 * part);
   return d3.scaleSequential(inks).domain([0, most()]);
 }
@@ -42,6 +47,11 @@ function places(width, height) {
   const size = Math.min((width - 2 * edge) / spans[0], (height - 2 * edge) / spans[1]);
   return ([x, y]) => [width / 2 + (x - (extent[0][0] + extent[0][1]) / 2) * size,
     height / 2 - (y - (extent[1][0] + extent[1][1]) / 2) * size];
+}
+// As high as the map needs in its width, within bounds.
+function fitMap() {
+  const box = byId("map"), [width, height] = extent.map(([low, high]) => high - low || 1);
+  box.style.height = `${Math.round(Math.max(120, Math.min(384, 60 + box.clientWidth * height / width)))}px`;
 }
 function drawMap() {
   const { pen, width, height } = canvas("map"), place = places(width, height), colour = colours();
@@ -92,7 +102,8 @@ function drawSpace() {
   data.roads[state.road].forEach((cell, row) => {
     for (let frame = 0; frame < frames; frame++) {
       pen.fillStyle = colour(value(state.quantity, cell, frame));
-      pen.fillRect(x(frame), y(ends[row + 1]), x(frame + 1) - x(frame) + 0.5, y(ends[row]) - y(ends[row + 1]) + 0.5);
+      const [left, right, top, bottom] = [x(frame), x(frame + 1), y(ends[row + 1]), y(ends[row])];
+      pen.fillRect(Math.floor(left), Math.floor(top), Math.ceil(right) - Math.floor(left), Math.ceil(bottom) - Math.floor(top));
     }
   });
   const svg = d3.select("#space svg");
@@ -147,11 +158,19 @@ function drawTable() {
       drawTable();
     });
   table.append("tbody").selectAll("tr").data(rows).join("tr").selectAll("td").data(row => row).join("td")
-    .text((entry, i) => i ? entry.toLocaleString("en", { maximumFractionDigits: 2 }) : entry);
+    .text((entry, i) => i ? entry.toLocaleString("en", { maximumFractionDigits: /km/.test(data.table.columns[i]) ? 3 : 2 }) : entry);
 }
 
+// The colours from the least value to the greatest.
+function drawLegend() {
+  const colour = colours(), least = compared() ? -most() : 0;
+  const inks = d3.range(0, 1.01, 0.1).map(part => colour(least + part * (most() - least)));
+  byId("legend").style.background = `linear-gradient(to right, ${inks.join(", ")})`;
+}
 function show() {
+  fitMap();
   drawMap();
+  drawLegend();
   drawSpace();
   drawCurves();
   mark();

@@ -19,7 +19,6 @@ from ..report.reading import Report
 HERE = Path(__file__).resolve().parent
 DRAWING_LIBRARY = Path("/usr/share/nodejs/d3/dist/d3.min.js")
 MOST_DATA = 3_200_000  # bytes of density and flow in all reports together, which are a third more as text
-COLUMNS = ("road", "km", "delay", "vehicles", "delay a vehicle, s", "longest queue")
 
 
 def page_of(reports: Sequence[Report], library: str | None = None) -> str:
@@ -120,9 +119,11 @@ def table_of(reports: Sequence[Report]) -> dict[str, Any]:
     """
     rows = [dict(_rows(report)) for report in reports]
     marks = ["", ""] if len(reports) == 1 else [" A", " B"]
-    unit = reports[0].units.delay_unit
-    names = [name if name != "delay" else f"delay, {unit}" for name in COLUMNS[2:]]
-    heads = [*COLUMNS[:2], *(name + mark for mark in marks[:len(reports)] for name in names)]
+    units = reports[0].units
+    unit, way = units.delay_unit, "km" if units.known else "cells"
+    names = [f"delay, {unit}", "vehicles", f"delay a vehicle, {'s' if units.step is not None else 'steps'}",
+             f"longest queue, {way}"]
+    heads = ["road", way, *(name + mark for mark in marks[:len(reports)] for name in names)]
     table = []
     for road, figures in rows[0].items():
         others = rows[-1].get(road, [figures[0], 0, 0, 0, 0])
