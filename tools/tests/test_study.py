@@ -228,6 +228,8 @@ MISTAKES = {
     "lanes that aren't whole": (HEAD + ROAD.replace("lanes = 2", "lanes = 2.5"), "whole number"),
     "waves faster than traffic": (HEAD.replace("18", "118") + ROAD, "at most the free-flow speed"),
     "a road that isn't there": (HEAD + ROAD.replace('into = "m"', 'into = "n"'), "there is no road n"),
+    "a road that is misspelt": (HEAD + ROAD.replace("roads.m", "roads.main").replace('into = "m"', 'into = "mian"'),
+                                "gates.g.into: there is no road mian; is main meant?"),
     "no end": (HEAD.replace('end = "07:00"', "") + ROAD, "either end, a clock time, or duration"),
     "a decimal comma": (HEAD + ROAD.replace("length = 1", "length = 1,5"), "`length = 1,5`. Is a decimal comma meant?"),
     "a time without quotes": (HEAD.replace('"06:00"', "06:00") + ROAD, "Put a clock time in quotes"),

@@ -23,10 +23,14 @@ function difference() {
   if (!dark.matches) return part => d3.interpolateRdBu(1 - part);
   return d3.piecewise(d3.interpolateRgb, ["#9fd0ff", "#3b7fc4", "#23262b", "#c9552b", "#ffb48f"]);
 }
+function inks() {
+  if (compared()) return difference();
+  return dark.matches ? part => d3.interpolateInferno(0.2 + 0.8 * part) : part => d3.interpolateYlOrRd(0.1 + 0.9 * part);
+}
+// The colour of a value, from a table, since a large report has a million of them to draw.
 function colours() {
-  if (compared()) return d3.scaleDiverging(difference()).domain([-most(), 0, most()]);
-  const inks = dark.matches ? part => d3.interpolateInferno(0.2 + 0.8 * part) : part => d3.interpolateYlOrRd(0.1 + 0.9 * part);
-  return d3.scaleSequential(inks).domain([0, most()]);
+  const high = most(), low = compared() ? -high : 0, table = d3.range(256).map(i => inks()(i / 255));
+  return value => table[Math.max(0, Math.min(255, Math.round((value - low) / (high - low) * 255)))];
 }
 
 // A canvas as large as its box, in the pixels of the screen; gives its context and its size.
@@ -163,9 +167,7 @@ function drawTable() {
 
 // The colours from the least value to the greatest.
 function drawLegend() {
-  const colour = colours(), least = compared() ? -most() : 0;
-  const inks = d3.range(0, 1.01, 0.1).map(part => colour(least + part * (most() - least)));
-  byId("legend").style.background = `linear-gradient(to right, ${inks.join(", ")})`;
+  byId("legend").style.background = `linear-gradient(to right, ${d3.range(0, 1.01, 0.1).map(inks()).join(", ")})`;
 }
 function show() {
   fitMap();

@@ -3,6 +3,7 @@
 from __future__ import annotations
 
 from collections.abc import Collection, Sequence
+from difflib import get_close_matches
 from fractions import Fraction
 
 from ..problem import Problem
@@ -35,7 +36,9 @@ class Junctions:
         """The cells of a road that a place of the study names."""
         if road not in self.layout.cells:
             names = [*self.study.roads, *self.study.gates, *self.study.exits]
-            known = f"the study has {', '.join(names)}" if len(names) <= 12 else f"the study has {len(names)} others"
+            near = get_close_matches(road, names, 1)
+            known = f"is {near[0]} meant?" if near else f"the study has {', '.join(names)}" if len(names) <= 12 else \
+                f"the study has {len(names)} others"
             raise Problem(f"{place}: there is no road {road}; {known}")
         return self.layout.cells[road]
 
