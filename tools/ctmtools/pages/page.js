@@ -29,7 +29,7 @@ function inks() {
 }
 // The colour of a value, from a table, since a large report has a million of them to draw.
 function colours() {
-  const high = most(), low = compared() ? -high : 0, table = d3.range(256).map(i => inks()(i / 255));
+  const high = most(), low = compared() ? -high : 0, ink = inks(), table = d3.range(256).map(i => ink(i / 255));
   return value => table[Math.max(0, Math.min(255, Math.round((value - low) / (high - low) * 255)))];
 }
 
@@ -100,16 +100,30 @@ function bounds() {
   const cells = data.roads[state.road];
   return cells.map(i => data.cells[i].from).concat(data.cells[cells[cells.length - 1]].to);
 }
+// What the rows of pixels from the top down show: a cell each, those of one cell together.
+function bands(y, ends, height) {
+  const cells = data.roads[state.road], found = [];
+  for (let top = edges.top; top < height - edges.bottom; top++) {
+    const row = Math.max(0, Math.min(d3.bisectRight(ends, y.invert(top + 0.5)) - 1, cells.length - 1));
+    if (found.length && found[found.length - 1].cell === cells[row]) found[found.length - 1].height++;
+    else found.push({ cell: cells[row], top, height: 1 });
+  }
+  return found;
+}
+// Pixel by pixel, in each column the mean over its time, so that a large report takes no longer than a small one.
 function drawSpace() {
   const { pen, width, height } = canvas("space"), x = across(width), colour = colours(), ends = bounds();
   const y = d3.scaleLinear([ends[0], ends[ends.length - 1]], [height - edges.bottom, edges.top]);
-  data.roads[state.road].forEach((cell, row) => {
-    for (let frame = 0; frame < frames; frame++) {
-      pen.fillStyle = colour(value(state.quantity, cell, frame));
-      const [left, right, top, bottom] = [x(frame), x(frame + 1), y(ends[row + 1]), y(ends[row])];
-      pen.fillRect(Math.floor(left), Math.floor(top), Math.ceil(right) - Math.floor(left), Math.ceil(bottom) - Math.floor(top));
+  const shown = bands(y, ends, height);
+  for (let left = edges.left; left < width - edges.right; left++) {
+    const first = Math.min(frames - 1, Math.floor(x.invert(left))), last = Math.max(first + 1, Math.min(frames, Math.floor(x.invert(left + 1))));
+    for (const band of shown) {
+      let sum = 0;
+      for (let frame = first; frame < last; frame++) sum += value(state.quantity, band.cell, frame);
+      pen.fillStyle = colour(sum / (last - first));
+      pen.fillRect(left, band.top, 1, band.height);
     }
-  });
+  }
   const svg = d3.select("#space svg");
   svg.selectAll("*").remove();
   svg.append("g").attr("transform", `translate(0,${height - edges.bottom})`).call(clock(x, width / 90));
