@@ -12,7 +12,7 @@ from .examples import TOOLS
 TOP = TOOLS.parent
 COMMANDS_IN = {"README.md": 17, "tools/README.md": 7, "examples/README.md": 10, "tools/docs/measures.md": 6,
                "tools/docs/networks.md": 1, "tools/docs/calibration.md": 0, "tools/docs/saved.md": 6,
-               "tools/docs/plans.md": 2, "tools/docs/counts.md": 0, "tools/docs/queues.md": 0, "tools/docs/sweeps.md": 0,
+               "tools/docs/plans.md": 2, "tools/docs/counts.md": 0, "tools/docs/queues.md": 0, "tools/docs/sweeps.md": 1,
                "tools/docs/python.md": 0}  # and how many there are at least
 PAGES = sorted(str(path.relative_to(TOP)) for path in
                [*TOP.glob("*.md"), *TOP.glob("docs/*.md"), *TOP.glob("tools/docs/*.md"), TOP / "tools/README.md",

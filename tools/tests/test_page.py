@@ -132,6 +132,7 @@ def page(tool, reports, tmp_path):
 def test_a_page_that_is_used(browser, page):
     opened(browser, page)
     assert text(browser, "title") == "A lane drop and Staggered hours before a lane drop"
+    assert "12,900 were served, delay 461.25 vehicle-hours; B:" in text(browser, "subtitle")
     before = ink(browser, "map")
     browser.execute_script("const s = document.getElementById('slider'); s.value = 720; s.dispatchEvent(new Event('input'))")
     assert text(browser, "time") == "08:00:00" and ink(browser, "map") != before

@@ -168,6 +168,25 @@ def test_of_closures_that_follow_each_other_the_tightest_is_the_head(tmp_path):
         assert queue.origin == head and not queue.others
 
 
+def test_what_is_slow_in_a_closure_is_of_the_queue_before_it():
+    # c and d pass 12. d holds 18 and is slow, c between them 12.5 and isn't; b, to which 15 come in a step, is from step 1 on.
+    rows = "".join(f"road,{name},108,18,1,5,{first}\n" for name, first in zip("abcd", (15, 15, 12.5, 18)))
+    links = "".join(f"link,{up},{down}\n" for up, down in zip("gabcd", "abcdx"))
+    made = reported(f"ctm,1\nsteps,60\ngate,g,18,15\n{rows}exit,x,18\n{links}limit,c,0,40,12\nlimit,d,0,40,12\n"
+                    "demand,g,0,20,15\n")
+    queue, = queues_in(made)
+    assert queue.origin == "b" and {"b", "d"} <= set(queue.spans) and "c" not in queue.spans and queue.start == 0
+
+
+def test_a_stop_line_in_a_closed_road_is_the_head(tmp_path):
+    # In the red nothing passes m4, less than the two lanes that are left would.
+    read = closed(tmp_path, ["from = 0.5\nlanes = 1"], 1800)
+    signal = '[[signals]]\nroad = "m"\ncycle = 60\ngreen = 20\n'
+    parts = signal + '[[closures]]\nroad = "m"\nfrom = 0.5\nlanes = 1\n'
+    made = corridor(tmp_path, parts, 3, '[["06:00", "06:20", 1800], ["06:20", "07:00", 0]]')
+    assert not queues_in(read) and queues_in(reported(made.text))[0].origin == "m4"
+
+
 def test_where_nobody_waits_before_a_closure_its_queue_is_in_it(tmp_path):
     # At 06:10 a vehicle less comes than m3 and m4 pass from then on, so that they empty from m3 on.
     made = corridor(tmp_path, '[[closures]]\nroad = "m"\nfrom = 0.5\nstart = "06:10"\nend = "06:40"\nlanes = 2\n', 3,

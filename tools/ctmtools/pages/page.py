@@ -13,6 +13,7 @@ import numpy
 
 from ..plots.layout import lay_out
 from ..problem import Problem
+from ..report.page import told
 from ..report.queues import standing
 from ..report.reading import Report
 
@@ -153,8 +154,8 @@ def _subtitle(reports: Sequence[Report]) -> str:
     """The time of the study, and the vehicles and the delay of each report."""
     units = reports[0].units
     time = f"{units.clock(0)} to {units.clock(reports[0].steps)}" if units.known else f"{reports[0].steps} steps"
-    parts = [f"{report.total.entered:,.0f} vehicles came, {report.total.left:,.0f} were served, delay "
-             f"{units.hours(report.total.delay):,.1f} {units.delay_unit}" for report in reports]
+    parts = [f"{told(report.total.entered)} vehicles came, {told(report.total.left)} were served, delay "
+             f"{told(units.hours(report.total.delay))} {units.delay_unit}" for report in reports]
     marks = [""] if len(reports) == 1 else ["A: ", "B: "]
     return f"{time}. " + "; ".join(mark + part for mark, part in zip(marks, parts))
 
