@@ -7,7 +7,7 @@ from pathlib import Path
 
 from .problem import Problem, reason
 from .study.network_text import MADE, Built
-from .units import units_path, write_units
+from .units import Units, units_path, units_text
 
 
 def network_target(source: str | Path, output: str | Path | None = None) -> Path:
@@ -39,28 +39,39 @@ def write_network(built: Built, target: Path) -> None:
     write_units(units_path(target), built.units)
 
 
+def write_units(path: str | Path, units: Units) -> None:
+    """Writes the file of units."""
+    write(path, units_text(units))
+
+
 def write(path: str | Path, content: str | bytes) -> None:
-    """Writes text or bytes to a file."""
-    try:
-        if isinstance(content, bytes):
-            Path(path).write_bytes(content)
-        else:
-            Path(path).write_text(content, encoding="utf-8")
-    except OSError as error:
-        raise Problem(f"{path}: {reason(error)}") from None
+    """Writes text or bytes to a file as a whole: where that fails, what stood there stays. Devices are written to."""
+    path, content = Path(path), content if isinstance(content, bytes) else content.encode()
+    if path.exists() and not path.is_file():
+        try:
+            path.write_bytes(content)
+        except OSError as error:
+            raise Problem(f"{path}: {reason(error)}") from None
+    else:
+        replace(path, content, lasting=False)
 
 
-def replace(path: str | Path, content: bytes) -> None:
-    """Puts bytes in the place of a file's: whoever is ended meanwhile leaves the old file whole."""
-    path = Path(path)
-    part = path.with_name(path.name + ".part")
+def replace(path: str | Path, content: bytes, lasting: bool = True) -> None:
+    """Puts bytes in the place of a file's: whoever is ended meanwhile leaves the old file whole.
+
+    What is `lasting` stands on the disk when this returns.
+    """
+    target = Path(os.path.realpath(path))
+    part = target.with_name(target.name + ".part")
     try:
         with open(part, "wb") as file:
             file.write(content)
             file.flush()
-            os.fsync(file.fileno())
-        os.replace(part, path)
+            if lasting:
+                os.fsync(file.fileno())
+        os.replace(part, target)
     except OSError as error:
+        part.unlink(missing_ok=True)
         raise Problem(f"{path}: {reason(error)}") from None
 
 

@@ -5,6 +5,10 @@ class Problem(Exception):
     """A fault of what the user gave, told in one line; a command ends with it and with status 2."""
 
 
+class NoSuchKey(Problem):
+    """A key that a study doesn't have."""
+
+
 def one_line(text: object) -> str:
     """The text with all its white space as single spaces, so that it is one line."""
     return " ".join(str(text).split())

@@ -6,7 +6,7 @@ import dataclasses
 import os
 from pathlib import Path
 
-from .files import beside, guard_network, write, write_network
+from .files import beside, guard_network, write, write_network, write_units
 from .given import read_as
 from .network_file.network import Network, network_of
 from .network_file.warnings import shortened, warnings_of
@@ -17,7 +17,7 @@ from .study.network_text import Built, build
 from .study.plan import Study
 from .study.reading import read_study
 from .study.telling import told
-from .units import Units, read_units, units_path, write_units
+from .units import Units, read_units, units_path
 
 
 def run(content: bytes, name: str, units: Units | None = None, every: int | None = None, workers: int | None = None,

@@ -92,12 +92,12 @@ def read_units(path: str | Path) -> Units:
         raise Problem(f"{path}: no units file: {error}") from None
 
 
-def write_units(path: str | Path, units: Units) -> None:
-    """Writes the units to a file, with a line for each cell."""
+def units_text(units: Units) -> str:
+    """The text of the units' file, with a line for each cell."""
     cells = ",\n".join(f"    {json.dumps(name)}: {json.dumps(row)}" for name, row in units.cells.items())
     head = {"title": units.title, "step_seconds": units.step, "start_seconds": units.start, "network": units.network,
             "roads": units.roads, "points": units.points, "cycles": units.cycles}
     lines = [f"  {json.dumps(key)}: {json.dumps(value)}" for key, value in head.items() if value not in (None, {}, "")]
     if cells:
         lines.append('  "cells": {\n' + cells + "\n  }")
-    Path(path).write_text("{\n" + ",\n".join(lines) + "\n}\n")
+    return "{\n" + ",\n".join(lines) + "\n}\n"

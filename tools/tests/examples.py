@@ -4,9 +4,10 @@ from pathlib import Path
 
 import plain_model
 
+from ctmtools.files import write_units
 from ctmtools.study.network_text import build
 from ctmtools.study.reading import read_study
-from ctmtools.units import units_path, write_units
+from ctmtools.units import units_path
 
 TOOLS = Path(__file__).resolve().parents[1]
 EXAMPLES = TOOLS.parent / "examples"

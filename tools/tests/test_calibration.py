@@ -146,11 +146,19 @@ def test_the_triangle_of_known_states_is_found(tmp_path, noise, off):
     assert found.rows == 280 and found.queued == pytest.approx(80, abs=6 if noise else 1)
 
 
+def test_queued_rows_near_together_are_told(tool, tmp_path):
+    flow, density = states(0.03)
+    one = (density < 25) | (density > 60) & (density < 70)  # as before a lane drop: one state of queued traffic
+    pandas.DataFrame({"flow": flow[one], "density": density[one]}).to_csv(tmp_path / "d.csv", index=False)
+    status, out, err = tool("diagram", "d.csv")
+    assert status == 0 and "warning: most rows of queued traffic lie between 6" in out and "too near together" in out
+
+
 def test_the_command_of_the_diagram(tool, tmp_path):
     flow, density = states()
     pandas.DataFrame({"flow": flow, "density": density}).to_csv(tmp_path / "d.csv", index=False)
     status, out, err = tool("diagram", "d.csv")
-    assert status == 0 and "saturation_flow = 2500  # vehicles/h" in out and (tmp_path / "d-diagram.png").exists()
+    assert status == 0 and "saturation_flow = 2500  # vehicles/h" in out and "warning" not in out and (tmp_path / "d-diagram.png").exists()
     pandas.DataFrame({"flow": flow[:200], "density": density[:200] / 2}).to_csv(tmp_path / "free.csv", index=False)
     free = tool("diagram", "free.csv")
     assert free[0] == 2 and "too few for a wave speed" in free[2]

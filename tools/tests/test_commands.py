@@ -6,7 +6,9 @@ import sys
 
 import pytest
 
+from ctmtools import Problem
 from ctmtools.command_line import COMMANDS
+from ctmtools.files import write
 
 from .examples import EXAMPLES, TOOLS
 
@@ -14,7 +16,8 @@ STUDIES = sorted(path.stem for path in EXAMPLES.glob("*.toml"))
 PLOTS = ["time-space", "n-curves", "queue", "delay", "map", "mfd"]
 
 
-@pytest.mark.parametrize("words", [[], *([name] for name in COMMANDS), *(["plot", name] for name in PLOTS)],
+@pytest.mark.parametrize("words", [[], *([name] for name in COMMANDS), *(["plot", name] for name in PLOTS),
+                                   ["import", "sumo"], ["import", "gmns"], ["export", "geojson"]],
                          ids=lambda words: " ".join(words) or "all")
 def test_help_has_examples(tool, words):
     status, out, err = tool(*words, "--help")
@@ -180,3 +183,23 @@ def test_a_package_that_is_missed_later_is_named():
     ended = subprocess.run([sys.executable, "-c", code], capture_output=True, text=True, cwd="/tmp",
                            env={**os.environ, "PYTHONPATH": str(TOOLS)})
     assert ended.returncode == 2 and ended.stderr.count("\n") == 1
+
+
+def test_a_file_that_can_not_be_written_stays_as_it_was(tmp_path, monkeypatch):
+    path = tmp_path / "x.report"
+    write(path, "old")
+
+    def full(one, two):
+        raise OSError(28, "No space left on device")
+    monkeypatch.setattr(os, "replace", full)
+    with pytest.raises(Problem, match="x.report: no space left on device"):
+        write(path, "new")
+    assert path.read_text() == "old" and list(tmp_path.iterdir()) == [path]
+
+
+def test_what_is_written_goes_through_links_and_to_devices(tmp_path):
+    (tmp_path / "link").symlink_to(tmp_path / "target")
+    write(tmp_path / "link", b"through")
+    assert (tmp_path / "link").is_symlink() and (tmp_path / "target").read_text() == "through"
+    write("/dev/null", "nothing")
+    assert not os.path.isfile("/dev/null")

@@ -12,7 +12,8 @@ from .examples import TOOLS
 TOP = TOOLS.parent
 COMMANDS_IN = {"README.md": 17, "tools/README.md": 7, "examples/README.md": 12, "tools/docs/measures.md": 6,
                "tools/docs/networks.md": 1, "tools/docs/calibration.md": 0, "tools/docs/saved.md": 6,
-               "tools/docs/plans.md": 2}  # and how many there are at least
+               "tools/docs/plans.md": 2, "tools/docs/counts.md": 0, "tools/docs/queues.md": 0, "tools/docs/sweeps.md": 1,
+               "tools/docs/python.md": 0}  # and how many there are at least
 PAGES = sorted(str(path.relative_to(TOP)) for path in
                [*TOP.glob("*.md"), *TOP.glob("docs/*.md"), *TOP.glob("tools/docs/*.md"), TOP / "tools/README.md",
                 TOP / "examples/README.md"])
@@ -110,7 +111,7 @@ def test_each_command_that_is_left_out_is_in_a_document():
 
 
 def test_the_lines_of_python_run(top, recording_program):
-    lines = read("tools/README.md").split("```\nimport ctmtools\n")[1].split("```")[0]
+    lines = read("tools/docs/python.md").split("```\nimport ctmtools\n")[1].split("```")[0]
     assert ended(top, recording_program, "./ctm-tools", "run", "examples/bottleneck.toml")[0] == 0
     status, told = ended(top, recording_program, sys.executable, "-c", f"import ctmtools\n{lines}\nprint(queues.cell[0])")
     assert (status, told) == (0, "m20\n")
@@ -143,6 +144,10 @@ def test_each_crate_is_told(page):
     assert len(crates) > 20
     told = re.findall(r"^\| `(\w+)`" if page == "docs/MAP.md" else r"\*\*`(\w+)`\*\*", read(page), re.MULTILINE)
     assert set(crates) <= set(told)
+
+
+def test_the_page_of_the_tools_is_read_in_ten_minutes():
+    assert len(read("tools/README.md").split()) <= 2600
 
 
 @pytest.mark.parametrize("page", ["README.md", "docs/MAP.md"])

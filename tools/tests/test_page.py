@@ -65,7 +65,7 @@ def test_means_over_several_steps():
 
 def test_the_table_of_roads(report):
     table = table_of([report("bottleneck")])
-    assert table["columns"] == ["road", "km", "delay, vehicle-hours", "vehicles", "delay a vehicle, s", "longest queue"]
+    assert table["columns"] == ["road", "km", "delay, vehicle-hours", "vehicles", "delay a vehicle, s", "longest queue, km"]
     road, gate = table["rows"]
     # The lane drop's delay, by theory, over the 12,900 that came; its longest queue is 13 cells.
     assert road[0] == "m" and road[1:] == pytest.approx([7.5, 461.25, 12900, 461.25 * 3600 / 12900, 3.25], abs=0.01)
@@ -132,6 +132,7 @@ def page(tool, reports, tmp_path):
 def test_a_page_that_is_used(browser, page):
     opened(browser, page)
     assert text(browser, "title") == "A lane drop and Staggered hours before a lane drop"
+    assert "12,900 were served, delay 461.25 vehicle-hours; B:" in text(browser, "subtitle")
     before = ink(browser, "map")
     browser.execute_script("const s = document.getElementById('slider'); s.value = 720; s.dispatchEvent(new Event('input'))")
     assert text(browser, "time") == "08:00:00" and ink(browser, "map") != before
@@ -151,6 +152,7 @@ def test_the_difference_of_two_reports(browser, page):
     before = ink(browser, "space")
     browser.execute_script("const s = document.getElementById('view'); s.value = 2; s.dispatchEvent(new Event('change'))")
     assert ink(browser, "space") != before and text(browser, "scale").startswith("B less A, blue for less, -192 to 192")
+    assert "linear-gradient" in browser.find_element(By.ID, "legend").value_of_css_property("background-image")
     assert browser.get_log("browser") == []
 
 
@@ -172,12 +174,15 @@ def test_light_and_dark_on_a_small_screen(browser, page, scheme, paper):
     body = browser.find_element(By.TAG_NAME, "body")
     assert body.value_of_css_property("background-color") == paper
     assert browser.execute_script("return document.documentElement.scrollWidth") <= 400
+    assert browser.find_element(By.ID, "map").size["height"] == 120  # a motorway, which is flat
     assert browser.get_log("browser") == []
 
 
 def test_a_report_of_steps_and_cells(browser, tool, tmp_path, reports):
     report = read_report(reports("interchange"))
     report.units.step, report.units.cells, report.units.roads = None, {}, {}
+    assert table_of([report])["columns"] == ["road", "cells", "delay, vehicle-steps", "vehicles", "delay a vehicle, steps",
+                                             "longest queue, cells"]
     (tmp_path / "plain.html").write_text(page_of([report]))
     opened(browser, tmp_path / "plain.html")
     assert browser.get_log("browser") == [] and text(browser, "cell").startswith("road ")

@@ -12,6 +12,8 @@ from matplotlib.text import Text
 
 from ctmtools import Problem, plot
 from ctmtools.network_file.network import network_of
+from ctmtools.plots.layout import lay_out
+from ctmtools.plots.network_map import MOST_WIDTH, _points
 from ctmtools.plots.pictures import PICTURES
 from ctmtools.report.queues import queues_in
 from ctmtools.report.reading import report_of
@@ -154,3 +156,37 @@ def test_the_queues_of_a_road_alone(report):
 def test_no_such_picture(report):
     with pytest.raises(Problem, match="known are time-space"):
         plot(report("interchange"), "heat")
+
+
+SIDES = {"north": (0, 1), "east": (1, 0), "south": (0, -1), "west": (-1, 0)}
+JUNCTIONS = {"P": (0.7, 1.1), "Q": (1.1, 1.1), "R": (0.7, 0.7), "S": (1.1, 0.7)}
+
+
+def test_a_way_out_of_a_junction_is_drawn_straight_on(report):
+    read = report("four-arms")
+    lines = lay_out(read)
+    exits = [cell for cell, kind in read.network.kinds.items() if kind == "exit"]
+    assert len(exits) == 8
+    for name in exits:
+        junction, side = name.split("-")
+        (x, y), (u, v) = JUNCTIONS[junction], SIDES[side]
+        right, above = lines[name][-1][0] - x, lines[name][-1][1] - y
+        assert 0.03 < right * u + above * v < 0.2 and abs(right * v + above * u) < 0.05
+    movements = [cell for cell in lines if cell.startswith(("nP-", "QP-", "RP-", "wP-")) and "join" not in cell]
+    assert len(movements) >= 12 and all(abs(x - 0.7) < 0.1 and abs(y - 1.1) < 0.1 for cell in movements
+                                        for x, y in lines[cell])
+
+
+def test_the_names_of_ramps_stand_beside_them(report):
+    figure = plot(report("interchange"), "map")
+    thick = dict.fromkeys(report("interchange").cells.index, MOST_WIDTH)
+    edges = _points(figure.axes[0], {cell: line for cell, line in lay_out(report("interchange")).items() if cell[0] in "ra"
+                                     and cell[1:].isdigit()}, thick)
+    for text, box in written(figure):
+        if text.get_text().startswith("road "):
+            assert not any(box.x0 < x < box.x1 and box.y0 < y < box.y1 for x, y in edges), text
+
+
+def test_the_clock_times_of_a_diagram_are_round(report):
+    times = [text.get_text() for text, box in written(plot(report("interchange"), "mfd")) if ":" in text.get_text()]
+    assert {"06:30", "07:00", "09:30"} <= set(times) and all(len(time) == 5 for time in times if time[0].isdigit())

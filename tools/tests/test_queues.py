@@ -145,6 +145,56 @@ def test_queues_that_meet_are_one(report):
     assert queue.reach == 0 and queue.longest_reach == pytest.approx(1.5)
 
 
+def closed(tmp_path, rows, demand=4860, lanes=3, after=0):
+    """The report of a road of three lanes, 13.5 vehicles in each cell, part of which is closed from 06:10 to 06:40."""
+    parts = "".join(f'[[closures]]\nroad = "m"\nstart = "06:10"\nend = "06:40"\n{row}\n' for row in rows)
+    made = corridor(tmp_path, parts, lanes, f'[["06:00", "06:20", {demand}], ["06:20", "07:00", {after}]]')
+    return reported(made.text)
+
+
+@pytest.mark.parametrize("lanes, slow", [(1.1, False), (1.5, True), (2, True), (3, True)])
+def test_the_queue_at_a_closure_is_headed_before_it_whatever_the_share(tmp_path, lanes, slow):
+    # Of 18 the closure leaves 11.4, 9, 6 or 0 of the 13.5 that come and that stand in m3 and m4 when it begins.
+    read = closed(tmp_path, [f"from = 0.5\nlanes = {lanes}"])
+    queue, = queues_in(read)
+    assert (queue.origin, queue.start, queue.farthest, queue.reach) == ("m2", 60 if slow else 61, "m1", 2)
+    assert ("m4" in queue.spans) == slow and not queue.others
+
+
+def test_of_closures_that_follow_each_other_the_tightest_is_the_head(tmp_path):
+    wide, tight = "from = 0.25\nto = 0.5\nlanes = {}", "from = 0.5\nlanes = {}"
+    for first, second, head in ((1.5, 2, "m2"), (2, 1.5, "m1"), (2, 2, "m1")):
+        queue, = queues_in(closed(tmp_path, [wide.format(first), tight.format(second)]))
+        assert queue.origin == head and not queue.others
+
+
+def test_what_is_slow_in_a_closure_is_of_the_queue_before_it():
+    # c and d pass 12. d holds 18 and is slow, c between them 12.5 and isn't; b, to which 15 come in a step, is from step 1 on.
+    rows = "".join(f"road,{name},108,18,1,5,{first}\n" for name, first in zip("abcd", (15, 15, 12.5, 18)))
+    links = "".join(f"link,{up},{down}\n" for up, down in zip("gabcd", "abcdx"))
+    made = reported(f"ctm,1\nsteps,60\ngate,g,18,15\n{rows}exit,x,18\n{links}limit,c,0,40,12\nlimit,d,0,40,12\n"
+                    "demand,g,0,20,15\n")
+    queue, = queues_in(made)
+    assert queue.origin == "b" and {"b", "d"} <= set(queue.spans) and "c" not in queue.spans and queue.start == 0
+
+
+def test_a_stop_line_in_a_closed_road_is_the_head(tmp_path):
+    # In the red nothing passes m4, less than the two lanes that are left would.
+    read = closed(tmp_path, ["from = 0.5\nlanes = 1"], 1800)
+    signal = '[[signals]]\nroad = "m"\ncycle = 60\ngreen = 20\n'
+    parts = signal + '[[closures]]\nroad = "m"\nfrom = 0.5\nlanes = 1\n'
+    made = corridor(tmp_path, parts, 3, '[["06:00", "06:20", 1800], ["06:20", "07:00", 0]]')
+    assert not queues_in(read) and queues_in(reported(made.text))[0].origin == "m4"
+
+
+def test_where_nobody_waits_before_a_closure_its_queue_is_in_it(tmp_path):
+    # At 06:10 a vehicle less comes than m3 and m4 pass from then on, so that they empty from m3 on.
+    made = corridor(tmp_path, '[[closures]]\nroad = "m"\nfrom = 0.5\nstart = "06:10"\nend = "06:40"\nlanes = 2\n', 3,
+                    '[["06:00", "06:09:30", 4860], ["06:09:30", "07:00", 1800]]')
+    queue, = queues_in(reported(made.text))
+    assert (queue.origin, queue.start) == ("m4", 60) and set(queue.spans) == {"m3", "m4"}
+
+
 def test_a_queue_that_still_stands():
     # b leads nowhere. Of the 9 vehicles it holds 5.75 at the end and a behind it 2.25; the last stands in no queue.
     made = reported("ctm,1\nsteps,9\ngate,g,1,0\nroad,a,6,2,1,2,0\nroad,b,6,2,1,2,0\nlink,g,a\nlink,a,b\ndemand,g,0,9,1\n")

@@ -91,6 +91,15 @@ def test_a_sweep_over_one_value_and_over_names(tool, plain):
     assert status == 2 and "isn't varied" in err
 
 
+@pytest.mark.parametrize("key, wanted", [
+    ("roads.n.lanes", "--vary roads.n.lanes: the study has no n there"), ("roads.c.lans", "no such key; is lanes meant?"),
+    ("demand.sea", "--vary demand.sea: the study has no gate sea"), ("signals.9.offset", "there are 1 of these")])
+def test_a_key_that_the_study_does_not_have_is_refused_before_a_run(tool, plain, key, wanted):
+    status, out, err = tool("sweep", STUDY, "--vary", f"{key}=1,2")
+    assert status == 2 and wanted in err and err.count("\n") == 1 and not out
+    assert not os.path.exists("arterial-0.sweep")
+
+
 def test_a_sweep_warns_before_its_results(tool, plain, tmp_path):
     slow = STUDY.read_text().replace("free_flow_speed = 45", "free_flow_speed = 30")
     (tmp_path / "s.toml").write_text(slow)

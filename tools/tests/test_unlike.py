@@ -3,7 +3,8 @@
 import plain_model
 import pytest
 
-from ctmtools.units import units_path, write_units
+from ctmtools.files import write_units
+from ctmtools.units import units_path
 
 from .corridor import HEAD, corridor
 

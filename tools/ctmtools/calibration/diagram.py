@@ -12,11 +12,15 @@ from ..problem import Problem, one_line
 from ..report.queues import SLOW
 
 LEAST = 8  # rows
+LEAST_SPREAD = 0.2  # of the way from the top to the jam density, over which queued rows have to lie to tell its slope
 
 
 @dataclass(frozen=True)
 class Triangle:
-    """A triangle of one lane, in km/h, vehicles/h and vehicles/km, and what it misses in the root mean square."""
+    """A triangle of one lane, in km/h, vehicles/h and vehicles/km, and what it misses in the root mean square.
+
+    Of the `queued` rows four of five lie between the densities `low` and `high`.
+    """
 
     speed: float
     capacity: float
@@ -25,6 +29,16 @@ class Triangle:
     rmse: float
     rows: int
     queued: int
+    low: float
+    high: float
+
+    @property
+    def warning(self) -> str | None:
+        """A line that tells that the rows of queued traffic lie too near together for the branch that they are on."""
+        if self.high - self.low >= LEAST_SPREAD * (self.jam - self.capacity / self.speed):
+            return None
+        return (f"warning: most rows of queued traffic lie between {self.low:.0f} and {self.high:.0f} vehicles/km, too near "
+                "together to tell a wave speed and a jam density")
 
 
 def read_states(path: str | Path, lanes: float = 1) -> pandas.DataFrame:
@@ -70,4 +84,6 @@ def fit(states: pandas.DataFrame) -> Triangle:
     free, wave, most = map(float, found.x)
     peak = free * wave * most / (free + wave)
     rmse = float(numpy.sqrt((misses(found.x) ** 2).mean()) * capacity)
-    return Triangle(free, peak, wave, most, rmse, len(states), int((density > peak / free).sum()))
+    behind = density[density > peak / free]
+    low, high = map(float, numpy.quantile(behind, [0.1, 0.9])) if len(behind) else (0.0, 0.0)
+    return Triangle(free, peak, wave, most, rmse, len(states), len(behind), low, high)

@@ -40,5 +40,7 @@ def command(detector: str, lanes: float, output: str | None) -> None:
                f"jam_density = {found.jam:.4g}  # vehicles/km\nsaturation_flow = {found.capacity:.5g}  # vehicles/h")
     click.echo(f"\n{found.rows} rows, {found.queued} of them of queued traffic; misses {found.rmse:,.0f} vehicles/h in "
                "the root mean square")
+    if found.warning:
+        click.echo(found.warning)
     save(triangle(states, found, f"{Path(detector).stem}: flow and density"), picture)
     click.echo(f"\n{picture}")

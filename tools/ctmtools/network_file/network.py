@@ -57,6 +57,14 @@ class Network:
         return self.cells.kind.to_dict()
 
     @cached_property
+    def limits_of(self) -> dict[str, list[tuple[int, int, float]]]:
+        """The limits of each cell that has any: from, to and the capacity, in the order of the file."""
+        found: dict[str, list[tuple[int, int, float]]] = {}
+        for cell, begin, end, capacity in zip(*(self.limits[name] for name in ("cell", "from", "to", "Q"))):
+            found.setdefault(cell, []).append((int(begin), int(end), float(capacity)))
+        return found
+
+    @cached_property
     def line_ends(self) -> list[int]:
         """The places behind the ends of the lines of the file."""
         return ends_of_lines(self.content)

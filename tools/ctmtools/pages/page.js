@@ -18,10 +18,19 @@ function value(name, cell, frame) {
   return one(data.reports[state.view], name, cell, frame);
 }
 function most() { return Math.max(...data.reports.map(report => report[state.quantity].most)) || 1; }
+// Blue for less and red for more; what doesn't differ is near to the paper, light or dark.
+function difference() {
+  if (!dark.matches) return part => d3.interpolateRdBu(1 - part);
+  return d3.piecewise(d3.interpolateRgb, ["#9fd0ff", "#3b7fc4", "#23262b", "#c9552b", "#ffb48f"]);
+}
+function inks() {
+  if (compared()) return difference();
+  return dark.matches ? part => d3.interpolateInferno(0.2 + 0.8 * part) : part => d3.interpolateYlOrRd(0.1 + 0.9 * part);
+}
+// The colour of a value, from a table, since a large report has a million of them to draw.
 function colours() {
-  if (compared()) return d3.scaleDiverging(part => d3.interpolateRdBu(1 - part)).domain([-most(), 0, most()]);
-  const inks = dark.matches ? part => d3.interpolateInferno(0.2 + 0.8 * part) : part => d3.interpolateYlOrRd(0.1 + 0.9 * part);
-  return d3.scaleSequential(inks).domain([0, most()]);
+  const high = most(), low = compared() ? -high : 0, ink = inks(), table = d3.range(256).map(i => ink(i / 255));
+  return value => table[Math.max(0, Math.min(255, Math.round((value - low) / (high - low) * 255)))];
 }
 
 // A canvas as large as its box, in the pixels of the screen; gives its context and its size.
@@ -42,6 +51,11 @@ function places(width, height) {
   const size = Math.min((width - 2 * edge) / spans[0], (height - 2 * edge) / spans[1]);
   return ([x, y]) => [width / 2 + (x - (extent[0][0] + extent[0][1]) / 2) * size,
     height / 2 - (y - (extent[1][0] + extent[1][1]) / 2) * size];
+}
+// As high as the map needs in its width, within bounds.
+function fitMap() {
+  const box = byId("map"), [width, height] = extent.map(([low, high]) => high - low || 1);
+  box.style.height = `${Math.round(Math.max(120, Math.min(384, 60 + box.clientWidth * height / width)))}px`;
 }
 function drawMap() {
   const { pen, width, height } = canvas("map"), place = places(width, height), colour = colours();
@@ -86,15 +100,30 @@ function bounds() {
   const cells = data.roads[state.road];
   return cells.map(i => data.cells[i].from).concat(data.cells[cells[cells.length - 1]].to);
 }
+// What the rows of pixels from the top down show: a cell each, those of one cell together.
+function bands(y, ends, height) {
+  const cells = data.roads[state.road], found = [];
+  for (let top = edges.top; top < height - edges.bottom; top++) {
+    const row = Math.max(0, Math.min(d3.bisectRight(ends, y.invert(top + 0.5)) - 1, cells.length - 1));
+    if (found.length && found[found.length - 1].cell === cells[row]) found[found.length - 1].height++;
+    else found.push({ cell: cells[row], top, height: 1 });
+  }
+  return found;
+}
+// Pixel by pixel, in each column the mean over its time, so that a large report takes no longer than a small one.
 function drawSpace() {
   const { pen, width, height } = canvas("space"), x = across(width), colour = colours(), ends = bounds();
   const y = d3.scaleLinear([ends[0], ends[ends.length - 1]], [height - edges.bottom, edges.top]);
-  data.roads[state.road].forEach((cell, row) => {
-    for (let frame = 0; frame < frames; frame++) {
-      pen.fillStyle = colour(value(state.quantity, cell, frame));
-      pen.fillRect(x(frame), y(ends[row + 1]), x(frame + 1) - x(frame) + 0.5, y(ends[row]) - y(ends[row + 1]) + 0.5);
+  const shown = bands(y, ends, height);
+  for (let left = edges.left; left < width - edges.right; left++) {
+    const first = Math.min(frames - 1, Math.floor(x.invert(left))), last = Math.max(first + 1, Math.min(frames, Math.floor(x.invert(left + 1))));
+    for (const band of shown) {
+      let sum = 0;
+      for (let frame = first; frame < last; frame++) sum += value(state.quantity, band.cell, frame);
+      pen.fillStyle = colour(sum / (last - first));
+      pen.fillRect(left, band.top, 1, band.height);
     }
-  });
+  }
   const svg = d3.select("#space svg");
   svg.selectAll("*").remove();
   svg.append("g").attr("transform", `translate(0,${height - edges.bottom})`).call(clock(x, width / 90));
@@ -147,11 +176,17 @@ function drawTable() {
       drawTable();
     });
   table.append("tbody").selectAll("tr").data(rows).join("tr").selectAll("td").data(row => row).join("td")
-    .text((entry, i) => i ? entry.toLocaleString("en", { maximumFractionDigits: 2 }) : entry);
+    .text((entry, i) => i ? entry.toLocaleString("en", { maximumFractionDigits: /km/.test(data.table.columns[i]) ? 3 : 2 }) : entry);
 }
 
+// The colours from the least value to the greatest.
+function drawLegend() {
+  byId("legend").style.background = `linear-gradient(to right, ${d3.range(0, 1.01, 0.1).map(inks()).join(", ")})`;
+}
 function show() {
+  fitMap();
   drawMap();
+  drawLegend();
   drawSpace();
   drawCurves();
   mark();

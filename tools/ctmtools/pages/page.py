@@ -13,13 +13,13 @@ import numpy
 
 from ..plots.layout import lay_out
 from ..problem import Problem
+from ..report.page import told
 from ..report.queues import standing
 from ..report.reading import Report
 
 HERE = Path(__file__).resolve().parent
 DRAWING_LIBRARY = Path("/usr/share/nodejs/d3/dist/d3.min.js")
 MOST_DATA = 3_200_000  # bytes of density and flow in all reports together, which are a third more as text
-COLUMNS = ("road", "km", "delay", "vehicles", "delay a vehicle, s", "longest queue")
 
 
 def page_of(reports: Sequence[Report], library: str | None = None) -> str:
@@ -120,9 +120,11 @@ def table_of(reports: Sequence[Report]) -> dict[str, Any]:
     """
     rows = [dict(_rows(report)) for report in reports]
     marks = ["", ""] if len(reports) == 1 else [" A", " B"]
-    unit = reports[0].units.delay_unit
-    names = [name if name != "delay" else f"delay, {unit}" for name in COLUMNS[2:]]
-    heads = [*COLUMNS[:2], *(name + mark for mark in marks[:len(reports)] for name in names)]
+    units = reports[0].units
+    unit, way = units.delay_unit, "km" if units.known else "cells"
+    names = [f"delay, {unit}", "vehicles", f"delay a vehicle, {'s' if units.step is not None else 'steps'}",
+             f"longest queue, {way}"]
+    heads = ["road", way, *(name + mark for mark in marks[:len(reports)] for name in names)]
     table = []
     for road, figures in rows[0].items():
         others = rows[-1].get(road, [figures[0], 0, 0, 0, 0])
@@ -152,8 +154,8 @@ def _subtitle(reports: Sequence[Report]) -> str:
     """The time of the study, and the vehicles and the delay of each report."""
     units = reports[0].units
     time = f"{units.clock(0)} to {units.clock(reports[0].steps)}" if units.known else f"{reports[0].steps} steps"
-    parts = [f"{report.total.entered:,.0f} vehicles came, {report.total.left:,.0f} were served, delay "
-             f"{units.hours(report.total.delay):,.1f} {units.delay_unit}" for report in reports]
+    parts = [f"{told(report.total.entered)} vehicles came, {told(report.total.left)} were served, delay "
+             f"{told(units.hours(report.total.delay))} {units.delay_unit}" for report in reports]
     marks = [""] if len(reports) == 1 else ["A: ", "B: "]
     return f"{time}. " + "; ".join(mark + part for mark, part in zip(marks, parts))
 

@@ -11,6 +11,7 @@ from typing import Any, ParamSpec
 from matplotlib import rc_context
 from matplotlib.artist import Artist
 from matplotlib.axes import Axes
+from matplotlib.axis import Axis
 from matplotlib.backends.backend_agg import FigureCanvasAgg
 from matplotlib.colors import LinearSegmentedColormap
 from matplotlib.figure import Figure
@@ -104,10 +105,16 @@ def time_axis(axes: Axes, report: Report, begin: float | None = None, end: float
     if not report.units.known:
         axes.set_xlabel("Time (steps)")
         return
-    width = next((span for span in SPANS if (last - first) / span <= 10), SPANS[-1])
-    axes.xaxis.set_major_locator(MultipleLocator(width))
-    axes.xaxis.set_major_formatter(FuncFormatter(lambda value, _: clock_text(value)))
+    width = clock_axis(axes.xaxis, first, last)
     axes.set_xlabel("Time of day (h:min)" if width >= 60 else "Time of day (h:min:s)")
+
+
+def clock_axis(axis: Axis, first: float, last: float) -> int:
+    """Gives an axis from one second of the day to another round clock times, and gives the seconds between them."""
+    width = next((span for span in SPANS if (last - first) / span <= 10), SPANS[-1])
+    axis.set_major_locator(MultipleLocator(width))
+    axis.set_major_formatter(FuncFormatter(lambda value, _: clock_text(value)))
+    return width
 
 
 def span_of(report: Report, begin: str | None, end: str | None) -> tuple[float, float]:

@@ -3,14 +3,12 @@
 from __future__ import annotations
 
 from matplotlib.figure import Figure
-from matplotlib.ticker import FuncFormatter
 
 from ..problem import Problem
 from ..report.by_road import network_states
 from ..report.reading import Report
 from ..study.quantities import duration
-from ..units import clock_text
-from .figure import DENSITY, beside, drawing, figure, head, moments
+from .figure import DENSITY, beside, clock_axis, drawing, figure, head, moments
 
 SPAN = 300  # seconds
 SPANS = 60  # so many where the seconds of a step aren't known
@@ -30,8 +28,10 @@ def draw(report: Report, interval: str | None = None) -> Figure:
     axes.plot(states.density, states.flow, color="#999999", linewidth=0.8, zorder=1)
     points = axes.scatter(states.density, states.flow, c=clocks, cmap=DENSITY, s=16, edgecolors="#333333",
                           linewidths=0.4, zorder=2)
-    form = FuncFormatter(lambda value, _: clock_text(value) if known else f"{value:g}")
-    drawn.colorbar(points, ax=axes, pad=0.02, format=form).set_label("Time of day (h:min)" if known else "Time (steps)")
+    bar = drawn.colorbar(points, ax=axes, pad=0.02)
+    bar.set_label("Time of day (h:min)" if known else "Time (steps)")
+    if known:
+        clock_axis(bar.ax.yaxis, min(clocks), max(clocks))
     axes.set_xlim(left=0)
     axes.set_ylim(bottom=0)
     axes.set_xlabel("Mean density (vehicles/km in a lane)" if known else "Mean density (vehicles in a cell)")

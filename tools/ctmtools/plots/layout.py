@@ -6,16 +6,19 @@ import math
 from collections import deque
 from collections.abc import Iterator, Sequence
 
+import networkx
+
 from ..report.reading import Report
 from ..report.routes import main_route
+from .middles import Point, middle, middles
 
-Point = tuple[float, float]
 Line = list[Point]
 Joint = tuple[str, str]  # a sort of joint, and the cell that names it
 
 TURN = math.radians(32)  # by which a branch leaves the road that it leaves or joins
 BEND = 0.25  # of the way between two placed ends by which a road bends aside
 STUB = 0.6  # of a mean road cell: how long a gate or an exit is
+MOST_WITHIN = 2  # cells of a way within a junction that is drawn between the roads around it
 
 
 def lay_out(report: Report) -> dict[str, Line]:
@@ -36,8 +39,9 @@ class Map:
         self.side = 1
         self.chains = self._chains()
         self._place_points()
-        self.given = set(self.places)  # the joints that the points of the study place
         self._place_ends()
+        self._settle()
+        self.given = set(self.places)  # the joints that the points of the study place
         self._place_chain(main_route(self.network), (0.0, 0.0), 0.0)
         self._grow()
 
@@ -96,6 +100,38 @@ class Map:
                 self._along([cell], [_beyond(line[1], line[0], self.stub), line[0]])
             else:
                 self._along([cell], [line[-1], _beyond(line[-2], line[-1], self.stub)])
+
+    def _settle(self) -> None:
+        """Junctions between roads whose points are given: the joints within them."""
+        joints = networkx.Graph()
+        for run in (run for chain in self.chains for run in self._bare(chain)):
+            joints.add_edge(self._head(run[0]), self._tail(run[-1]), run=run)
+        within = joints.subgraph([joint for joint in joints if joint not in self.places])
+        for loose in list(networkx.connected_components(within)):
+            junction = joints.edge_subgraph(joints.edges(loose))
+            placed = [self.places[joint] for joint in junction if joint in self.places]
+            if len(placed) > 1 and all(len(run) <= MOST_WITHIN for _, _, run in junction.edges(data="run")):
+                for joint in loose:
+                    self._place_loose_end(joint, middle(placed))
+                self.places |= middles(junction, self.places)
+
+    def _place_loose_end(self, joint: Joint, centre: Point) -> None:
+        """The end of an exit or a gate at a junction: straight on from the road with which it shares most traffic."""
+        sort, cell = joint
+        graph, come = self.network.graph, self.report.cells.come
+        if sort == "joint" or cell not in self.kinds or self.kinds[cell] == "road":
+            return
+        way, beside = [cell], graph.predecessors if sort == "sink" else graph.successors
+        while way[-1] not in self.lines:
+            following = [other for other in beside(way[-1]) if other not in way]
+            if not following:
+                return
+            way.append(max(following, key=lambda other: come[other]))
+        line = self.lines[way[-1]]
+        one, two = line[-2:] if sort == "sink" else (line[1], line[0])
+        ahead = _beyond(one, two, 1.0)
+        across = (centre[0] - two[0]) * (ahead[0] - two[0]) + (centre[1] - two[1]) * (ahead[1] - two[1])
+        self.places[joint] = _beyond(one, two, 2 * max(across, 0.0) + self.stub)
 
     def _along(self, cells: Sequence[str], points: Sequence[Point]) -> None:
         """Lays cells along a line of points, each with its part of the length."""

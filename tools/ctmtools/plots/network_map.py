@@ -2,7 +2,7 @@
 
 from __future__ import annotations
 
-from collections.abc import Mapping, Sequence
+from collections.abc import Mapping
 
 import numpy
 import pandas
@@ -24,7 +24,7 @@ ENDS[False] = [ENDS[True][1], ENDS[True][0], *ENDS[True][2:]]
 ALONG = [Place(0, 7, upright="bottom"), Place(0, -7, upright="top"), Place(7, 0, "left"), Place(-7, 0, "right"),
          Place(6, -6, "left", "top"), Place(-6, 6, "right", "bottom"), Place(6, 6, "left", "bottom"),
          Place(-6, -6, "right", "top")]
-MOST_CROSSED = 3  # points of lines that the name of a road may stand over
+MOST_CROSSED = 9  # points of lines that the name of a road may stand over
 
 
 @drawing
@@ -39,8 +39,8 @@ def draw(report: Report) -> Figure:
     drawn, axes = figure(size=(8, _height(lines)))
     axes.add_collection(LineCollection([lines[cell] for cell in roads], colors="#888888", linewidths=LEAST_WIDTH + 1.2,
                                        capstyle="round"))
-    body = LineCollection([lines[cell] for cell in roads], cmap=DENSITY, capstyle="butt",
-                          linewidths=LEAST_WIDTH + (MOST_WIDTH - LEAST_WIDTH) * numpy.sqrt(dense / most))
+    widths = LEAST_WIDTH + (MOST_WIDTH - LEAST_WIDTH) * numpy.sqrt(dense / most)
+    body = LineCollection([lines[cell] for cell in roads], cmap=DENSITY, capstyle="butt", linewidths=widths)
     body.set_array(dense)
     body.set_clim(0, most)
     axes.add_collection(body)
@@ -55,7 +55,7 @@ def draw(report: Report) -> Figure:
     bar.outline.set_visible(False)
     head(axes, f"{report.title}: {delay.sum():,.1f} {units.delay_unit} of delay" +
          ("" if units.points else ", schematic"))
-    nameless = _names(axes, report, lines, delay)
+    nameless = _names(axes, report, lines, delay, dict(zip(roads, widths)))
     bar.set_label(f"{scale}\n{f'{nameless} names are left out' if nameless else ' '}")
     return drawn
 
@@ -75,10 +75,10 @@ def _arrows(axes: Axes, report: Report, lines: Mapping[str, Line]) -> None:
                           arrowprops={"arrowstyle": "-|>", "color": "#222222", "linewidth": 1.2})
 
 
-def _names(axes: Axes, report: Report, lines: Mapping[str, Line], delay: pandas.Series) -> int:
+def _names(axes: Axes, report: Report, lines: Mapping[str, Line], delay: pandas.Series, widths: Mapping[str, float]) -> int:
     """Names gates, with their delay, exits and roads, and gives how many names found no room.
 
-    Those with the most delay come first.
+    Those with the most delay come first. `widths` are those of the roads' lines, in points.
     """
     labels = []
     for cell, kind in report.need_network().kinds.items():
@@ -87,7 +87,7 @@ def _names(axes: Axes, report: Report, lines: Mapping[str, Line], delay: pandas.
     for road, cells in report.units.roads.items():
         labels.append((delay[cells].sum(), _road_label(f"road {road}", lines[cells[len(cells) // 2]])))
     labels.sort(key=lambda row: -row[0])
-    return len(write(axes, [label for _, label in labels], shunned=_points(axes, list(lines.values()))))
+    return len(write(axes, [label for _, label in labels], shunned=_points(axes, lines, widths)))
 
 
 def _end_label(report: Report, lines: Mapping[str, Line], cell: str, delay: float) -> Label:
@@ -102,13 +102,16 @@ def _road_label(text: str, line: Line) -> Label:
     return Label(text, middle, ALONG, {"fontsize": 9, "color": "#333333", "path_effects": HALO}, MOST_CROSSED)
 
 
-def _points(axes: Axes, lines: Sequence[Line]) -> numpy.ndarray:
-    """Points along all lines, in dots."""
+def _points(axes: Axes, lines: Mapping[str, Line], widths: Mapping[str, float]) -> numpy.ndarray:
+    """Points along all lines and along both their edges, in dots."""
     axes.figure.draw_without_rendering()
     found = []
-    for line in lines:
+    for cell, line in lines.items():
         ends = axes.transData.transform(line)
+        half = widths.get(cell, LEAST_WIDTH) / 2 * axes.figure.dpi / 72
         for one, two in zip(ends, ends[1:]):
-            count = max(2, int(numpy.hypot(*(two - one)) / FINE) + 1)
-            found.append(numpy.linspace(one, two, count))
+            way = float(numpy.hypot(*(two - one)))
+            across = half * numpy.array([one[1] - two[1], two[0] - one[0]]) / (way or 1.0)
+            count = max(2, int(way / FINE) + 1)
+            found += [numpy.linspace(one + side * across, two + side * across, count) for side in (-1, 0, 1)]
     return numpy.concatenate(found) if found else numpy.empty((0, 2))

@@ -2,7 +2,7 @@
 
 from __future__ import annotations
 
-from collections.abc import Iterator, Mapping
+from collections.abc import Iterator
 from dataclasses import dataclass, field
 from itertools import pairwise
 
@@ -10,6 +10,7 @@ import networkx
 import numpy
 import pandas
 
+from .heads import Span, Spans, before_closure, heads
 from .reading import Report
 
 SLOW = 0.8  # a cell is in a queue where its traffic moves slower than this part of the free-flow speed
@@ -18,8 +19,6 @@ CYCLES = 2  # of a signal; a queue that comes back within so many of them is the
 SHORT = 120  # seconds; a queue that has cleared within them is a short one
 SHORT_STEPS = 12  # the same where the length of a step isn't known
 
-Span = tuple[int, int]  # the numbers of recorded steps [from, to)
-Spans = Mapping[str, list[Span]]  # when each cell of a queue stood in it
 Node = tuple[str, int]  # a cell and the number of one of its spans
 
 
@@ -84,6 +83,7 @@ def queues_in(report: Report) -> list[Queue]:
     for up, down in graph.edges:
         if up in runs and down in runs:
             joined.add_edges_from(((up, i), (down, j)) for i, j in _touching(runs[up], runs[down]))
+    _join_closures(report, joined, runs)
     spells = _join_returning(report, joined, runs)
     waits = _waits(report)
     places = {cell: i for i, cell in enumerate(stands.columns)}
@@ -159,17 +159,28 @@ def _spans(nodes: list[Node], runs: Spans) -> dict[str, list[Span]]:
     return spans
 
 
+def _join_closures(report: Report, joined: networkx.Graph, runs: Spans) -> None:
+    """Joins what is slow in a closure with the queue before it, though cells between them may be fast enough."""
+    graph, closed = report.need_network().graph, report.need_network().limits_of
+    for cell, i in [node for node in joined if node[0] in closed]:
+        if any(graph.has_edge(other, cell) for other, _ in joined[cell, i]):
+            continue  # what it is joined to upstream is joined to the queue before the closure
+        span = runs[cell][i]
+        for up in before_closure(report, span[0], cell):
+            joined.add_edges_from(((cell, i), (up, j)) for _, j in _touching([span], runs.get(up, [])))
+
+
 def _join_returning(report: Report, joined: networkx.Graph, runs: Spans) -> dict[Node, int]:
     """Joins the queues that began at one cell and came back within two cycles.
 
     Gives for each node 1 where it stands for a queue as it was before, and else 0.
     """
-    graph, times = report.need_network().graph, report.times
+    times = report.times
     spells = dict.fromkeys(joined, 0)
     came: dict[str, list[tuple[int, int, Node]]] = {}
     for nodes in list(networkx.connected_components(joined)):
         spans = _spans(sorted(nodes), runs)
-        begin, origin = _origins(spans, graph)[0]
+        begin, origin = heads(report, spans)[0]
         first = min(nodes)
         spells[first] = 1
         came.setdefault(origin, []).append((begin, _end(spans), first))
@@ -188,7 +199,7 @@ def _end(spans: Spans) -> int:
 def _queue(report: Report, spans: Spans, waits: pandas.DataFrame, spells: int) -> Queue:
     """The queue of the spans of cells that hang together."""
     times = report.times
-    origins = _origins(spans, report.need_network().graph)
+    origins = heads(report, spans)
     (begin, origin), end = origins[0], _end(spans)
     farthest, reach = _reach(report, origin, spans)
     sums = numpy.zeros(end - begin)
@@ -201,21 +212,6 @@ def _queue(report: Report, spans: Spans, waits: pandas.DataFrame, spells: int) -
                  int(times[spans[farthest][0][0]]), float((sums * numpy.diff(times)[begin:end]).sum()),
                  float(sums[most]), int(times[begin + most]), spells, spans,
                  [Origin(cell, int(times[first]), _reach(report, cell, spans)[1]) for first, cell in origins[1:]])
-
-
-def _origins(spans: Spans, graph: networkx.DiGraph) -> list[tuple[int, str]]:
-    """The cells where a part of the queue began by itself, and when: no cell behind it stood in the queue then."""
-    firsts: dict[str, int] = {}
-    for cell, own in spans.items():
-        for begin, _ in own:
-            behind = any(first <= begin <= last
-                         for down in graph.successors(cell) for first, last in spans.get(down, ()))
-            if not behind and cell not in firsts:
-                firsts[cell] = begin
-    if not firsts:  # a ring that is full all round
-        cell = min(spans, key=lambda name: spans[name][0][0])
-        firsts[cell] = spans[cell][0][0]
-    return sorted((begin, cell) for cell, begin in firsts.items())
 
 
 def _ways(report: Report, origin: str, spans: Spans) -> dict[str, float]:

@@ -6,7 +6,7 @@ import difflib
 from collections.abc import Callable, Sequence
 from typing import Any, TypeVar, overload
 
-from ..problem import Problem
+from ..problem import NoSuchKey, Problem
 from .quantities import shown
 
 MISSING = object()
@@ -64,7 +64,7 @@ class Entries:
             if name not in self.known:
                 near = difflib.get_close_matches(name, self.known, 1)
                 hint = f"is {near[0]} meant?" if near else f"known are {', '.join(self.known)}"
-                raise Problem(f"{self.key(name)}: no such key; {hint}")
+                raise NoSuchKey(f"{self.key(name)}: no such key; {hint}")
 
 
 def _list(value: Any, key: str) -> list[Any]:

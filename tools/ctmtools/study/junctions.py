@@ -3,6 +3,7 @@
 from __future__ import annotations
 
 from collections.abc import Collection, Sequence
+from difflib import get_close_matches
 from fractions import Fraction
 
 from ..problem import Problem
@@ -35,13 +36,15 @@ class Junctions:
         """The cells of a road that a place of the study names."""
         if road not in self.layout.cells:
             names = [*self.study.roads, *self.study.gates, *self.study.exits]
-            known = f"the study has {', '.join(names)}" if len(names) <= 12 else f"the study has {len(names)} others"
+            near = get_close_matches(road, names, 1)
+            known = f"is {near[0]} meant?" if near else f"the study has {', '.join(names)}" if len(names) <= 12 else \
+                f"the study has {len(names)} others"
             raise Problem(f"{place}: there is no road {road}; {known}")
         return self.layout.cells[road]
 
     def boundary(self, road: str, kilometre: Fraction, what: str) -> int:
         """The number of cells before the boundary that lies nearest to a kilometre of a road, noted where it moves."""
-        self._within(road, kilometre, what)
+        self._within(road, kilometre, f"{what}.at")
         boundary = self.layout.boundary(road, kilometre)
         self.note_place(road, kilometre, boundary, what)
         return boundary
@@ -62,8 +65,8 @@ class Junctions:
         """The cells of a part of a road, at least one, from the boundary nearest to its start to that of its end."""
         cells = self.road_cells(part.road, part.place)
         end = self.study.roads[part.road].length if part.end_km is None else part.end_km
-        self._within(part.road, part.start_km, f"{part.place}, from")
-        self._within(part.road, end, f"{part.place}, to")
+        self._within(part.road, part.start_km, f"{part.place}.from")
+        self._within(part.road, end, f"{part.place}.to")
         if end <= part.start_km:
             raise Problem(f"{part.place}.to: must be behind from")
         first = min(self.layout.boundary(part.road, part.start_km), len(cells) - 1)
@@ -81,7 +84,7 @@ class Junctions:
         if signal.at is None:
             return cells[-1].name
         what = f"{signal.place} at km {float(signal.at):g}"
-        self._within(signal.road, signal.at, what)
+        self._within(signal.road, signal.at, f"{signal.place}.at")
         boundary = max(1, self.layout.boundary(signal.road, signal.at))
         self.note_place(signal.road, signal.at, boundary, what)
         return cells[boundary - 1].name

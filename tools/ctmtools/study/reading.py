@@ -62,7 +62,7 @@ def study_of(values: dict[str, Any], path: Path) -> Study:
     try:
         return _study(Entries(values, ""), path)
     except Problem as problem:
-        raise Problem(f"{path}: {problem}") from None
+        raise type(problem)(f"{path}: {problem}") from None
 
 
 def _study(entries: Entries, path: Path) -> Study:
@@ -113,6 +113,8 @@ def _lane(table: Entries) -> dict[str, Fraction]:
     lane = {name: table.take(name, LANE_READERS[name]) for name in LANE if table.has(name)}
     for name in LANE:
         table.known.append(name)
+        if lane.get(name) == 0:
+            raise Problem(f"{table.key(name)}: must be above 0")
     table.done()
     return lane
 

@@ -8,7 +8,7 @@ from pathlib import Path
 
 import pandas
 
-from ..problem import Problem
+from ..problem import NoSuchKey, Problem
 from ..program import program_path, takes
 from ..running import processors
 from ..study.network_text import build
@@ -33,6 +33,8 @@ class Sweep:
         self.keys = [one.key for one in variations]
         self.tasks = [Task(values, path, changes, program, every) for changes in combinations(variations)]
         self.title = study(Task(values, str(source), {}, program)).title
+        for one in variations:
+            _need_key(Task(values, path, {one.key: one.values[0]}, program))
         if not takes("--every"):
             raise Problem("this ctm takes no --every, so it records nothing; build the newest")
         self.marks = [fingerprint(task) for task in self.tasks]
@@ -79,3 +81,13 @@ class Sweep:
         for key in self.keys:
             frame[key] = pandas.to_numeric(frame[key], errors="ignore")
         return frame
+
+
+def _need_key(task: Task) -> None:
+    """Refuses a key that the study doesn't have; a value that it can't have is a matter of its row."""
+    try:
+        study(task)
+    except NoSuchKey:
+        raise
+    except Problem:
+        pass

@@ -10,7 +10,7 @@ from typing import Any
 
 import numpy
 
-from ..problem import Problem, one_line
+from ..problem import NoSuchKey, Problem, one_line
 from ..report.queues import queues_in
 from ..report.reading import Report
 from ..report.travel import chain_of, trips
@@ -92,7 +92,7 @@ def study(task: Task) -> Study:
         if not isinstance(factor, Fraction) or factor < 0:
             raise Problem(f"--vary demand: expected factors, 0 or more, found {factor}")
         if name and name not in made.gates:
-            raise Problem(f"--vary demand.{name}: the study has no gate {name}")
+            raise NoSuchKey(f"--vary demand.{name}: the study has no gate {name}")
         for gate in made.gates.values():
             if name in ("", gate.name):
                 for flow in gate.demand:

@@ -9,7 +9,7 @@ from dataclasses import dataclass
 from fractions import Fraction
 from typing import Any
 
-from ..problem import Problem
+from ..problem import NoSuchKey, Problem
 
 MOST_VALUES = 1000
 MOST_DENOMINATOR = 10**9  # 0.1 + 0.2 of Python is 3/10
@@ -91,16 +91,16 @@ def _set(values: Any, parts: Sequence[str], value: object, key: str) -> None:
     if isinstance(values, list):
         if name.isdigit():
             if not 1 <= int(name) <= len(values):
-                raise Problem(f"--vary {key}: there are {len(values)} of these")
+                raise NoSuchKey(f"--vary {key}: there are {len(values)} of these")
             if not rest:
-                raise Problem(f"--vary {key}: names a table and no key of it")
+                raise NoSuchKey(f"--vary {key}: names a table and no key of it")
             _set(values[int(name) - 1], rest, value, key)
         else:
             for entry in values:
                 _set(entry, parts, value, key)
         return
     if not isinstance(values, dict) or rest and name not in values:
-        raise Problem(f"--vary {key}: the study has no {name} there")
+        raise NoSuchKey(f"--vary {key}: the study has no {name} there")
     if rest:
         _set(values[name], rest, value, key)
     else:
