@@ -7,6 +7,7 @@ pub mod Input
 pub mod NetworkInput
 pub mod Recording
 pub mod RecutMode
+pub mod Recutting
 pub mod ResumeMode
 pub mod RunMode
 pub mod SampleMode

@@ -7,6 +7,7 @@
 //!   `sample_mode`, `save_mode`, `resume_mode`, `choose_mode`, `recut_mode`, `cut_mode`, `check_mode`, `convert_mode`, each with its definition of the
 //!   same name in specs/. The tables by mode are `text_of` here, `reads_source` and `most_input` in `input`, and those of
 //!   specs/Answer.antt and specs/Input.antt.
+//! - `recutting` has [`recut_report`], the report of a run in parts, each in a cutting of its own.
 //! - `network_input` reads a network, or tells its fault; `recording` says how much a run may record, and `used_cutting`
 //!   in which regions it is.
 //! - `command_line` has the words that a program was called with.
@@ -23,6 +24,7 @@ mod input;
 mod network_input;
 mod recording;
 mod recut_mode;
+mod recutting;
 mod resume_mode;
 mod run_mode;
 mod sample_mode;
@@ -34,3 +36,4 @@ mod words;
 pub use call::ctm;
 pub use command_line::given_words;
 pub use network_input::network_in;
+pub use recutting::recut_report;
