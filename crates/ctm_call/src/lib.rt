@@ -4,9 +4,9 @@
 //! - `call` has [`ctm`], whose contract is the theorem from the words and the bytes of the input to the bytes on standard
 //!   output. `call_ending` writes the text that `answer` finds, or the line that says why there is none.
 //! - `answer` has the words read, brings the `input`, and has the mode find the text: `run_mode`, `watch_mode`,
-//!   `sample_mode`, `save_mode`, `resume_mode`, `choose_mode`, `recut_mode`, `cut_mode`, `check_mode`, `convert_mode`, each with its definition of the
-//!   same name in specs/. The tables by mode are `text_of` here, `reads_source` and `most_input` in `input`, and those of
-//!   specs/Answer.antt and specs/Input.antt.
+//!   `sample_mode`, `save_mode`, `resume_mode`, `choose_mode`, `recut_mode`, `cut_mode`, `check_mode`, `convert_mode`,
+//!   each with its definition of the same name in specs/. The tables by mode are `text_of` here, `reads_source` and
+//!   `most_input` in `input`, and those of specs/Answer.antt and specs/Input.antt.
 //! - `recutting` has [`recut_report`], the report of a run in parts, each in a cutting of its own.
 //! - `network_input` reads a network, or tells its fault; `recording` says how much a run may record, and `used_cutting`
 //!   in which regions it is.
