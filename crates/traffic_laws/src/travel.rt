@@ -11,7 +11,8 @@ pub struct Travel {
 }
 
 /// When part `k` passes a cell, by its curves. Parts are numbered from 0 in the order in which they come, those first that
-/// the cell held at step 0, of which there are `first`. The curves have all that has come and gone by the steps 0, 1 and so on.
+/// the cell held at step 0, of which there are `first`. The curves have all that has come and gone by the steps 0, 1 and
+/// so on.
 pub fn travel_steps(first: u64, come: &[u64], gone: &[u64], k: u64) -> Travel
     ensures enters { result.enters ≡ enters_at first come.now k }
     ensures leaves { result.leaves ≡ leaves_at gone.now k }
