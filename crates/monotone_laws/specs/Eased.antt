@@ -23,7 +23,7 @@ pub record IsEased (one two : Network) : Type 0 where
   pub capacity : (i t : ℕ) → i < length one.cells → t < one.steps → capacity_at one.plan i t ≤ capacity_at two.plan i t
   pub green : (i t : ℕ) → i < length one.cells → t < one.steps → green_at one.plan i t ≡ true → green_at two.plan i t ≡ true
 
--- each is eased against the other: they differ in the names of their cells and in their demands alone
+-- each is eased against the other, so that rooms, capacities and greens are the same
 pub record AreAlike (one two : Network) : Type 0 where
   pub there : IsEased one two
   pub back : IsEased two one
