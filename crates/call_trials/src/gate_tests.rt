@@ -1,7 +1,6 @@
-use crate::calling::{call_past, lines};
+use crate::calling::call_gives;
 use crate::gates::{Glance, Meeting, Notes};
 use std::sync::atomic::Ordering;
-use std::test::Fail;
 
 // A gate, two roads and an exit, each a region of its own where there are four.
 const CHAIN: &str =
@@ -30,98 +29,90 @@ row,a,0.000000,0.000000,0.000000,0.000000; row,b,0.000000,0.000000,0.000000,0.00
 row,x,0.000000,0.000000,0.000000,0.000000";
 
 #[test]
-fn two_workers_work_at_once(rt: HostRuntime) -> Result<(), Fail> {
+fn two_workers_work_at_once(rt: HostRuntime) {
     let gate = Meeting::new();
-    let file = lines(rt.alloc(), CHAIN)?;
-    let ended = call_past(&rt, rt.alloc(), "run --regions 4 --workers 2", file, &gate)?;
-    assert_eq!(rt;
-        ended.out.bytes(),
-        lines(rt.alloc(), CHAIN_REPORT)?.as_slice()
+    let words = "run --regions 4 --workers 2";
+    call_gives(
+        &rt,
+        rt.alloc(),
+        words,
+        &[CHAIN],
+        &gate,
+        &[CHAIN_REPORT],
+        true,
     );
     assert_eq!(rt; gate.met(), 2, "each waited for the other");
     assert_eq!(rt;
         gate.notes.steps(),
         [ALL_FOUR; 4],
-        "each region was held at each step"
+        "each was held at each step"
     );
-    Ok(())
 }
 
 #[test]
-fn a_made_network_is_run_in_its_regions(rt: HostRuntime) -> Result<(), Fail> {
+fn a_made_network_is_run_in_its_regions(rt: HostRuntime) {
     let gate = Notes::new();
     let words = "sample --size 1 --seed 0 --regions 3 --workers 2";
-    let ended = call_past(&rt, rt.alloc(), words, Vec::new(rt.alloc()), &gate)?;
+    call_gives(&rt, rt.alloc(), words, &[], &gate, &[SAMPLED], true);
     let all = (1 << 42) - 1;
     assert_eq!(rt; gate.steps(), [all, all, all, 0]);
-    assert_eq!(rt; ended.out.bytes(), lines(rt.alloc(), SAMPLED)?.as_slice());
-    Ok(())
 }
 
 #[test]
-fn a_shot_is_taken_while_a_worker_is_on_its_way(rt: HostRuntime) -> Result<(), Fail> {
+fn a_shot_is_taken_while_a_worker_is_on_its_way(rt: HostRuntime) {
     let gate = Glance::new();
-    let file = lines(rt.alloc(), CHAIN)?;
     let words = "watch --shots 1 --regions 4 --workers 1";
-    let ended = call_past(&rt, rt.alloc(), words, file, &gate)?;
+    let texts = [CHAIN_SHOT, CHAIN_REPORT];
+    call_gives(&rt, rt.alloc(), words, &[CHAIN], &gate, &texts, true);
     assert_eq!(rt;
         gate.seen.load(Ordering::SeqCst),
         2,
         "each waited for the other"
     );
-    let text = format!(in rt.alloc(); "{CHAIN_SHOT}; {CHAIN_REPORT}")?;
-    assert_eq!(rt; ended.out.bytes(), lines(rt.alloc(), &text)?.as_slice());
-    Ok(())
 }
 
 #[test]
-fn workers_that_are_watched_take_every_region_through_every_step(
-    rt: HostRuntime,
-) -> Result<(), Fail> {
+fn workers_that_are_watched_take_every_region_through_every_step(rt: HostRuntime) {
     let gate = Notes::new();
-    let file = lines(rt.alloc(), CHAIN)?;
     let words = "watch --shots 1 --regions 4 --workers 2";
-    let ended = call_past(&rt, rt.alloc(), words, file, &gate)?;
-    assert_eq!(rt; gate.steps(), [ALL_FOUR; 4]);
-    assert!(rt;
-        ended
-            .out
-            .bytes()
-            .ends_with(&lines(rt.alloc(), CHAIN_REPORT)?)
+    call_gives(
+        &rt,
+        rt.alloc(),
+        words,
+        &[CHAIN],
+        &gate,
+        &[CHAIN_REPORT],
+        false,
     );
-    Ok(())
+    assert_eq!(rt; gate.steps(), [ALL_FOUR; 4]);
 }
 
 #[test]
-fn a_run_is_saved_while_a_worker_is_on_its_way(rt: HostRuntime) -> Result<(), Fail> {
+fn a_run_is_saved_while_a_worker_is_on_its_way(rt: HostRuntime) {
     let gate = Glance::new();
-    let file = lines(rt.alloc(), CHAIN)?;
     let words = "save --until 0 --regions 4 --workers 1";
-    let ended = call_past(&rt, rt.alloc(), words, file, &gate)?;
+    let texts = [CHAIN_AHEAD, CHAIN];
+    call_gives(&rt, rt.alloc(), words, &[CHAIN], &gate, &texts, true);
     assert_eq!(rt;
         gate.seen.load(Ordering::SeqCst),
         2,
         "each waited for the other"
     );
-    let text = format!(in rt.alloc(); "{CHAIN_AHEAD}; {CHAIN}")?;
-    assert_eq!(rt; ended.out.bytes(), lines(rt.alloc(), &text)?.as_slice());
-    Ok(())
 }
 
 #[test]
-fn regions_go_on_from_their_own_steps(rt: HostRuntime) -> Result<(), Fail> {
+fn regions_go_on_from_their_own_steps(rt: HostRuntime) {
     let gate = Notes::new();
-    let text = format!(in rt.alloc(); "{CHAIN_AHEAD}; {CHAIN}")?;
-    let saved = lines(rt.alloc(), &text)?;
-    let ended = call_past(&rt, rt.alloc(), "resume --workers 2", saved, &gate)?;
-    assert_eq!(rt;
-        gate.steps(),
-        [0b1110, ALL_FOUR, ALL_FOUR, ALL_FOUR],
-        "the gate was held from step 1 on"
+    let saved = [CHAIN_AHEAD, CHAIN];
+    call_gives(
+        &rt,
+        rt.alloc(),
+        "resume --workers 2",
+        &saved,
+        &gate,
+        &[CHAIN_REPORT],
+        true,
     );
-    assert_eq!(rt;
-        ended.out.bytes(),
-        lines(rt.alloc(), CHAIN_REPORT)?.as_slice()
-    );
-    Ok(())
+    let held = [0b1110, ALL_FOUR, ALL_FOUR, ALL_FOUR];
+    assert_eq!(rt; gate.steps(), held, "the gate was held from step 1 on");
 }
