@@ -12,6 +12,7 @@ import shutil
 import sys
 
 from crates import PARTS
+from together import TOGETHER, is_of
 
 
 class Rooms:
@@ -30,9 +31,7 @@ class Rooms:
         names = [*self.crates.below(name), name]
         for it in names:
             to = self.base / name / "crates" / it
-            for part in PARTS:
-                if (self.crates.folder(it) / part).is_dir():
-                    shutil.copytree(self.crates.folder(it) / part, to / part)
+            self.copy_sources(it, to)
             with self.locked(it):
                 out = self.crates.folder(it) / "out"
                 copied(out / "rlib", to / "out/rlib", os.link)
@@ -42,6 +41,31 @@ class Rooms:
                         shutil.copy2(path, to / "out")
         lines = "".join(self.crates.lines[it] + "\n" for it in names)
         (self.base / name / "crates.txt").write_text(lines)
+
+    def copy_sources(self, name, to):
+        for part in PARTS:
+            if (self.crates.folder(name) / part).is_dir():
+                shutil.copytree(self.crates.folder(name) / part, to / part)
+
+    def fill_together(self, names):
+        """Makes the folder in which these crates are checked over their sources."""
+        folder = self.base / TOGETHER / "crates"
+        for it in dict.fromkeys(below for name in names for below in [*self.crates.below(name), name]):
+            if it in names:
+                self.copy_sources(it, folder / it)
+            else:
+                with self.locked(it):
+                    copied(self.crates.folder(it) / "out/rlib", folder / it / "out/rlib", os.link)
+        (folder / TOGETHER / "src").mkdir(parents=True)
+        (folder / TOGETHER / "src/lib.rt").write_text("#![tactic(auto)]\n")
+
+    def share_out(self, names):
+        """Gives each of these crates what the check of them all has kept."""
+        for name in names:
+            with self.locked(name):
+                copied(self.folder(TOGETHER) / "out/incremental", self.crates.folder(name) / "out/incremental", link_proved,
+                       lambda _, found: [it for it in found if not is_of(name, it)])
+        shutil.rmtree(self.base / TOGETHER, ignore_errors=True)
 
     def empty(self, name, is_proved):
         """Moves back what was made; of a proof that failed or was broken off what it keeps for the next one."""
@@ -72,7 +96,7 @@ class Rooms:
             os.close(held)
 
 
-def copied(folder, to, copy):
+def copied(folder, to, copy, ignore=None):
     """Copies a folder, where it is there; a link in place of a copy is taken where the file system has links."""
     def either(one, other):
         try:
@@ -82,7 +106,7 @@ def copied(folder, to, copy):
 
     to.parent.mkdir(parents=True, exist_ok=True)
     if folder.is_dir():
-        shutil.copytree(folder, to, copy_function=either)
+        shutil.copytree(folder, to, copy_function=either, ignore=ignore)
 
 
 def link_proved(one, other):
