@@ -1,4 +1,4 @@
-use Rattle.std.proofs.Common.{◌≡◌, length, sym, ap, subst, ◌∙◌, arith}
+use Rattle.std.proofs.Common.{length, sym, ap, subst, arith}
 use Rattle.std.proofs.lemmas.List.FromFn.{length-map-range_with_len}
 use Rattle.ctm_call.specs.Recutting.{part_cutting}
 use Rattle.ctm_call.proofs.RecutParts.{AreOneEach, cuttings-one_each}

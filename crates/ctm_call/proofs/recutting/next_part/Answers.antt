@@ -1,5 +1,4 @@
-use Rattle.std.specs.Prelude.{slice_index}
-use Rattle.std.proofs.Common.{◌≡◌, ◌≤◌, length, sym, ap, ◌∙◌, arith}
+use Rattle.std.proofs.Common.{length, sym, ap, ◌∙◌, arith}
 use Rattle.region_cut.specs.Chart.{chart_of}
 use Rattle.ctm_call.specs.Recutting.{step_of}
 use Rattle.ctm_call.proofs.RecutParts.{start-below}

@@ -1,5 +1,5 @@
 use Rattle.std.specs.Vec.Iter.{into_iter_items}
-use Rattle.std.proofs.Common.{◌≡◌, ◌+◌, ◌≤◌, length, arith}
+use Rattle.std.proofs.Common.{length, arith}
 use Rattle.ctm_call.proofs.RecutParts.{others-one_each}
 use Rattle.ctm_call.proofs.recutting.recut_report.Goals as goal
 
