@@ -39,8 +39,8 @@ def command(report: str, road: str | None, begin: str | None, end: str | None, e
             picture: str | None, units: str | None, network: str | None) -> None:
     """Tell the travel times along a road or a route, by the time of setting out.
 
-    They come from the curves of arrival and departure, since who comes first leaves first. With each step recorded
-    they are exact for the model.
+    They come from the curves of arrival and departure, since who comes first leaves first. Flows are taken as even
+    between records, also within a step.
     """
     read = read_report(report, units, network)
     cells = chain_of(read, begin, end, road)

@@ -1,7 +1,7 @@
 """Travel times along a chain of cells, from the curves of arrival and departure of each cell.
 
-A cell is left in the order in which it was entered, so who enters as the N-th leaves it when N have left. Where each
-step is recorded this is exact for the model; between recorded steps flows are taken as even.
+A cell is left in the order in which it was entered, so who enters as the N-th leaves it when N have left. Of those who
+enter between two records the one in the middle is followed, and flows are taken as even there, also within a step.
 """
 
 from __future__ import annotations
