@@ -10,8 +10,6 @@ PARTS = ("src", "specs", "proofs")
 PROGRAMS = {"ctm_program": ("./ctm", ["run"]), "ctm_wait": ("./ctm-wait", ["1"])}
 SECONDS_A_LINE = 0.06  # of a crate that the table of check times doesn't have
 SECONDS_KEPT = 1  # of a crate that is built already
-# The libraries that stand on this crate would be proved nearly one after the other, so from nothing they are checked together.
-BELOW_THE_TAIL = "region_step"
 
 
 class Crates:
@@ -28,7 +26,6 @@ class Crates:
                 self.lines[head.split()[0]] = line
                 listed[head.split()[0]] = below.split()
         self.uses = {name: [it for it in below if it in listed] for name, below in listed.items()}
-        self.uses_of_kit = {name: [it for it in below if it not in listed] for name, below in listed.items()}
         self.known = {}
         self.names = [*self.below(target), target]
 
@@ -40,10 +37,6 @@ class Crates:
                 found.update(dict.fromkeys([*self.below(used), used]))
             self.known[name] = list(found)
         return self.known[name]
-
-    def tail(self):
-        """The libraries of the target that stand on BELOW_THE_TAIL."""
-        return [it for it in self.names if it != self.target and BELOW_THE_TAIL in self.below(it)]
 
     def folder(self, name):
         return self.top / "crates" / name

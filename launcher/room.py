@@ -12,7 +12,6 @@ import shutil
 import sys
 
 from crates import PARTS
-from together import TOGETHER, is_of
 
 
 class Rooms:
@@ -31,7 +30,9 @@ class Rooms:
         names = [*self.crates.below(name), name]
         for it in names:
             to = self.base / name / "crates" / it
-            self.copy_sources(it, to)
+            for part in PARTS:
+                if (self.crates.folder(it) / part).is_dir():
+                    shutil.copytree(self.crates.folder(it) / part, to / part)
             with self.locked(it):
                 out = self.crates.folder(it) / "out"
                 copied(out / "rlib", to / "out/rlib", os.link)
@@ -41,31 +42,6 @@ class Rooms:
                         shutil.copy2(path, to / "out")
         lines = "".join(self.crates.lines[it] + "\n" for it in names)
         (self.base / name / "crates.txt").write_text(lines)
-
-    def copy_sources(self, name, to):
-        for part in PARTS:
-            if (self.crates.folder(name) / part).is_dir():
-                shutil.copytree(self.crates.folder(name) / part, to / part)
-
-    def fill_together(self, names):
-        """Makes the folder in which these crates are checked over their sources."""
-        folder = self.base / TOGETHER / "crates"
-        for it in dict.fromkeys(below for name in names for below in [*self.crates.below(name), name]):
-            if it in names:
-                self.copy_sources(it, folder / it)
-            else:
-                with self.locked(it):
-                    copied(self.crates.folder(it) / "out/rlib", folder / it / "out/rlib", os.link)
-        (folder / TOGETHER / "src").mkdir(parents=True)
-        (folder / TOGETHER / "src/lib.rt").write_text("#![tactic(auto)]\n")
-
-    def share_out(self, names):
-        """Gives each of these crates what the check of them all has kept."""
-        for name in names:
-            with self.locked(name):
-                copied(self.folder(TOGETHER) / "out/incremental", self.crates.folder(name) / "out/incremental", link_proved,
-                       lambda _, found: [it for it in found if not is_of(name, it)])
-        shutil.rmtree(self.base / TOGETHER, ignore_errors=True)
 
     def empty(self, name, is_proved):
         """Moves back what was made; of a proof that failed or was broken off what it keeps for the next one."""
@@ -96,7 +72,7 @@ class Rooms:
             os.close(held)
 
 
-def copied(folder, to, copy, ignore=None):
+def copied(folder, to, copy):
     """Copies a folder, where it is there; a link in place of a copy is taken where the file system has links."""
     def either(one, other):
         try:
@@ -106,7 +82,7 @@ def copied(folder, to, copy, ignore=None):
 
     to.parent.mkdir(parents=True, exist_ok=True)
     if folder.is_dir():
-        shutil.copytree(folder, to, copy_function=either, ignore=ignore)
+        shutil.copytree(folder, to, copy_function=either)
 
 
 def link_proved(one, other):

@@ -1,6 +1,5 @@
 """A small repository with ./ctm and ./ctm-wait, in which tests/fake_rt stands for the toolchain's command: it sleeps in place of proving."""
 
-import re
 import shutil
 import signal
 import subprocess
@@ -59,12 +58,6 @@ class Repository:
     def environment(self):
         return {"PATH": f"{self.bin}:/usr/bin:/bin", "HOME": str(self.top), "CTM_JOBS": str(JOBS),
                 "FAKE_RT_LOG": str(self.log), "FAKE_RT_TRY": str(self.trial)}
-
-    def check_together_above(self, name):
-        """Has rattle at hand, and the libraries that stand on this crate checked together."""
-        shutil.copy(TOP / "tests/fake_rattle", self.bin / "rattle")
-        path = self.top / "launcher/crates.py"
-        path.write_text(re.sub('^BELOW_THE_TAIL = .*$', f'BELOW_THE_TAIL = "{name}"', path.read_text(), flags=re.M))
 
     def start(self, *words, command="ctm", **how):
         how = {"stdin": subprocess.DEVNULL, "stdout": subprocess.PIPE, "stderr": subprocess.PIPE,

@@ -9,7 +9,7 @@ from made_networks import made_network
 from messages import fault
 from plain_cutting import Plan
 from plain_model import report as plain_report
-from shots import check_watch
+from shots import Network, faults_of_watch
 from worked import CORRIDOR, RAMPS, REPORT, lines
 
 TWO_CHAINS = lines("ctm,1; steps,1; road,a,6,2,1,2,0; road,c,6,2,1,2,0; road,b,6,2,1,2,0; road,d,6,2,1,2,0; link,a,b; link,c,d")
@@ -102,13 +102,12 @@ def test_the_report_is_the_same_in_grown_regions(regions, workers, run):
 
 def test_a_watch_shows_the_grown_regions(run):
     content = shuffled(made_network(9, 40, 60), 3)
-    plain = content.replace(b"ctm,1", b"ctm,2", 1)
-    names = Plan(content).names
-    regions = cutting_of(content, 5, run)[3]
-    cut = plain + b"".join(b"region,%s,%d\n" % (name.encode(), region) for name, region in zip(names, regions))
+    regions = zip(Plan(content).names, cutting_of(content, 5, run)[3])
+    with_regions = content + lines("; ".join(f"region,{name},{region}" for name, region in regions))
     status, text, err = run(["watch", "--shots", "3", "--regions", "5", "--cut", "grown", "--workers", "2"], input=content)
     assert (status, err) == (0, b"")
-    check_watch(cut, 1, 3, 0, text)
+    faults = faults_of_watch(Network(with_regions), 5, 3, plain_report(content), text)
+    assert next(faults, "no fault") == "no fault"
 
 
 def test_a_run_is_saved_in_grown_regions(run):

@@ -36,35 +36,6 @@ def test_a_crate_that_is_proved_alone_gets_all_processors(repository):
     assert jobs["other"] == jobs["side"] == 1
 
 
-def test_from_nothing_the_crates_of_the_tail_are_checked_together_and_then_proved(repository):
-    repository.check_together_above("low")
-    status, _, err = repository.call("run")
-    events = repository.events()
-    assert status == 0 and "3 crates checked together" in err and "6 of 6: ctm_program" in err
-    # Each of them is shown what it uses and no more, the lower ones first.
-    assert ("together", "long:std,low+side:std,low+top:std,long,side", str(JOBS)) in events
-    assert [name for kind, name, _ in events if kind == "taken"] in (["long", "side", "top"], ["side", "long", "top"])
-    assert events.index(("ended", "low", str(JOBS))) < events.index(next(it for it in events if it[0] == "together"))
-    repository.edit("long")
-    assert repository.call("run")[0] == 0
-    assert "together" not in [kind for kind, _, _ in repository.events()]
-
-
-def test_a_check_together_that_fails_fails_no_build(repository):
-    repository.check_together_above("low")
-    (repository.bin / "rattle").write_text("#!/bin/sh\nexit 2\n")
-    status, _, err = repository.call("run")
-    assert status == 0 and "3 crates tried together" in err
-    assert not repository.events("taken")
-
-
-def test_a_check_together_proves_nothing(repository):
-    repository.check_together_above("low")
-    repository.edit("top", "// wrong\n")
-    status, _, err = repository.call("run")
-    assert status == 125 and "top failed after" in err
-
-
 def test_a_crate_that_fails_is_told(repository):
     repository.edit("long", "// wrong\n")
     status, out, err = repository.call("run")

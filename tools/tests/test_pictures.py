@@ -129,7 +129,16 @@ def test_the_queues_drawn_have_the_figures_of_the_page(report, name):
     upper, lower = plot(read, "queue").axes
     queues = queues_in(read)[:5]
     assert [max_of(line) for line in lower.lines] == pytest.approx([queue.most for queue in queues])
-    assert [max_of(line) for line in upper.lines] == pytest.approx([queue.reach for queue in queues if queue.reach])
+    own = [line for line in upper.lines if not line.get_label().endswith("which joined it")]
+    assert [max_of(line) for line in own] == pytest.approx([queue.reach for queue in queues if queue.reach])
+
+
+def test_a_part_that_reaches_farther_is_drawn(report):
+    # The stadium's queue stands in its gate; that of the road joined it, and reaches back 1.5 km.
+    figure = plot(report("event"), "queue")
+    line, = figure.axes[0].lines
+    assert line.get_label().startswith("from n20 (") and max_of(line) == pytest.approx(1.5)
+    assert_readable(figure)
 
 
 def max_of(line):

@@ -6,7 +6,7 @@ import pytest
 
 from ctmtools.network_file.network import network_of
 from ctmtools.report.page import page
-from ctmtools.report.queues import course, queues_in
+from ctmtools.report.queues import course, queues_in, reach_of_part
 from ctmtools.report.reading import report_of
 
 from .corridor import corridor
@@ -193,6 +193,15 @@ def test_where_nobody_waits_before_a_closure_its_queue_is_in_it(tmp_path):
                     '[["06:00", "06:09:30", 4860], ["06:09:30", "07:00", 1800]]')
     queue, = queues_in(reported(made.text))
     assert (queue.origin, queue.start) == ("m4", 60) and set(queue.spans) == {"m3", "m4"}
+
+
+def test_the_reach_of_a_part_begins_with_it(report):
+    read = report("event")
+    queue, = queues_in(read)
+    part, = queue.others
+    reach = reach_of_part(read, queue, part)
+    assert reach.max() == pytest.approx(part.reach)
+    assert (reach.loc[:part.start - 1] == 0).all() and reach.loc[part.start] > 0
 
 
 def test_a_queue_that_still_stands():

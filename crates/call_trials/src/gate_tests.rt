@@ -1,4 +1,4 @@
-use crate::calling::call_gives;
+use crate::calling::{CORRIDOR, CORRIDOR_REPORT, call_gives};
 use crate::gates::{Glance, Meeting, Notes};
 use std::sync::atomic::Ordering;
 
@@ -115,4 +115,24 @@ fn regions_go_on_from_their_own_steps(rt: HostRuntime) {
     );
     let held = [0b1110, ALL_FOUR, ALL_FOUR, ALL_FOUR];
     assert_eq!(rt; gate.steps(), held, "the gate was held from step 1 on");
+}
+
+#[test]
+fn each_part_of_a_run_is_in_regions_of_its_own(rt: HostRuntime) {
+    let gate = Notes::new();
+    let words = "recut --parts 2 --regions 2";
+    call_gives(
+        &rt,
+        rt.alloc(),
+        words,
+        &[CORRIDOR],
+        &gate,
+        &[CORRIDOR_REPORT],
+        true,
+    );
+    assert_eq!(rt;
+        gate.steps(),
+        [0b111, 0b111, 0b110, 0],
+        "two regions up to step 1, and three from there on"
+    );
 }

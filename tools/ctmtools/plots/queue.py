@@ -11,7 +11,7 @@ from matplotlib.axes import Axes
 from matplotlib.figure import Figure
 
 from ..report.page import length, told, where
-from ..report.queues import SLOW, Queue, course, cycle_of, is_short, queues_in
+from ..report.queues import SLOW, Queue, course, cycle_of, is_short, queues_in, reach_of_part
 from ..report.reading import Report
 from ..report.routes import road_of
 from .figure import drawing, figure, head, moments, note, span_of, style, time_axis
@@ -21,7 +21,10 @@ MOST_LINES = 5
 
 @drawing
 def draw(report: Report, roads: Sequence[str] = (), begin: str | None = None, until: str | None = None) -> Figure:
-    """Draws for each of the most costly queues how far it reaches back from where it began, and who wait in it."""
+    """Draws for each of the most costly queues how far it reaches back from where it began, and who wait in it.
+
+    Where a part that began elsewhere and joined it reaches farther, that part's reach is drawn too.
+    """
     report.need_records()
     report.need_network()
     first, last = span_of(report, begin, until)
@@ -31,6 +34,10 @@ def draw(report: Report, roads: Sequence[str] = (), begin: str | None = None, un
         run, look = _by_cycle(report, queue), style(i)
         if queue.reach:
             _stairs(report, upper, run.reach, look)
+        part = max(queue.others, key=lambda other: other.reach, default=None)
+        if part is not None and part.reach > queue.reach:
+            _stairs(report, upper, reach_of_part(report, queue, part),
+                    {**look, "linewidth": 0.8, "label": f"from {where(report, part.cell)}, which joined it"})
         _stairs(report, lower, run.waiting, {**look, "label": f"from {where(report, queue.origin)}"})
     upper.set_ylabel(f"Reach back ({'km' if report.units.known else 'cells'})")
     lower.set_ylabel("Vehicles that wait")
@@ -39,6 +46,8 @@ def draw(report: Report, roads: Sequence[str] = (), begin: str | None = None, un
         axes.set_ylim(bottom=0)
     if queues:
         lower.legend(loc="best")
+    if any(line.get_label().endswith("joined it") for line in upper.lines):
+        upper.legend(loc="best")
     time_axis(lower, report, first, last)
     for line in _notes(report, queues, rest):
         note(lower, line)

@@ -129,6 +129,27 @@ def course(report: Report, queue: Queue) -> pandas.DataFrame:
     return pandas.DataFrame({"reach": reach, "waiting": waiting}, index=times)
 
 
+def reach_of_part(report: Report, queue: Queue, part: Origin) -> pandas.Series:
+    """How far a part that joined a queue reaches back from its own origin, from each recorded step on.
+
+    Of the part are the cells to which it grew: each stood in the queue no sooner than one behind it.
+    """
+    graph, kinds, spans = report.need_network().graph, report.need_network().kinds, queue.spans
+    reach, ways = numpy.zeros(len(report.times) - 1), _ways(report, part.cell, queue.spans)
+    waiting = [(part.cell, span) for span in spans[part.cell] if report.times[span[1]] >= part.start]
+    seen = set(waiting)
+    while waiting:
+        cell, (begin, end) = waiting.pop()
+        if kinds[cell] == "road":
+            reach[begin:end] = numpy.maximum(reach[begin:end], ways[cell])
+        for up in graph.predecessors(cell):
+            for span in spans.get(up, ()):
+                if begin <= span[0] <= end and (up, span) not in seen:
+                    seen.add((up, span))
+                    waiting.append((up, span))
+    return pandas.Series(reach, index=report.times[:-1])
+
+
 def _waits(report: Report) -> pandas.DataFrame:
     """The vehicles of each cell that wait from each recorded step to the next."""
     return (report.held - report.flow).clip(lower=0)

@@ -1,4 +1,4 @@
-use Rattle.std.proofs.Common.{ℕ, List, arith, ap, subst, ◌∙◌}
+use Rattle.std.proofs.Common.{◌≡◌, ℕ, List, arith, ap, subst, ◌∙◌}
 use Rattle.network_file.specs.Network.{IsNetwork}
 use Rattle.network_file.proofs.NetworkFacts.{few_cells}
 use Rattle.network_file.specs.Cutting.{IsCutting}
