@@ -94,6 +94,7 @@ fn a_failing_output_ends_the_call(rt: HostRuntime) {
         ("save", 0, b""),
         ("save", 1, b"saved,1,1\n"),
         ("save --until 3 --regions 3", 2, b"saved,1,3\nstep,3\nste"),
+        ("recut --parts 2", 1, b"report,3,3"),
         ("cut --regions 2", 1, b"cut,2,1,1\n"),
         ("check", 1, b"network,3,"),
         ("convert", 1, b"ctm,2\nstep"),
