@@ -37,7 +37,7 @@ class Gate:
         self.write("crates/top/must-fail/two.edit", "")
         self.script("tools/setup", ":")
         for check in CHECKS:
-            self.script(check, "echo 2000 passed in 1.00s")
+            self.script(check, "echo 9000 passed in 1.00s")
         self.ci()
 
     def write(self, path, text):
@@ -70,8 +70,8 @@ def gate(tmp_path):
 def test_a_gate_that_passes_says_how_many_checks_of_each_sort_ran(gate):
     status, told = gate.run()
     assert status == 0
-    assert told[-1] == (".ci/run: passed: 2 crates proved, 2 edits refused, 5 tests of crates passed, 2000 of tests/plays, "
-                        "2000 of tests/program, 2000 of tests/launcher, 2000 of examples/check, 2000 of tools/check")
+    assert told[-1] == (".ci/run: passed: 2 crates proved, 2 edits refused, 5 tests of crates passed, 9000 of tests/plays, "
+                        "9000 of tests/program, 9000 of tests/launcher, 9000 of examples/check, 9000 of tools/check")
 
 
 def test_the_program_of_the_gate_is_current_for_the_launcher(gate):
@@ -84,7 +84,7 @@ def test_the_program_of_the_gate_is_current_for_the_launcher(gate):
 
 def test_each_check_gets_the_program_that_was_built_and_knows_that_it_is_in_the_gate(gate):
     for check in CHECKS:
-        gate.script(check, 'echo "$CI $CTM_PROGRAM $*"; echo 2000 passed')
+        gate.script(check, 'echo "$CI $CTM_PROGRAM $*"; echo 9000 passed')
     told = gate.run()[1]
     program = f"{gate.top}/crates/ctm_program/out/ctm_program"
     assert [line for line in told if line.startswith("true")] == [f"true {program} "] + [f"true {program} {program}"] * 3 + [f"true {program} "]
@@ -112,8 +112,8 @@ def broken(change, told):
     *[broken(lambda gate, check=check: os.remove(gate.top / check), f"{check}: no cases passed") for check in CHECKS],
     *[broken(lambda gate, check=check: gate.script(check, ""), f"{check}: no cases passed,") for check in CHECKS],
     *[broken(lambda gate, check=check: gate.script(check, "echo 3 passed"), f"{check}: 3 cases passed") for check in CHECKS],
-    *[broken(lambda gate, check=check: gate.script(check, "echo 2000 passed; exit 1"), f"{check} fails") for check in CHECKS],
-    *[broken(lambda gate, check=check: gate.script(check, "echo 2000 passed, 1 skipped in 1.00s"),
+    *[broken(lambda gate, check=check: gate.script(check, "echo 9000 passed; exit 1"), f"{check} fails") for check in CHECKS],
+    *[broken(lambda gate, check=check: gate.script(check, "echo 9000 passed, 1 skipped in 1.00s"),
              f"{check}: cases were left out") for check in CHECKS],
 ])
 def test_a_gate_in_which_something_is_broken_fails(gate, change, told):
