@@ -1,4 +1,4 @@
-ghost use Rattle.std.specs.Prelude.{◌≡◌, ◌<◌, ◌^◌, length, not, if◌then◌else◌};
+ghost use Rattle.std.specs.Prelude.{◌≡◌, ◌<◌, length, not, if◌then◌else◌};
 ghost use Rattle.network_file.specs.Cells.{is_exit_at};
 ghost use Rattle.flow_ledger.specs.Flight.{gone_of};
 ghost use Rattle.traffic_laws.specs.TimeSpent.{IsAreaInEachCell, IsAreaInside, time_spent_by};
