@@ -64,7 +64,7 @@ def test_the_wait_in_a_cell_is_the_area_between_its_curves(name, lane_drop):
     assert sum(strips) == lane_drop.wait[name]
 
 
-def test_who_comes_first_leaves_first(lane_drop):
+def test_a_part_leaves_after_those_before_it(lane_drop):
     part = vehicles(8_000) - 1
     came = next(step for step, parts in enumerate(lane_drop.arrivals("m20")) if parts > part)
     went = next(step for step, parts in enumerate(lane_drop.gone["m20"]) if parts > part)

@@ -32,15 +32,15 @@ use Rattle.monotone_laws.proofs.TwoSums.{sum_by-no_less}
 
 -- more in each step is more by each step
 pub more-by_each_step : (one two : Network) → MoreInEachStep one two → MoreByEachStep one two
-more-by_each_step one two more i zero has within = omega (arith, demand_from_none one.plan i 0)
-more-by_each_step one two more i (suc t) has within =
+more-by_each_step one two more i zero has gate within = omega (arith, demand_from_none one.plan i 0)
+more-by_each_step one two more i (suc t) has gate within =
     let next : demand_from one.plan i 0 (t + 1) ≤ demand_from two.plan i 0 (t + 1) =
     omega (
       arith,
       demand_from_next one.plan i t,
       demand_from_next two.plan i t,
-      more i t has (omega arith),
-      more-by_each_step one two more i t has (omega arith),
+      more i t has gate (omega arith),
+      more-by_each_step one two more i t has gate (omega arith),
     ) in
     rw add-one at next
 
@@ -63,7 +63,7 @@ comes one two t i both more within has =
       | inl gate ↦
           let gate_too : is_gate_at two.cells i ≡ true = rw kind gate in
           let rises = most_by-rising (more_in one two i) t (λ s early.
-          omega (arith, come-gate-next one s i has gate, come-gate-next two s i has_too gate_too, more i s has (omega arith), no_less s (omega arith) gate gate_too)) in
+          omega (arith, come-gate-next one s i has gate, come-gate-next two s i has_too gate_too, more i s has gate (omega arith), no_less s (omega arith) gate gate_too)) in
           rw (gate_too, gate) (omega (arith, rises, no_less t within gate gate_too))
       | inr other ↦
           let other_too : is_gate_at two.cells i ≡ false = rw kind other in
@@ -76,7 +76,7 @@ comes one two t i both more within has =
           arith,
           come-gate one s i has gate,
           come-gate two s i (omega (arith, both.alike.there.one_each)) gate_too,
-          more-by_each_step one two more i s has early,
+          more-by_each_step one two more i s has gate early,
         )
 
 -- what feeds the cell downstream of a link goes out of the one upstream
@@ -195,7 +195,7 @@ more-area : (one two : Network) → AreBusier one two → MoreInEachStep one two
 more-area one two both more zero within =
     let none = sum_by-no_less (λ i. i < length one.cells) (most_out one two 0) (gone two 0) (cells_below one) (λ i has. omega arith)
     (All-below (length one.cells)) in
-    omega (arith, area-zero one, area-zero two, none, ap (λ n. sum_by (gone two 0) (range_with_len 0 n)) both.alike.there.one_each)
+    omega (arith, area-zero one both.first, area-zero two both.second, none, ap (λ n. sum_by (gone two 0) (range_with_len 0 n)) both.alike.there.one_each)
 more-area one two both more (suc t) within =
     let next : delay_by one (t + 1) + passed one (t + 1) + sum_by (most_out one two (t + 1)) (cells_below one) ≤ delay_by two (t + 1) + passed two (t + 1) =
     omega (

@@ -22,22 +22,22 @@ use Rattle.monotone_laws.proofs.OneStep.{AreEased, same-exit, same-gate}
 use Rattle.monotone_laws.proofs.TwoSums.{sum_by-beside, sum_by-no_less}
 
 -- by each step the same has come
-same-so_far : (one two : Network) → SameDemands one two → (i t : ℕ) → i < length one.cells → t ≤ one.steps →
+same-so_far : (one two : Network) → SameDemands one two → (i t : ℕ) → i < length one.cells → is_gate_at one.cells i ≡ true → t ≤ one.steps →
     demand_from two.plan i 0 t ≡ demand_from one.plan i 0 t
-same-so_far one two same i zero has within = demand_from_none two.plan i 0 ∙ sym (demand_from_none one.plan i 0)
-same-so_far one two same i (suc t) has within =
+same-so_far one two same i zero has gate within = demand_from_none two.plan i 0 ∙ sym (demand_from_none one.plan i 0)
+same-so_far one two same i (suc t) has gate within =
     let next : demand_from two.plan i 0 (t + 1) ≡ demand_from one.plan i 0 (t + 1) =
     omega (
       arith,
       demand_from_next one.plan i t,
       demand_from_next two.plan i t,
-      same i t has (omega arith),
-      same-so_far one two same i t has (omega arith),
+      same i t has gate (omega arith),
+      same-so_far one two same i t has gate (omega arith),
     ) in
     rw add-one at next
 
 same-by_each_step : (one two : Network) → SameDemands one two → MoreByEachStep one two
-same-by_each_step one two same = λ i t has within. omega (arith, same-so_far one two same i t has within)
+same-by_each_step one two same = λ i t has gate within. omega (arith, same-so_far one two same i t has gate within)
 
 -- the same was there at first
 pub same-initial : (one two : Network) → IsEased one two → initial_of two ≡ initial_of one
@@ -62,7 +62,7 @@ same-entered one two t both same within =
             arith,
             come-gate one t i has gate,
             come-gate two t i (omega (arith, both.eased.one_each)) gate_too,
-            same-so_far one two same i t has within,
+            same-so_far one two same i t has gate within,
           )
           )
       | inr other ↦
@@ -107,7 +107,7 @@ less-inside one two t both same within =
 -- the delay, and all that has gone out of cells
 less-area : (one two : Network) → AreEased one two → SameDemands one two → (t : ℕ) → t ≤ one.steps →
     delay_by two t + passed two t ≤ delay_by one t + passed one t
-less-area one two both same zero within = omega (arith, area-zero one, area-zero two)
+less-area one two both same zero within = omega (arith, area-zero one both.first, area-zero two both.second)
 less-area one two both same (suc t) within =
     let next : delay_by two (t + 1) + passed two (t + 1) ≤ delay_by one (t + 1) + passed one (t + 1) =
     omega (

@@ -24,7 +24,7 @@ come-too one two t both demands within gone_more i has = elim (cases_Bool (is_ga
         arith,
         come-gate one t i has gate,
         come-gate two t i (omega (arith, both.eased.one_each)) gate_too,
-        demands i t has within,
+        demands i t has gate within,
       )
   | inr no_gate ↦ elim (in-cases one i both.alone) [
     | inl none ↦ omega (arith, come-none one t i has none no_gate)

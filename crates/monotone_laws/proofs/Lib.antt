@@ -10,3 +10,4 @@ pub mod RunningMost
 pub mod Surplus
 pub mod DemandDelay
 pub mod AtOneStep
+pub mod MoreRoom

@@ -13,17 +13,17 @@ pub record IsRoomier (one two : Cell) : Type 0 where
   pub first : two.first ≡ one.first
   pub room : one.room ≤ two.room
 
--- the second network has the same links and steps, rooms and capacities no less, and green wherever the first has it;
+-- the second network has the same links, no fewer steps, rooms and capacities no less, and green wherever the first has it;
 -- nothing is said of the demands
 pub record IsEased (one two : Network) : Type 0 where
-  pub steps : two.steps ≡ one.steps
+  pub steps : one.steps ≤ two.steps
   pub connectors : two.connectors ≡ one.connectors
   pub one_each : length two.cells ≡ length one.cells
   pub cells : (i : ℕ) (a b : Cell) → slice_get one.cells i ≡ Some a → slice_get two.cells i ≡ Some b → IsRoomier a b
   pub capacity : (i t : ℕ) → i < length one.cells → t < one.steps → capacity_at one.plan i t ≤ capacity_at two.plan i t
   pub green : (i t : ℕ) → i < length one.cells → t < one.steps → green_at one.plan i t ≡ true → green_at two.plan i t ≡ true
 
--- each is eased against the other, so that rooms, capacities and greens are the same
+-- each is eased against the other, so that steps, rooms, capacities and greens are the same
 pub record AreAlike (one two : Network) : Type 0 where
   pub there : IsEased one two
   pub back : IsEased two one

@@ -110,14 +110,14 @@ part-next net t i sound has = elim (cases_Bool (is_exit_at net.cells i)) [
   | inr stays ↦ rw stays (omega (arith, spent-next net i t sound has stays))
 ]
 
-spent-zero : (net : Network) → time_spent_by net (state_at net 0) ≡ 0
+pub spent-zero : (net : Network) → time_spent_by net (state_at net 0) ≡ 0
 spent-zero net =
     let cells : List ℕ = range_with_len 0 (length net.cells) in
     spent-parts net (state_at net 0) (length-state_at net 0) ∙
     sum_by-same (λ i. i < length net.cells) (part net (state_at net 0)) (λ i. 0) cells (part-zero net) (All-below (length net.cells)) ∙
     sum_by-zero (λ i. 0) cells (λ k d within. omega arith)
 
-spent-more : (net : Network) (t : ℕ) → IsNetwork net →
+pub spent-more : (net : Network) (t : ℕ) → IsNetwork net →
     time_spent_by net (state_at net (t + 1)) ≡ time_spent_by net (state_at net t) + inside_of net (state_at net t)
 unfolding inside_of
 spent-more net t sound =

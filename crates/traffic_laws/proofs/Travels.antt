@@ -1,4 +1,4 @@
--- First in, first out: the times of a part.
+-- The times of a part.
 use Rattle.std.specs.Prelude.{None, Option, Some, nat_lt, position}
 use Rattle.std.specs.List.{position_or_len}
 use Rattle.std.specs.Option.{IsSomeAnd}

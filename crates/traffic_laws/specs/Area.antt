@@ -3,7 +3,7 @@ use Rattle.std.specs.Prelude.{◌≡◌, ℕ, ◌+◌, ◌-◌, List, ℤ, pos, 
 use Rattle.std.specs.List.{range_with_len}
 use Rattle.network_file.specs.Network.{Network}
 use Rattle.flow_model.specs.State.{row_at, state_at}
-use Rattle.traffic_laws.specs.Curves.{AreCurvesOf, IsFirstInFirstOut}
+use Rattle.traffic_laws.specs.Curves.{AreCurvesOf, DepartsAfterArriving}
 
 -- the area under a curve over its first steps, each one step wide
 abbrev pub area_under : (curve : ℕ → ℕ) → (steps : ℕ) → ℕ
@@ -22,4 +22,4 @@ IsWaitOfCell first come gone area =
 
 -- and nothing departs from the cell that hadn't arrived a step before, so no strip of the area is below 0
 abbrev pub NeverCross : (first : ℕ) → (come gone : List ℕ) → Type 0
-NeverCross first come gone = (net : Network) (i : ℕ) → AreCurvesOf net i first come gone → IsFirstInFirstOut first come gone
+NeverCross first come gone = (net : Network) (i : ℕ) → AreCurvesOf net i first come gone → DepartsAfterArriving first come gone

@@ -24,6 +24,6 @@ pub record AreCurvesOf (net : Network) (i first : ℕ) (come gone : List ℕ) : 
   pub arrivals : (s : ℕ) → s < length come → first + slice_index come s ≡ arrived net i s
   pub departures : (s : ℕ) → s < length gone → slice_index gone s ≡ departed net i s
 
--- first in, first out: what has departed by a step had arrived one step before
-abbrev pub IsFirstInFirstOut : (first : ℕ) → (come gone : List ℕ) → Type 0
-IsFirstInFirstOut first come gone = (s : ℕ) → s + 1 < length gone → slice_index gone (s + 1) ≤ first + slice_index come s
+-- what has departed by a step had arrived by the step before
+abbrev pub DepartsAfterArriving : (first : ℕ) → (come gone : List ℕ) → Type 0
+DepartsAfterArriving first come gone = (s : ℕ) → s + 1 < length gone → slice_index gone (s + 1) ≤ first + slice_index come s

@@ -1,4 +1,4 @@
-ghost use Rattle.std.specs.Prelude.{◌≡◌, ◌<◌, ◌^◌, length, not, if◌then◌else◌};
+ghost use Rattle.std.specs.Prelude.{◌≡◌, ◌<◌, length, not, if◌then◌else◌};
 ghost use Rattle.network_file.specs.Cells.{is_exit_at};
 ghost use Rattle.flow_ledger.specs.Flight.{gone_of};
 ghost use Rattle.traffic_laws.specs.TimeSpent.{IsAreaInEachCell, IsAreaInside, time_spent_by};
@@ -6,8 +6,8 @@ ghost use Rattle.traffic_laws.specs.TimeSpent.{IsAreaInEachCell, IsAreaInside, t
 use flow_model::Row;
 use network_file::{Kind, Net};
 
-/// The time that traffic has spent in the roads and gates of a network, by their rows: parts times steps. It is the delay
-/// and one step for each cell that was passed.
+/// The delay of some rows, and one step for each road or gate that was passed, in parts times steps: for the rows of a
+/// run, the time that traffic has spent in the roads and gates of the network.
 pub fn time_spent(net: &Net, rows: &[Row]) -> u128
     requires one_each { length rows.now ≡ length net.now.cells }
     ensures spent { result ≡ time_spent_by net.now rows.now }
