@@ -34,7 +34,8 @@ def test_and_has_its_report(name):
 
 
 def test_each_hand_written_example_has_its_study():
-    assert STUDIES == sorted(path.stem for path in EXAMPLES.glob("*.csv"))
+    """But for the two ramps, which are given in vehicles and steps alone."""
+    assert sorted([*STUDIES, "ramp-narrow", "ramp-wide"]) == sorted(path.stem for path in EXAMPLES.glob("*.csv"))
 
 
 HEAD = OPEN_HEAD.format(end="07:00")
