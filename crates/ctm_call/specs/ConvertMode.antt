@@ -1,6 +1,6 @@
 -- A converted file: why there is none, and its text.
 use Rattle.std.specs.Prelude.{◌≡◌, ℕ, List, Option, None}
-use Rattle.network_file.specs.Converted.{converted}
+use Rattle.converted_file.specs.Converted.{converted}
 use Rattle.network_file.specs.Reading.{network_of}
 use Rattle.call_ending.specs.Refusing.{Why}
 use Rattle.ctm_call.specs.NetworkInput.{why_of_network}

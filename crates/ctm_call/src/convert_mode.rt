@@ -5,7 +5,7 @@ ghost use Rattle.ctm_call.specs.ConvertMode.{IsConvertText, convert_refused};
 
 use crate::network_input::refused;
 use call_ending::Refusal;
-use network_file::convert;
+use converted_file::convert;
 use std::alloc::Global;
 
 /// The file in the newest format.

@@ -1,18 +1,18 @@
 -- The definition of a file's network, by its header and by one record more.
 use Rattle.std.proofs.Common.{ℕ, ◌≡◌, ◌+◌, Some, None, List, [], ◌∷◌, Ok, Err, ◌∙◌, refl}
 use Rattle.std.specs.Prelude.{Result}
-use Rattle.network_file.specs.Answers.{Answers}
+use Rattle.record_fields.specs.Answers.{Answers}
 use Rattle.network_file.specs.Draft.{Draft, empty_draft}
 use Rattle.network_file.specs.Formats.{format_of}
-use Rattle.network_file.specs.FileRecords.{file_records_of}
+use Rattle.record_fields.specs.FileRecords.{file_records_of}
 use Rattle.network_file.specs.Network.{Network}
 use Rattle.network_file.specs.Reading.{completed, network_in_all, network_of, read_file, read_records}
 use Rattle.network_file.specs.Refused.{IsRefusal, fault_at, refusal_at}
 use Rattle.network_file.specs.Taking.{take_record}
-use Rattle.network_file.specs.declared.code.Code.TheVariants.{NoHeader}
+use Rattle.record_fields.specs.declared.code.Code.TheVariants.{NoHeader}
 use Rattle.network_file.specs.declared.fault.NetFault.{NetFault}
-use Rattle.network_file.specs.declared.fault.RecordRefusal.{RecordRefusal}
-use Rattle.network_file.specs.declared.fault.RecordRefusal.TheVariants.{Fault, NoMemory}
+use Rattle.record_fields.specs.declared.record_refusal.RecordRefusal.{RecordRefusal}
+use Rattle.record_fields.specs.declared.record_refusal.RecordRefusal.TheVariants.{Fault, NoMemory}
 
 pub network_of-headless : (bytes : List ℕ) → file_records_of bytes ≡ [] → network_of bytes ≡ Err (fault_at 1 NoHeader)
 unfolding network_of read_file

@@ -25,7 +25,7 @@ use Rattle.network_file.specs.Network.{HasSoundParts, IsPlanOf, IsPlannedCell, I
 use Rattle.network_file.specs.declared.cell.Cell.{Cell}
 use Rattle.network_file.specs.declared.connector.Connector.{Connector}
 use Rattle.network_file.specs.Limits.{most_capacity, most_regions}
-use Rattle.network_file.specs.declared.region_record.RegionRecord.{RegionRecord}
+use Rattle.record_fields.specs.declared.region_record.RegionRecord.{RegionRecord}
 
 -- an earlier element stays where it was
 slice_get-push : {X : Type 0} (xs : List X) (x : X) (i : ℕ) → i < length xs → slice_get (xs ++ x ∷ []) i ≡ slice_get xs i

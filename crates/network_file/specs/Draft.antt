@@ -5,7 +5,7 @@ use Rattle.signal_plan.specs.Limits.{most_steps}
 use Rattle.network_file.specs.Network.{HasSoundParts}
 use Rattle.network_file.specs.declared.cell.Cell.{Cell}
 use Rattle.network_file.specs.declared.connector.Connector.{Connector}
-use Rattle.network_file.specs.declared.region_record.RegionRecord.{RegionRecord}
+use Rattle.record_fields.specs.declared.region_record.RegionRecord.{RegionRecord}
 use Rattle.network_file.specs.Limits.{most_regions}
 
 pub record Draft : Type 0 where

@@ -11,13 +11,13 @@ use Rattle.network_file.specs.Connectors.{diverges_from, downstream_of, leads_in
 use Rattle.network_file.specs.Draft.{Draft, with_steps, add_cell, add_connector, add_demand, add_limit, add_region, add_signal, add_turn}
 use Rattle.network_file.specs.Formats.{most_records}
 use Rattle.network_file.specs.Network.{IsSoundCell, IsSoundConnector}
-use Rattle.network_file.specs.Regions.{region_in}
+use Rattle.record_fields.specs.Regions.{region_in}
 use Rattle.network_file.specs.declared.cell.Cell.{Cell}
 use Rattle.network_file.specs.declared.connector.Connector.{Connector}
 use Rattle.network_file.specs.Limits.{most_capacity, most_regions}
 use Rattle.network_file.specs.declared.entry.Entry.{Entry}
 use Rattle.network_file.specs.declared.entry.Entry.TheVariants as says
-use Rattle.network_file.specs.declared.region_record.RegionRecord.{RegionRecord}
+use Rattle.record_fields.specs.declared.region_record.RegionRecord.{RegionRecord}
 
 -- the number of steps, where no record said it yet
 pub record FitsSteps (draft : Draft) (steps : ℕ) : Type 0 where

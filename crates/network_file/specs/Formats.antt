@@ -1,6 +1,6 @@
 -- The two formats of a file: their headers, the records that each has, and how many of a sort.
 use Rattle.std.specs.Prelude.{ℕ, ◌==◌, ◌&&◌, List, Option, Some, None, if◌then◌else◌, bytes_eq, codes, length}
-use Rattle.network_file.specs.Fields.{field}
+use Rattle.record_fields.specs.Fields.{field}
 
 -- the format that a header names: the two fields `ctm` and `1`, or `ctm` and `2`
 unfoldable pub format_of : List (List ℕ) → Option ℕ

@@ -1,17 +1,17 @@
 -- The network that a file is, or its first fault.
 use Rattle.std.specs.Prelude.{ℕ, ◌+◌, ◌==◌, not, List, [], ◌∷◌, Option, Some, None, Result, Ok, Err, if◌then◌else◌, nat_le, nat_lt, ok_or, length}
 use Rattle.network_file.specs.Draft.{Draft, empty_draft}
-use Rattle.network_file.specs.Checks.{◌>>=◌, ◌>>◌, must}
+use Rattle.record_fields.specs.Checks.{◌>>=◌, ◌>>◌, must}
 use Rattle.network_file.specs.Cutting.{has_no_gap}
 use Rattle.network_file.specs.Formats.{format_of}
-use Rattle.network_file.specs.Regions.{all_have_regions, region_numbers}
-use Rattle.network_file.specs.FileRecords.{file_records_of}
+use Rattle.record_fields.specs.Regions.{all_have_regions, region_numbers}
+use Rattle.record_fields.specs.FileRecords.{file_records_of}
 use Rattle.fixed_flow.specs.Limits.{most_parts}
 use Rattle.network_file.specs.Network.{Network, load_of}
 use Rattle.network_file.specs.Refused.{fault_at}
 use Rattle.network_file.specs.Taking.{take_record}
-use Rattle.network_file.specs.declared.code.Code.{Code}
-use Rattle.network_file.specs.declared.code.Code.TheVariants.{NoHeader, NoSteps, NoCells, TooMuch, NoRegion, RegionGap}
+use Rattle.record_fields.specs.declared.code.Code.{Code}
+use Rattle.record_fields.specs.declared.code.Code.TheVariants.{NoHeader, NoSteps, NoCells, TooMuch, NoRegion, RegionGap}
 use Rattle.network_file.specs.declared.fault.NetFault.{NetFault}
 
 -- the cutting that the region records of a draft make, or the fault that they have as a whole; without any there is none

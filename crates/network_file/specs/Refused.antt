@@ -1,12 +1,12 @@
 -- When a file is refused.
 use Rattle.std.specs.Prelude.{◌≡◌, ⊤, ℕ, Result, Err}
 use Rattle.network_file.specs.Network.{Network}
-use Rattle.network_file.specs.declared.code.Code.{Code}
+use Rattle.record_fields.specs.declared.code.Code.{Code}
 use Rattle.network_file.specs.declared.fault.NetFault.{NetFault}
 use Rattle.network_file.specs.declared.fault.NetRefusal.{NetRefusal}
 use Rattle.network_file.specs.declared.fault.NetRefusal.TheVariants.{Fault, NoMemory}
-use Rattle.network_file.specs.declared.fault.RecordRefusal.{RecordRefusal}
-use Rattle.network_file.specs.declared.fault.RecordRefusal.TheVariants as of_record
+use Rattle.record_fields.specs.declared.record_refusal.RecordRefusal.{RecordRefusal}
+use Rattle.record_fields.specs.declared.record_refusal.RecordRefusal.TheVariants as of_record
 
 abbrev pub fault_at : ℕ → Code → NetFault
 fault_at place code = record { place = place; code = code }

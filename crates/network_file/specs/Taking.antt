@@ -1,53 +1,23 @@
 -- What each kind of record adds to the draft, or the first fault that it has there.
-use Rattle.std.specs.Prelude.{ℕ, ◌-◌, ◌==◌, ◌&&◌, List, Option, Some, None, Result, Ok, is_none, if◌then◌else◌, nat_lt, length, bytes_eq, codes, ok_or}
+use Rattle.std.specs.Prelude.{ℕ, ◌-◌, ◌==◌, List, Some, None, Result, Ok, is_none, nat_lt, length, ok_or}
 use Rattle.fixed_flow.specs.Limits.{most_parts}
 use Rattle.signal_plan.specs.Counts.{demand_count, limit_count, turn_count}
-use Rattle.signal_plan.specs.Limits.{most_steps}
-use Rattle.network_file.specs.Checks.{◌>>=◌, ◌>>◌, must}
+use Rattle.signal_plan.specs.Limits.{most_ratio, most_steps}
+use Rattle.record_fields.specs.Checks.{◌>>=◌, ◌>>◌, must}
 use Rattle.network_file.specs.Draft.{Draft, with_steps, add_cell, add_connector, add_demand, add_limit, add_region, add_signal, add_turn}
-use Rattle.network_file.specs.Fields.{field, whole_within, range_within, ratio, weights, amount_within, new_name, known_cell, upstream, downstream, signal_cell, demand_gate, turn_cell, region_cell}
+use Rattle.record_fields.specs.Fields.{field, whole_within, range_within, ratio, weights, amount_within}
+use Rattle.record_fields.specs.RecordKinds.{field_count, record_kind_of}
+use Rattle.network_file.specs.CellFields.{new_name, known_cell, upstream, downstream, signal_cell, demand_gate, turn_cell, region_cell}
 use Rattle.network_file.specs.Formats.{most_records}
 use Rattle.network_file.specs.Limits.{most_capacity, most_regions, most_room}
 use Rattle.network_file.specs.declared.cell.Cell.{Cell}
 use Rattle.network_file.specs.declared.cell.Kind.{Kind}
 use Rattle.network_file.specs.declared.cell.Kind.TheVariants as kind
-use Rattle.network_file.specs.declared.code.Code.{Code}
-use Rattle.network_file.specs.declared.code.Code.TheVariants.{BadKind, BadCount, TooMany, Repeated}
+use Rattle.record_fields.specs.declared.code.Code.{Code}
+use Rattle.record_fields.specs.declared.code.Code.TheVariants.{BadKind, BadCount, TooMany, Repeated}
 use Rattle.network_file.specs.declared.connector.Connector.TheVariants as connector
-use Rattle.network_file.specs.declared.record_kind.RecordKind.{RecordKind}
-use Rattle.network_file.specs.declared.record_kind.RecordKind.TheVariants.{Steps, Road, Gate, Exit, Link, Merge, Diverge, Signal, Limit, Demand, Turn, Region}
-
--- the kind that a first field names; turns and regions are kinds of format 2 alone
-unfoldable pub record_kind_of : (format : ℕ) → List ℕ → Option RecordKind
-record_kind_of format text =
-    if bytes_eq text (codes "steps") then Some Steps
-    else if bytes_eq text (codes "road") then Some Road
-    else if bytes_eq text (codes "gate") then Some Gate
-    else if bytes_eq text (codes "exit") then Some Exit
-    else if bytes_eq text (codes "link") then Some Link
-    else if bytes_eq text (codes "merge") then Some Merge
-    else if bytes_eq text (codes "diverge") then Some Diverge
-    else if bytes_eq text (codes "signal") then Some Signal
-    else if bytes_eq text (codes "limit") then Some Limit
-    else if bytes_eq text (codes "demand") then Some Demand
-    else if (format == 2) && bytes_eq text (codes "turn") then Some Turn
-    else if (format == 2) && bytes_eq text (codes "region") then Some Region
-    else None
-
--- how many fields a record has, the kind among them
-abbrev pub field_count : RecordKind → ℕ
-field_count Steps = 2
-field_count Road = 7
-field_count Gate = 4
-field_count Exit = 3
-field_count Link = 3
-field_count Merge = 6
-field_count Diverge = 6
-field_count Signal = 6
-field_count Limit = 5
-field_count Demand = 5
-field_count Turn = 6
-field_count Region = 3
+use Rattle.record_fields.specs.declared.record_kind.RecordKind.{RecordKind}
+use Rattle.record_fields.specs.declared.record_kind.RecordKind.TheVariants.{Steps, Road, Gate, Exit, Link, Merge, Diverge, Signal, Limit, Demand, Turn, Region}
 
 -- how many records the draft has of those that count together with this kind; `steps`, signals and regions have no such limit
 abbrev pub taken_before : RecordKind → Draft → ℕ
@@ -75,7 +45,7 @@ take_road draft fields = do
   name ← new_name draft.cells (field fields 1)
   room ← amount_within most_room (field fields 2)
   capacity ← amount_within most_capacity (field fields 3)
-  (num, den) ← ratio (field fields 4) (field fields 5)
+  (num, den) ← ratio most_ratio (field fields 4) (field fields 5)
   first ← amount_within room (field fields 6)
   Ok (add_cell draft (record { name = name; kind = kind.Road; room = room; num = num; den = den; first = first }) capacity)
 
@@ -107,7 +77,7 @@ take_merge draft fields = do
   up1 ← upstream draft.cells draft.connectors None (field fields 1)
   up2 ← upstream draft.cells draft.connectors (Some up1) (field fields 2)
   down ← downstream draft.cells draft.connectors None (field fields 3)
-  (p1, p2) ← weights (field fields 4) (field fields 5)
+  (p1, p2) ← weights most_ratio (field fields 4) (field fields 5)
   Ok (add_connector draft (connector.Merge up1 up2 down p1 p2))
 
 unfoldable pub take_diverge : Draft → List (List ℕ) → Result Draft Code
@@ -115,7 +85,7 @@ take_diverge draft fields = do
   up ← upstream draft.cells draft.connectors None (field fields 1)
   down1 ← downstream draft.cells draft.connectors None (field fields 2)
   down2 ← downstream draft.cells draft.connectors (Some down1) (field fields 3)
-  (b1, b2) ← weights (field fields 4) (field fields 5)
+  (b1, b2) ← weights most_ratio (field fields 4) (field fields 5)
   Ok (add_connector draft (connector.Diverge up down1 down2 b1 b2))
 
 unfoldable pub take_signal : Draft → List (List ℕ) → Result Draft Code
@@ -144,7 +114,7 @@ unfoldable pub take_turn : Draft → List (List ℕ) → Result Draft Code
 take_turn draft fields = do
   cell ← turn_cell draft.cells draft.connectors (field fields 1)
   (from, to) ← range_within most_steps (field fields 2) (field fields 3)
-  (b1, b2) ← weights (field fields 4) (field fields 5)
+  (b1, b2) ← weights most_ratio (field fields 4) (field fields 5)
   Ok (add_turn draft (record { cell = cell; from = from; to = to; b1 = b1; b2 = b2 }))
 
 unfoldable pub take_region : Draft → List (List ℕ) → Result Draft Code

@@ -1,7 +1,7 @@
 ghost use Rattle.std.specs.Prelude.{◌≡◌};
 ghost use Rattle.network_file.specs.Taking.{without_room};
 
-use crate::name::Name;
+use record_fields::Name;
 
 /// What a cell is (docs/MODEL.md).
 #[derive(Clone, Copy, Debug, PartialEq, Eq)]

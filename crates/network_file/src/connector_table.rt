@@ -1,11 +1,11 @@
 ghost use Rattle.std.specs.Prelude.{◌≡◌, ◌||◌, ℕ, ◌++◌, ◌∷◌, [], IfOk, OnOk, length};
 ghost use Rattle.std.specs.List.{list_any};
 ghost use Rattle.network_file.specs.Connectors.{diverges_from, leads_into, leads_out_of};
-ghost use Rattle.network_file.specs.Marks.{is_marked};
+ghost use Rattle.record_fields.specs.Marks.{is_marked};
 
 use crate::connector::Connector;
-use crate::marks::Marks;
 use no_memory::NoMemory;
+use record_fields::Marks;
 use std::alloc::Global;
 use std::marker::Model;
 
@@ -33,7 +33,7 @@ impl Model for ConnectorTable {
     ghost use Rattle.std.specs.Prelude.{◌≡◌, ℕ};
     ghost use Rattle.std.specs.List.{list_any};
     ghost use Rattle.network_file.specs.Connectors.{diverges_from, leads_into, leads_out_of};
-    ghost use Rattle.network_file.specs.Marks.{is_marked};
+    ghost use Rattle.record_fields.specs.Marks.{is_marked};
 
     ghost view = { λ a. a.parts.value.connectors.items };
 

@@ -1,10 +1,10 @@
 ghost use Rattle.std.specs.Prelude.{◌≡◌, ℕ, eqb, IfOk};
 ghost use Rattle.std.specs.List.{list_any};
 ghost use Rattle.network_file.specs.Cutting.{greatest, has_no_gap};
-ghost use Rattle.network_file.specs.Marks.{is_marked};
+ghost use Rattle.record_fields.specs.Marks.{is_marked};
 
-use crate::marks::Marks;
 use no_memory::NoMemory;
+use record_fields::Marks;
 use std::alloc::Global;
 
 /// Whether each region number below the greatest of a list is in it. It needs memory for a mark for each

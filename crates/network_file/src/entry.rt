@@ -1,6 +1,6 @@
 use crate::cell::Cell;
 use crate::connector::Connector;
-use crate::region_record::RegionRecord;
+use record_fields::RegionRecord;
 use signal_plan::{Demand, Limit, Signal, Turn};
 
 /// What a record of the file says, before a draft has taken it.

@@ -2,8 +2,8 @@ ghost use Rattle.std.specs.Prelude.{◌≡◌};
 ghost use Rattle.network_file.specs.Refused.{fault_at, refusal_at};
 ghost use Rattle.network_file.specs.declared.fault.NetRefusal.TheVariants.{Fault};
 
-use crate::code::Code;
 use no_memory::NoMemory;
+use record_fields::{Code, RecordRefusal};
 
 /// The first fault of a file: the record that has it, counted from 1, and why. A fault of the file as a whole
 /// stands at one more than the number of records.
@@ -24,13 +24,6 @@ pub enum NetRefusal {
     NoMemory,
 }
 
-/// Why a draft did not take a record.
-#[derive(Clone, Copy)]
-pub(crate) enum RecordRefusal {
-    Fault(Code),
-    NoMemory,
-}
-
 impl NetRefusal {
     /// The refusal of the record at a place.
     pub(crate) fn at(place: u32, code: Code) -> NetRefusal
@@ -38,14 +31,12 @@ impl NetRefusal {
     {
         NetRefusal::Fault(NetFault { place, code })
     }
-}
 
-impl RecordRefusal {
-    /// The refusal of the record at a place.
-    pub(crate) fn at(self, place: u32) -> NetRefusal
-        ensures { result ≡ refusal_at place self }
+    /// Why the record at a place was not taken.
+    pub(crate) fn of_record(place: u32, refusal: RecordRefusal) -> NetRefusal
+        ensures { result ≡ refusal_at place refusal }
     {
-        match self {
+        match refusal {
             RecordRefusal::Fault(code) => NetRefusal::at(place, code),
             RecordRefusal::NoMemory => NetRefusal::NoMemory,
         }
@@ -59,27 +50,5 @@ impl From<NoMemory> for NetRefusal {
 
     fn from(_: NoMemory) -> NetRefusal {
         NetRefusal::NoMemory
-    }
-}
-
-impl From<Code> for RecordRefusal {
-    ghost use Rattle.std.specs.Prelude.{◌≡◌};
-    ghost use Rattle.network_file.specs.declared.fault.RecordRefusal.TheVariants.{Fault};
-
-    ghost from_gives = { λ code refusal. refusal ≡ Fault code };
-
-    fn from(code: Code) -> RecordRefusal {
-        RecordRefusal::Fault(code)
-    }
-}
-
-impl From<NoMemory> for RecordRefusal {
-    ghost use Rattle.std.specs.Prelude.{◌≡◌};
-    ghost use Rattle.network_file.specs.declared.fault.RecordRefusal.TheVariants as refusal;
-
-    ghost from_gives = { λ _ refused. refused ≡ refusal.NoMemory };
-
-    fn from(_: NoMemory) -> RecordRefusal {
-        RecordRefusal::NoMemory
     }
 }

@@ -2,9 +2,9 @@ ghost use Rattle.std.specs.Prelude.{◌≡◌, ◌⊎◌, ◌≤◌, IfSome};
 ghost use Rattle.csv.specs.Records.{fields_of};
 ghost use Rattle.network_file.specs.Formats.{format_of, most_records};
 
-use crate::fields::field;
 use crate::limits::MOST_RECORDS_OF_FORMAT_1;
 use csv::ByteRecord;
+use record_fields::field;
 use signal_plan::MOST_RECORDS;
 
 /// The format that a header names.

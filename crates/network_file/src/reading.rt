@@ -1,20 +1,19 @@
 ghost use Rattle.std.specs.Prelude.{◌≡◌, ◌≤◌, Ok, Some, IfErr, IfOk, length};
-ghost use Rattle.network_file.specs.Answers.{Answers, IsFaultOf};
-ghost use Rattle.network_file.specs.FileRecords.{IsReading, file_records_of, records_left};
+ghost use Rattle.record_fields.specs.Answers.{Answers, IsFaultOf};
+ghost use Rattle.record_fields.specs.FileRecords.{IsReading, file_records_of, records_left};
 ghost use Rattle.network_file.specs.Reading.{cutting_of_draft, network_in_all, network_of, read_records};
 ghost use Rattle.network_file.specs.Refused.{IsRefusal};
 
-use crate::code::Code;
 use crate::cutting::has_no_gap;
 use crate::draft::NetDraft;
-use crate::fault::{NetRefusal, RecordRefusal};
-use crate::file_records::{next_record, open_records};
+use crate::fault::NetRefusal;
 use crate::format::format_of;
 use crate::limits::MOST_BYTES;
 use crate::net::Net;
 use crate::records::take_record;
 use csv::{ByteRecord, Reader};
 use fixed_flow::MOST_PARTS;
+use record_fields::{Code, RecordRefusal, next_record, open_records};
 use std::alloc::Global;
 
 /// Reads a file: its header, and then the later records one after the other.
@@ -68,13 +67,13 @@ fn read_later(
     while next_record(reader, row)? {
         draft = match take_record(alloc, draft, row) {
             Ok(more) => more,
-            Err(refusal) => return Err(refusal.at(place)),
+            Err(refusal) => return Err(NetRefusal::of_record(place, refusal)),
         };
         place += 1;
     }
     match complete(alloc, draft) {
         Ok(net) => Ok(net),
-        Err(refusal) => Err(refusal.at(place)),
+        Err(refusal) => Err(NetRefusal::of_record(place, refusal)),
     }
 }
 

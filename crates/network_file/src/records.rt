@@ -1,28 +1,27 @@
 ghost use Rattle.std.specs.Prelude.{◌≡◌, ◌<◌, IfOk, length};
 ghost use Rattle.csv.specs.Records.{fields_of};
 ghost use Rattle.signal_plan.specs.Counts.{demand_count, limit_count, turn_count};
-ghost use Rattle.network_file.specs.Answers.{Answers, AnswersBy};
+ghost use Rattle.record_fields.specs.Answers.{Answers, AnswersBy};
 ghost use Rattle.network_file.specs.Fitting.{FitsEntry, with_entry};
 ghost use Rattle.network_file.specs.Formats.{most_records};
 ghost use Rattle.network_file.specs.Taking.{take_demand, take_diverge, take_exit, take_gate, take_limit, take_link, take_merge, take_record, take_region, take_road, take_signal, take_steps, take_turn};
 
 use crate::cell::{Cell, Kind};
-use crate::code::Code;
+use crate::cell_fields::{
+    demand_gate, downstream, known_cell, new_name, region_cell, signal_cell, turn_cell, upstream,
+};
 use crate::connector::Connector;
 use crate::draft::NetDraft;
 use crate::entry::Entry;
-use crate::fault::RecordRefusal;
-use crate::fields::{
-    amount_within, demand_gate, downstream, field, known_cell, new_name, range_within, ratio,
-    region_cell, signal_cell, turn_cell, upstream, weights, whole_within,
-};
 use crate::format::most_records;
 use crate::limits::{MOST_CAPACITY, MOST_REGIONS, MOST_ROOM};
-use crate::record_kind::RecordKind;
-use crate::region_record::RegionRecord;
 use csv::ByteRecord;
 use fixed_flow::MOST_PARTS;
-use signal_plan::{Demand, Limit, MOST_STEPS, Signal, Turn};
+use record_fields::{
+    Code, RecordKind, RecordRefusal, RegionRecord, amount_within, field, range_within, ratio,
+    weights, whole_within,
+};
+use signal_plan::{Demand, Limit, MOST_RATIO, MOST_STEPS, Signal, Turn};
 use std::alloc::Global;
 
 /// The draft with one more record.
@@ -89,7 +88,7 @@ fn read_road(alloc: Global, draft: &NetDraft, row: &ByteRecord) -> Result<Entry,
     let name = new_name(alloc, &draft.cells, field(row, 1))?;
     let room = amount_within(MOST_ROOM, field(row, 2))?;
     let capacity = amount_within(MOST_CAPACITY, field(row, 3))?;
-    let (num, den) = ratio(field(row, 4), field(row, 5))?;
+    let (num, den) = ratio(MOST_RATIO, field(row, 4), field(row, 5))?;
     let first = amount_within(room, field(row, 6))?;
     let cell = Cell {
         name,
@@ -147,7 +146,7 @@ fn read_merge(draft: &NetDraft, row: &ByteRecord) -> Result<Entry, RecordRefusal
     let up1 = upstream(&draft.cells, &draft.connectors, None, field(row, 1))?;
     let up2 = upstream(&draft.cells, &draft.connectors, Some(up1), field(row, 2))?;
     let down = downstream(&draft.cells, &draft.connectors, None, field(row, 3))?;
-    let (p1, p2) = weights(field(row, 4), field(row, 5))?;
+    let (p1, p2) = weights(MOST_RATIO, field(row, 4), field(row, 5))?;
     Ok(Entry::Connector(Connector::Merge {
         up1,
         up2,
@@ -166,7 +165,7 @@ fn read_diverge(draft: &NetDraft, row: &ByteRecord) -> Result<Entry, RecordRefus
     let up = upstream(&draft.cells, &draft.connectors, None, field(row, 1))?;
     let down1 = downstream(&draft.cells, &draft.connectors, None, field(row, 2))?;
     let down2 = downstream(&draft.cells, &draft.connectors, Some(down1), field(row, 3))?;
-    let (b1, b2) = weights(field(row, 4), field(row, 5))?;
+    let (b1, b2) = weights(MOST_RATIO, field(row, 4), field(row, 5))?;
     Ok(Entry::Connector(Connector::Diverge {
         up,
         down1,
@@ -237,7 +236,7 @@ fn read_turn(draft: &NetDraft, row: &ByteRecord) -> Result<Entry, RecordRefusal>
 {
     let cell = turn_cell(&draft.cells, &draft.connectors, field(row, 1))?;
     let (from, to) = range_within(MOST_STEPS, field(row, 2), field(row, 3))?;
-    let (b1, b2) = weights(field(row, 4), field(row, 5))?;
+    let (b1, b2) = weights(MOST_RATIO, field(row, 4), field(row, 5))?;
     Ok(Entry::Turn(Turn {
         cell,
         from,

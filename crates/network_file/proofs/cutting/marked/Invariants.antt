@@ -1,6 +1,6 @@
 use Rattle.std.proofs.Common.{◌≡◌, ℕ, eqb, take}
 use Rattle.std.specs.List.{list_any}
-use Rattle.network_file.specs.Marks.{is_marked}
+use Rattle.record_fields.specs.Marks.{is_marked}
 use Rattle.network_file.proofs.cutting.marked.Given as goal
 
 abbrev pub invariant-loop-number : goal.invariant-loop-number

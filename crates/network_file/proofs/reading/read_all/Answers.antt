@@ -1,8 +1,8 @@
 use Rattle.std.proofs.Common.{rules, ◌≡◌, ◌∙◌, ◌∷◌, Bor, List, ℕ, Some, arith, length, sym, ap}
 use Rattle.csv.specs.Records.{fields_of}
-use Rattle.network_file.specs.FileRecords.{records_left, file_records_of}
+use Rattle.record_fields.specs.FileRecords.{records_left, file_records_of}
 use Rattle.network_file.specs.Reading.{read_records}
-use Rattle.network_file.proofs.RecordLemmas.{length-file_records_of}
+use Rattle.record_fields.proofs.RecordLemmas.{length-file_records_of}
 use Rattle.network_file.proofs.ReadingLemmas.{network_of-headless, network_of-misheaded, network_of-headed}
 use Rattle.network_file.proofs.reading.read_all.Goals as goal
 

@@ -2,7 +2,7 @@ use Rattle.std.proofs.Common.{◌≡◌, ◌∙◌, [], Bor, List, ℕ, Some, ar
 use Rattle.std.specs.Prelude.{Result}
 use Rattle.csv.specs.Records.{fields_of}
 use Rattle.network_file.specs.Draft.{Draft}
-use Rattle.network_file.specs.FileRecords.{records_left}
+use Rattle.record_fields.specs.FileRecords.{records_left}
 use Rattle.network_file.specs.Network.{Network}
 use Rattle.network_file.specs.Reading.{completed, read_records}
 use Rattle.network_file.specs.declared.fault.NetFault.{NetFault}
@@ -13,7 +13,7 @@ pub returns-in-Err-clause-refusal : goal.returns-in-Err-clause-refusal
 returns-in-Err-clause-refusal c =
     let rest = records_left (λ (s : Bor (List ℕ)). Some s.now) c.next_record.new.reader in
     let next = c.in_ok-next_record.ensures.found c.if-branch.true in
-    rw c.at.ensures (read_records-refused c.loop-draft.place c.loop-draft.draft (fields_of c.next_record.new.row) rest c.in-Err.refusal
+    rw c.of_record.ensures (read_records-refused c.loop-draft.place c.loop-draft.draft (fields_of c.next_record.new.row) rest c.in-Err.refusal
     (read_records 2 c.args.draft (records_left (λ (s : Bor (List ℕ)). Some s.now) c.args.reader.now)) (rw next at c.loop-draft.invariant.same) c.in-Err.ensures)
 
 pub loop-draft-preserved : goal.loop-draft-preserved
@@ -39,4 +39,4 @@ returns-in-Ok-complete-clause-network c =
 pub returns-in-Err-complete-clause-refusal : goal.returns-in-Err-complete-clause-refusal
 returns-in-Err-complete-clause-refusal c =
     let whole = completes _ c.loop-draft.place c.loop-draft.draft _ c.loop-draft.invariant.same (c.in_ok-next_record.ensures.end c.if-branch.false) in
-    rw (c.at-in-Err-complete.ensures, whole) (completed-refused c.loop-draft.place c.loop-draft.draft c.in-Err-complete.refusal c.in-Err-complete.ensures)
+    rw (c.of_record-in-Err-complete.ensures, whole) (completed-refused c.loop-draft.place c.loop-draft.draft c.in-Err-complete.refusal c.in-Err-complete.ensures)

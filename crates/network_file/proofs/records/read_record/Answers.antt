@@ -1,5 +1,5 @@
 use Rattle.std.proofs.Common.{Some, ap, sym, ◌∙◌}
-use Rattle.network_file.proofs.KindWords.{record_kind_of-Region, record_kind_of-Turn}
+use Rattle.record_fields.proofs.KindWords.{record_kind_of-Region, record_kind_of-Turn}
 use Rattle.network_file.proofs.records.read_record.Goals as goal
 
 pub read_turn-requires-clause-second_format : goal.read_turn-requires-clause-second_format

@@ -1,7 +1,0 @@
-use Rattle.std.proofs.Common.{refl}
-use Rattle.network_file.specs.FileRecords.{records_left}
-use Rattle.network_file.proofs.file_records.open_records.Goals as goal
-
-pub returns-clause-left : goal.returns-clause-left
-unfolding records_left
-returns-clause-left c = rw (c.from_reader.ensures.source, c.from_reader.ensures.state) refl

@@ -1,0 +1,79 @@
+-- The word of each kind of record: a kind that is named is named by its word, and is one of format 2.
+use Rattle.std.proofs.Common.{ℕ, ◌≡◌, ◌==◌, ◌&&◌, Bool, true, false, List, Some, cond, refl, ap, subst, ◌∙◌}
+use Rattle.std.specs.Prelude.{bytes_eq, codes, Option}
+use Rattle.std.specs.Cmp.Lexicographic.{bytes_decides}
+use Rattle.std.proofs.lemmas.Bool.{and_parts, eqb-true}
+use Rattle.record_fields.specs.RecordKinds.{record_kind_of}
+use Rattle.record_fields.specs.declared.record_kind.RecordKind.{RecordKind}
+use Rattle.record_fields.specs.declared.record_kind.RecordKind.TheVariants.{Steps, Road, Gate, Exit, Link, Merge, Diverge, Signal, Limit, Demand, Turn, Region}
+
+abbrev pub word_of : RecordKind → List ℕ
+word_of Steps = codes "steps"
+word_of Road = codes "road"
+word_of Gate = codes "gate"
+word_of Exit = codes "exit"
+word_of Link = codes "link"
+word_of Merge = codes "merge"
+word_of Diverge = codes "diverge"
+word_of Signal = codes "signal"
+word_of Limit = codes "limit"
+word_of Demand = codes "demand"
+word_of Turn = codes "turn"
+word_of Region = codes "region"
+
+-- a choice by a test that gave a kind: the test holds and it is the first kind, or what follows gave it
+named_by : (text : List ℕ) (test : Bool) (first kind : RecordKind) (rest : Option RecordKind) → (test ≡ true → text ≡ word_of first)
+    → (rest ≡ Some kind → text ≡ word_of kind) → cond test (Some first) rest ≡ Some kind → text ≡ word_of kind
+named_by text true first kind rest here later named = here refl ∙ ap word_of (cc named)
+named_by text false first kind rest here later named = later named
+
+-- a kind is named by its word
+pub record_kind_of-word : (format : ℕ) (text : List ℕ) (kind : RecordKind) → record_kind_of format text ≡ Some kind → text ≡ word_of kind
+unfolding record_kind_of
+record_kind_of-word format text kind =
+    (named_by text (bytes_eq text (codes "steps")) Steps kind _ ((bytes_decides text (codes "steps")).0)
+    (named_by text (bytes_eq text (codes "road")) Road kind _ ((bytes_decides text (codes "road")).0)
+    (named_by text (bytes_eq text (codes "gate")) Gate kind _ ((bytes_decides text (codes "gate")).0)
+    (named_by text (bytes_eq text (codes "exit")) Exit kind _ ((bytes_decides text (codes "exit")).0)
+    (named_by text (bytes_eq text (codes "link")) Link kind _ ((bytes_decides text (codes "link")).0)
+    (named_by text (bytes_eq text (codes "merge")) Merge kind _ ((bytes_decides text (codes "merge")).0)
+    (named_by text (bytes_eq text (codes "diverge")) Diverge kind _ ((bytes_decides text (codes "diverge")).0)
+    (named_by text (bytes_eq text (codes "signal")) Signal kind _ ((bytes_decides text (codes "signal")).0)
+    (named_by text (bytes_eq text (codes "limit")) Limit kind _ ((bytes_decides text (codes "limit")).0)
+    (named_by text (bytes_eq text (codes "demand")) Demand kind _ ((bytes_decides text (codes "demand")).0)
+    (named_by text ((format == 2) && bytes_eq text (codes "turn")) Turn kind _ (λ both. (bytes_decides text (codes "turn")).0 (and_parts (format == 2) (bytes_eq text (codes "turn")) both).1)
+    (named_by text ((format == 2) && bytes_eq text (codes "region")) Region kind _ (λ both. (bytes_decides text (codes "region")).0 (and_parts (format == 2) (bytes_eq text (codes "region")) both).1)
+    (λ named. cc named)))))))))))))
+
+-- turns and regions are kinds of format 2 alone
+pub record_kind_of-Turn : (format : ℕ) (text : List ℕ) → record_kind_of format text ≡ Some Turn → format ≡ 2
+unfolding record_kind_of
+record_kind_of-Turn format text named = by (format == 2) refl (subst (λ t. record_kind_of format t ≡ Some Turn) (record_kind_of-word format text Turn named) named)
+  where
+    by : (b : Bool) → (format == 2) ≡ b → record_kind_of format (codes "turn") ≡ Some Turn → format ≡ 2
+    by true e named = eqb-true format 2 e
+    by false e named = cc (rw e at named)
+
+pub record_kind_of-Region : (format : ℕ) (text : List ℕ) → record_kind_of format text ≡ Some Region → format ≡ 2
+unfolding record_kind_of
+record_kind_of-Region format text named = by (format == 2) refl (subst (λ t. record_kind_of format t ≡ Some Region) (record_kind_of-word format text Region named) named)
+  where
+    by : (b : Bool) → (format == 2) ≡ b → record_kind_of format (codes "region") ≡ Some Region → format ≡ 2
+    by true e named = eqb-true format 2 e
+    by false e named = cc (rw e at named)
+
+-- the word of a kind names it in format 2
+pub record_kind_of-word_of : (kind : RecordKind) → record_kind_of 2 (word_of kind) ≡ Some kind
+unfolding record_kind_of
+record_kind_of-word_of Steps = refl
+record_kind_of-word_of Road = refl
+record_kind_of-word_of Gate = refl
+record_kind_of-word_of Exit = refl
+record_kind_of-word_of Link = refl
+record_kind_of-word_of Merge = refl
+record_kind_of-word_of Diverge = refl
+record_kind_of-word_of Signal = refl
+record_kind_of-word_of Limit = refl
+record_kind_of-word_of Demand = refl
+record_kind_of-word_of Turn = refl
+record_kind_of-word_of Region = refl

@@ -1,0 +1,4 @@
+pub mod CheckLemmas
+pub mod KindWords
+pub mod RecordLemmas
+mod RegionLemmas

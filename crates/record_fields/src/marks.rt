@@ -1,0 +1,50 @@
+ghost use Rattle.std.specs.Prelude.{◌≡◌, ◌||◌, ◌==◌, ℕ, false, OnOk};
+ghost use Rattle.record_fields.specs.Marks.{is_marked};
+
+use no_memory::NoMemory;
+use std::alloc::Global;
+
+/// A set of cell numbers, as one mark for each number up to the greatest.
+#[derive(Drop)]
+pub struct Marks {
+    marks: Vec<bool>,
+}
+
+impl std::marker::Model for Marks {
+    ghost use Rattle.std.specs.Prelude.{Bool, List};
+
+    ghost Value = { List Bool };
+
+    ghost view = { λ a. a.marks.items };
+}
+
+impl Marks {
+    pub fn new(alloc: Global) -> Marks
+        ensures { (i : ℕ) → is_marked result i ≡ false }
+    {
+        Marks {
+            marks: Vec::new(alloc),
+        }
+    }
+
+    pub fn has(&self, i: u32) -> bool
+        ensures { result ≡ is_marked self.now i }
+    {
+        match self.marks.get(i as usize) {
+            Some(mark) => *mark,
+            None => false,
+        }
+    }
+
+    /// Puts one more number into the set.
+    pub fn mark(&mut self, i: u32) -> Result<(), NoMemory>
+        ensures { OnOk result ((j : ℕ) → is_marked self.new j ≡ ((j == i) || is_marked self.old j)) }
+    {
+        let at = i as usize;
+        if self.marks.len() <= at {
+            self.marks.resize(at + 1, false)?;
+        }
+        self.marks[at] = true;
+        Ok(())
+    }
+}
