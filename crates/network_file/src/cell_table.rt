@@ -1,5 +1,5 @@
-ghost use Rattle.std.specs.Prelude.{◌≡◌, ◌<◌, ◌≤◌, ◌*◌, ◌^◌, sum_by, ◌++◌, ◌∷◌, [], None, IfOk, IfSome, length};
-ghost use Rattle.network_file.specs.Cells.{cell_named, is_exit_at, is_gate_at};
+ghost use Rattle.std.specs.Prelude.{◌≡◌, ◌<◌, ◌≤◌, ◌*◌, ◌^◌, sum_by, ◌++◌, ◌∷◌, [], None, Some, IfOk, IfSome, length, true};
+ghost use Rattle.network_file.specs.Cells.{cell_named, is_exit_at, is_gate_at, name_at};
 ghost use Rattle.network_file.specs.declared.limits.TheConstants.{MOST_BYTES};
 ghost use Rattle.signal_plan.specs.declared.bounds.TheConstants.{MOST_RECORDS};
 
@@ -16,6 +16,8 @@ use std::marker::Model;
 pub(crate) struct CellTable {
     // Behind a pointer, since each record hands the table on.
     parts: Box<CellParts>,
+    /// Where a name is looked for first: most records name the cell of the record before, or the one behind it.
+    near: u32,
 }
 
 #[derive(Drop)]
@@ -49,6 +51,7 @@ impl CellTable {
         };
         Ok(CellTable {
             parts: Box::new(alloc, parts)?,
+            near: 0,
         })
     }
 
@@ -63,7 +66,34 @@ impl CellTable {
         ensures value { result ≡ cell_named self.now name.now }
         ensures there { IfSome result (λ cell. cell < length self.now) }
     {
-        self.parts.index.find(&self.parts.cells, name)
+        match self.find_near(name) {
+            Some(cell) => Some(cell),
+            None => self.parts.index.find(&self.parts.cells, name),
+        }
+    }
+
+    // The number of the cell of this name, where it is the near one or the one behind it.
+    fn find_near(&self, name: &[u8]) -> Option<u32>
+        ensures { IfSome result (λ cell. cell_named self.now name.now ≡ Some cell) }
+    {
+        let next = self.near.saturating_add(1);
+        if has_name(&self.parts.cells, self.near, name) {
+            Some(self.near)
+        } else if has_name(&self.parts.cells, next, name) {
+            Some(next)
+        } else {
+            None
+        }
+    }
+
+    /// The same cells, with the names of the next records looked for at this one first.
+    pub(crate) fn near(self, cell: u32) -> CellTable
+        ensures { result ≡ self }
+    {
+        CellTable {
+            parts: self.parts,
+            near: cell,
+        }
     }
 
     pub(crate) fn is_gate(&self, cell: u32) -> bool
@@ -102,11 +132,11 @@ impl CellTable {
         requires fresh { cell_named self cell.name ≡ None }
         ensures { IfOk result (λ more. more ≡ self ++ cell ∷ []) }
     {
-        let CellTable { mut parts } = self;
+        let CellTable { mut parts, near } = self;
         let CellParts { cells, index } = &mut *parts;
         index.add(cells, &cell)?;
         cells.push(cell)?;
-        Ok(CellTable { parts })
+        Ok(CellTable { parts, near })
     }
 
     pub(crate) fn into_cells(self) -> Vec<Cell>
@@ -114,5 +144,16 @@ impl CellTable {
     {
         let CellParts { cells, .. } = Box::into_inner(self.parts);
         cells
+    }
+}
+
+// Whether there is a cell of this number, with this name.
+fn has_name(cells: &[Cell], cell: u32, name: &[u8]) -> bool
+    ensures there { result ≡ true → cell < length cells.now }
+    ensures named { result ≡ true → name_at cells.now cell ≡ name.now }
+{
+    match cells.get(cell as usize) {
+        Some(cell) => cell.name.bytes() == name,
+        None => false,
     }
 }

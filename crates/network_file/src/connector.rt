@@ -35,3 +35,13 @@ pub enum Connector {
         b2: u32,
     },
 }
+
+impl Connector {
+    /// The last cell that it leads into.
+    pub(crate) fn last_cell(self) -> u32 {
+        match self {
+            Connector::Link { down, .. } | Connector::Merge { down, .. } => down,
+            Connector::Diverge { down2, .. } => down2,
+        }
+    }
+}

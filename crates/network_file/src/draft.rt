@@ -80,12 +80,24 @@ impl NetDraft {
         match entry {
             Entry::Steps(steps) => Ok(self.with_steps(steps)),
             Entry::Cell(cell, capacity) => self.add_cell(cell, capacity),
-            Entry::Connector(connector) => self.add_connector(connector),
-            Entry::Signal(signal) => self.add_signal(signal),
-            Entry::Limit(limit) => self.add_limit(limit),
-            Entry::Demand(demand) => self.add_demand(demand),
-            Entry::Turn(turn) => self.add_turn(turn),
-            Entry::Region(region) => self.add_region(region),
+            Entry::Connector(connector) => self
+                .near(connector.last_cell())
+                .add_connector(connector),
+            Entry::Signal(signal) => self.near(signal.cell).add_signal(signal),
+            Entry::Limit(limit) => self.near(limit.cell).add_limit(limit),
+            Entry::Demand(demand) => self.near(demand.cell).add_demand(demand),
+            Entry::Turn(turn) => self.near(turn.cell).add_turn(turn),
+            Entry::Region(region) => self.near(region.cell).add_region(region),
+        }
+    }
+
+    /// The same draft, in which the names of the next record are looked for at this cell first.
+    fn near(self, cell: u32) -> NetDraft
+        ensures { result ≡ self }
+    {
+        NetDraft {
+            cells: self.cells.near(cell),
+            ..self
         }
     }
 
