@@ -1,5 +1,5 @@
 -- When an index finds the cells of a list by their names. The cells whose names fall into one bucket are chained.
-use Rattle.std.specs.Prelude.{◌≡◌, ◌≢◌, ℕ, ◌+◌, ◌-◌, ◌<◌, ◌≤◌, List, Some, length, bit_and, slice_index}
+use Rattle.std.specs.Prelude.{◌≡◌, ◌≢◌, ℕ, ◌+◌, ◌-◌, ◌<◌, ◌≤◌, List, Some, length, bit_and, bit_xor, get_or, slice_index, take}
 use Rattle.std.specs.Hash.FoldHasher as folding
 use Rattle.network_file.specs.Cells.{cell_named, name_at}
 use Rattle.network_file.specs.declared.buckets.Buckets.{Buckets}
@@ -7,9 +7,12 @@ use Rattle.network_file.specs.declared.cell.Cell.{Cell}
 use Rattle.network_file.specs.declared.name_index.NameIndex.{NameIndex}
 use Rattle.signal_plan.specs.Limits as plan
 
--- the bucket of a name
+-- the bucket of a name: names that differ in the last byte alone lie side by side
 unfoldable pub bucket_of : Buckets → List ℕ → ℕ
-bucket_of buckets name = bit_and (folding.finish (folding.write buckets.seed name)) buckets.last
+bucket_of buckets name =
+    let before_last = length name - 1 in
+    let digest = folding.finish (folding.write buckets.seed (take before_last name)) in
+    bit_and (bit_xor digest (get_or name before_last 0)) buckets.last
 
 -- end is one more than the number of the last of the first n cells that is in the bucket, or 0 where none is
 pub record IsChainEnd (bucket_at : ℕ → ℕ) (n bucket end : ℕ) : Type 0 where

@@ -38,8 +38,14 @@ impl Buckets {
         ensures value { result ≡ bucket_of self.now name.now }
         ensures within { result ≤ self.now.last }
     {
+        let before_last = name.len().saturating_sub(1);
         let mut hasher = self.seed;
-        hasher.write(name);
-        (hasher.finish() & u64::from(self.last)) as usize
+        hasher.write(&name[..before_last]);
+        // Names that are numbered in a row, which mostly differ in the last digit, fall into buckets side by side.
+        let last = match name.get(before_last) {
+            Some(byte) => u64::from(*byte),
+            None => 0,
+        };
+        ((hasher.finish() ^ last) & u64::from(self.last)) as usize
     }
 }

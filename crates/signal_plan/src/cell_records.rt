@@ -1,4 +1,4 @@
-ghost use Rattle.std.specs.Prelude.{◌≡◌, OnOk, OnErr};
+ghost use Rattle.std.specs.Prelude.{◌≡◌, ◌++◌, ◌∷◌, [], OnOk, OnErr};
 ghost use Rattle.signal_plan.specs.Records as cell;
 
 use crate::demand::Demand;
@@ -68,8 +68,7 @@ impl CellRecord for Limit {
     ghost added = { cell.with_own_limit };
 
     fn put_into(self, records: &mut CellRecords) -> Result<(), NoMemory> {
-        records.limits.push(self)?;
-        Ok(())
+        push(&mut records.limits, self)
     }
 }
 
@@ -77,8 +76,7 @@ impl CellRecord for Demand {
     ghost added = { cell.with_own_demand };
 
     fn put_into(self, records: &mut CellRecords) -> Result<(), NoMemory> {
-        records.demands.push(self)?;
-        Ok(())
+        push(&mut records.demands, self)
     }
 }
 
@@ -86,7 +84,18 @@ impl CellRecord for Turn {
     ghost added = { cell.with_own_turn };
 
     fn put_into(self, records: &mut CellRecords) -> Result<(), NoMemory> {
-        records.turns.push(self)?;
-        Ok(())
+        push(&mut records.turns, self)
     }
+}
+
+// Puts one more record at the end. Most cells have one of a kind, so the first takes no more room than it needs.
+fn push<R: Copy>(records: &mut Vec<R>, one: R) -> Result<(), NoMemory>
+    ensures added { OnOk result (records.new.items ≡ records.old.items ++ one ∷ []) }
+    ensures unchanged { OnErr result (records.new.items ≡ records.old.items) }
+{
+    if records.is_empty() {
+        records.reserve_exact(1)?;
+    }
+    records.push(one)?;
+    Ok(())
 }

@@ -1,6 +1,0 @@
-use Rattle.std.proofs.Common.{◌≡◌, ◌*◌, ◌≤◌, ◌^◌, take}
-use Rattle.std.specs.Prelude.{sum_by}
-use Rattle.monotone_laws.proofs.delay.delay.Given as goal
-
-abbrev pub invariant-loop-row : goal.invariant-loop-row
-invariant-loop-row l = (l.sum ≡ sum_by (λ row. row.wait) (take l.row-index l.rows)) × (l.sum ≤ l.row-index * 2 ^ 64)
