@@ -18,7 +18,6 @@ mod by_cell;
 mod cell_lines;
 mod cell_places;
 mod cell_rows;
-mod delay;
 mod last_totals;
 mod note_lines;
 mod run_end;

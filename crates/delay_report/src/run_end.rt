@@ -9,8 +9,8 @@ ghost use Rattle.delay_report.specs.FromStart.{report_from};
 ghost use Rattle.delay_report.specs.Report.{report_of};
 
 use crate::cell_rows::cell_rows;
-use crate::delay::delay;
 use crate::whole_report::report;
+use flow_ledger::total_delay;
 use flow_model::Row;
 use network_file::Net;
 use no_memory::NoMemory;
@@ -91,5 +91,5 @@ pub fn run_delay(
 {
     let _steps = net.steps;
     let rows = run_rows(alloc, net, chart, regions)?;
-    Ok(delay(&rows))
+    Ok(total_delay(&rows))
 }

@@ -1,8 +1,7 @@
 ghost use Rattle.std.specs.Prelude.{◌≡◌, ◌++◌, length, OnOk};
 ghost use Rattle.delay_report.specs.Report.{total_line, totals};
 
-use crate::delay::delay;
-use flow_ledger::books;
+use flow_ledger::{books, total_delay};
 use flow_model::Row;
 use line_fields::put_signed;
 use network_file::Net;
@@ -29,6 +28,6 @@ fn put_totals(text: &mut Vec<u8>, net: &Net, rows: &[Row]) -> Result<(), NoMemor
     put_signed(text, books.inside)?;
     put_signed(text, books.entered)?;
     put_signed(text, books.left)?;
-    put_signed(text, delay(rows) as i128)?;
+    put_signed(text, total_delay(rows) as i128)?;
     Ok(())
 }

@@ -3,8 +3,8 @@ ghost use Rattle.flow_model.specs.State.{delay_of};
 
 use flow_model::Row;
 
-/// The waits of all cells, parts times steps.
-pub(crate) fn delay(rows: &[Row]) -> u128
+/// The delay of all cells, in parts times steps: the sum of their waits.
+pub fn total_delay(rows: &[Row]) -> u128
     ensures sum { result ≡ delay_of rows.now }
     ensures most { result ≤ length rows.now * 2 ^ 64 }
 {

@@ -6,7 +6,7 @@ ghost use Rattle.monotone_laws.specs.Eased.{AreAlike, IsEased};
 ghost use Rattle.monotone_laws.specs.Links.{HasLinksAlone};
 ghost use Rattle.monotone_laws.specs.Moments.{StandAtOneStep};
 
-use crate::delay::delay;
+use flow_ledger::total_delay;
 use flow_model::Row;
 use network_file::Net;
 
@@ -35,7 +35,7 @@ pub fn delay_saved(one: &Net, two: &Net, first: &[Row], second: &[Row]) -> u128
     ensures saved { delay_of second.now + result ≡ delay_of first.now }
 {
     let (_one, _two) = (one.steps, two.steps);
-    delay(first) - delay(second)
+    total_delay(first) - total_delay(second)
 }
 
 /// How much delay the demands of the second network add, in parts times steps, by their rows at one step.
@@ -47,5 +47,5 @@ pub fn delay_added(one: &Net, two: &Net, first: &[Row], second: &[Row]) -> u128
     ensures added { delay_of first.now + result ≡ delay_of second.now }
 {
     let (_one, _two) = (one.steps, two.steps);
-    delay(second) - delay(first)
+    total_delay(second) - total_delay(first)
 }

@@ -5,7 +5,6 @@
 //! three differences, which without them could go below 0. No call takes memory.
 #![tactic(auto)]
 
-mod delay;
 mod differences;
 mod links;
 

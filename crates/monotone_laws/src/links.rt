@@ -7,8 +7,8 @@ use network_file::{Connector, Net};
 pub fn has_links_alone(net: &Net) -> bool
     ensures { IsTrue result ↔ HasLinksAlone net.now }
 {
-    for k in 0..net.connectors.len() {
-        if !is_link(net.connectors[k]) {
+    for connector in &net.connectors {
+        if !is_link(*connector) {
             return false;
         }
     }

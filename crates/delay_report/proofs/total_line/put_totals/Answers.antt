@@ -22,9 +22,9 @@ returns c =
     let entered = c.in_ok-put_signed-2.ensures.amount (entered_of c.args.net.now c.args.rows.now) (whole_entered ∙ ap (λ books. books.entered) books) in
     let left = c.in_ok-put_signed-3.ensures.amount (left_of c.args.net.now c.args.rows.now) (whole_left ∙ ap (λ books. books.left) books) in
     let few : length c.args.rows.now < 2 ^ 32 = omega (arith, c.requires, few_cells c.args.net.now (subst IsNetwork c.net.view_is c.net.invariant)) in
-    let small : c.delay.result < 2 ^ 127 = omega (arith, c.delay.ensures.most, few) in
-    let whole_delay : to_z w128 c.delay.result ≡ pos c.delay.result = search (small, rules) in
-    let delay = c.in_ok-put_signed-4.ensures.amount (delay_of c.args.rows.now) (whole_delay ∙ ap pos c.delay.ensures.sum) in
+    let small : c.total_delay.result < 2 ^ 127 = omega (arith, c.total_delay.ensures.most, few) in
+    let whole_delay : to_z w128 c.total_delay.result ≡ pos c.total_delay.result = search (small, rules) in
+    let delay = c.in_ok-put_signed-4.ensures.amount (delay_of c.args.rows.now) (whole_delay ∙ ap pos c.total_delay.ensures.sum) in
     let begun = left ∙ ap (λ text. text ++ amount_field (left_of c.args.net.now c.args.rows.now)) (entered ∙ ap (λ text. text ++ amount_field (entered_of c.args.net.now c.args.rows.now)) inside) in
     delay ∙ ap (λ text. text ++ amount_field (delay_of c.args.rows.now)) begun ∙
     four c.args.text.now.items (amount_field (inside_of c.args.net.now c.args.rows.now)) (amount_field (entered_of c.args.net.now c.args.rows.now))

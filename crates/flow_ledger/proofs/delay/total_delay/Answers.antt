@@ -1,6 +1,6 @@
 use Rattle.std.proofs.lemmas.List.{take_all}
 use Rattle.flow_model.specs.State.{delay_of}
-use Rattle.delay_report.proofs.delay.delay.Goals as goal
+use Rattle.flow_ledger.proofs.delay.total_delay.Goals as goal
 
 pub returns-clause-sum : goal.returns-clause-sum
 unfolding delay_of
