@@ -82,6 +82,11 @@ pub kept-lasting : (courses : Option Courses) (limits : Limits) (step t until : 
 kept-lasting None limits step t until none has in_time = has
 kept-lasting (Some courses) limits step t until none has in_time = cc
 
+-- where no courses are kept they stay past the last step
+pub kept-never : (courses : Option Courses) (limits : Limits) (step until : ℕ) → courses ≡ None → AreKept courses limits step until → most_steps < until
+kept-never None limits step until none has = has
+kept-never (Some courses) limits step until none has = absurd cc
+
 -- the limits in each step are the same once they have come to step t
 pub limits_in-moved : (courses : Courses) (old new : Limits) (t s : ℕ) → limits_in (Some (moved_to courses t)) new s ≡ limits_in (Some courses) old s
 unfolding limits_in

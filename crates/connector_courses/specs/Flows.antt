@@ -11,7 +11,7 @@ use Rattle.connector_courses.specs.declared.rule.Rule.{Rule}
 use Rattle.connector_courses.specs.declared.rule.Rule.TheVariants.{Linking, Merging, Diverging}
 
 -- a connector as contracts see it: its rule, what changes of it, the limits that are in force, the spaces of its second
--- cell and of its third, and the step that was come to
+-- cell and of its third, the step that was come to, and the first at which these limits may change
 pub record ConnectorValues : Type 0 where
   pub rule : Rule
   pub courses : Option Courses
@@ -19,6 +19,7 @@ pub record ConnectorValues : Type 0 where
   pub second_space : Space
   pub third_space : Space
   pub step : ℕ
+  pub until : ℕ
 
 -- what a cell with this space that holds n parts receives of so much at most
 abbrev pub received : (most : ℕ) → Space → (n : ℕ) → ℕ

@@ -8,6 +8,7 @@ use place_sweep::Space;
 
 /// What a connector carries where its cells hold `n` parts, within these limits and the spaces of the second cell and the
 /// third.
+#[inline(always)]
 pub(crate) fn carried(
     rule: Rule,
     limits: Limits,
@@ -41,6 +42,7 @@ pub(crate) fn carried(
 }
 
 // What a cell that holds `n` parts receives of so much at most. One that holds more than its space receives nothing.
+#[inline(always)]
 fn received(most: u64, space: Space, n: u64) -> u64
     ensures { result ≡ received most space n }
 {

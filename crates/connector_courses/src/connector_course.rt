@@ -49,6 +49,7 @@ impl Model for ConnectorCourse {
       second_space = course.second_space;
       third_space = course.third_space;
       step = course.step;
+      until = course.until;
     } };
 
     ghost invariant = { λ course. AreKept (option_map (λ own. own.value) course.courses) course.limits course.step course.until };
@@ -92,10 +93,18 @@ impl ConnectorCourse {
     }
 
     /// By which rule the connector carries.
+    #[inline(always)]
     pub fn rule(&self) -> Rule
         ensures { result ≡ self.now.rule }
     {
         self.rule
+    }
+
+    /// Up to which step from its own on it carries within the same limits, `u64::MAX` where they never change.
+    pub fn until(&self) -> u64
+        ensures { result ≡ self.now.until }
+    {
+        self.until
     }
 
     /// Follows it to step `t`. Where nothing changes by then it does next to nothing.
@@ -104,6 +113,7 @@ impl ConnectorCourse {
         requires in_time { t ≤ MOST_STEPS }
         ensures step { self.new.step ≡ t }
         ensures rule { self.new.rule ≡ self.old.rule }
+        ensures later { t < self.new.until }
         ensures flow { (s : ℕ) (n : List ℕ) → flow_at self.new s n ≡ flow_at self.old s n }
     {
         if self.until <= t {
@@ -116,10 +126,12 @@ impl ConnectorCourse {
         self.step = t;
     }
 
-    /// What the connector carries at its step where its cells hold `n` parts, in the order of the connector's fields. The
-    /// place of `n` past its cells is not read.
+    /// What the connector carries from its step on as long as its limits stay, where its cells hold `n` parts, in the order
+    /// of the connector's fields. The place of `n` past its cells is not read.
+    #[inline(always)]
     pub fn flow(&self, n: [u64; 3]) -> Flow
-        ensures { result ≡ flow_at self.now self.now.step n }
+        ensures now { result ≡ flow_at self.now self.now.step n }
+        ensures later { (t : ℕ) → self.now.step ≤ t → t < self.now.until → result ≡ flow_at self.now t n }
     {
         carried(
             self.rule,

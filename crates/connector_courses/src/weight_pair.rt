@@ -71,6 +71,7 @@ impl WeightPair {
     }
 
     /// How many times both are whole in an amount.
+    #[inline(always)]
     pub(crate) fn whole(self, amount: u64) -> u64
         ensures quotient { result ≡ amount / (self.0 + self.1) }
         ensures within { result * (self.0 + self.1) ≤ amount }
@@ -83,6 +84,7 @@ impl WeightPair {
     }
 
     /// The share of the first in an amount, rounded down.
+    #[inline(always)]
     pub(crate) fn first_share(self, amount: u64) -> u64
         ensures share { result ≡ first_share amount self.0 self.1 }
         ensures within { result ≤ amount }

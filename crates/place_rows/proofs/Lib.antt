@@ -2,9 +2,12 @@ pub mod Shares
 pub mod Links
 pub mod Flowing
 pub mod Stepping
+pub mod MovedPlaces
+pub mod Ruled
 pub mod Parting
 pub mod Ties
 pub mod Whole
+pub mod Stepped
 pub mod Joins
 pub mod Known
 pub mod Extending

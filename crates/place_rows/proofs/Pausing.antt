@@ -13,17 +13,14 @@ use Rattle.flow_model.specs.Limits.{room_at}
 use Rattle.flow_model.specs.State.{rows_after}
 use Rattle.flow_model.specs.Rows.{empty_row, next_row}
 use Rattle.connector_courses.specs.Flows.{flow_at, no_flow}
-use Rattle.place_sweep.specs.Parts.{parts_at}
-use Rattle.place_sweep.specs.Places.{carried, link_in, link_out, no_place, place_at}
+use Rattle.place_sweep.specs.Places.{carried, link_in, link_out, moved, no_place, place_at}
 use Rattle.place_sweep.specs.Space.{IsSpaceOf}
-use Rattle.place_sweep.specs.Steps.{stepped}
 use Rattle.place_sweep.specs.declared.place.Place.{Place}
 use Rattle.place_sweep.proofs.Links.{link_in-first, link_in-more, link_out-carried, place_at-past}
-use Rattle.place_sweep.proofs.PartSums.{parts_at-none}
 use Rattle.timelines.specs.Courses.{Course, value_at}
 use Rattle.timelines.specs.Followed.{AreFollowed}
 use Rattle.timelines.specs.declared.followed.FollowedLink.{FollowedLink}
-use Rattle.place_rows.specs.Carrying.{IsSpotOf, IsThere, IsTie, held_at, spot_at, three_held}
+use Rattle.place_rows.specs.Carrying.{IsSpotOf, IsThere, IsTie, held_at, held_in, spot_at, three_held}
 use Rattle.place_rows.specs.Chains.{most_out}
 use Rattle.place_rows.specs.Gates.{AreGatesKept, demand_into}
 use Rattle.place_rows.specs.Moves.{ArePartsOf, IsScene, IsSeen, in_by, out_by}
@@ -132,9 +129,6 @@ none-in : (net : Network) (t i : ℕ) (n : ℕ → ℕ) (k : ℕ) → flow_of ne
 none-in net t i n k none =
     let is = ap (entering i (connector_at net.connectors k)) none ∙ amount_beside-nothing i _ in omega (arith, is)
 
-parts_at-nothing : (p : ℕ) → parts_at [] p ≡ 0
-parts_at-nothing p = parts_at-none p []
-
 none-demanded : (t p : ℕ) (gates : List GatePlace) → All (λ gate. value_at gate.course t ≡ 0) gates → sum_by (demand_into t p) gates ≡ 0
 none-demanded t p gates none = sum_by-zero (demand_into t p) gates (λ k d within.
     let gate : GatePlace = get_or gates k d in
@@ -164,24 +158,22 @@ still net t n cells halo connectors placed put sound before has bounds seen wait
     } in
     let flow = λ (k : ℕ) (d : Tie) (there : k < length placed.ties).
     still-flow net t n cells halo placed.ties placed.places put placed.pause.until k d scene seen has.come idle.tied wait.paused there in
-    let parts : ArePartsOf net t n cells placed.ties [] [] = record {
-      there = λ k d within. absurd (omega arith);
-      there_in = λ k d within. absurd (omega arith);
-      taken = λ p within. parts_at-nothing p ∙ sym (sum_by-zero (λ tie. out_by net t n (slice_index cells p) tie.connector) placed.ties
+    let parts : ArePartsOf net t n cells placed.ties (λ p. 0) (λ p. 0) = record {
+      taken = λ p within. sym (sum_by-zero (λ tie. out_by net t n (slice_index cells p) tie.connector) placed.ties
           (λ k d there. none-out net t (slice_index cells p) n (get_or placed.ties k d).connector (flow k d there)));
-      brought = λ p within. parts_at-nothing p ∙ sym (sum_by-zero (λ tie. in_by net t n (slice_index cells p) tie.connector) placed.ties
+      brought = λ p within. sym (sum_by-zero (λ tie. in_by net t n (slice_index cells p) tie.connector) placed.ties
           (λ k d there. none-in net t (slice_index cells p) n (get_or placed.ties k d).connector (flow k d there)));
     } in
     let places : List Place = fresh net cells connectors t placed.places in
     let none : (p : ℕ) → p < length cells → link_out places p ≡ 0 =
     λ p within. fresh-still net cells connectors t placed.pause.until placed.places placed.links placed.ties put p has.followed idle wait.paused (omega (arith, has.one_each)) in
-    let moves : IsMoved net t n cells places [] [] =
-    steps-moved net cells halo connectors t n placed places [] [] [] put sound before has bounds seen
+    let moves : IsMoved net t n cells places (λ p. 0) (λ p. 0) =
+    steps-moved net cells halo connectors t n placed places (λ p. 0) (λ p. 0) (λ p. 0) put sound before has bounds seen
     (length-fresh net cells connectors t placed.places) (fresh-at net cells connectors t placed.places) parts
     (λ p. omega (arith, none-demanded t p placed.gates wait.demand_nothing)) in
     λ p within. (
-      omega (arith, moves.leaves p within, none p within, parts_at-nothing p),
-      omega (arith, moves.enters p within, none-before places p within none, parts_at-nothing p),
+      omega (arith, moves.leaves p within, none p within),
+      omega (arith, moves.enters p within, none-before places p within none),
     )
   where
     none-before : (places : List Place) (p : ℕ) → p < length cells → ((p : ℕ) → p < length cells → link_out places p ≡ 0) → link_in places p ≡ 0
@@ -189,7 +181,7 @@ still net t n cells halo connectors placed put sound before has bounds seen wait
     none-before places (suc p) within none = ap (link_in places) (sym (add-one p)) ∙ link_in-more places p ∙ none p (omega arith)
 
 -- what a place held once more is its step in which nothing moved
-waits-step : (place : Place) (enters leaves : ℕ) → enters ≡ 0 → leaves ≡ 0 → waited 1 place ≡ stepped place enters leaves
+waits-step : (place : Place) (enters leaves : ℕ) → enters ≡ 0 → leaves ≡ 0 → waited 1 place ≡ moved place enters leaves
 unfolding waited
 waits-step place enters leaves none none_out =
     let n : place.n + enters - leaves ≡ place.n = omega arith in
@@ -233,11 +225,11 @@ rows-waited net cells t placed put sound before wait can =
 
 -- what moves by their connectors is as before
 
-held-waited : (places : List Place) (put : List (Option ℕ)) (spot : Spot) → held_at (map (waited 1) places) put spot ≡ held_at places put spot
+held-waited : (places : List Place) (put : List (Option ℕ)) (spot : Spot) → held_at (held_in (map (waited 1) places)) put spot ≡ held_at (held_in places) put spot
 held-waited places put (Own p) = n-waited 1 places p
 held-waited places put (Halo j) = refl
 
-three-waited : (tie : Tie) (places : List Place) (put : List (Option ℕ)) → three_held tie (map (waited 1) places) put ≡ three_held tie places put
+three-waited : (tie : Tie) (places : List Place) (put : List (Option ℕ)) → three_held tie (held_in (map (waited 1) places)) put ≡ three_held tie (held_in places) put
 three-waited tie places put =
     rw (held-waited places put (spot_at tie 0), held-waited places put (spot_at tie 1), held-waited places put (spot_at tie 2)) refl
 
@@ -301,6 +293,7 @@ placed-waited net cells t placed put gates before sound in_time wait kept long n
           (cell-waits net t can.n cells can.halo can.connectors placed put sound in_time has can.bounds can.seen wait p within).1;
       space = λ p within. subst (λ space. IsSpaceOf space (room_at net.cells (slice_index cells p))) (sym (space_is p within)) (has.space p within);
       come = λ k d within. omega (arith, has.come k d within);
+      unchanged = has.unchanged;
       gates = gates-kept t placed.gates gates kept ∙ has.gates;
       demands = λ k d within.
           let is = demands-kept net cells t placed.gates gates kept has.demands k d within in
@@ -317,8 +310,6 @@ placed-waited net cells t placed put gates before sound in_time wait kept long n
             noted p here ∙ sym (n-waited 1 placed.places p);
       };
       seen_each = has.seen_each;
-      room = has.room;
-      room_in = omega (arith, has.room_in, kept.long);
     }
 
 -- no sum of a place runs too large as it waits
@@ -348,14 +339,13 @@ placed-awake net cells halo connectors t placed gates has kept = record {
   own = has.own;
   space = has.space;
   come = has.come;
+  unchanged = has.unchanged;
   gates = gates-kept t placed.gates gates kept ∙ has.gates;
   demands = demands-kept net cells t placed.gates gates kept has.demands;
   links = has.links;
   followed = has.followed;
   pause = record { idle = λ s none. absurd (omega (arith, none)); owed = omega arith; kept = λ some. absurd (omega (arith, some)) };
   seen_each = has.seen_each;
-  room = has.room;
-  room_in = omega (arith, has.room_in, kept.long);
 }
 
 pub advance-awake : (net : Network) (cells : List ℕ) (t : ℕ) (placed : PlacedCells) (gates : List GatePlace) (put : List (Option ℕ)) →
@@ -400,14 +390,13 @@ placed-paused net cells halo connectors t placed pause put has none put_each idl
   own = has.own;
   space = has.space;
   come = has.come;
+  unchanged = has.unchanged;
   gates = has.gates;
   demands = has.demands;
   links = has.links;
   followed = has.followed;
   pause = record { idle = idle; owed = omega (arith, none); kept = λ some. absurd (omega (arith, none, some)) };
   seen_each = put_each;
-  room = has.room;
-  room_in = has.room_in;
 }
 
 -- the spots of a tie are there

@@ -7,7 +7,7 @@ use Rattle.network_file.specs.Network.{Network}
 use Rattle.flow_model.specs.Rows.{moved_row}
 use Rattle.flow_model.specs.declared.row.Row.{Row}
 use Rattle.flow_model.proofs.Bounds.{IsChange}
-use Rattle.place_sweep.specs.Steps.{stepped}
+use Rattle.place_sweep.specs.Places.{moved}
 use Rattle.place_sweep.specs.declared.place.Place.{Place}
 use Rattle.place_rows.specs.Rows.{IsOf, row_of}
 use Rattle.place_rows.specs.declared.origin.Origin.{Origin}
@@ -26,7 +26,7 @@ row-road first n gone held enters leaves taken began sums fits =
 
 pub row-stepped : (net : Network) (t i : ℕ) (origin : Origin) (place : Place) (enters leaves : ℕ) → IsOf net i origin place →
     IsChange net t i place.n enters leaves → (origin.is_exit ≡ false → place.held + place.n < 2 ^ 64) →
-    row_of origin (stepped place enters leaves) ≡ moved_row net i (row_of origin place) enters leaves
+    row_of origin (moved place enters leaves) ≡ moved_row net i (row_of origin place) enters leaves
 row-stepped net t i origin place enters leaves is change fits = elim (cases_Bool origin.is_exit) [
   | inl exit ↦
       let exit_at : is_exit_at net.cells i ≡ true = sym is.exit ∙ exit in
@@ -40,7 +40,7 @@ row-stepped net t i origin place enters leaves is change fits = elim (cases_Bool
 
 pub stepped-is_of : (net : Network) (t i : ℕ) (origin : Origin) (place : Place) (enters leaves : ℕ) → IsOf net i origin place →
     IsChange net t i place.n enters leaves → (origin.is_exit ≡ false → place.held + place.n < 2 ^ 64) →
-    IsOf net i origin (stepped place enters leaves)
+    IsOf net i origin (moved place enters leaves)
 stepped-is_of net t i origin place enters leaves is change fits = record {
   first = is.first;
   exit = is.exit;

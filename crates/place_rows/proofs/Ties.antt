@@ -1,4 +1,4 @@
--- Ties that carry, and gates that are asked, one after the other.
+-- Ties that are followed, and gates that are asked, one after the other.
 use Rattle.std.specs.Prelude.{All, map, slice_index}
 use Rattle.std.specs.List.{sum_by}
 use Rattle.std.proofs.Common.{◌≡◌, ℕ, ◌+◌, ◌<◌, ◌≤◌, ◌==◌, if◌then◌else◌, inl, inr, List, [], ◌∷◌, length, get_or, set, refl, sym, ap, ◌∙◌, arith}
@@ -8,7 +8,7 @@ use Rattle.std.proofs.lemmas.List.Sums.{sum_by-cons}
 use Rattle.signal_plan.proofs.Sums.{sum_by-same}
 use Rattle.signal_plan.specs.Demand.{demand_at}
 use Rattle.network_file.specs.Network.{Network}
-use Rattle.place_rows.specs.Carrying.{AreCarried, IsCarried, IsTie}
+use Rattle.place_rows.specs.Carrying.{AreTiesFollowed, IsTieFollowed, IsTie}
 use Rattle.place_rows.specs.Gates.{AreAsked, AreGatesKept, IsGateOf, IsGateKept, demand_into}
 use Rattle.place_rows.specs.Moves.{AreTied, demand_for}
 use Rattle.place_rows.specs.declared.gate_place.GatePlace.{GatePlace}
@@ -29,10 +29,10 @@ sum_by-map f g [] = refl
 sum_by-map f g (x ∷ xs) =
     omega (arith, sum_by-cons (λ x. f (g x)) x xs, sum_by-cons f (g x) (map g xs), sum_by-map f g xs)
 
--- the first j ties have carried, and the others are as they were
+-- the first j ties were followed, and the others are as they were
 pub record AreBegun (t j : ℕ) (first ties : List Tie) : Type 0 where
   pub long : length ties ≡ length first
-  pub done : (k : ℕ) (d : Tie) → k < j → IsCarried t (get_or first k d) (get_or ties k d)
+  pub done : (k : ℕ) (d : Tie) → k < j → IsTieFollowed t (get_or first k d) (get_or ties k d)
   pub rest : (k : ℕ) (d : Tie) → j ≤ k → get_or ties k d ≡ get_or first k d
 
 pub begun-none : (t : ℕ) (first : List Tie) → AreBegun t 0 first first
@@ -43,7 +43,7 @@ begun-none t first = record {
 }
 
 pub begun-more : (t j : ℕ) (first ties : List Tie) (new : Tie) → j < length first → AreBegun t j first ties →
-    ((d : Tie) → IsCarried t (get_or first j d) new) → AreBegun t (j + 1) first (set ties j new)
+    ((d : Tie) → IsTieFollowed t (get_or first j d) new) → AreBegun t (j + 1) first (set ties j new)
 begun-more t j first ties new within begun carried = record {
   long = length-set ties j new ∙ begun.long;
   done = λ k d before. elim (cases_eq k j) [
@@ -53,12 +53,27 @@ begun-more t j first ties new within begun carried = record {
   rest = λ k d past. get_or-set_other ties j k new d (omega arith) ∙ begun.rest k d (omega arith);
 }
 
-pub begun-all : (t j : ℕ) (first ties : List Tie) → length first ≤ j → AreBegun t j first ties → AreCarried t first ties
+pub begun-all : (t j : ℕ) (first ties : List Tie) → length first ≤ j → AreBegun t j first ties → AreTiesFollowed t first ties
 begun-all t j first ties whole begun = record { long = begun.long; each = λ k d within. begun.done k d (omega arith) }
 
--- a tie that has carried is that of its connector still
-tie-carried : (net : Network) (cells halo : List ℕ) (t : ℕ) (old new : Tie) → IsTie net cells halo old → IsCarried t old new → IsTie net cells halo new
-tie-carried net cells halo t old new tie carried = record {
+-- ties none of which changes by step t need not be followed
+pub followed-yet : (t until : ℕ) (ties : List Tie) → All (λ tie. tie.course.step ≤ t) ties → All (λ tie. until ≤ tie.course.until) ties → t < until →
+    AreTiesFollowed t ties ties
+followed-yet t until ties come unchanged before = record {
+  long = refl;
+  each = λ k d within. record {
+    connector = refl;
+    cells = refl;
+    rule = refl;
+    flow = λ s n. refl;
+    step = come k d within;
+    later = omega (arith, unchanged k d within);
+  };
+}
+
+-- a tie that was followed is that of its connector still
+tie-followed : (net : Network) (cells halo : List ℕ) (t : ℕ) (old new : Tie) → IsTie net cells halo old → IsTieFollowed t old new → IsTie net cells halo new
+tie-followed net cells halo t old new tie carried = record {
   there = rw carried.connector tie.there;
   spots = rw (carried.connector, carried.cells) tie.spots;
   course = rw carried.connector (record {
@@ -67,22 +82,22 @@ tie-carried net cells halo t old new tie carried = record {
   });
 }
 
-pub tied-carried : (net : Network) (cells halo : List ℕ) (t : ℕ) (old new : List Tie) → AreTied net cells halo old → AreCarried t old new →
+pub tied-followed : (net : Network) (cells halo : List ℕ) (t : ℕ) (old new : List Tie) → AreTied net cells halo old → AreTiesFollowed t old new →
     AreTied net cells halo new
-tied-carried net cells halo t old new tied carried = record {
+tied-followed net cells halo t old new tied carried = record {
   rising = tied.rising;
   apart = tied.apart;
   tied = λ k d within.
       let inside : k < length old = omega (arith, carried.long) in
-      tie-carried net cells halo t (get_or old k d) (get_or new k d) (tied.tied k d inside) (carried.each k d inside);
+      tie-followed net cells halo t (get_or old k d) (get_or new k d) (tied.tied k d inside) (carried.each k d inside);
 }
 
-pub numbers-carried : (t : ℕ) (old new : List Tie) → AreCarried t old new → map (λ tie. tie.connector) new ≡ map (λ tie. tie.connector) old
-numbers-carried t old new carried = map-same (λ tie. tie.connector) old new carried.long (λ k d within. (carried.each k d within).connector)
+pub numbers-followed : (t : ℕ) (old new : List Tie) → AreTiesFollowed t old new → map (λ tie. tie.connector) new ≡ map (λ tie. tie.connector) old
+numbers-followed t old new carried = map-same (λ tie. tie.connector) old new carried.long (λ k d within. (carried.each k d within).connector)
 
-pub come-carried : (t : ℕ) (old new : List Tie) → AreCarried t old new → All (λ tie. tie.course.step ≤ t + 1) new
-come-carried t old new carried = λ k d within.
-    let is = (carried.each k d (omega (arith, carried.long))).step in omega arith
+pub come-followed : (t : ℕ) (old new : List Tie) → AreTiesFollowed t old new → All (λ tie. tie.course.step ≤ t + 1) new
+come-followed t old new carried = λ k d within.
+    let is = (carried.each k d (omega (arith, carried.long))).step in omega (arith, is)
 
 -- gates that were asked are at the same places, and demand the same
 pub gates-asked : (t : ℕ) (old new : List GatePlace) → AreAsked t old new → map (λ gate. gate.place) new ≡ map (λ gate. gate.place) old

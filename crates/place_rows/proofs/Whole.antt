@@ -24,11 +24,8 @@ use Rattle.flow_model.proofs.Bounds.{IsChange, IsSmall, changes, moved_row-in_bo
 use Rattle.flow_model.proofs.CellKinds.{cell_at}
 use Rattle.flow_model.proofs.CellLimits.{capacity_at-le}
 use Rattle.flow_model.proofs.Flows.{inflow-gate}
-use Rattle.place_sweep.specs.Parts.{parts_at}
-use Rattle.place_sweep.specs.Places.{link_in, link_out, place_at}
+use Rattle.place_sweep.specs.Places.{AreSound, link_in, link_out, moved, place_at}
 use Rattle.place_sweep.specs.Space.{HasSpace, IsSpaceOf, boundless}
-use Rattle.place_sweep.specs.Steps.{CanStep, stepped}
-use Rattle.place_sweep.specs.declared.part.Part.{Part}
 use Rattle.place_sweep.specs.declared.place.Place.{Place}
 use Rattle.place_sweep.proofs.Flows.{held-fits}
 use Rattle.place_rows.specs.Chains.{AreAround, most_out, odd_ones}
@@ -42,8 +39,8 @@ use Rattle.place_rows.specs.declared.origin.Origin.{Origin}
 use Rattle.place_rows.specs.declared.tie.Tie.{Tie}
 use Rattle.place_rows.proofs.Flowing.{HasPlaces, in-gate, in-total, odd_sum, out-total}
 use Rattle.place_rows.proofs.Stepping.{row-stepped, stepped-is_of}
-use Rattle.place_rows.proofs.Ties.{come-carried, demands-asked, demands-into, gates-asked, numbers-carried, sum_by-map, tied-carried}
-use Rattle.place_rows.specs.Carrying.{AreCarried}
+use Rattle.place_rows.proofs.Ties.{come-followed, demands-asked, demands-into, gates-asked, numbers-followed, sum_by-map, tied-followed}
+use Rattle.place_rows.specs.Carrying.{AreTiesFollowed}
 use Rattle.place_rows.specs.Pausing.{IsPauseOf}
 use Rattle.place_rows.specs.declared.pause.Pause.{Pause}
 use Rattle.place_rows.specs.Gates.{AreAsked, demand_into}
@@ -87,25 +84,25 @@ demand-sum net t cells p within =
 
 -- what enters a cell in all and what leaves it
 
-pub record IsMoved (net : Network) (t : ℕ) (n : ℕ → ℕ) (cells : List ℕ) (places : List Place) (outs ins : List Part) : Type 0 where
-  pub leaves : (p : ℕ) → p < length cells → link_out places p + parts_at outs p ≡ outflow net t n (slice_index cells p)
-  pub enters : (p : ℕ) → p < length cells → link_in places p + parts_at ins p ≡ inflow net t n (slice_index cells p)
+pub record IsMoved (net : Network) (t : ℕ) (n : ℕ → ℕ) (cells : List ℕ) (places : List Place) (outs ins : ℕ → ℕ) : Type 0 where
+  pub leaves : (p : ℕ) → p < length cells → link_out places p + outs p ≡ outflow net t n (slice_index cells p)
+  pub enters : (p : ℕ) → p < length cells → link_in places p + ins p ≡ inflow net t n (slice_index cells p)
 
-pub moved : (net : Network) (t : ℕ) (n : ℕ → ℕ) (cells connectors : List ℕ) (ties : List Tie) (places : List Place) (outs carried ins : List Part) →
+pub moves-of : (net : Network) (t : ℕ) (n : ℕ → ℕ) (cells connectors : List ℕ) (ties : List Tie) (places : List Place) (outs carried ins : ℕ → ℕ) →
     IsNetwork net → AreAround net cells connectors → HasPlaces net t n cells connectors places →
     map (λ tie. tie.connector) ties ≡ odd_ones net cells connectors → ArePartsOf net t n cells ties outs carried →
-    ((p : ℕ) → parts_at ins p ≡ parts_at carried p +
+    ((p : ℕ) → ins p ≡ carried p +
     sum_by (demand_for net.plan t cells p) (filter (λ q. is_gate_at net.cells (slice_index cells q)) (range_with_len 0 (length cells)))) →
     IsMoved net t n cells places outs ins
-moved net t n cells connectors ties places outs carried ins sound around has numbers parts demands = record {
+moves-of net t n cells connectors ties places outs carried ins sound around has numbers parts demands = record {
   leaves = λ p within.
       let i : ℕ = slice_index cells p in
-      let sum : parts_at outs p ≡ odd_sum net cells connectors (out_by net t n i) =
+      let sum : outs p ≡ odd_sum net cells connectors (out_by net t n i) =
       parts.taken p within ∙ sum_by-map (out_by net t n i) (λ tie. tie.connector) ties ∙ ap (sum_by (out_by net t n i)) numbers in
       ap (λ x. link_out places p + x) sum ∙ out-total net t n cells connectors places p sound around has within;
   enters = λ p within.
       let i : ℕ = slice_index cells p in
-      let sum : parts_at carried p ≡ odd_sum net cells connectors (in_by net t n i) =
+      let sum : carried p ≡ odd_sum net cells connectors (in_by net t n i) =
       parts.brought p within ∙ sum_by-map (in_by net t n i) (λ tie. tie.connector) ties ∙ ap (sum_by (in_by net t n i)) numbers in
       let demand = demand-sum net t cells p within in
       let all = demands p in
@@ -212,33 +209,47 @@ has-places net t n cells halo connectors placed places put sound before has boun
       most = λ p within. ap (λ place. place.most) (each p within);
     }
 
--- they can be taken through the step
-pub can_step : (net : Network) (t : ℕ) (n : ℕ → ℕ) (cells halo connectors : List ℕ) (placed : PlacedCells) (places : List Place) (put : List (Option ℕ)) (outs ins : List Part) →
+-- each can hold what it holds, and what it holds may go
+pub sound-fresh : (net : Network) (t : ℕ) (n : ℕ → ℕ) (cells halo connectors : List ℕ) (placed : PlacedCells) (places : List Place) (put : List (Option ℕ)) →
     IsNetwork net → t < net.steps → ArePlaced net cells halo connectors t placed → ArePlacesInBounds net cells halo t placed put →
     IsSeen n cells halo placed.places put → length places ≡ length placed.places →
     ((p : ℕ) → p < length placed.places → place_at places p ≡ record (place_at placed.places p) { most = most_out net cells connectors p t }) →
-    IsMoved net t n cells places outs ins → All (λ part. part.place < length cells) outs → All (λ part. part.place < length cells) ins →
-    CanStep places outs ins
-can_step net t n cells halo connectors placed places put outs ins sound before has bounds seen long fresh moves there there_in =
+    AreSound places
+sound-fresh net t n cells halo connectors placed places put sound before has bounds seen long fresh =
     let same : length places ≡ length cells = long ∙ has.one_each in
     let placing = has-places net t n cells halo connectors placed places put sound before has bounds seen long fresh in
     let own = λ (p : ℕ) (within : p < length places). ready net t n cells halo connectors placed put p sound before has bounds seen (omega arith) in
     let each = λ (p : ℕ) (within : p < length places). fresh p (omega arith) in
     record {
-      sound = record {
-        room = λ p within.
-            let i : ℕ = slice_index cells p in
-            held-fits (place_at places p).n (capacity_at net.plan i t) (place_at places p).space (room_at net.cells i) (placing.space p (omega arith)) (placing.fits p (omega arith));
-        gone = λ p within.
-            let is = own p within in
-            let n_is = ap (λ place. place.n) (each p within) in
-            let gone_is = ap (λ place. place.gone) (each p within) in
-            let few = is.small.n in
-            let gone = is.small.gone in
-            omega arith;
-      };
-      there = rw same there;
-      there_in = rw same there_in;
+      room = λ p within.
+          let i : ℕ = slice_index cells p in
+          held-fits (place_at places p).n (capacity_at net.plan i t) (place_at places p).space (room_at net.cells i) (placing.space p (omega arith)) (placing.fits p (omega arith));
+      gone = λ p within.
+          let is = own p within in
+          let n_is = ap (λ place. place.n) (each p within) in
+          let gone_is = ap (λ place. place.gone) (each p within) in
+          let few = is.small.n in
+          let gone = is.small.gone in
+          omega arith;
+    }
+
+-- so much leaves each in a step and enters it: it holds so much, and no sum is too large
+pub record CanStep (places : List Place) (outs ins : ℕ → ℕ) : Type 0 where
+  pub held : (p : ℕ) → p < length places → link_out places p + outs p ≤ (place_at places p).n
+  pub gone : (p : ℕ) → p < length places → (place_at places p).gone + (link_out places p + outs p) < 2 ^ 64
+  pub fits : (p : ℕ) → p < length places → (place_at places p).n + (link_in places p + ins p) < 2 ^ 64
+
+pub can_step : (net : Network) (t : ℕ) (n : ℕ → ℕ) (cells halo connectors : List ℕ) (placed : PlacedCells) (places : List Place) (put : List (Option ℕ)) (outs ins : ℕ → ℕ) →
+    IsNetwork net → t < net.steps → ArePlaced net cells halo connectors t placed → ArePlacesInBounds net cells halo t placed put →
+    IsSeen n cells halo placed.places put → length places ≡ length placed.places →
+    ((p : ℕ) → p < length placed.places → place_at places p ≡ record (place_at placed.places p) { most = most_out net cells connectors p t }) →
+    IsMoved net t n cells places outs ins →
+    CanStep places outs ins
+can_step net t n cells halo connectors placed places put outs ins sound before has bounds seen long fresh moves =
+    let same : length places ≡ length cells = long ∙ has.one_each in
+    let own = λ (p : ℕ) (within : p < length places). ready net t n cells halo connectors placed put p sound before has bounds seen (omega arith) in
+    let each = λ (p : ℕ) (within : p < length places). fresh p (omega arith) in
+    record {
       held = λ p within.
           let is = own p within in
           let n_is = ap (λ place. place.n) (each p within) in
@@ -264,7 +275,7 @@ can_step net t n cells halo connectors placed places put outs ins sound before h
 
 -- and come to the rows of the cells' step
 pub row-after : (net : Network) (t : ℕ) (n : ℕ → ℕ) (i : ℕ) (origin : Origin) (place fresh after : Place) (most enters leaves : ℕ) →
-    IsReady net t n i origin place → fresh ≡ record place { most = most } → after ≡ stepped fresh enters leaves →
+    IsReady net t n i origin place → fresh ≡ record place { most = most } → after ≡ moved fresh enters leaves →
     enters ≡ inflow net t n i → leaves ≡ outflow net t n i →
     (row_of origin after ≡ next_row net t n i (row_of origin place)) × IsOf net i origin after
 unfolding next_row
@@ -309,19 +320,18 @@ fresh-of net cells halo connectors t placed places fresh first links has same_pl
     }
 
 -- what leaves and enters in the step: what the ties carry, and what the gates demand besides
-pub record AreBrought (net : Network) (cells : List ℕ) (t : ℕ) (n : ℕ → ℕ) (placed : PlacedCells) (outs carried ins : List Part) : Type 0 where
+pub record AreBrought (net : Network) (cells : List ℕ) (t : ℕ) (n : ℕ → ℕ) (placed : PlacedCells) (outs carried ins : ℕ → ℕ) : Type 0 where
   pub parts : ArePartsOf net t n cells placed.ties outs carried
-  pub demands : (p : ℕ) → parts_at ins p ≡ parts_at carried p + sum_by (demand_into t p) placed.gates
-  pub there_in : All (λ part. part.place < length cells) ins
+  pub demands : (p : ℕ) → ins p ≡ carried p + sum_by (demand_into t p) placed.gates
 
 -- the parts of a step, one after the other
 pub record AreSteps (net : Network) (cells halo connectors : List ℕ) (t : ℕ) (n : ℕ → ℕ) (placed : PlacedCells) (fresh : List Place)
-    (links : List FollowedLink) (outs carried ins : List Part) (after : List Place) : Type 0 where
+    (links : List FollowedLink) (outs carried ins : ℕ → ℕ) (after : List Place) : Type 0 where
   pub renewed : IsFresh net cells connectors t placed fresh links
   pub brought : AreBrought net cells t n placed outs carried ins
   pub long_after : length after ≡ length fresh
   pub stepped_each : (p : ℕ) → p < length fresh →
-      place_at after p ≡ stepped (place_at fresh p) (link_in fresh p + parts_at ins p) (link_out fresh p + parts_at outs p)
+      place_at after p ≡ moved (place_at fresh p) (link_in fresh p + ins p) (link_out fresh p + outs p)
 
 -- what is seen of the places stays so when their most is written
 pub seen-fresh : (net : Network) (t : ℕ) (n : ℕ → ℕ) (cells halo connectors : List ℕ) (placed : PlacedCells) (fresh : List Place) (put : List (Option ℕ)) →
@@ -351,6 +361,30 @@ scene-fresh net t n cells halo connectors placed fresh put sound before has boun
   around = bounds.around;
 }
 
+-- so it is with the connectors once they are followed
+pub scene-followed : (net : Network) (t : ℕ) (cells halo : List ℕ) (old new : List Tie) (places : List Place) (put : List (Option ℕ)) →
+    IsScene net t cells halo old places put → AreTiesFollowed t old new → IsScene net t cells halo new places put
+scene-followed net t cells halo old new places put scene followed = record {
+  sound = scene.sound;
+  before = scene.before;
+  tied = tied-followed net cells halo t old new scene.tied followed;
+  place_each = scene.place_each;
+  put_each = scene.put_each;
+  own = scene.own;
+  around = scene.around;
+}
+
+-- and what they take and bring is that of the connectors as they were
+pub parts-followed : (net : Network) (t : ℕ) (n : ℕ → ℕ) (cells : List ℕ) (old new : List Tie) (outs ins : ℕ → ℕ) → AreTiesFollowed t old new →
+    ArePartsOf net t n cells new outs ins → ArePartsOf net t n cells old outs ins
+parts-followed net t n cells old new outs ins followed parts =
+    let same : (f : ℕ → ℕ) → sum_by (λ tie. f tie.connector) new ≡ sum_by (λ tie. f tie.connector) old =
+    λ f. sum_by-map f (λ (tie : Tie). tie.connector) new ∙ ap (sum_by f) (numbers-followed t old new followed) ∙ sym (sum_by-map f (λ (tie : Tie). tie.connector) old) in
+    record {
+      taken = λ p within. parts.taken p within ∙ same (out_by net t n (slice_index cells p));
+      brought = λ p within. parts.brought p within ∙ same (in_by net t n (slice_index cells p));
+    }
+
 -- the gates' places are there
 pub gates-there : (net : Network) (cells halo connectors : List ℕ) (t : ℕ) (placed : PlacedCells) → ArePlaced net cells halo connectors t placed →
     All (λ gate. gate.place < length cells) placed.gates
@@ -362,23 +396,23 @@ gates-there net cells halo connectors t placed has = λ k d within.
     rw (get_or-map (λ (gate : GatePlace). gate.place) placed.gates k d 0 within) at there
 
 pub steps-moved : (net : Network) (cells halo connectors : List ℕ) (t : ℕ) (n : ℕ → ℕ) (placed : PlacedCells) (fresh : List Place)
-    (outs carried ins : List Part) (put : List (Option ℕ)) →
+    (outs carried ins : ℕ → ℕ) (put : List (Option ℕ)) →
     IsNetwork net → t < net.steps → ArePlaced net cells halo connectors t placed → ArePlacesInBounds net cells halo t placed put →
     IsSeen n cells halo placed.places put → length fresh ≡ length placed.places →
     ((p : ℕ) → p < length placed.places → place_at fresh p ≡ record (place_at placed.places p) { most = most_out net cells connectors p t }) →
     ArePartsOf net t n cells placed.ties outs carried →
-    ((p : ℕ) → parts_at ins p ≡ parts_at carried p + sum_by (demand_into t p) placed.gates) →
+    ((p : ℕ) → ins p ≡ carried p + sum_by (demand_into t p) placed.gates) →
     IsMoved net t n cells fresh outs ins
 steps-moved net cells halo connectors t n placed fresh outs carried ins put sound before has bounds seen long most parts demands =
-    moved net t n cells connectors placed.ties fresh outs carried ins sound has.around
+    moves-of net t n cells connectors placed.ties fresh outs carried ins sound has.around
     (has-places net t n cells halo connectors placed fresh put sound before has bounds seen long most) has.numbers parts
     (λ p.
     demands p
-    ∙ ap (λ x. parts_at carried p + x) (demands-into net t cells p placed.gates has.demands ∙ ap (sum_by (demand_for net.plan t cells p)) has.gates))
+    ∙ ap (λ x. carried p + x) (demands-into net t cells p placed.gates has.demands ∙ ap (sum_by (demand_for net.plan t cells p)) has.gates))
 
 -- each cell after the step
 pub cell-after : (net : Network) (cells halo connectors : List ℕ) (t : ℕ) (n : ℕ → ℕ) (placed : PlacedCells) (fresh : List Place) (links : List FollowedLink)
-    (outs carried ins : List Part) (after : List Place) (put : List (Option ℕ)) (p : ℕ) →
+    (outs carried ins : ℕ → ℕ) (after : List Place) (put : List (Option ℕ)) (p : ℕ) →
     IsNetwork net → t < net.steps → ArePlaced net cells halo connectors t placed → ArePlacesInBounds net cells halo t placed put →
     IsSeen n cells halo placed.places put → AreSteps net cells halo connectors t n placed fresh links outs carried ins after → p < length cells →
     (row_of (origin_at placed.origins p) (place_at after p) ≡
@@ -389,13 +423,13 @@ cell-after net cells halo connectors t n placed fresh links outs carried ins aft
     let there : p < length fresh = omega (arith, steps.renewed.long) in
     let moves = steps-moved net cells halo connectors t n placed fresh outs carried ins put sound before has bounds seen steps.renewed.long steps.renewed.most steps.brought.parts steps.brought.demands in
     row-after net t n (slice_index cells p) (origin_at placed.origins p) (place_at placed.places p) (place_at fresh p) (place_at after p)
-    (most_out net cells connectors p t) (link_in fresh p + parts_at ins p) (link_out fresh p + parts_at outs p)
+    (most_out net cells connectors p t) (link_in fresh p + ins p) (link_out fresh p + outs p)
     (ready net t n cells halo connectors placed put p sound before has bounds seen within) (steps.renewed.most p here) (steps.stepped_each p there)
     (moves.enters p within) (moves.leaves p within)
 
 -- the rows after the step
 pub rows-after : (net : Network) (cells halo connectors : List ℕ) (t : ℕ) (n : ℕ → ℕ) (placed : PlacedCells) (fresh : List Place) (links : List FollowedLink)
-    (outs carried ins : List Part) (after : List Place) (put : List (Option ℕ)) →
+    (outs carried ins : ℕ → ℕ) (after : List Place) (put : List (Option ℕ)) →
     IsNetwork net → t < net.steps → ArePlaced net cells halo connectors t placed → ArePlacesInBounds net cells halo t placed put →
     IsSeen n cells halo placed.places put → AreSteps net cells halo connectors t n placed fresh links outs carried ins after →
     rows_of placed.origins after ≡ rows_after net t n cells (rows_of placed.origins placed.places)
@@ -433,32 +467,31 @@ follows-later most fresh after links t long same followed = record {
 }
 
 pub placed-after : (net : Network) (cells halo connectors : List ℕ) (t : ℕ) (n : ℕ → ℕ) (placed : PlacedCells) (fresh : List Place) (links : List FollowedLink)
-    (outs carried ins : List Part) (after : List Place) (before_list : List ℕ) (ties : List Tie) (gates : List GatePlace) (pause : Pause) (seen_list : List (Option ℕ)) (room room_in : ℕ) (put : List (Option ℕ)) →
+    (outs carried ins : ℕ → ℕ) (after : List Place) (before_list : List ℕ) (ties : List Tie) (until : ℕ) (gates : List GatePlace) (pause : Pause) (seen_list : List (Option ℕ)) (put : List (Option ℕ)) →
     IsNetwork net → t < net.steps → ArePlaced net cells halo connectors t placed → ArePlacesInBounds net cells halo t placed put →
     IsSeen n cells halo placed.places put → AreSteps net cells halo connectors t n placed fresh links outs carried ins after →
-    length before_list ≡ length placed.before → AreCarried t placed.ties ties → AreAsked t placed.gates gates → IsPauseOf after before_list links ties seen_list (t + 1) pause → length seen_list ≡ length halo → placed.room ≤ room → placed.room_in ≤ room_in →
+    length before_list ≡ length placed.before → AreTiesFollowed t placed.ties ties → All (λ tie. until ≤ tie.course.until) ties → AreAsked t placed.gates gates → IsPauseOf after before_list links ties seen_list (t + 1) pause → length seen_list ≡ length halo →
     ArePlaced net cells halo connectors (t + 1) (record {
       places = after;
       origins = placed.origins;
       before = before_list;
       links = links;
       ties = ties;
+      ties_until = until;
       gates = gates;
       pause = pause;
       seen = seen_list;
-      room = room;
-      room_in = room_in;
     })
-placed-after net cells halo connectors t n placed fresh links outs carried ins after before_list ties gates pause seen_list room room_in put sound before has bounds seen steps long
-    ties_are gates_are pausing seen_each wide wide_in =
+placed-after net cells halo connectors t n placed fresh links outs carried ins after before_list ties until gates pause seen_list put sound before has bounds seen steps long
+    ties_are unchanged gates_are pausing seen_each =
     let same : length after ≡ length cells = steps.long_after ∙ steps.renewed.long ∙ has.one_each in
     let ties_long = ties_are.long in
     let gates_long = gates_are.long in
     record {
       around = has.around;
       known = has.known;
-      tied = tied-carried net cells halo t placed.ties ties has.tied ties_are;
-      numbers = numbers-carried t placed.ties ties ties_are ∙ has.numbers;
+      tied = tied-followed net cells halo t placed.ties ties has.tied ties_are;
+      numbers = numbers-followed t placed.ties ties ties_are ∙ has.numbers;
       one_each = same;
       origin_each = has.origin_each;
       before_each = long ∙ has.before_each;
@@ -469,7 +502,8 @@ placed-after net cells halo connectors t n placed fresh links outs carried ins a
           let here : p < length placed.places = omega (arith, has.one_each) in
           let is = ap (λ place. place.space) (steps.stepped_each p there) ∙ ap (λ place. place.space) (steps.renewed.most p here) in
           subst (λ space. IsSpaceOf space (room_at net.cells (slice_index cells p))) (sym is) (has.space p within);
-      come = come-carried t placed.ties ties ties_are;
+      come = come-followed t placed.ties ties ties_are;
+      unchanged = unchanged;
       gates = gates-asked t placed.gates gates gates_are ∙ has.gates;
       demands = demands-asked net cells t placed.gates gates gates_are has.demands;
       links = λ k d within.
@@ -479,13 +513,11 @@ placed-after net cells halo connectors t n placed fresh links outs carried ins a
           (λ p there. ap (λ place. place.most) (steps.stepped_each p there)) steps.renewed.followed;
       pause = pausing;
       seen_each = seen_each;
-      room = omega (arith, has.room, wide);
-      room_in = omega (arith, has.room_in, wide_in);
     }
 
 -- no sum of a place is too large after the step
 pub settled-after : (net : Network) (cells halo connectors : List ℕ) (t : ℕ) (n : ℕ → ℕ) (placed : PlacedCells) (fresh : List Place) (links : List FollowedLink)
-    (outs carried ins : List Part) (after : List Place) (before_list : List ℕ) (put : List (Option ℕ)) →
+    (outs carried ins : ℕ → ℕ) (after : List Place) (before_list : List ℕ) (put : List (Option ℕ)) →
     IsNetwork net → t < net.steps → ArePlaced net cells halo connectors t placed → ArePlacesInBounds net cells halo t placed put →
     IsSeen n cells halo placed.places put → AreSteps net cells halo connectors t n placed fresh links outs carried ins after →
     length before_list ≡ length placed.before → AreSettled placed.origins after before_list

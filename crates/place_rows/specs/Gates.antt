@@ -1,16 +1,11 @@
 -- The gates among the places, and what they demand.
 use Rattle.std.specs.Prelude.{◌≡◌, ◌==◌, ℕ, ◌<◌, ◌≤◌, List, length, slice_index, slice_index_or, if◌then◌else◌}
 use Rattle.network_file.specs.Network.{Network}
-use Rattle.place_sweep.specs.declared.part.Part.{Part}
 use Rattle.signal_plan.specs.Demand.{demand_at}
 use Rattle.timelines.specs.Courses.{value_at}
 use Rattle.place_rows.specs.declared.gate_place.GatePlace.{GatePlace}
 
--- what a gate brings in step t
-abbrev pub demand_part : (t : ℕ) → GatePlace → Part
-demand_part t gate = record { place = gate.place; parts = value_at gate.course t }
-
--- what it brings to place p
+-- what a gate brings to place p in step t
 abbrev pub demand_into : (t p : ℕ) → GatePlace → ℕ
 demand_into t p gate = if gate.place == p then value_at gate.course t else 0
 

@@ -8,9 +8,7 @@ use Rattle.network_file.specs.Connectors.{connector_at}
 use Rattle.network_file.specs.Network.{IsNetwork, Network}
 use Rattle.flow_model.specs.Bounds.{IsHeldInBounds}
 use Rattle.flow_model.specs.Flows.{entering, flow_of, leaving}
-use Rattle.place_sweep.specs.Parts.{parts_at}
 use Rattle.place_sweep.specs.Places.{place_at}
-use Rattle.place_sweep.specs.declared.part.Part.{Part}
 use Rattle.place_sweep.specs.declared.place.Place.{Place}
 use Rattle.place_rows.specs.Carrying.{IsTie}
 use Rattle.place_rows.specs.declared.tie.Tie.{Tie}
@@ -38,12 +36,10 @@ pub record AreTied (net : Network) (cells halo : List ℕ) (ties : List Tie) : T
   pub apart : (p j : ℕ) → p < length cells → j < length halo → slice_index cells p ≢ slice_index halo j
   pub tied : All (IsTie net cells halo) ties
 
--- the parts at each place are what the connectors of these ties take from its cell, and what they bring to it
-pub record ArePartsOf (net : Network) (t : ℕ) (n : ℕ → ℕ) (cells : List ℕ) (ties : List Tie) (outs ins : List Part) : Type 0 where
-  pub there : All (λ part. part.place < length cells) outs
-  pub there_in : All (λ part. part.place < length cells) ins
-  pub taken : (p : ℕ) → p < length cells → parts_at outs p ≡ sum_by (λ tie. out_by net t n (slice_index cells p) tie.connector) ties
-  pub brought : (p : ℕ) → p < length cells → parts_at ins p ≡ sum_by (λ tie. in_by net t n (slice_index cells p) tie.connector) ties
+-- from each place goes what the connectors of these ties take from its cell, and to it comes what they bring
+pub record ArePartsOf (net : Network) (t : ℕ) (n : ℕ → ℕ) (cells : List ℕ) (ties : List Tie) (outs ins : ℕ → ℕ) : Type 0 where
+  pub taken : (p : ℕ) → p < length cells → outs p ≡ sum_by (λ tie. out_by net t n (slice_index cells p) tie.connector) ties
+  pub brought : (p : ℕ) → p < length cells → ins p ≡ sum_by (λ tie. in_by net t n (slice_index cells p) tie.connector) ties
 
 -- the region's cells and those of its halo, which are others, with an occupancy in bounds for each, and ties of its connectors
 pub record IsScene (net : Network) (t : ℕ) (cells halo : List ℕ) (ties : List Tie) (places : List Place) (put : List (Option ℕ)) : Type 0 where

@@ -1,5 +1,5 @@
 -- The rows of some cells, kept as places side by side.
-use Rattle.std.specs.Prelude.{◌≡◌, ◌≢◌, ℕ, ◌+◌, ◌*◌, ◌^◌, ◌<◌, ◌≤◌, All, List, Option, None, length, map, slice_index, slice_index_or, unwrap_or}
+use Rattle.std.specs.Prelude.{◌≡◌, ◌≢◌, ℕ, ◌^◌, ◌<◌, ◌≤◌, All, List, Option, None, length, map, slice_index, slice_index_or, unwrap_or}
 use Rattle.std.specs.List.{filter, range_with_len}
 use Rattle.std.specs.List.Sorted.{IsStrictlyIncreasing}
 use Rattle.network_file.specs.Connectors.{connector_at}
@@ -30,17 +30,15 @@ pub record PlacedCells : Type 0 where
   pub places : List Place
   pub origins : List Origin
   pub before : List ℕ
-  -- the links to neighbours whose most changes, and the other connectors
+  -- the links to neighbours whose most changes, and the other connectors, none of which changes before a step
   pub links : List FollowedLink
   pub ties : List Tie
+  pub ties_until : ℕ
   -- the gates among them
   pub gates : List GatePlace
   -- for how long nothing moves among them, and what was seen of their halo when that was found
   pub pause : Pause
   pub seen : List (Option ℕ)
-  -- for how many parts there is room
-  pub room : ℕ
-  pub room_in : ℕ
 
 -- what holds of the cells' places as step t begins
 pub record ArePlaced (net : Network) (cells halo connectors : List ℕ) (t : ℕ) (placed : PlacedCells) : Type 0 where
@@ -54,14 +52,13 @@ pub record ArePlaced (net : Network) (cells halo connectors : List ℕ) (t : ℕ
   pub own : (p : ℕ) → p < length cells → IsOf net (slice_index cells p) (origin_at placed.origins p) (place_at placed.places p)
   pub space : (p : ℕ) → p < length cells → IsSpaceOf (place_at placed.places p).space (room_at net.cells (slice_index cells p))
   pub come : All (λ tie. tie.course.step ≤ t) placed.ties
+  pub unchanged : All (λ tie. placed.ties_until ≤ tie.course.until) placed.ties
   pub gates : map (λ gate. gate.place) placed.gates ≡ filter (λ p. is_gate_at net.cells (slice_index cells p)) (range_with_len 0 (length cells))
   pub demands : All (IsGateOf net cells t) placed.gates
   pub links : All (IsThere (length placed.places) t) placed.links
   pub followed : AreFollowed (most_out net cells connectors) placed.places placed.links t
   pub pause : IsPauseOf placed.places placed.before placed.links placed.ties placed.seen t placed.pause
   pub seen_each : length placed.seen ≡ length halo
-  pub room : 2 * length placed.ties ≤ placed.room
-  pub room_in : 2 * length placed.ties + length placed.gates ≤ placed.room_in
 
 -- the rows are in bounds, and so is what was put for each cell of the halo
 pub record ArePlacesInBounds (net : Network) (cells halo : List ℕ) (t : ℕ) (placed : PlacedCells) (put : List (Option ℕ)) : Type 0 where

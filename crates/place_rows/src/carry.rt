@@ -1,101 +1,105 @@
-ghost use Rattle.std.specs.Prelude.{◌≡◌, ◌+◌, ◌*◌, ◌<◌, ◌≤◌, ℕ, All, List, length, vec_capacity};
-ghost use Rattle.network_file.specs.Network.{Network};
-ghost use Rattle.connector_courses.specs.Flows.{flow_at};
-ghost use Rattle.place_rows.specs.Moves.{ArePartsOf, IsScene, IsSeen};
-ghost use Rattle.place_rows.specs.Carrying.{AreCarried, CanCarry, IsCarried, IsThere, carried_of, spot_at, three_held, with_ins, with_outs, with_part};
+ghost use Rattle.std.specs.Prelude.{◌≡◌, ◌<◌, ◌≤◌, ℕ, All, length, slice_index, sum_by};
+ghost use Rattle.connector_courses.specs.declared.rule.Rule.TheVariants.{Diverging, Linking, Merging};
+ghost use Rattle.place_sweep.specs.Places.{place_at};
+ghost use Rattle.place_rows.specs.Carrying.{CanCarry, CanPass, brought, passed, taken};
 
-use crate::spot::{Sight, Spot};
+use crate::held::Held;
+use crate::passing::{bring, take};
 use crate::tie::Tie;
 use connector_courses::Rule;
-use flow_model::Flow;
-use place_sweep::Part;
-use signal_plan::MOST_STEPS;
+use place_sweep::Place;
 
-/// What one connector takes in step `t` and what it brings.
-pub(crate) fn carry(t: u64, tie: &mut Tie, sight: &Sight, outs: &mut Vec<Part>, ins: &mut Vec<Part>)
-    requires in_time { t ≤ MOST_STEPS }
-    requires can { CanCarry t tie.old sight.now.places.now sight.now.put.now }
-    requires room { length outs.old.items + 2 ≤ vec_capacity outs.old }
-    requires room_in { length ins.old.items + 2 ≤ vec_capacity ins.old }
-    ensures tie { IsCarried t tie.old tie.new }
-    ensures outs { outs.new.items ≡ with_outs tie.old.course.rule tie.old
-        (carried_of t tie.old sight.now.places.now sight.now.put.now) outs.old.items }
-    ensures ins { ins.new.items ≡ with_ins tie.old.course.rule tie.old
-        (carried_of t tie.old sight.now.places.now sight.now.put.now) ins.old.items }
-    ensures room { vec_capacity outs.old ≤ vec_capacity outs.new }
-    ensures room_in { vec_capacity ins.old ≤ vec_capacity ins.new }
+/// What all these connectors take from places and bring to them in step `t`, by what their cells held as it began.
+#[inline(never)]
+pub(crate) fn carry_all(t: u64, ties: &[Tie], held: &Held, places: &mut [Place])
+    requires each { All (λ tie. CanCarry t tie places.old held.now.put.now) ties.now }
+    requires one_each { length held.now.own.now ≡ length places.old }
+    requires can { (p : ℕ) → p < length places.old → CanPass (place_at places.old p)
+        (sum_by (brought t (slice_index held.now.own.now) held.now.put.now p) ties.now)
+        (sum_by (taken t (slice_index held.now.own.now) held.now.put.now p) ties.now) }
+    ensures { (p : ℕ) → p < length places.old → place_at places.new p ≡ passed (place_at places.old p)
+        (sum_by (brought t (slice_index held.now.own.now) held.now.put.now p) ties.now)
+        (sum_by (taken t (slice_index held.now.own.now) held.now.put.now p) ties.now) }
 {
-    tie.course.refresh(t);
-    let flow = carried(tie, sight);
-    let [a, b, c] = tie.cells;
+    for tie in ties {
+        carry(t, tie, held, places);
+    }
+}
+
+// What one of them takes and brings.
+#[inline(always)]
+fn carry(t: u64, tie: &Tie, held: &Held, places: &mut [Place])
+    requires tie { CanCarry t tie.now places.old held.now.put.now }
+    requires one_each { length held.now.own.now ≡ length places.old }
+    requires can { (p : ℕ) → p < length places.old → CanPass (place_at places.old p)
+        (brought t (slice_index held.now.own.now) held.now.put.now p tie.now)
+        (taken t (slice_index held.now.own.now) held.now.put.now p tie.now) }
+    ensures { (p : ℕ) → p < length places.old → place_at places.new p ≡ passed (place_at places.old p)
+        (brought t (slice_index held.now.own.now) held.now.put.now p tie.now)
+        (taken t (slice_index held.now.own.now) held.now.put.now p tie.now) }
+{
     match tie.course.rule() {
-        Rule::Linking => {
-            put_part(outs, a, flow.out1);
-            put_part(ins, b, flow.in1);
-        }
-        Rule::Merging => {
-            put_part(outs, a, flow.out1);
-            put_part(outs, b, flow.out2);
-            put_part(ins, c, flow.in1);
-        }
-        Rule::Diverging => {
-            put_part(outs, a, flow.out1);
-            put_part(ins, b, flow.in1);
-            put_part(ins, c, flow.in2);
-        }
+        Rule::Linking => link(t, tie, held, places),
+        Rule::Merging => merge(t, tie, held, places),
+        Rule::Diverging => diverge(t, tie, held, places),
     }
 }
 
-// What it carries at its step.
-fn carried(tie: &Tie, sight: &Sight) -> Flow
-    requires { (m : ℕ) → m < 3 → IsThere sight.now.places.now sight.now.put.now (spot_at tie.now m) }
-    ensures { result ≡ flow_at tie.now.course tie.now.course.step (three_held tie.now sight.now.places.now sight.now.put.now) }
+// A link, from the first of its cells to the second.
+#[inline(always)]
+fn link(t: u64, tie: &Tie, held: &Held, places: &mut [Place])
+    requires rule { tie.now.course.rule ≡ Linking }
+    requires tie { CanCarry t tie.now places.old held.now.put.now }
+    requires one_each { length held.now.own.now ≡ length places.old }
+    requires can { (p : ℕ) → p < length places.old → CanPass (place_at places.old p)
+        (brought t (slice_index held.now.own.now) held.now.put.now p tie.now)
+        (taken t (slice_index held.now.own.now) held.now.put.now p tie.now) }
+    ensures { (p : ℕ) → p < length places.old → place_at places.new p ≡ passed (place_at places.old p)
+        (brought t (slice_index held.now.own.now) held.now.put.now p tie.now)
+        (taken t (slice_index held.now.own.now) held.now.put.now p tie.now) }
 {
-    tie.course.flow(held_by(tie, sight))
+    let [a, b, _] = tie.cells;
+    let flow = tie.course.flow([held.at(a), held.at(b), 0]);
+    take(places, a, flow.out1);
+    bring(places, b, flow.in1);
 }
 
-/// What the cells at its spots hold.
-pub(crate) fn held_by(tie: &Tie, sight: &Sight) -> [u64; 3]
-    requires { (m : ℕ) → m < 3 → IsThere sight.now.places.now sight.now.put.now (spot_at tie.now m) }
-    ensures { result ≡ three_held tie.now sight.now.places.now sight.now.put.now }
+// A merge, from the first and the second to the third.
+#[inline(always)]
+fn merge(t: u64, tie: &Tie, held: &Held, places: &mut [Place])
+    requires rule { tie.now.course.rule ≡ Merging }
+    requires tie { CanCarry t tie.now places.old held.now.put.now }
+    requires one_each { length held.now.own.now ≡ length places.old }
+    requires can { (p : ℕ) → p < length places.old → CanPass (place_at places.old p)
+        (brought t (slice_index held.now.own.now) held.now.put.now p tie.now)
+        (taken t (slice_index held.now.own.now) held.now.put.now p tie.now) }
+    ensures { (p : ℕ) → p < length places.old → place_at places.new p ≡ passed (place_at places.old p)
+        (brought t (slice_index held.now.own.now) held.now.put.now p tie.now)
+        (taken t (slice_index held.now.own.now) held.now.put.now p tie.now) }
 {
     let [a, b, c] = tie.cells;
-    [sight.held(a), sight.held(b), sight.held(c)]
+    let flow = tie.course.flow([held.at(a), held.at(b), held.at(c)]);
+    take(places, a, flow.out1);
+    take(places, b, flow.out2);
+    bring(places, c, flow.in1);
 }
 
-/// So many parts, where the spot is that of a place. There is room for it.
-pub(crate) fn put_part(items: &mut Vec<Part>, spot: Spot, parts: u64)
-    requires room { length items.old.items + 1 ≤ vec_capacity items.old }
-    ensures items { items.new.items ≡ with_part items.old.items spot parts }
-    ensures room { vec_capacity items.old ≤ vec_capacity items.new }
+// A diverge, from the first to the second and the third.
+#[inline(always)]
+fn diverge(t: u64, tie: &Tie, held: &Held, places: &mut [Place])
+    requires rule { tie.now.course.rule ≡ Diverging }
+    requires tie { CanCarry t tie.now places.old held.now.put.now }
+    requires one_each { length held.now.own.now ≡ length places.old }
+    requires can { (p : ℕ) → p < length places.old → CanPass (place_at places.old p)
+        (brought t (slice_index held.now.own.now) held.now.put.now p tie.now)
+        (taken t (slice_index held.now.own.now) held.now.put.now p tie.now) }
+    ensures { (p : ℕ) → p < length places.old → place_at places.new p ≡ passed (place_at places.old p)
+        (brought t (slice_index held.now.own.now) held.now.put.now p tie.now)
+        (taken t (slice_index held.now.own.now) held.now.put.now p tie.now) }
 {
-    if let Spot::Own(place) = spot {
-        items.push_reserved(Part { place, parts });
-    }
-}
-
-/// What all these connectors take and bring in step `t`, whatever network they are of.
-pub(crate) fn carry_all(
-    t: u64,
-    ties: &mut [Tie],
-    sight: &Sight,
-    outs: &mut Vec<Part>,
-    ins: &mut Vec<Part>,
-)
-    requires in_time { t ≤ MOST_STEPS }
-    requires each { All (λ tie. CanCarry t tie sight.now.places.now sight.now.put.now) ties.old }
-    requires room { 2 * length ties.old ≤ vec_capacity outs.old }
-    requires room_in { 2 * length ties.old ≤ vec_capacity ins.old }
-    ensures ties { AreCarried t ties.old ties.new }
-    ensures parts { (net : Network) (n : ℕ → ℕ) (cells halo : List ℕ) → IsScene net t cells halo ties.old sight.now.places.now sight.now.put.now →
-        IsSeen n cells halo sight.now.places.now sight.now.put.now → ArePartsOf net t n cells ties.old outs.new.items ins.new.items }
-    ensures few { length ins.new.items ≤ 2 * length ties.old }
-    ensures room { vec_capacity outs.old ≤ vec_capacity outs.new }
-    ensures room_in { vec_capacity ins.old ≤ vec_capacity ins.new }
-{
-    outs.clear();
-    ins.clear();
-    for m in 0..ties.len() {
-        carry(t, &mut ties[m], sight, outs, ins);
-    }
+    let [a, b, c] = tie.cells;
+    let flow = tie.course.flow([held.at(a), held.at(b), held.at(c)]);
+    take(places, a, flow.out1);
+    bring(places, b, flow.in1);
+    bring(places, c, flow.in2);
 }

@@ -1,41 +1,39 @@
-ghost use Rattle.std.specs.Prelude.{◌≡◌, ◌+◌, ◌<◌, ◌≤◌, [], ◌∷◌, ◌++◌, ℕ, All, IsTrue, length, sum_by, vec_capacity};
-ghost use Rattle.place_sweep.specs.Parts.{parts_at};
+ghost use Rattle.std.specs.Prelude.{◌≡◌, ◌+◌, ◌<◌, ◌≤◌, ◌^◌, ℕ, All, IsTrue, length, sum_by};
+ghost use Rattle.place_sweep.specs.Places.{place_at, with_entered};
 ghost use Rattle.timelines.specs.Courses.{value_at};
-ghost use Rattle.place_rows.specs.Gates.{AreAsked, AreGatesKept, asked, demand_into, demand_part};
+ghost use Rattle.place_rows.specs.Gates.{AreAsked, AreGatesKept, asked, demand_into};
 
-use crate::carry::put_part;
 use crate::gate_place::GatePlace;
-use crate::spot::Spot;
-use place_sweep::Part;
+use place_sweep::Place;
 use signal_plan::MOST_STEPS;
 
-/// Puts the demand of these gates in step `t` among the parts that enter. There is room for it.
-pub(crate) fn put_demands(t: u64, gates: &mut [GatePlace], ins: &mut Vec<Part>)
+/// What these gates demand in step `t` enters their places.
+pub(crate) fn bring_demands(t: u64, gates: &mut [GatePlace], places: &mut [Place])
     requires in_time { t ≤ MOST_STEPS }
     requires step { All (λ gate. gate.course.step ≤ t) gates.old }
-    requires room { length ins.old.items + length gates.old ≤ vec_capacity ins.old }
+    requires there { All (λ gate. gate.place < length places.old) gates.old }
+    requires fits { (p : ℕ) → p < length places.old → (place_at places.old p).n + sum_by (demand_into t p) gates.old < 2 ^ 64 }
     ensures gates { AreAsked t gates.old gates.new }
-    ensures parts { (p : ℕ) → parts_at ins.new.items p ≡ parts_at ins.old.items p + sum_by (demand_into t p) gates.old }
-    ensures there { (places : ℕ) → All (λ gate. gate.place < places) gates.old → All (λ part. part.place < places) ins.old.items →
-        All (λ part. part.place < places) ins.new.items }
-    ensures room { vec_capacity ins.old ≤ vec_capacity ins.new }
+    ensures places { (p : ℕ) → p < length places.old →
+        place_at places.new p ≡ with_entered (place_at places.old p) (sum_by (demand_into t p) gates.old) }
 {
     for m in 0..gates.len() {
-        put_demand(t, &mut gates[m], ins);
+        bring_demand(t, &mut gates[m], places);
     }
 }
 
-// Puts the demand of one of them.
-fn put_demand(t: u64, gate: &mut GatePlace, ins: &mut Vec<Part>)
+// What one of them demands.
+fn bring_demand(t: u64, gate: &mut GatePlace, places: &mut [Place])
     requires in_time { t ≤ MOST_STEPS }
     requires step { gate.old.course.step ≤ t }
-    requires room { length ins.old.items + 1 ≤ vec_capacity ins.old }
+    requires there { gate.old.place < length places.old }
+    requires fits { (place_at places.old gate.old.place).n + value_at gate.old.course t < 2 ^ 64 }
     ensures gate { gate.new ≡ asked t gate.old }
-    ensures items { ins.new.items ≡ ins.old.items ++ demand_part t gate.old ∷ [] }
-    ensures room { vec_capacity ins.old ≤ vec_capacity ins.new }
+    ensures places { (p : ℕ) → p < length places.old →
+        place_at places.new p ≡ with_entered (place_at places.old p) (demand_into t p gate.old) }
 {
     let parts = demanded(t, gate);
-    put_part(ins, Spot::Own(gate.place), parts);
+    places[gate.place as usize].enter(parts);
 }
 
 /// Whether these gates demand nothing in step `t`.

@@ -1,10 +1,9 @@
 ghost use Rattle.std.specs.Prelude.{◌≡◌, ◌<◌, ◌≤◌, ◌⊎◌, ℕ, All, IsTrue, length};
 ghost use Rattle.connector_courses.specs.Flows.{flow_at, no_flow};
 ghost use Rattle.place_sweep.specs.Places.{AreSound, place_at};
-ghost use Rattle.place_rows.specs.Carrying.{IsThere, spot_at, three_held};
+ghost use Rattle.place_rows.specs.Carrying.{IsThere, held_in, spot_at, three_held};
 ghost use Rattle.place_rows.specs.Pausing.{AreIdle, IsIdleUntil};
 
-use crate::carry::held_by;
 use crate::spot::Sight;
 use crate::tie::Tie;
 use place_sweep::{Place, moving};
@@ -86,6 +85,15 @@ fn ties_until(ties: &[Tie], sight: &Sight) -> u64
         }
     }
     until
+}
+
+// What the cells at its spots hold.
+fn held_by(tie: &Tie, sight: &Sight) -> [u64; 3]
+    requires { (m : ℕ) → m < 3 → IsThere sight.now.places.now sight.now.put.now (spot_at tie.now m) }
+    ensures { result ≡ three_held tie.now (held_in sight.now.places.now) sight.now.put.now }
+{
+    let [a, b, c] = tie.cells;
+    [sight.held(a), sight.held(b), sight.held(c)]
 }
 
 /// Whether two halos hold the same.

@@ -11,19 +11,20 @@ ghost use Rattle.place_rows.specs.Waiting.{waited};
 
 use crate::carry::carry_all;
 use crate::cells::Cells;
-use crate::demands::{nothing_demanded, put_demands};
+use crate::demands::{bring_demands, nothing_demanded};
+use crate::following::follow;
 use crate::gate_place::GatePlace;
+use crate::held::Held;
 use crate::joints::join_places;
 use crate::opening::{earlier_of, gates_of, nothing_put, origins_of, places_of};
 use crate::origin::Origin;
 use crate::pause::{Pause, hold_the_same};
-use crate::spot::Sight;
 use crate::tie::Tie;
 use crate::waiting::{note_held, wait_all, waited};
 use flow_model::Row;
 use network_file::Net;
 use no_memory::NoMemory;
-use place_sweep::{Part, Place, step_places};
+use place_sweep::{Place, sweep};
 use signal_plan::MOST_STEPS;
 use std::alloc::Global;
 use std::marker::Model;
@@ -37,17 +38,16 @@ pub struct PlacedRows {
     before: Vec<u64>,
     links: Vec<FollowedLink>,
     ties: Vec<Tie>,
+    // None of these changes before this step.
+    ties_until: u64,
     gates: Vec<GatePlace>,
     pause: Pause,
     // What was put for the cells of the halo as the pause was looked for.
     seen: Vec<Option<u64>>,
-    // What leaves and enters in a step by these ties and gates.
-    outs: Vec<Part>,
-    ins: Vec<Part>,
 }
 
 impl Model for PlacedRows {
-    ghost use Rattle.std.specs.Prelude.{map, vec_capacity};
+    ghost use Rattle.std.specs.Prelude.{map};
     ghost use Rattle.place_rows.specs.Placed.{PlacedCells};
     ghost use Rattle.place_rows.specs.Rows.{AreSettled};
     ghost use Rattle.place_rows.specs.Waiting.{waited};
@@ -60,11 +60,10 @@ impl Model for PlacedRows {
       before = rows.before.items;
       links = rows.links.items;
       ties = rows.ties.items;
+      ties_until = rows.ties_until;
       gates = rows.gates.items;
       pause = rows.pause;
       seen = rows.seen.items;
-      room = vec_capacity rows.outs;
-      room_in = vec_capacity rows.ins;
     } };
 
     ghost invariant = { λ rows. AreSettled rows.origins.items (map (waited rows.pause.owed) rows.places.items) rows.before.items };
@@ -105,8 +104,6 @@ impl PlacedRows {
             region.connectors,
             &mut places,
         )?;
-        let outs = Vec::with_capacity(alloc, 2 * joints.ties.len())?;
-        let ins = Vec::with_capacity(alloc, 2 * joints.ties.len() + gates.len())?;
         let seen = nothing_put(alloc, region.halo.len())?;
         Ok(PlacedRows {
             places,
@@ -114,11 +111,10 @@ impl PlacedRows {
             before,
             links: joints.links,
             ties: joints.ties,
+            ties_until: 0,
             gates,
             pause: Pause::NONE,
             seen,
-            outs,
-            ins,
         })
     }
 
@@ -261,13 +257,14 @@ impl PlacedRows {
     {
         let _steps = net.steps;
         refresh(&mut self.links, &mut self.places, t);
-        let sight = Sight {
-            places: &self.places,
+        self.ties_until = follow(t, &mut self.ties, self.ties_until);
+        sweep(&mut self.places, &mut self.before);
+        let held = Held {
+            own: &self.before,
             put,
         };
-        carry_all(t, &mut self.ties, &sight, &mut self.outs, &mut self.ins);
-        put_demands(t, &mut self.gates, &mut self.ins);
-        step_places(&mut self.places, &mut self.before, &self.outs, &self.ins);
+        carry_all(t, &self.ties, &held, &mut self.places);
+        bring_demands(t, &mut self.gates, &mut self.places);
     }
 
     // Looks for how long nothing moves among them, as long as this is put for their halo.

@@ -1,5 +1,5 @@
 ghost use Rattle.std.specs.Prelude.{◌≡◌};
-ghost use Rattle.place_rows.specs.Carrying.{IsThere, held_at};
+ghost use Rattle.place_rows.specs.Carrying.{IsThere, held_at, held_in};
 
 use place_sweep::Place;
 
@@ -23,7 +23,7 @@ impl Sight<'_> {
     /// What the cell at a spot holds.
     pub(crate) fn held(&self, spot: Spot) -> u64
         requires { IsThere self.now.places.now self.now.put.now spot }
-        ensures { result ≡ held_at self.now.places.now self.now.put.now spot }
+        ensures { result ≡ held_at (held_in self.now.places.now) self.now.put.now spot }
     {
         match spot {
             Spot::Own(p) => self.places[p as usize].n,

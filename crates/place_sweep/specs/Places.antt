@@ -32,6 +32,13 @@ moved place enters leaves = record place {
   held = (place.held + place.n) % 2 ^ 64;
 }
 
+-- a place after so much left it, or entered it
+abbrev pub with_left : Place → (parts : ℕ) → Place
+with_left place parts = record place { n = place.n - parts; gone = place.gone + parts }
+
+abbrev pub with_entered : Place → (parts : ℕ) → Place
+with_entered place parts = record place { n = place.n + parts }
+
 -- place p after a step of the links between neighbours
 abbrev pub swept : List Place → (p : ℕ) → Place
 swept places p = moved (place_at places p) (link_in places p) (link_out places p)

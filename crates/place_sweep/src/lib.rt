@@ -7,15 +7,11 @@
 mod capacity;
 mod chain;
 mod movement;
-mod part;
 mod place;
 mod space;
-mod step;
 
 pub use capacity::link_capacity;
 pub use chain::sweep;
 pub use movement::moving;
-pub use part::{Part, enter, leave};
 pub use place::Place;
 pub use space::{BOUNDLESS, Space};
-pub use step::step_places;

@@ -1,5 +1,5 @@
 ghost use Rattle.std.specs.Prelude.{◌≡◌, ◌+◌, ◌<◌, ◌≤◌, ◌^◌, min};
-ghost use Rattle.place_sweep.specs.Places.{moved};
+ghost use Rattle.place_sweep.specs.Places.{moved, with_entered, with_left};
 
 use crate::space::Space;
 
@@ -19,6 +19,26 @@ pub struct Place {
 }
 
 impl Place {
+    /// So much leaves it, beside the links between neighbours.
+    #[inline(always)]
+    pub fn leave(&mut self, parts: u64)
+        requires held { parts ≤ self.old.n }
+        requires fits { self.old.gone + parts < 2 ^ 64 }
+        ensures { self.new ≡ with_left self.old parts }
+    {
+        self.n -= parts;
+        self.gone += parts;
+    }
+
+    /// So much enters it, beside them.
+    #[inline(always)]
+    pub fn enter(&mut self, parts: u64)
+        requires fits { self.old.n + parts < 2 ^ 64 }
+        ensures { self.new ≡ with_entered self.old parts }
+    {
+        self.n += parts;
+    }
+
     // What the link from here to the next place can carry of what it holds.
     #[inline(always)]
     pub(crate) fn sent(&self) -> u64

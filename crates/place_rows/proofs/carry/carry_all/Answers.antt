@@ -1,46 +1,51 @@
-use Rattle.std.proofs.Common.{◌≡◌, ◌<◌, ℕ, get_or, length, sym, subst, ◌∙◌, arith}
-use Rattle.std.proofs.lemmas.List.{get_or_default}
-use Rattle.flow_model.specs.declared.carried.Flow.{Flow}
-use Rattle.place_rows.specs.Carrying.{IsCarried, carried_of}
+use Rattle.std.specs.Prelude.{slice_index, sum_by}
+use Rattle.std.proofs.Common.{◌≡◌, ◌<◌, ◌≤◌, ◌+◌, ℕ, length, subst, sym, ap, ◌∙◌, arith}
+use Rattle.std.proofs.lemmas.List.{take_all}
+use Rattle.place_sweep.specs.Places.{place_at}
+use Rattle.place_rows.specs.Carrying.{CanCarry, IsWithin, brought, passed, spot_at, taken}
 use Rattle.place_rows.specs.declared.tie.Tie.{Tie}
-use Rattle.place_rows.proofs.Parting.{length-with_ins, length-with_outs, parts-more, parts-none}
-use Rattle.place_rows.proofs.Ties.{begun-more, begun-none}
+use Rattle.place_rows.proofs.MovedPlaces.{can-pass-more, passed-more, passed-none}
 use Rattle.place_rows.proofs.carry.carry_all.Goals as goal
 
-pub loop-m-init : goal.loop-m-init
-loop-m-init c =
-    let outs = c.clear.ensures.items in
-    let ins = c.clear-2.ensures.items in
-    record {
-      begun = begun-none c.args.t c.args.ties.now;
-      few = rw outs (omega arith);
-      few_in = rw ins (omega arith);
-      room = omega arith;
-      room_in = omega arith;
-      parts = λ net n cells halo scene seen. rw (outs, ins) (parts-none net c.args.t n cells c.args.ties.now);
-    }
+pub loop-tie-init : goal.loop-tie-init
+loop-tie-init c = λ p within. passed-none (place_at c.args.places.now p)
 
-pub loop-m-preserved : goal.loop-m-preserved
-loop-m-preserved c =
+pub carry-requires-clause-tie : goal.carry-requires-clause-tie
+carry-requires-clause-tie c =
+    let put = c.args.held.now.put.now in
+    let tie : Tie = c.tie-item.result in
+    let first = c.args.places.now in
+    let long : length first ≡ length c.loop-tie.places = omega arith in
+    let is : CanCarry c.args.t tie first put = rw (← c.tie-item.is) at (c.requires.each c.loop-tie.tie-index tie (omega arith)) in
+    record { spots = λ m few. subst (λ k. IsWithin k put (spot_at tie m)) long (is.spots m few); step = is.step; until = is.until }
+
+pub carry-requires-clause-can : goal.carry-requires-clause-can
+carry-requires-clause-can c = λ p within.
+    let own = slice_index c.args.held.now.own.now in
+    let put = c.args.held.now.put.now in
     let t : ℕ = c.args.t in
-    let first = c.args.ties.now in
-    let j : ℕ = c.loop-m.m in
-    let d0 : Tie = c.index-ties-m.result in
-    let tie : Tie = get_or c.loop-m.ties j d0 in
-    let begun = c.loop-m.invariant.begun in
-    let within : j < length first = omega (arith, begun.long) in
-    let read : (d : Tie) → get_or first j d ≡ tie =
-    λ d. sym (begun.rest j d (omega arith)) ∙ get_or_default c.loop-m.ties j d d0 (omega (arith, begun.long)) in
-    let flow : Flow = carried_of t tie c.args.sight.now.places.now c.args.sight.now.put.now in
-    let outs = c.carry.ensures.outs in
-    let ins = c.carry.ensures.ins in
-    record {
-      begun = begun-more t j first c.loop-m.ties c.carry.new.tie within begun (λ d. subst (λ old. IsCarried t old c.carry.new.tie) (sym (read d)) c.carry.ensures.tie);
-      few = rw outs (omega (arith, length-with_outs tie.course.rule tie flow c.loop-m.outs.items));
-      few_in = rw ins (omega (arith, length-with_ins tie.course.rule tie flow c.loop-m.ins.items));
-      room = omega (arith, c.carry.ensures.room);
-      room_in = omega (arith, c.carry.ensures.room_in);
-      parts = λ net n cells halo scene seen.
-          rw (outs, ins) (parts-more net t n cells halo first c.args.sight.now.places.now c.args.sight.now.put.now j tie c.loop-m.outs.items c.loop-m.ins.items
-          scene seen within (read tie) (c.loop-m.invariant.parts net n cells halo scene seen));
-    }
+    let ties = c.args.ties.now in
+    let tie : Tie = c.tie-item.result in
+    let can = can-pass-more (brought t own put p) (taken t own put p) ties c.loop-tie.tie-index tie (place_at c.args.places.now p) (place_at c.loop-tie.places p)
+    (omega arith) (c.loop-tie.invariant p (omega arith)) (c.requires.can p (omega arith)) in
+    rw (← c.tie-item.is) at can
+
+pub loop-tie-preserved : goal.loop-tie-preserved
+loop-tie-preserved c = λ p within.
+    let own = slice_index c.args.held.now.own.now in
+    let put = c.args.held.now.put.now in
+    let t : ℕ = c.args.t in
+    let tie : Tie = c.tie-item.result in
+    let here = c.carry.ensures p (omega arith) in
+    passed-more (brought t own put p) (taken t own put p) c.args.ties.now c.loop-tie.tie-index tie (place_at c.args.places.now p) (place_at c.loop-tie.places p)
+    (place_at c.carry.new.places p) (omega arith) (c.loop-tie.invariant p (omega arith))
+    (here ∙ ap (λ one. passed (place_at c.loop-tie.places p) (brought t own put p one) (taken t own put p one)) c.tie-item.is) (c.requires.can p (omega arith)).held
+
+pub returns : goal.returns
+returns c = λ p within.
+    let own = slice_index c.args.held.now.own.now in
+    let put = c.args.held.now.put.now in
+    let t : ℕ = c.args.t in
+    let all = take_all c.loop-tie.tie-index c.args.ties.now (omega arith) in
+    c.loop-tie.invariant p (omega arith)
+    ∙ ap (λ ties. passed (place_at c.args.places.now p) (sum_by (brought t own put p) ties) (sum_by (taken t own put p) ties)) all

@@ -1,17 +1,11 @@
-use Rattle.std.specs.Prelude.{vec_capacity}
-use Rattle.std.proofs.Common.{◌*◌, ◌≤◌, ℕ, List, length, take}
-use Rattle.network_file.specs.Network.{Network}
-use Rattle.place_rows.specs.Moves.{ArePartsOf, IsScene, IsSeen}
-use Rattle.place_rows.proofs.Ties.{AreBegun}
+use Rattle.std.specs.Prelude.{slice_index, sum_by}
+use Rattle.std.proofs.Common.{◌≡◌, ◌<◌, ℕ, length, take}
+use Rattle.place_sweep.specs.Places.{place_at}
+use Rattle.place_rows.specs.Carrying.{brought, passed, taken}
 use Rattle.place_rows.proofs.carry.carry_all.Given as goal
 
-abbrev pub invariant-loop-m : goal.invariant-loop-m
-invariant-loop-m l = record {
-  begun : AreBegun l.t l.m l.initial.ties l.ties;
-  few : length l.outs.items ≤ 2 * l.m;
-  few_in : length l.ins.items ≤ 2 * l.m;
-  room : vec_capacity l.initial.outs ≤ vec_capacity l.outs;
-  room_in : vec_capacity l.initial.ins ≤ vec_capacity l.ins;
-  parts : (net : Network) (n : ℕ → ℕ) (cells halo : List ℕ) → IsScene net l.t cells halo l.initial.ties l.sight.places.now l.sight.put.now →
-      IsSeen n cells halo l.sight.places.now l.sight.put.now → ArePartsOf net l.t n cells (take l.m l.initial.ties) l.outs.items l.ins.items;
-}
+abbrev pub invariant-loop-tie : goal.invariant-loop-tie
+invariant-loop-tie l =
+    (p : ℕ) → p < length l.places → place_at l.places p ≡ passed (place_at l.initial.places p)
+    (sum_by (brought l.t (slice_index l.held.own.now) l.held.put.now p) (take l.tie-index l.ties))
+    (sum_by (taken l.t (slice_index l.held.own.now) l.held.put.now p) (take l.tie-index l.ties))

@@ -5,7 +5,7 @@ use Rattle.connector_courses.specs.Courses.{AreInForce, AreKept, limits_in}
 use Rattle.connector_courses.specs.Flows.{ConnectorValues, flow_at}
 use Rattle.connector_courses.specs.Weights.{AreWeights}
 use Rattle.connector_courses.specs.declared.courses.Courses.{Courses}
-use Rattle.connector_courses.proofs.Bounding.{in_force-moved, kept-lasting, kept-later, limits_in-moved}
+use Rattle.connector_courses.proofs.Bounding.{in_force-moved, kept-lasting, kept-later, kept-never, limits_in-moved}
 use Rattle.connector_courses.proofs.Made.{flow-same}
 use Rattle.connector_courses.proofs.connector_course.ConnectorCourse.refresh.Goals.{then-self-t+in-Some, then-self-t+in_default, else-self-t}
 use Rattle.connector_courses.proofs.connector_course.ConnectorCourse.refresh.Goals as goal
@@ -45,6 +45,7 @@ returns-clause-flow c = λ s n.
       second_space = course.second_space;
       third_space = course.third_space;
       step = course.step;
+      until = course.until;
     } in
     elim c.if-self-t.branch [
       | then-self-t+in-Some w ↦
@@ -57,4 +58,17 @@ returns-clause-flow c = λ s n.
           rw w.self-inside-is (flow-same view _ s n refl refl refl limits ∙ ap (λ one. flow_at one s n) c.self.view_is)
       | then-self-t+in_default w ↦ rw w.self-inside-is (flow-same view _ s n refl refl refl refl ∙ ap (λ one. flow_at one s n) c.self.view_is)
       | else-self-t w ↦ rw w.self-inside-is (flow-same view _ s n refl refl refl refl ∙ ap (λ one. flow_at one s n) c.self.view_is)
+    ]
+
+pub returns-clause-later : goal.returns-clause-later
+returns-clause-later c =
+    let course = c.self.inside in
+    let courses : Option Courses = option_map (λ own. own.value) course.courses in
+    let t : ℕ = c.args.t in
+    elim c.if-self-t.branch [
+      | then-self-t+in-Some w ↦ rw w.self-inside-is w.move_to-now.ensures.later
+      | then-self-t+in_default w ↦
+          let kept = kept-never courses course.limits course.step course.until (ap (λ kept. option_map (λ own. own.value) kept) w.in_default.is) c.self.invariant in
+          rw w.self-inside-is (omega (arith, kept, c.requires.in_time))
+      | else-self-t w ↦ rw w.self-inside-is (omega arith)
     ]

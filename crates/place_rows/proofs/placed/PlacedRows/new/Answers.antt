@@ -91,14 +91,13 @@ returns-clause-placed c =
           subst (λ space. IsSpaceOf space (room_at net.cells (slice_index cells p))) (sym (ap (λ place. place.space) (only_most p)))
           (opened.first_is p within).space;
       come = c.in_ok-joints.ensures.come;
+      unchanged = λ k d within. omega arith;
       gates = c.in_ok-gates.ensures.places;
       demands = λ k d within. let is = c.in_ok-gates.ensures.demands k d within in record { demand = is.demand; step = omega (arith, is.step) };
       links = subst (λ n. All (IsThere n t) c.in_ok-joints.joints.links.items) (sym (after_long ∙ opened.first_each)) c.in_ok-joints.ensures.links;
       followed = c.in_ok-joints.ensures.followed;
       pause = record { idle = λ s none. absurd (omega (arith, none)); owed = omega arith; kept = λ some. absurd (omega (arith, some)) };
       seen_each = ap length c.in_ok-seen.ensures ∙ length-replicate (length halo) None;
-      room = omega (arith, c.in_ok-outs.ensures.capacity, c.len.ensures, c.in_ok-joints.joints.ties.ok.0);
-      room_in = omega (arith, c.in_ok-ins.ensures.capacity, c.len-2.ensures, c.len-3.ensures, c.in_ok-joints.joints.ties.ok.0, c.in_ok-gates.gates.ok.0);
     })
 
 pub returns-clause-rows : goal.returns-clause-rows
