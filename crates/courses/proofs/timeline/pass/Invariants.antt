@@ -1,0 +1,7 @@
+use Rattle.std.proofs.Common.{ℕ}
+use Rattle.courses.specs.Passing.{HasPassed}
+use Rattle.courses.proofs.timeline.pass.Given as goal
+
+abbrev pub invariant-loop-k : goal.invariant-loop-k
+invariant-loop-k l =
+    (start : ℕ) → HasPassed start l.changes l.initial.k l.initial.value l.t → HasPassed start l.changes l.k l.value l.t
