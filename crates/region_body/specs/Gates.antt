@@ -4,7 +4,7 @@ use Rattle.network_file.specs.Network.{Network}
 use Rattle.region_body.specs.declared.part.Part.{Part}
 use Rattle.signal_plan.specs.Demand.{demand_at}
 use Rattle.courses.specs.Courses.{value_at}
-use Rattle.region_body.specs.declared.gate_place.GatePlace.{GatePlace}
+use Rattle.region_body.specs.declared.gate.GatePlace.{GatePlace}
 
 -- what a gate brings in step t
 abbrev pub demand_part : (t : ℕ) → GatePlace → Part

@@ -4,6 +4,7 @@ pub mod Parts
 pub mod Steps
 pub mod Moving
 pub mod Followed
+pub mod Weights
 pub mod Factors
 pub mod Limits
 pub mod Flows

@@ -4,7 +4,7 @@ ghost use Rattle.courses.specs.Courses.{value_at};
 ghost use Rattle.region_body.specs.Gates.{AreAsked, AreGatesKept, asked, demand_into, demand_part};
 
 use crate::carry::put_part;
-use crate::gate_place::GatePlace;
+use crate::gate::GatePlace;
 use crate::part::Part;
 use crate::spot::Spot;
 use signal_plan::MOST_STEPS;
@@ -60,6 +60,6 @@ fn demanded(t: u64, gate: &mut GatePlace) -> u64
     ensures gate { gate.new ≡ asked t gate.old }
     ensures amount { result ≡ value_at gate.old.course t }
 {
-    gate.course.refresh(t);
-    gate.course.amount()
+    gate.course.move_to(t);
+    gate.course.now().value
 }

@@ -12,7 +12,7 @@ mod connector_course;
 mod demands;
 mod first;
 mod followed;
-mod gate_place;
+mod gate;
 mod idling;
 mod joining;
 mod joints;

@@ -5,7 +5,7 @@ ghost use Rattle.region_body.specs.Parts.{parts_at, with_entered, with_left};
 use crate::place::Place;
 
 /// So many parts that enter a place or leave it beside the links between neighbours.
-#[derive(Clone, Copy, Debug, PartialEq, Eq)]
+#[derive(Clone, Copy)]
 pub(crate) struct Part {
     /// The number of the place.
     pub(crate) place: u32,

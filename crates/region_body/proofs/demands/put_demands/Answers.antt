@@ -5,7 +5,7 @@ use Rattle.std.proofs.lemmas.List.Sums.{sum_by_more}
 use Rattle.region_body.proofs.PartSums.{parts_at-push}
 use Rattle.region_body.proofs.Sets.{done_more, rest_more}
 use Rattle.region_body.specs.Gates.{asked, demand_into, demand_part}
-use Rattle.region_body.specs.declared.gate_place.GatePlace.{GatePlace}
+use Rattle.region_body.specs.declared.gate.GatePlace.{GatePlace}
 use Rattle.region_body.proofs.demands.put_demands.Goals as goal
 
 pub loop-m-preserved : goal.loop-m-preserved

@@ -3,7 +3,7 @@ use Rattle.std.proofs.Common.{◌≡◌, ◌+◌, ◌<◌, ◌≤◌, ℕ, lengt
 use Rattle.std.specs.List.{sum_by}
 use Rattle.region_body.specs.Parts.{parts_at}
 use Rattle.region_body.specs.Gates.{asked, demand_into}
-use Rattle.region_body.specs.declared.gate_place.GatePlace.{GatePlace}
+use Rattle.region_body.specs.declared.gate.GatePlace.{GatePlace}
 use Rattle.region_body.proofs.demands.put_demands.Given as goal
 
 abbrev pub invariant-loop-m : goal.invariant-loop-m
