@@ -1,27 +1,26 @@
 -- The most that a link carries, by what it is made of.
-use Rattle.std.specs.Prelude.{Bool, Option, Some, None, is_some}
-use Rattle.std.proofs.Common.{◌≡◌, ℕ, false, refl}
-use Rattle.courses.specs.Capacity.{link_capacity_of}
-use Rattle.signal_plan.specs.Green.{is_green_by}
-use Rattle.signal_plan.specs.Records.{SignalRecord}
-use Rattle.courses.specs.Courses.{Course, LinkValues, most_at, value_at}
+use Rattle.std.specs.Prelude.{true, false, min}
+use Rattle.std.proofs.Common.{◌≡◌, ℕ, refl}
+use Rattle.signal_plan.specs.Records.{PlanRecords}
+use Rattle.courses.specs.Cells.{CellValues, cell_most, most_by}
+use Rattle.courses.specs.Links.{LinkValues, most_at, most_between}
 
-pub most-same : (link : LinkValues) (s t : ℕ) → value_at link.up s ≡ value_at link.up t → value_at link.down s ≡ value_at link.down t →
-    is_green_by link.signal s ≡ is_green_by link.signal t → most_at link s ≡ most_at link t
+pub most-same : (link : LinkValues) (s t : ℕ) → cell_most link.up s ≡ cell_most link.up t → cell_most link.down s ≡ cell_most link.down t →
+    most_at link s ≡ most_at link t
 unfolding most_at
-most-same link s t up down light = rw (up, down, light) refl
+most-same link s t up down = rw (up, down) refl
 
-pub most-is : (link : LinkValues) (t q_up q_down : ℕ) (green : Bool) → q_up ≡ value_at link.up t → q_down ≡ value_at link.down t →
-    green ≡ is_green_by link.signal t → link_capacity_of q_up q_down green ≡ most_at link t
+pub most-is : (link : LinkValues) (t up down : ℕ) → up ≡ cell_most link.up t → down ≡ cell_most link.down t → min up down ≡ most_at link t
 unfolding most_at
-most-is link t q_up q_down green up down light = rw (up, down, light) refl
+most-is link t up down of_up of_down = rw (of_up, of_down) refl
 
--- it does not depend on the step to which the link was followed
-pub most-moved : (link : LinkValues) (up down : Course) (s t : ℕ) → up ≡ record link.up { step = t } → down ≡ record link.down { step = t } →
-    most_at (record { up = up; down = down; signal = link.signal; step = up.step }) s ≡ most_at link s
+pub most-planned : (link : LinkValues) (plan : PlanRecords) (up down t : ℕ) → cell_most link.up t ≡ most_by plan up true t →
+    cell_most link.down t ≡ most_by plan down false t → most_at link t ≡ most_between plan up down t
+unfolding most_at most_between
+most-planned link plan up down t of_up of_down = rw (of_up, of_down) refl
+
+-- it does not depend on the step to which its cells were followed
+pub same-moved : (link : LinkValues) (up down : CellValues) (step s : ℕ) → cell_most up s ≡ cell_most link.up s → cell_most down s ≡ cell_most link.down s →
+    most_at (record { up = up; down = down; step = step }) s ≡ most_at link s
 unfolding most_at
-most-moved link up down s t is_up is_down = rw (is_up, is_down) refl
-
-pub light-none : (signal : Option SignalRecord) (s t : ℕ) → is_some signal ≡ false → is_green_by signal s ≡ is_green_by signal t
-light-none None s t none = refl
-light-none (Some signal) s t none = cc
+same-moved link up down step s of_up of_down = rw (of_up, of_down) refl

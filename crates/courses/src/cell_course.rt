@@ -1,7 +1,7 @@
-ghost use Rattle.std.specs.Prelude.{◌≡◌, ◌≤◌, ◌<◌, ℕ, IfOk, length, if◌then◌else◌};
+ghost use Rattle.std.specs.Prelude.{◌≡◌, ◌≤◌, ◌<◌, ℕ, IfOk, IsTrue, length, if◌then◌else◌};
 ghost use Rattle.signal_plan.specs.Green.{is_green_by};
+ghost use Rattle.courses.specs.Cells.{green_by};
 ghost use Rattle.courses.specs.Courses.{IsSteady};
-ghost use Rattle.courses.specs.Cells.{cell_most, green_by, most_by};
 
 use crate::now::Now;
 use crate::phase::light;
@@ -9,16 +9,27 @@ use crate::timeline::Timeline;
 use no_memory::NoMemory;
 use signal_plan::{MOST_STEPS, Plan, Signal};
 use std::alloc::Global;
+use std::marker::Model;
 
 /// The most that a cell sends or receives in a step, whatever it holds, followed forward from step 0.
 #[derive(Debug, Drop)]
 pub struct CellCourse {
-    pub capacity: Timeline,
-    /// The course of a cell that sends.
-    pub signal: Option<Signal>,
+    capacity: Timeline<u64>,
+    // That of a cell that sends.
+    signal: Option<Signal>,
+}
+
+impl Model for CellCourse {
+    ghost use Rattle.courses.specs.Cells.{CellValues};
+
+    ghost Value = { CellValues };
+
+    ghost view = { λ cell. record { capacity = cell.capacity; signal = cell.signal } };
 }
 
 impl CellCourse {
+    ghost use Rattle.courses.specs.Cells.{cell_most, most_by};
+
     /// The course of a cell that sends, or of one that receives.
     pub fn new(alloc: Global, plan: &Plan, cell: u32, sends: bool) -> Result<CellCourse, NoMemory>
         requires has_cell { cell < length plan.now.cells }
@@ -30,6 +41,13 @@ impl CellCourse {
             capacity: Timeline::new(plan.capacity(cell, 0), changes),
             signal: signal_by(plan, cell, sends),
         })
+    }
+
+    /// Whether the most never changes.
+    pub fn is_constant(&self) -> bool
+        ensures { IsTrue result → (s t : ℕ) → cell_most self.now s ≡ cell_most self.now t }
+    {
+        self.signal.is_none() && self.capacity.is_constant()
     }
 
     /// Follows it to step `t`, and tells what the cell sends or receives at most from there on.

@@ -2,18 +2,17 @@
 //! As long as nothing changes, the plan is not asked. It knows no network and no places.
 #![tactic(auto)]
 
-mod capacity;
 mod cell_course;
-mod demand_course;
+mod demands;
 mod link_course;
 mod now;
 mod phase;
+mod shares;
 mod timeline;
-mod weight_course;
 
 pub use cell_course::CellCourse;
-pub use demand_course::DemandCourse;
+pub use demands::demand_of;
 pub use link_course::LinkCourse;
 pub use now::Now;
+pub use shares::shares_of;
 pub use timeline::Timeline;
-pub use weight_course::WeightCourse;

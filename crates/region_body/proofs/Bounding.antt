@@ -1,41 +1,39 @@
 -- What bounds the flow of a connector, by what it is made of.
 use Rattle.std.specs.Prelude.{Option, Some, None}
 use Rattle.std.proofs.Common.{◌≡◌, ℕ, ◌<◌, ◌≤◌, refl, sym, ◌∙◌, arith}
-use Rattle.courses.specs.Courses.{IsSteady}
+use Rattle.courses.specs.Courses.{IsSteady, value_at}
 use Rattle.signal_plan.specs.Limits.{most_steps}
 use Rattle.courses.specs.Cells.{cell_most}
 use Rattle.region_body.specs.Limits.{AreInForce, AreKept, HaveCome, limits_of_courses, limits_in, moved_to}
-use Rattle.courses.specs.Weights.{AreWeights, weights_at}
+use Rattle.region_body.specs.Weights.{AreWeights}
 use Rattle.region_body.specs.declared.limit_courses.LimitCourses.{LimitCourses}
 use Rattle.region_body.specs.declared.limits.Limits.{Limits}
 
 pub limits-are : (courses : LimitCourses) (limits : Limits) (t : ℕ) → limits.first ≡ cell_most courses.first t → limits.second ≡ cell_most courses.second t →
-    limits.third ≡ cell_most courses.third t → limits.weights ≡ weights_at courses.weights t → limits ≡ limits_of_courses courses t
+    limits.third ≡ cell_most courses.third t → limits.weights ≡ value_at courses.weights t → limits ≡ limits_of_courses courses t
 unfolding limits_of_courses
 limits-are courses limits t first second third weights = rw (← first, ← second, ← third, ← weights) refl
 
 pub limits-same : (courses : LimitCourses) (s t : ℕ) → cell_most courses.first s ≡ cell_most courses.first t →
     cell_most courses.second s ≡ cell_most courses.second t → cell_most courses.third s ≡ cell_most courses.third t →
-    weights_at courses.weights s ≡ weights_at courses.weights t → limits_of_courses courses s ≡ limits_of_courses courses t
+    value_at courses.weights s ≡ value_at courses.weights t → limits_of_courses courses s ≡ limits_of_courses courses t
 unfolding limits_of_courses
 limits-same courses s t first second third weights = rw (first, second, third, weights) refl
 
 -- the steps that were come to have no part in them
 pub limits-moved : (courses : LimitCourses) (t s : ℕ) → limits_of_courses (moved_to courses t) s ≡ limits_of_courses courses s
-unfolding limits_of_courses cell_most weights_at
+unfolding limits_of_courses cell_most
 limits-moved courses t s = refl
 
 pub weights-moved : (courses : LimitCourses) (t : ℕ) → AreWeights courses.weights → AreWeights (moved_to courses t).weights
-unfolding weights_at
-weights-moved courses t within = record { first = within.first; second = within.second }
+weights-moved courses t within = within
 
 pub come-moved : (courses : LimitCourses) (t : ℕ) → HaveCome (moved_to courses t) t
 come-moved courses t = record {
   first = omega arith;
   second = omega arith;
   third = omega arith;
-  weight = omega arith;
-  weight_second = omega arith;
+  weights = omega arith;
 }
 
 -- what is in force once they have come to step t
@@ -60,8 +58,7 @@ in_force-later courses limits step t until has forward before =
         first = omega (arith, come.first);
         second = omega (arith, come.second);
         third = omega (arith, come.third);
-        weight = omega (arith, come.weight);
-        weight_second = omega (arith, come.weight_second);
+        weights = omega (arith, come.weights);
       };
       weights = has.weights;
     }

@@ -16,7 +16,7 @@ use Rattle.region_body.specs.declared.place.Place.{Place}
 use Rattle.region_cut.proofs.Anys.{finds}
 use Rattle.region_cut.proofs.Increasing.{position_is}
 use Rattle.region_cut.proofs.Ranges.{range-Contains}
-use Rattle.courses.specs.Courses.{most_between}
+use Rattle.courses.specs.Links.{most_between}
 use Rattle.region_body.specs.Followed.{AreFollowed, IsThere}
 use Rattle.region_body.specs.declared.followed.FollowedLink.{FollowedLink}
 use Rattle.region_body.specs.Chains.{is_chained, is_joined, is_link, most_out, odd_ones}

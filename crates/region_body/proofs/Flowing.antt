@@ -23,7 +23,7 @@ use Rattle.flow_model.proofs.Locality.{leads_into-touches, leads_out_of-touches}
 use Rattle.region_body.specs.Places.{link_in, link_out, place_at}
 use Rattle.region_body.specs.Space.{HasSpace, IsSpaceOf}
 use Rattle.region_body.specs.declared.place.Place.{Place}
-use Rattle.courses.specs.Courses.{most_between}
+use Rattle.courses.specs.Links.{most_between}
 use Rattle.region_cut.proofs.Anys.{found, finds, not_false}
 use Rattle.region_cut.proofs.Increasing.{position_is}
 use Rattle.region_cut.proofs.Ranges.{Contains-filter_range, filter_range-Contains, range-Contains}

@@ -6,7 +6,7 @@ use Rattle.std.proofs.lemmas.Bool.{cases_eq}
 use Rattle.std.proofs.lemmas.List.{get_or-set_same, get_or-set_other}
 use Rattle.region_body.specs.Places.{no_place, place_at}
 use Rattle.region_body.specs.declared.place.Place.{Place}
-use Rattle.courses.specs.Courses.{most_at}
+use Rattle.courses.specs.Links.{most_at}
 use Rattle.region_body.specs.Followed.{AreFollowed, IsChanged, IsCourse, IsFollowed, IsThere, IsUnchanged}
 use Rattle.region_body.specs.declared.followed.FollowedLink.{FollowedLink}
 

@@ -7,7 +7,8 @@ use Rattle.std.proofs.lemmas.List.Elements.{All-push}
 use Rattle.signal_plan.specs.Records.{PlanRecords}
 use Rattle.region_body.specs.Places.{no_place, place_at}
 use Rattle.region_body.specs.declared.place.Place.{Place}
-use Rattle.courses.specs.Courses.{IsSteady, LinkValues, most_at, most_between}
+use Rattle.courses.specs.Courses.{IsSteady}
+use Rattle.courses.specs.Links.{LinkValues, most_at, most_between}
 use Rattle.region_body.specs.Followed.{AreFollowed, IsCourse, IsFollowed}
 use Rattle.region_body.specs.declared.followed.FollowedLink.{FollowedLink}
 use Rattle.region_body.specs.Joining.{Extends}

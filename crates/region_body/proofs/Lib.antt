@@ -5,7 +5,7 @@ pub mod LinkFlows
 pub mod Boundless
 pub mod Following
 pub mod Reciprocals
-pub mod Turns
+pub mod Weights
 pub mod Bounding
 pub mod Spaces
 pub mod Made

@@ -16,7 +16,8 @@ use Rattle.region_body.specs.Places.{carried}
 use Rattle.region_body.specs.Space.{HasSpace, IsSpaceOf}
 use Rattle.region_body.specs.declared.place.Place.{Place}
 use Rattle.region_body.proofs.LinkFlows.{link_flow-is}
-use Rattle.courses.specs.Courses.{most_between}
+use Rattle.courses.specs.Cells.{most_by}
+use Rattle.courses.specs.Links.{most_between}
 use Rattle.region_cut.proofs.Anys.{first_of_both, second_of_both, found}
 use Rattle.region_body.specs.Chains.{HasNoNext, IsNextAt, is_chained, is_link}
 
@@ -81,7 +82,7 @@ pub carried-link : (net : Network) (t up down : ℕ) (n : ℕ → ℕ) (place ne
     place.n ≡ n up → next.n ≡ n down → place.most ≡ most_between net.plan up down t → IsSpaceOf next.space (room_at net.cells down) →
     HasSpace next.n (capacity_at net.plan down t) (room_at net.cells down) →
     carried place next ≡ link_flow_of (sending_at net t up (n up)) (receiving_at net t down (n down))
-unfolding most_between sending_at receiving_at
+unfolding most_between most_by sending_at receiving_at
 carried-link net t up down n place next held next_held most space has =
     rw (← held, ← next_held, most)
     (link_flow-is (capacity_at net.plan up t) (capacity_at net.plan down t) place.n next.n (green_at net.plan up t) next.space (room_at net.cells down) space has)

@@ -12,11 +12,10 @@ use Rattle.network_file.proofs.NetworkFacts.{connector_at-sound, read_connector}
 use Rattle.region_body.specs.Limits.{limits_by}
 use Rattle.region_body.specs.Flows.{ConnectorValues, carried_by, flow_at, limits_of}
 use Rattle.region_body.specs.Following.{IsCourseOf, IsMadeOf}
-use Rattle.courses.specs.Weights.{weights_at}
+use Rattle.courses.specs.Courses.{Course, value_at}
 use Rattle.region_body.specs.declared.limits.Limits.{Limits}
 use Rattle.region_body.specs.declared.rule.Rule.{Rule}
 use Rattle.region_body.specs.declared.rule.Rule.TheVariants.{Linking, Merging, Diverging}
-use Rattle.courses.specs.declared.weight_course.WeightCourse.{WeightCourse}
 use Rattle.region_body.proofs.Spaces.{receiving-is, sending-is}
 
 -- what is carried within the limits of a step is what the course carries then
@@ -31,7 +30,7 @@ pub flow-same : (old new : ConnectorValues) (t : ℕ) (n : List ℕ) → new.rul
 unfolding flow_at
 flow-same old new t n rule second third limits = rw (rule, second, third, limits) refl
 
-flow-made : (net : Network) (rule : Rule) (cells : List ℕ) (weights : WeightCourse) (course : ConnectorValues) (t : ℕ) (n : List ℕ) →
+flow-made : (net : Network) (rule : Rule) (cells : List ℕ) (weights : Course (ℕ × ℕ)) (course : ConnectorValues) (t : ℕ) (n : List ℕ) →
     IsMadeOf net rule cells weights course → t < net.steps →
     flow_at course t n ≡ carried_by rule (limits_by net.plan rule cells weights t) course.second_space course.third_space n
 unfolding flow_at
@@ -39,7 +38,7 @@ flow-made net rule cells weights course t n made before =
     ap (λ one. carried_by one (limits_of course t) course.second_space course.third_space n) made.rule_is
     ∙ ap (λ limits. carried_by rule limits course.second_space course.third_space n) (made.limits t before)
 
-pub made-link : (net : Network) (up down : ℕ) (weights : WeightCourse) (course : ConnectorValues) → IsNetwork net →
+pub made-link : (net : Network) (up down : ℕ) (weights : Course (ℕ × ℕ)) (course : ConnectorValues) → IsNetwork net →
     IsSoundConnector net.cells (Link up down) → IsMadeOf net Linking (up ∷ down ∷ down ∷ []) weights course → IsCourseOf net (Link up down) course
 made-link net up down weights course sound connector made = record {
   rule = made.rule_is;
@@ -50,8 +49,8 @@ made-link net up down weights course sound connector made = record {
       flow-made net Linking (up ∷ down ∷ down ∷ []) weights course t n made before ∙ rw (s, r) refl;
 }
 
-pub made-merge : (net : Network) (up1 up2 down p1 p2 : ℕ) (weights : WeightCourse) (course : ConnectorValues) → IsNetwork net →
-    IsSoundConnector net.cells (Merge up1 up2 down p1 p2) → ((t : ℕ) → weights_at weights t ≡ (p1, p2)) →
+pub made-merge : (net : Network) (up1 up2 down p1 p2 : ℕ) (weights : Course (ℕ × ℕ)) (course : ConnectorValues) → IsNetwork net →
+    IsSoundConnector net.cells (Merge up1 up2 down p1 p2) → ((t : ℕ) → value_at weights t ≡ (p1, p2)) →
     IsMadeOf net Merging (up1 ∷ up2 ∷ down ∷ []) weights course → IsCourseOf net (Merge up1 up2 down p1 p2) course
 made-merge net up1 up2 down p1 p2 weights course sound connector are made = record {
   rule = made.rule_is;
@@ -63,8 +62,8 @@ made-merge net up1 up2 down p1 p2 weights course sound connector are made = reco
       flow-made net Merging (up1 ∷ up2 ∷ down ∷ []) weights course t n made before ∙ rw (s1, s2, r, are t) refl;
 }
 
-pub made-diverge : (net : Network) (up down1 down2 b1 b2 : ℕ) (weights : WeightCourse) (course : ConnectorValues) → IsNetwork net →
-    IsSoundConnector net.cells (Diverge up down1 down2 b1 b2) → ((t : ℕ) → weights_at weights t ≡ shares_at net.plan up t (b1, b2)) →
+pub made-diverge : (net : Network) (up down1 down2 b1 b2 : ℕ) (weights : Course (ℕ × ℕ)) (course : ConnectorValues) → IsNetwork net →
+    IsSoundConnector net.cells (Diverge up down1 down2 b1 b2) → ((t : ℕ) → value_at weights t ≡ shares_at net.plan up t (b1, b2)) →
     IsMadeOf net Diverging (up ∷ down1 ∷ down2 ∷ []) weights course → IsCourseOf net (Diverge up down1 down2 b1 b2) course
 made-diverge net up down1 down2 b1 b2 weights course sound connector are made = record {
   rule = made.rule_is;

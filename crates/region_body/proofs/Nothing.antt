@@ -10,7 +10,7 @@ use Rattle.flow_model.specs.Flows.{diverge_carries, link_carries, merge_carries}
 use Rattle.flow_model.specs.declared.carried.Flow.{Flow}
 use Rattle.region_body.specs.Limits.{AreInForce, AreKept, limits_of_courses, limits_in}
 use Rattle.region_body.specs.Flows.{ConnectorValues, carried_by, flow_at, limits_of, no_flow}
-use Rattle.courses.specs.Weights.{weights_at}
+use Rattle.courses.specs.Courses.{value_at}
 use Rattle.region_body.specs.declared.limit_courses.LimitCourses.{LimitCourses}
 use Rattle.region_body.specs.declared.limits.Limits.{Limits}
 use Rattle.region_body.proofs.Made.{flow-within}
@@ -53,11 +53,11 @@ unfolding flow_at limits_in
 flow-stays course s t n never = rw never refl
 
 -- the weights of a step are those of its limits
-pub weights-of : (courses : LimitCourses) (s : ℕ) → (limits_of_courses courses s).weights ≡ weights_at courses.weights s
+pub weights-of : (courses : LimitCourses) (s : ℕ) → (limits_of_courses courses s).weights ≡ value_at courses.weights s
 unfolding limits_of_courses
 weights-of courses s = refl
 
-pub weights-in : (courses : LimitCourses) (limits : Limits) (step until : ℕ) → AreInForce courses limits step until → weights_at courses.weights step ≡ limits.weights
+pub weights-in : (courses : LimitCourses) (limits : Limits) (step until : ℕ) → AreInForce courses limits step until → value_at courses.weights step ≡ limits.weights
 weights-in courses limits step until has = sym (weights-of courses step) ∙ ap (λ one. one.weights) (has.steady step (omega arith) has.later)
 
 -- what a connector carries by its courses

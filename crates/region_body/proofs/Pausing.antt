@@ -18,6 +18,7 @@ use Rattle.region_body.specs.Space.{IsSpaceOf}
 use Rattle.region_body.specs.declared.place.Place.{Place}
 use Rattle.region_body.proofs.Neighbours.{link_in-first, link_in-more, link_out-carried, place_at-past}
 use Rattle.courses.specs.Courses.{Course, value_at}
+use Rattle.courses.specs.Cells.{CellValues}
 use Rattle.region_body.specs.Followed.{AreFollowed}
 use Rattle.region_body.specs.declared.followed.FollowedLink.{FollowedLink}
 use Rattle.region_body.specs.Carrying.{IsSpotOf, IsThere, IsTie, held_at, held_in, spot_at, three_held}
@@ -28,7 +29,7 @@ use Rattle.region_body.specs.Pausing.{AreIdle, IsIdleUntil}
 use Rattle.region_body.specs.Placed.{ArePlacesInBounds, ArePlaced, CanAdvance, PlacedCells, WaitThrough}
 use Rattle.region_body.specs.Rows.{IsOf, origin_at, row_of, rows_of}
 use Rattle.region_body.specs.Waiting.{waited}
-use Rattle.region_body.specs.declared.gate_place.GatePlace.{GatePlace}
+use Rattle.region_body.specs.declared.gate.GatePlace.{GatePlace}
 use Rattle.region_body.specs.declared.pause.Pause.{Pause}
 use Rattle.region_body.specs.declared.spot.Spot.{Spot}
 use Rattle.region_body.specs.declared.spot.Spot.TheVariants.{Own, Halo}
@@ -85,11 +86,14 @@ fresh-next net cells connectors t places p place = elim (cases_lt p (length plac
       ∙ sym (place_at-past places p (omega (arith, past))))
 ]
 
-no_course : Course
+no_course : Course ℕ
 no_course = record { start = 0; changes = []; step = 0 }
 
+no_cell : CellValues
+no_cell = record { capacity = no_course; signal = None }
+
 no_link : FollowedLink
-no_link = record { place = 0; until = 0; course = record { up = no_course; down = no_course; signal = None; step = 0 } }
+no_link = record { place = 0; until = 0; course = record { up = no_cell; down = no_cell; step = 0 } }
 
 fresh-still : (net : Network) (cells connectors : List ℕ) (t until : ℕ) (places : List Place) (links : List FollowedLink) (ties : List Tie) (put : List (Option ℕ)) (p : ℕ) →
     AreFollowed (most_out net cells connectors) places links t → AreIdle places links ties put until → t < until → p < length places →

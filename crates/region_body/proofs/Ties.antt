@@ -11,7 +11,7 @@ use Rattle.network_file.specs.Network.{Network}
 use Rattle.region_body.specs.Carrying.{AreTiesFollowed, IsTieFollowed, IsTie}
 use Rattle.region_body.specs.Gates.{AreAsked, AreGatesKept, IsGateOf, IsGateKept, demand_into}
 use Rattle.region_body.specs.Moves.{AreTied, demand_for}
-use Rattle.region_body.specs.declared.gate_place.GatePlace.{GatePlace}
+use Rattle.region_body.specs.declared.gate.GatePlace.{GatePlace}
 use Rattle.region_body.specs.declared.tie.Tie.{Tie}
 
 -- lists that agree item by item in what a function makes of them

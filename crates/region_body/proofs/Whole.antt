@@ -44,7 +44,7 @@ use Rattle.region_body.specs.Carrying.{AreTiesFollowed}
 use Rattle.region_body.specs.Pausing.{IsPauseOf}
 use Rattle.region_body.specs.declared.pause.Pause.{Pause}
 use Rattle.region_body.specs.Gates.{AreAsked, demand_into}
-use Rattle.region_body.specs.declared.gate_place.GatePlace.{GatePlace}
+use Rattle.region_body.specs.declared.gate.GatePlace.{GatePlace}
 
 -- the rows of places, one by one
 pub row_at-rows_of : (origins : List Origin) (places : List Place) (p : ℕ) → p < length origins →

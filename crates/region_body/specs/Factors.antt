@@ -1,11 +1,6 @@
 -- A factor in place of the division by two weights together.
 use Rattle.std.specs.Prelude.{◌≡◌, ℕ, ◌+◌, ◌-◌, ◌/◌, ◌^◌}
-use Rattle.courses.specs.Weights.{IsWeight}
-
--- both are weights
-pub record AreBoth (pair : ℕ × ℕ) : Type 0 where
-  pub first : IsWeight pair.0
-  pub second : IsWeight pair.1
+use Rattle.region_body.specs.Weights.{AreBoth}
 
 -- with this factor `floor(x / d)` is the high word of its product with `x + 1`, where `(x + 1)·d` is at most 2^64
 abbrev pub factor_of : ℕ × ℕ → ℕ

@@ -2,7 +2,8 @@
 use Rattle.std.specs.Prelude.{◌≡◌, ℕ, ◌<◌, ◌≤◌, ◌⊎◌, All, List, length, slice_index_or}
 use Rattle.region_body.specs.Places.{place_at}
 use Rattle.region_body.specs.declared.place.Place.{Place}
-use Rattle.courses.specs.Courses.{IsSteady, most_at}
+use Rattle.courses.specs.Courses.{IsSteady}
+use Rattle.courses.specs.Links.{most_at}
 use Rattle.region_body.specs.declared.followed.FollowedLink.{FollowedLink}
 
 -- the link's place is there, and the link was followed to no step past t

@@ -12,7 +12,7 @@ use Rattle.region_body.specs.Limits.{limits_by}
 use Rattle.region_body.specs.Flows.{ConnectorValues, flow_at, limits_of}
 use Rattle.region_body.specs.declared.rule.Rule.{Rule}
 use Rattle.region_body.specs.declared.rule.Rule.TheVariants.{Linking, Merging, Diverging}
-use Rattle.courses.specs.declared.weight_course.WeightCourse.{WeightCourse}
+use Rattle.courses.specs.Courses.{Course}
 
 -- the rule of a connector
 abbrev pub rule_of : Connector → Rule
@@ -27,7 +27,7 @@ pub record IsCourseOf (net : Network) (connector : Connector) (course : Connecto
       flow_at course t n ≡ flow_between net t connector n
 
 -- it is made of these cells, by this rule, with these weights
-pub record IsMadeOf (net : Network) (rule : Rule) (cells : List ℕ) (weights : WeightCourse) (course : ConnectorValues) : Type 0 where
+pub record IsMadeOf (net : Network) (rule : Rule) (cells : List ℕ) (weights : Course (ℕ × ℕ)) (course : ConnectorValues) : Type 0 where
   pub rule_is : course.rule ≡ rule
   pub limits : (t : ℕ) → t < net.steps → limits_of course t ≡ limits_by net.plan rule cells weights t
   pub second : IsSpaceOf course.second_space (room_at net.cells (slice_index cells 1))

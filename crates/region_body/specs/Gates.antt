@@ -3,7 +3,7 @@ use Rattle.std.specs.Prelude.{◌≡◌, ◌==◌, ℕ, ◌<◌, ◌≤◌, List
 use Rattle.network_file.specs.Network.{Network}
 use Rattle.signal_plan.specs.Demand.{demand_at}
 use Rattle.courses.specs.Courses.{value_at}
-use Rattle.region_body.specs.declared.gate_place.GatePlace.{GatePlace}
+use Rattle.region_body.specs.declared.gate.GatePlace.{GatePlace}
 
 -- what a gate brings to place p in step t
 abbrev pub demand_into : (t p : ℕ) → GatePlace → ℕ

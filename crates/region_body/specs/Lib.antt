@@ -2,6 +2,7 @@ pub mod Space
 pub mod Places
 pub mod Moving
 pub mod Followed
+pub mod Weights
 pub mod Factors
 pub mod Limits
 pub mod Flows

@@ -3,12 +3,12 @@ use Rattle.std.specs.Prelude.{◌≡◌, ℕ, ◌<◌, ◌≤◌, Bool, true, fa
 use Rattle.signal_plan.specs.Records.{PlanRecords}
 use Rattle.signal_plan.specs.Limits.{most_steps}
 use Rattle.courses.specs.Cells.{cell_most, most_by}
-use Rattle.courses.specs.Weights.{AreWeights, weights_at}
+use Rattle.region_body.specs.Weights.{AreWeights}
+use Rattle.courses.specs.Courses.{Course, value_at}
 use Rattle.region_body.specs.declared.limit_courses.LimitCourses.{LimitCourses}
 use Rattle.region_body.specs.declared.limits.Limits.{Limits}
 use Rattle.region_body.specs.declared.rule.Rule.{Rule}
 use Rattle.region_body.specs.declared.rule.Rule.TheVariants.{Linking, Merging, Diverging}
-use Rattle.courses.specs.declared.weight_course.WeightCourse.{WeightCourse}
 
 -- the second cell of a merge sends, and that of any other connector receives
 abbrev pub sends_second : Rule → Bool
@@ -22,16 +22,16 @@ limits_of_courses courses t = record {
   first = cell_most courses.first t;
   second = cell_most courses.second t;
   third = cell_most courses.third t;
-  weights = weights_at courses.weights t;
+  weights = value_at courses.weights t;
 }
 
 -- the same by the plan, of a connector of these cells
-abbrev pub limits_by : PlanRecords → Rule → (cells : List ℕ) → WeightCourse → (t : ℕ) → Limits
+abbrev pub limits_by : PlanRecords → Rule → (cells : List ℕ) → Course (ℕ × ℕ) → (t : ℕ) → Limits
 limits_by plan rule cells weights t = record {
   first = most_by plan (slice_index cells 0) true t;
   second = most_by plan (slice_index cells 1) (sends_second rule) t;
   third = most_by plan (slice_index cells 2) false t;
-  weights = weights_at weights t;
+  weights = value_at weights t;
 }
 
 -- each has come to no step past t
@@ -39,8 +39,7 @@ pub record HaveCome (courses : LimitCourses) (t : ℕ) : Type 0 where
   pub first : courses.first.capacity.step ≤ t
   pub second : courses.second.capacity.step ≤ t
   pub third : courses.third.capacity.step ≤ t
-  pub weight : courses.weights.first.step ≤ t
-  pub weight_second : courses.weights.second.step ≤ t
+  pub weights : courses.weights.step ≤ t
 
 -- as they are once they have come to step t
 abbrev pub moved_to : LimitCourses → (t : ℕ) → LimitCourses
@@ -48,7 +47,7 @@ moved_to courses t = record {
   first = record courses.first { capacity = record courses.first.capacity { step = t } };
   second = record courses.second { capacity = record courses.second.capacity { step = t } };
   third = record courses.third { capacity = record courses.third.capacity { step = t } };
-  weights = record { first = record courses.weights.first { step = t }; second = record courses.weights.second { step = t } };
+  weights = record courses.weights { step = t };
 }
 
 -- these limits are in force from the step on until another

@@ -20,7 +20,7 @@ use Rattle.region_body.specs.Moves.{AreTied, IsSeen}
 use Rattle.region_body.specs.Pausing.{IsPauseOf}
 use Rattle.region_body.specs.Rows.{IsOf, origin_at, rows_of}
 use Rattle.region_body.specs.Gates.{IsGateOf}
-use Rattle.region_body.specs.declared.gate_place.GatePlace.{GatePlace}
+use Rattle.region_body.specs.declared.gate.GatePlace.{GatePlace}
 use Rattle.region_body.specs.declared.origin.Origin.{Origin}
 use Rattle.region_body.specs.declared.pause.Pause.{Pause}
 use Rattle.region_body.specs.declared.tie.Tie.{Tie}

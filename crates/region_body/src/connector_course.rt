@@ -1,7 +1,7 @@
 ghost use Rattle.std.specs.Prelude.{◌≡◌, ◌≤◌, ◌<◌, ℕ, All, IfOk, IsTrue, List, length};
 ghost use Rattle.network_file.specs.Connectors.{connector_at};
 ghost use Rattle.region_body.specs.Following.{IsCourseOf, IsMadeOf};
-ghost use Rattle.courses.specs.Weights.{AreWeights};
+ghost use Rattle.region_body.specs.Weights.{AreWeights};
 
 use crate::carrying::carried;
 use crate::cell_space::space_of;
@@ -11,7 +11,7 @@ use crate::limits::Limits;
 use crate::rule::Rule;
 use crate::space::Space;
 use crate::weight_pair::WeightPair;
-use courses::WeightCourse;
+use courses::{Timeline, shares_of};
 use flow_model::Flow;
 use network_file::{Connector, Net};
 use no_memory::NoMemory;
@@ -23,7 +23,7 @@ use std::marker::Model;
 ///
 /// Most connectors carry within the same limits in all steps. What changes of the others stands apart, so that all that a
 /// step touches lies close together.
-#[derive(Debug, Drop)]
+#[derive(Drop)]
 pub(crate) struct ConnectorCourse {
     rule: Rule,
     step: u64,
@@ -66,7 +66,7 @@ impl ConnectorCourse {
     {
         match net.connectors[k as usize] {
             Connector::Link { up, down } => {
-                let weights = WeightCourse::constant(alloc, 1, 1);
+                let weights = Timeline::constant(alloc, (1, 1));
                 made_of(alloc, net, Rule::Linking, [up, down, down], weights)
             }
             Connector::Merge {
@@ -76,7 +76,7 @@ impl ConnectorCourse {
                 p1,
                 p2,
             } => {
-                let weights = WeightCourse::constant(alloc, p1, p2);
+                let weights = Timeline::constant(alloc, (p1, p2));
                 made_of(alloc, net, Rule::Merging, [up1, up2, down], weights)
             }
             Connector::Diverge {
@@ -86,7 +86,7 @@ impl ConnectorCourse {
                 b1,
                 b2,
             } => {
-                let weights = WeightCourse::of_turns(alloc, &net.plan, up, (b1, b2))?;
+                let weights = shares_of(alloc, &net.plan, up, (b1, b2))?;
                 made_of(alloc, net, Rule::Diverging, [up, down1, down2], weights)
             }
         }
@@ -174,12 +174,11 @@ fn made_of(
     net: &Net,
     rule: Rule,
     cells: [u32; 3],
-    weights: WeightCourse,
+    weights: Timeline<(u32, u32)>,
 ) -> Result<ConnectorCourse, NoMemory>
     requires cells { All (λ i. i < length net.now.cells) cells }
     requires weights { AreWeights weights }
-    requires step { weights.first.step ≡ 0 }
-    requires step_second { weights.second.step ≡ 0 }
+    requires step { weights.step ≡ 0 }
     ensures { IfOk result (IsMadeOf net.now rule cells weights) }
 {
     let mut courses = LimitCourses::new(alloc, &net.plan, rule, cells, weights)?;

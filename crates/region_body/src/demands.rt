@@ -3,7 +3,7 @@ ghost use Rattle.region_body.specs.Places.{place_at, with_entered};
 ghost use Rattle.courses.specs.Courses.{value_at};
 ghost use Rattle.region_body.specs.Gates.{AreAsked, AreGatesKept, asked, demand_into};
 
-use crate::gate_place::GatePlace;
+use crate::gate::GatePlace;
 use crate::place::Place;
 use signal_plan::MOST_STEPS;
 
@@ -58,6 +58,6 @@ fn demanded(t: u64, gate: &mut GatePlace) -> u64
     ensures gate { gate.new ≡ asked t gate.old }
     ensures amount { result ≡ value_at gate.old.course t }
 {
-    gate.course.refresh(t);
-    gate.course.amount()
+    gate.course.move_to(t);
+    gate.course.now().value
 }

@@ -1,6 +1,6 @@
 ghost use Rattle.std.specs.Prelude.{◌≡◌, ◌≤◌, ◌<◌, ◌⊎◌, ℕ, All, length};
 ghost use Rattle.region_body.specs.Places.{place_at};
-ghost use Rattle.courses.specs.Courses.{most_at};
+ghost use Rattle.courses.specs.Links.{most_at};
 ghost use Rattle.region_body.specs.Followed.{AreFollowed, IsChanged, IsThere, IsUnchanged};
 
 use crate::place::Place;
@@ -8,7 +8,7 @@ use courses::LinkCourse;
 use signal_plan::MOST_STEPS;
 
 /// A link between neighbouring places, and when the most that it carries changes next.
-#[derive(Debug, Drop)]
+#[derive(Drop)]
 pub(crate) struct FollowedLink {
     /// The number of the place that it leads out of.
     pub(crate) place: u32,

@@ -18,7 +18,7 @@ use no_memory::NoMemory;
 use std::alloc::Global;
 
 /// How a region's cells hang together: the links to neighbouring places whose most changes, and the other connectors.
-#[derive(Debug, Drop)]
+#[derive(Drop)]
 pub(crate) struct Joints {
     pub(crate) links: Vec<FollowedLink>,
     pub(crate) ties: Vec<Tie>,

@@ -13,7 +13,7 @@ mod demands;
 mod first;
 mod follow;
 mod followed;
-mod gate_place;
+mod gate;
 mod held;
 mod idling;
 mod joining;

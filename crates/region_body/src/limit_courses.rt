@@ -1,23 +1,23 @@
 ghost use Rattle.std.specs.Prelude.{◌≡◌, ◌≤◌, ◌<◌, ◌+◌, ℕ, All, IfOk, length};
-ghost use Rattle.courses.specs.Courses.{IsSteady};
+ghost use Rattle.courses.specs.Courses.{IsSteady, value_at};
 ghost use Rattle.region_body.specs.Limits.{HaveCome, limits_of_courses, limits_by, moved_to, sends_second};
-ghost use Rattle.courses.specs.Weights.{AreWeights, weights_at};
+ghost use Rattle.region_body.specs.Weights.{AreWeights};
 
 use crate::limits::Limits;
 use crate::rule::Rule;
 use crate::weight_pair::WeightPair;
-use courses::{CellCourse, Now, WeightCourse};
+use courses::{CellCourse, Now, Timeline};
 use no_memory::NoMemory;
 use signal_plan::{MOST_STEPS, Plan};
 use std::alloc::Global;
 
 /// What bounds the flow of a connector, followed forward from step 0.
-#[derive(Debug, Drop)]
+#[derive(Drop)]
 pub(crate) struct LimitCourses {
     pub(crate) first: CellCourse,
     pub(crate) second: CellCourse,
     pub(crate) third: CellCourse,
-    pub(crate) weights: WeightCourse,
+    pub(crate) weights: Timeline<(u32, u32)>,
 }
 
 impl LimitCourses {
@@ -27,11 +27,10 @@ impl LimitCourses {
         plan: &Plan,
         rule: Rule,
         cells: [u32; 3],
-        weights: WeightCourse,
+        weights: Timeline<(u32, u32)>,
     ) -> Result<LimitCourses, NoMemory>
         requires cells { All (λ i. i < length plan.now.cells) cells }
-        requires step { weights.first.step ≡ 0 }
-        requires step_second { weights.second.step ≡ 0 }
+        requires step { weights.step ≡ 0 }
         ensures limits { IfOk result (λ courses. (t : ℕ) → limits_of_courses courses t ≡ limits_by plan.now rule cells weights t) }
         ensures weights { IfOk result (λ courses. courses.weights ≡ weights) }
         ensures step { IfOk result (λ courses. HaveCome courses 0) }
@@ -48,8 +47,8 @@ impl LimitCourses {
     /// So much at least both weights are together in each step, where these are in force in one.
     pub(crate) fn least(&self, now: WeightPair) -> u64
         requires weights { AreWeights self.now.weights }
-        requires now { (t : ℕ) × (weights_at self.now.weights t ≡ now) }
-        ensures { (s : ℕ) → result ≤ (weights_at self.now.weights s).0 + (weights_at self.now.weights s).1 }
+        requires now { (t : ℕ) × (value_at self.now.weights t ≡ now) }
+        ensures { (s : ℕ) → result ≤ (value_at self.now.weights s).0 + (value_at self.now.weights s).1 }
     {
         if self.weights.is_constant() {
             u64::from(now.first()) + u64::from(now.second())
@@ -71,7 +70,8 @@ impl LimitCourses {
         let first = self.first.move_to(t);
         let second = self.second.move_to(t);
         let third = self.third.move_to(t);
-        let weights = self.weights.move_to(t);
+        self.weights.move_to(t);
+        let weights = self.weights.now();
         Now {
             value: Limits {
                 first: first.value,

@@ -1,7 +1,7 @@
 use crate::weight_pair::WeightPair;
 
 /// What bounds the flow of a connector in a step, whatever its cells hold.
-#[derive(Clone, Copy, Debug, PartialEq, Eq)]
+#[derive(Clone, Copy)]
 pub(crate) struct Limits {
     /// The most parts that the first of its cells sends.
     pub(crate) first: u64,

@@ -9,10 +9,10 @@ ghost use Rattle.region_body.specs.Gates.{IsGateOf};
 ghost use Rattle.region_body.specs.Rows.{origin_at};
 
 use crate::first::{origin_of, place_of};
-use crate::gate_place::GatePlace;
+use crate::gate::GatePlace;
 use crate::origin::Origin;
 use crate::place::Place;
-use courses::DemandCourse;
+use courses::demand_of;
 use flow_model::Row;
 use network_file::{Kind, Net};
 use no_memory::NoMemory;
@@ -95,7 +95,7 @@ pub(crate) fn gates_of(alloc: Global, net: &Net, cells: &[u32]) -> Result<Vec<Ga
         if is_gate(net, cells[p]) {
             gates.push(GatePlace {
                 place: p as u32,
-                course: DemandCourse::new(alloc, &net.plan, cells[p])?,
+                course: demand_of(alloc, &net.plan, cells[p])?,
             })?;
         }
     }

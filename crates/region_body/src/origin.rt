@@ -5,7 +5,7 @@ use crate::place::Place;
 use flow_model::Row;
 
 /// What never changes of a cell, and makes its row of its place.
-#[derive(Clone, Copy, Debug)]
+#[derive(Clone, Copy)]
 pub(crate) struct Origin {
     /// What it holds at step 0.
     pub(crate) first: u64,

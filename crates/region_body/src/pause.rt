@@ -11,7 +11,7 @@ use crate::spot::Sight;
 use crate::tie::Tie;
 
 /// For how long nothing moves among cells.
-#[derive(Clone, Copy, Debug)]
+#[derive(Clone, Copy)]
 pub(crate) struct Pause {
     /// The steps that they have waited through and that the sums of their places don't count yet.
     pub(crate) owed: u64,

@@ -4,7 +4,7 @@ ghost use Rattle.region_body.specs.Places.{moved, with_entered, with_left};
 use crate::space::Space;
 
 /// What a step touches of a cell.
-#[derive(Clone, Copy, Debug, PartialEq, Eq)]
+#[derive(Clone, Copy)]
 pub(crate) struct Place {
     /// What the cell holds.
     pub(crate) n: u64,

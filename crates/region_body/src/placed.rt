@@ -14,7 +14,7 @@ use crate::cells::Cells;
 use crate::demands::{bring_demands, nothing_demanded};
 use crate::follow::follow;
 use crate::followed::{FollowedLink, refresh};
-use crate::gate_place::GatePlace;
+use crate::gate::GatePlace;
 use crate::held::Held;
 use crate::joints::join_places;
 use crate::opening::{earlier_of, gates_of, nothing_put, origins_of, places_of};
@@ -29,10 +29,11 @@ use network_file::Net;
 use no_memory::NoMemory;
 use signal_plan::MOST_STEPS;
 use std::alloc::Global;
+use std::fmt;
 use std::marker::Model;
 
 /// The rows of some cells of a network at a step, kept as places side by side in the order of the cells.
-#[derive(Debug, Drop)]
+#[derive(Drop)]
 pub struct PlacedRows {
     places: Vec<Place>,
     origins: Vec<Origin>,
@@ -68,6 +69,13 @@ impl Model for PlacedRows {
     } };
 
     ghost invariant = { λ rows. AreSettled rows.origins.items (map (waited rows.pause.owed) rows.places.items) rows.before.items };
+}
+
+// Places and courses are not shown.
+impl fmt::Debug for PlacedRows {
+    fn fmt<W: fmt::Write>(&self, f: &mut fmt::Formatter<W>) -> fmt::Result {
+        f.debug_struct("PlacedRows").finish_non_exhaustive()
+    }
 }
 
 impl PlacedRows {

@@ -1,5 +1,5 @@
 /// By which rule a connector carries.
-#[derive(Clone, Copy, Debug, PartialEq, Eq)]
+#[derive(Clone, Copy)]
 pub(crate) enum Rule {
     /// From the first of its cells to the second. The third is the second once more.
     Linking,

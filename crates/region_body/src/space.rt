@@ -9,7 +9,7 @@ use ordinary_link::{MOST_PARTS, Room};
 pub(crate) const BOUNDLESS: u64 = 4_611_686_018_427_387_904;
 
 /// The room of a place, as a sweep asks for it: with a factor in place of the ratio, so that no step divides.
-#[derive(Clone, Copy, Debug, PartialEq, Eq)]
+#[derive(Clone, Copy)]
 pub(crate) struct Space {
     /// The most parts that the place holds, and one more where its ratio is 1.
     pub(crate) most: u64,

@@ -4,7 +4,7 @@ ghost use Rattle.region_body.specs.Carrying.{IsThere, held_at, held_in};
 use crate::place::Place;
 
 /// Where a cell of a connector is found.
-#[derive(Clone, Copy, Debug, PartialEq, Eq)]
+#[derive(Clone, Copy)]
 pub(crate) enum Spot {
     /// At the place of this number.
     Own(u32),

@@ -3,7 +3,7 @@ use crate::spot::Spot;
 
 /// A connector that isn't a link from a place to the next, with the spots of its cells in the order of its fields; that of
 /// a link downstream stands twice.
-#[derive(Debug, Drop)]
+#[derive(Drop)]
 pub(crate) struct Tie {
     pub(crate) connector: u32,
     pub(crate) cells: [Spot; 3],

@@ -1,13 +1,13 @@
 ghost use Rattle.std.specs.Prelude.{◌≡◌, ◌≤◌, ◌<◌, ◌+◌, ◌*◌, ◌/◌};
 ghost use Rattle.merge_rule.specs.Merge.{first_share};
-ghost use Rattle.region_body.specs.Factors.{AreBoth};
+ghost use Rattle.region_body.specs.Weights.{AreBoth};
 
 use fixed_flow::share_floor;
 use std::marker::Model;
 
 /// The priorities of a merge or the turning shares of a diverge, 1 to 1,000 each, with a factor in place of the division by
 /// both together.
-#[derive(Clone, Copy, Debug, PartialEq, Eq)]
+#[derive(Clone, Copy)]
 pub(crate) struct WeightPair {
     first: u32,
     second: u32,

@@ -1,7 +1,6 @@
-use Rattle.std.proofs.Common.{ℕ}
 use Rattle.courses.specs.Passing.{HasPassed}
 use Rattle.courses.proofs.timeline.pass.Given as goal
 
 abbrev pub invariant-loop-k : goal.invariant-loop-k
-invariant-loop-k l =
-    (start : ℕ) → HasPassed start l.changes l.initial.k l.initial.value l.t → HasPassed start l.changes l.k l.value l.t
+invariant-loop-k g l =
+    (start : g.row.V.Denot) → HasPassed start l.changes l.initial.k l.initial.value l.t → HasPassed start l.changes l.k l.value l.t

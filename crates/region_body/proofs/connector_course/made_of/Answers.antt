@@ -1,6 +1,6 @@
 use Rattle.std.proofs.Common.{refl, ap, sym, subst, ◌∙◌, arith}
 use Rattle.region_body.specs.Limits.{AreInForce, limits_of_courses, limits_by, limits_in}
-use Rattle.courses.specs.Weights.{AreWeights}
+use Rattle.region_body.specs.Weights.{AreWeights}
 use Rattle.region_body.proofs.Bounding.{in_force-moved, limits-moved}
 use Rattle.region_body.proofs.connector_course.made_of.Goals as goal
 

@@ -6,7 +6,7 @@ use Rattle.region_body.proofs.Sets.{done_more, rest_more}
 use Rattle.region_body.specs.Places.{place_at, with_entered}
 use Rattle.courses.specs.Courses.{value_at}
 use Rattle.region_body.specs.Gates.{asked, demand_into}
-use Rattle.region_body.specs.declared.gate_place.GatePlace.{GatePlace}
+use Rattle.region_body.specs.declared.gate.GatePlace.{GatePlace}
 use Rattle.region_body.proofs.MovedPlaces.{at-one, entered-more, entered-none, entered-room}
 use Rattle.region_body.proofs.demands.bring_demands.Goals as goal
 

@@ -2,7 +2,7 @@ use Rattle.std.specs.List.{sum_by}
 use Rattle.std.proofs.Common.{◌≡◌, ◌<◌, ◌≤◌, ℕ, length, get_or, take}
 use Rattle.region_body.specs.Places.{place_at, with_entered}
 use Rattle.region_body.specs.Gates.{asked, demand_into}
-use Rattle.region_body.specs.declared.gate_place.GatePlace.{GatePlace}
+use Rattle.region_body.specs.declared.gate.GatePlace.{GatePlace}
 use Rattle.region_body.proofs.demands.bring_demands.Given as goal
 
 abbrev pub invariant-loop-m : goal.invariant-loop-m

@@ -7,11 +7,11 @@ use Rattle.signal_plan.proofs.Changes.{in_force-nil}
 use Rattle.courses.specs.Courses.{value_at}
 use Rattle.courses.proofs.timeline.Timeline.is_constant.Goals as goal
 
-constant : (start : ℕ) (changes : List (Change ℕ)) (s : ℕ) → changes ≡ [] → in_force start changes s ≡ start
+constant : {X : Type 0} (start : X) (changes : List (Change X)) (s : ℕ) → changes ≡ [] → in_force start changes s ≡ start
 constant start changes s none = ap (λ list. in_force start list s) none ∙ in_force-nil start s
 
 pub returns : goal.returns
-returns c = λ empty s t.
+returns g c = λ empty s t.
     let line = c.self.inside in
     let zero : line.changes.len ≡ 0 = grind (arith, nat_tests) in
     let none : line.changes.items ≡ [] = nil_from_length line.changes.items (omega (arith, line.changes.ok.0)) in

@@ -2,10 +2,9 @@ use Rattle.std.proofs.Common.{◌≡◌, ℕ, subst, ap, ◌∙◌, arith}
 use Rattle.signal_plan.specs.Turning.{shares_at}
 use Rattle.network_file.specs.Network.{IsNetwork}
 use Rattle.network_file.specs.declared.connector.Connector.TheVariants.{Link, Merge, Diverge}
-use Rattle.courses.specs.Weights.{weights_at}
+use Rattle.courses.specs.Courses.{value_at}
 use Rattle.region_body.proofs.Made.{diverge-cells, made-diverge, made-link, made-merge, made-read, merge-cells, read-as}
-use Rattle.courses.proofs.Weights.{constant-within}
-use Rattle.region_body.proofs.Turns.{shares-within}
+use Rattle.region_body.proofs.Weights.{constant-within, shares-within}
 use Rattle.region_body.proofs.connector_course.ConnectorCourse.new.Goals as goal
 
 pub made_of-requires-in-Merge-clause-cells : goal.made_of-requires-in-Merge-clause-cells
@@ -21,7 +20,7 @@ made_of-requires-in-Merge-clause-weights c =
     let read = read-as c.args.net.now c.net.inside.connectors.items c.args.k c.index.result.now (Merge merge.up1 merge.up2 merge.down merge.p1 merge.p2)
     (subst IsNetwork c.net.view_is c.net.invariant) (ap (λ net. net.connectors) c.net.view_is) c.requires.has_connector c.index.ensures merge.is in
     let weights = c.constant-weights-in-Merge in
-    constant-within weights.result merge.p1 merge.p2 weights.ensures.weights (read.sound.weights 0 0 (omega arith)) (read.sound.weights 1 0 (omega arith))
+    constant-within weights.result merge.p1 merge.p2 weights.ensures.value (read.sound.weights 0 0 (omega arith)) (read.sound.weights 1 0 (omega arith))
 
 pub made_of-requires-in-Diverge-clause-cells : goal.made_of-requires-in-Diverge-clause-cells
 made_of-requires-in-Diverge-clause-cells c =
@@ -38,8 +37,8 @@ made_of-requires-in-Diverge-clause-weights c =
     (Diverge diverge.up diverge.down1 diverge.down2 diverge.b1 diverge.b2) (subst IsNetwork c.net.view_is c.net.invariant)
     (ap (λ net. net.connectors) c.net.view_is) c.requires.has_connector c.index.ensures diverge.is in
     let weights = c.in_ok-weights-in-Diverge in
-    let are : (t : ℕ) → weights_at weights.weights t ≡ shares_at c.args.net.now.plan diverge.up t (diverge.b1, diverge.b2) =
-    λ t. weights.ensures.weights t ∙ ap (λ net. shares_at net.plan diverge.up t (diverge.b1, diverge.b2)) c.net.view_is in
+    let are : (t : ℕ) → value_at weights.weights t ≡ shares_at c.args.net.now.plan diverge.up t (diverge.b1, diverge.b2) =
+    λ t. weights.ensures.shares t ∙ ap (λ net. shares_at net.plan diverge.up t (diverge.b1, diverge.b2)) c.net.view_is in
     shares-within c.args.net.now weights.weights diverge.up diverge.b1 diverge.b2 read.network
     (read.sound.weights 0 0 (omega arith)) (read.sound.weights 1 0 (omega arith)) are
 
@@ -60,7 +59,7 @@ returns-in-Merge-clause-course c =
     (subst IsNetwork c.net.view_is c.net.invariant) (ap (λ net. net.connectors) c.net.view_is) c.requires.has_connector c.index.ensures merge.is in
     let weights = c.constant-weights-in-Merge in
     made-read net c.args.k (Merge merge.up1 merge.up2 merge.down merge.p1 merge.p2) _ c.made_of-in-Merge.result read
-    (λ course made. made-merge net merge.up1 merge.up2 merge.down merge.p1 merge.p2 weights.result course read.network read.sound weights.ensures.weights made)
+    (λ course made. made-merge net merge.up1 merge.up2 merge.down merge.p1 merge.p2 weights.result course read.network read.sound weights.ensures.value made)
     c.made_of-in-Merge.ensures
 
 pub returns-in_ok-weights-in-Diverge-clause-course : goal.returns-in_ok-weights-in-Diverge-clause-course
@@ -70,8 +69,8 @@ returns-in_ok-weights-in-Diverge-clause-course c =
     let read = read-as net c.net.inside.connectors.items c.args.k c.index.result.now (Diverge diverge.up diverge.down1 diverge.down2 diverge.b1 diverge.b2)
     (subst IsNetwork c.net.view_is c.net.invariant) (ap (λ net. net.connectors) c.net.view_is) c.requires.has_connector c.index.ensures diverge.is in
     let weights = c.in_ok-weights-in-Diverge in
-    let are : (t : ℕ) → weights_at weights.weights t ≡ shares_at net.plan diverge.up t (diverge.b1, diverge.b2) =
-    λ t. weights.ensures.weights t ∙ ap (λ net. shares_at net.plan diverge.up t (diverge.b1, diverge.b2)) c.net.view_is in
+    let are : (t : ℕ) → value_at weights.weights t ≡ shares_at net.plan diverge.up t (diverge.b1, diverge.b2) =
+    λ t. weights.ensures.shares t ∙ ap (λ net. shares_at net.plan diverge.up t (diverge.b1, diverge.b2)) c.net.view_is in
     made-read net c.args.k (Diverge diverge.up diverge.down1 diverge.down2 diverge.b1 diverge.b2) _ c.made_of-in-Diverge.result read
     (λ course made. made-diverge net diverge.up diverge.down1 diverge.down2 diverge.b1 diverge.b2 weights.weights course read.network read.sound are made)
     c.made_of-in-Diverge.ensures

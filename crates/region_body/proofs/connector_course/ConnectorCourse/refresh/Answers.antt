@@ -3,7 +3,7 @@ use Rattle.std.specs.Prelude.{Option, Some}
 use Rattle.std.proofs.Common.{◌≡◌, ℕ, refl, subst, sym, ap, ◌∙◌, arith}
 use Rattle.region_body.specs.Limits.{AreInForce, AreKept, limits_in}
 use Rattle.region_body.specs.Flows.{ConnectorValues, flow_at}
-use Rattle.courses.specs.Weights.{AreWeights}
+use Rattle.region_body.specs.Weights.{AreWeights}
 use Rattle.region_body.specs.declared.limit_courses.LimitCourses.{LimitCourses}
 use Rattle.region_body.proofs.Bounding.{in_force-moved, kept-lasting, kept-later, kept-never, limits_in-moved}
 use Rattle.region_body.proofs.Made.{flow-same}

@@ -9,7 +9,7 @@ use Rattle.region_body.specs.Carrying.{AreTiesFollowed, passed}
 use Rattle.region_body.specs.Gates.{demand_into}
 use Rattle.region_body.specs.Placed.{CanAdvance, PlacedCells}
 use Rattle.region_body.specs.Waiting.{waited}
-use Rattle.region_body.specs.declared.gate_place.GatePlace.{GatePlace}
+use Rattle.region_body.specs.declared.gate.GatePlace.{GatePlace}
 use Rattle.region_body.specs.declared.tie.Tie.{Tie}
 use Rattle.region_body.proofs.Stays.{waited-unowed}
 use Rattle.region_body.proofs.Stepped.{IsSwept, can-carry-each, can-enter-each, can-pass-each, carried_to, ins_of, outs_of, steps-of}

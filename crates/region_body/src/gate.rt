@@ -1,9 +1,9 @@
-use courses::DemandCourse;
+use courses::Timeline;
 
 /// A gate among the places.
-#[derive(Debug, Drop)]
+#[derive(Drop)]
 pub(crate) struct GatePlace {
     pub(crate) place: u32,
     /// What it demands, followed forward.
-    pub(crate) course: DemandCourse,
+    pub(crate) course: Timeline<u64>,
 }
