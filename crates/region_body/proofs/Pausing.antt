@@ -21,7 +21,7 @@ use Rattle.courses.specs.Courses.{Course, value_at}
 use Rattle.courses.specs.Cells.{CellValues}
 use Rattle.region_body.specs.Followed.{AreFollowed}
 use Rattle.region_body.specs.declared.followed.FollowedLink.{FollowedLink}
-use Rattle.region_body.specs.Carrying.{IsSpotOf, IsThere, IsTie, held_at, held_in, spot_at, three_held}
+use Rattle.region_body.specs.Carrying.{IsSpotOf, IsThere, IsTie, held_in, spot_at, three_held}
 use Rattle.region_body.specs.Chains.{most_out}
 use Rattle.region_body.specs.Gates.{AreGatesKept, demand_into}
 use Rattle.region_body.specs.Moves.{ArePartsOf, IsScene, IsSeen, in_by, out_by}
@@ -31,10 +31,9 @@ use Rattle.region_body.specs.Rows.{IsOf, origin_at, row_of, rows_of}
 use Rattle.region_body.specs.Waiting.{waited}
 use Rattle.region_body.specs.declared.gate.GatePlace.{GatePlace}
 use Rattle.region_body.specs.declared.pause.Pause.{Pause}
-use Rattle.region_body.specs.declared.spot.Spot.{Spot}
-use Rattle.region_body.specs.declared.spot.Spot.TheVariants.{Own, Halo}
 use Rattle.region_body.specs.declared.tie.Tie.{Tie}
 use Rattle.region_body.proofs.Parting.{carried-is}
+use Rattle.region_body.proofs.Spots.{held-same}
 use Rattle.region_body.proofs.Stays.{length-waited, n-waited, place_at-waited, waited-same}
 use Rattle.region_body.proofs.Ties.{demands-kept, gates-kept}
 use Rattle.region_body.proofs.Whole.{IsMoved, held-sum, length-rows_after, length-rows_of, ready, row-after, row_at-rows_after, row_at-rows_of, steps-moved}
@@ -229,11 +228,12 @@ rows-waited net cells t placed put sound before wait can =
 
 -- what moves by their connectors is as before
 
-held-waited : (places : List Place) (put : List (Option ℕ)) (spot : Spot) → held_at (held_in (map (waited 1) places)) put spot ≡ held_at (held_in places) put spot
-held-waited places put (Own p) = n-waited 1 places p
-held-waited places put (Halo j) = refl
+held-waited : (places : List Place) (put : List (Option ℕ)) (spot : ℕ) → held_in (map (waited 1) places) put spot ≡ held_in places put spot
+held-waited places put spot =
+    held-same (length (map (waited 1) places)) (length places) (λ p. (place_at (map (waited 1) places) p).n) (λ p. (place_at places p).n) put spot (length-waited 1 places)
+    (λ p within. n-waited 1 places p)
 
-three-waited : (tie : Tie) (places : List Place) (put : List (Option ℕ)) → three_held tie (held_in (map (waited 1) places)) put ≡ three_held tie (held_in places) put
+three-waited : (tie : Tie) (places : List Place) (put : List (Option ℕ)) → three_held tie (held_in (map (waited 1) places) put) ≡ three_held tie (held_in places put)
 three-waited tie places put =
     rw (held-waited places put (spot_at tie 0), held-waited places put (spot_at tie 1), held-waited places put (spot_at tie 2)) refl
 
@@ -408,6 +408,8 @@ pub spots-there : (net : Network) (cells halo : List ℕ) (places : List Place) 
     length put ≡ length halo → IsTie net cells halo tie → (m : ℕ) → m < 3 → IsThere places put (spot_at tie m)
 spots-there net cells halo places put tie long put_each tied m few = there (spot_at tie m) _ (tied.spots m few)
   where
-    there : (spot : Spot) (i : ℕ) → IsSpotOf cells halo i spot → IsThere places put spot
-    there (Own p) i is = omega (arith, is.0, long)
-    there (Halo j) i is = omega (arith, is.0, put_each)
+    there : (spot i : ℕ) → IsSpotOf cells halo i spot → IsThere places put spot
+    there spot i spotted = elim spotted [
+      | inl own ↦ omega (arith, own.0, long, put_each)
+      | inr (j, at, within, is) ↦ omega (arith, at, within, long, put_each)
+    ]

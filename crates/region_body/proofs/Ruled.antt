@@ -1,10 +1,9 @@
 -- What a connector takes from a place and brings to it, by each rule.
-use Rattle.std.specs.Prelude.{Option}
 use Rattle.std.proofs.Common.{◌≡◌, ℕ, ◌+◌, List, [], ◌∷◌, refl, sym, ap, ◌∙◌}
 use Rattle.region_body.specs.Flows.{ConnectorValues, flow_at}
 use Rattle.region_body.specs.declared.rule.Rule.TheVariants.{Linking, Merging, Diverging}
 use Rattle.flow_model.specs.declared.carried.Flow.{Flow}
-use Rattle.region_body.specs.Carrying.{at_spot, brought, brought_by, carried_of, held_at, spot_at, taken, taken_by, three_held}
+use Rattle.region_body.specs.Carrying.{at_spot, brought, brought_by, carried_of, spot_at, taken, taken_by, three_held}
 use Rattle.region_body.specs.declared.tie.Tie.{Tie}
 
 -- of a link the third cell isn't asked
@@ -12,29 +11,29 @@ link-third : (course : ConnectorValues) (t a b c third : ℕ) → course.rule �
 unfolding flow_at
 link-third course t a b c third is = rw is refl
 
-pub link-moves : (t : ℕ) (own : ℕ → ℕ) (put : List (Option ℕ)) (p : ℕ) (tie : Tie) (flow : Flow) (third : ℕ) → tie.course.rule ≡ Linking →
-    flow ≡ flow_at tie.course t (held_at own put (spot_at tie 0) ∷ held_at own put (spot_at tie 1) ∷ third ∷ []) →
-    (taken t own put p tie ≡ at_spot (spot_at tie 0) flow.out1 p) × (brought t own put p tie ≡ at_spot (spot_at tie 1) flow.in1 p)
+pub link-moves : (t : ℕ) (held : ℕ → ℕ) (p : ℕ) (tie : Tie) (flow : Flow) (third : ℕ) → tie.course.rule ≡ Linking →
+    flow ≡ flow_at tie.course t (held (spot_at tie 0) ∷ held (spot_at tie 1) ∷ third ∷ []) →
+    (taken t held p tie ≡ at_spot (spot_at tie 0) flow.out1 p) × (brought t held p tie ≡ at_spot (spot_at tie 1) flow.in1 p)
 unfolding taken brought
-link-moves t own put p tie flow third rule_is flow_is =
-    let same : carried_of t tie own put ≡ flow =
-    link-third tie.course t (held_at own put (spot_at tie 0)) (held_at own put (spot_at tie 1)) (held_at own put (spot_at tie 2)) third rule_is ∙ sym flow_is in (
-      ap (λ rule. taken_by rule tie (carried_of t tie own put) p) rule_is ∙ ap (λ one. taken_by Linking tie one p) same,
-      ap (λ rule. brought_by rule tie (carried_of t tie own put) p) rule_is ∙ ap (λ one. brought_by Linking tie one p) same,
+link-moves t held p tie flow third rule_is flow_is =
+    let same : carried_of t tie held ≡ flow =
+    link-third tie.course t (held (spot_at tie 0)) (held (spot_at tie 1)) (held (spot_at tie 2)) third rule_is ∙ sym flow_is in (
+      ap (λ rule. taken_by rule tie (carried_of t tie held) p) rule_is ∙ ap (λ one. taken_by Linking tie one p) same,
+      ap (λ rule. brought_by rule tie (carried_of t tie held) p) rule_is ∙ ap (λ one. brought_by Linking tie one p) same,
     )
 
-pub merge-moves : (t : ℕ) (own : ℕ → ℕ) (put : List (Option ℕ)) (p : ℕ) (tie : Tie) (flow : Flow) → tie.course.rule ≡ Merging → flow ≡ carried_of t tie own put →
-    (taken t own put p tie ≡ at_spot (spot_at tie 0) flow.out1 p + at_spot (spot_at tie 1) flow.out2 p) × (brought t own put p tie ≡ at_spot (spot_at tie 2) flow.in1 p)
+pub merge-moves : (t : ℕ) (held : ℕ → ℕ) (p : ℕ) (tie : Tie) (flow : Flow) → tie.course.rule ≡ Merging → flow ≡ carried_of t tie held →
+    (taken t held p tie ≡ at_spot (spot_at tie 0) flow.out1 p + at_spot (spot_at tie 1) flow.out2 p) × (brought t held p tie ≡ at_spot (spot_at tie 2) flow.in1 p)
 unfolding taken brought
-merge-moves t own put p tie flow rule_is flow_is = (
-  ap (λ rule. taken_by rule tie (carried_of t tie own put) p) rule_is ∙ ap (λ one. taken_by Merging tie one p) (sym flow_is),
-  ap (λ rule. brought_by rule tie (carried_of t tie own put) p) rule_is ∙ ap (λ one. brought_by Merging tie one p) (sym flow_is),
+merge-moves t held p tie flow rule_is flow_is = (
+  ap (λ rule. taken_by rule tie (carried_of t tie held) p) rule_is ∙ ap (λ one. taken_by Merging tie one p) (sym flow_is),
+  ap (λ rule. brought_by rule tie (carried_of t tie held) p) rule_is ∙ ap (λ one. brought_by Merging tie one p) (sym flow_is),
 )
 
-pub diverge-moves : (t : ℕ) (own : ℕ → ℕ) (put : List (Option ℕ)) (p : ℕ) (tie : Tie) (flow : Flow) → tie.course.rule ≡ Diverging → flow ≡ carried_of t tie own put →
-    (taken t own put p tie ≡ at_spot (spot_at tie 0) flow.out1 p) × (brought t own put p tie ≡ at_spot (spot_at tie 1) flow.in1 p + at_spot (spot_at tie 2) flow.in2 p)
+pub diverge-moves : (t : ℕ) (held : ℕ → ℕ) (p : ℕ) (tie : Tie) (flow : Flow) → tie.course.rule ≡ Diverging → flow ≡ carried_of t tie held →
+    (taken t held p tie ≡ at_spot (spot_at tie 0) flow.out1 p) × (brought t held p tie ≡ at_spot (spot_at tie 1) flow.in1 p + at_spot (spot_at tie 2) flow.in2 p)
 unfolding taken brought
-diverge-moves t own put p tie flow rule_is flow_is = (
-  ap (λ rule. taken_by rule tie (carried_of t tie own put) p) rule_is ∙ ap (λ one. taken_by Diverging tie one p) (sym flow_is),
-  ap (λ rule. brought_by rule tie (carried_of t tie own put) p) rule_is ∙ ap (λ one. brought_by Diverging tie one p) (sym flow_is),
+diverge-moves t held p tie flow rule_is flow_is = (
+  ap (λ rule. taken_by rule tie (carried_of t tie held) p) rule_is ∙ ap (λ one. taken_by Diverging tie one p) (sym flow_is),
+  ap (λ rule. brought_by rule tie (carried_of t tie held) p) rule_is ∙ ap (λ one. brought_by Diverging tie one p) (sym flow_is),
 )

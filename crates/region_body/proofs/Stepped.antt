@@ -5,12 +5,13 @@ use Rattle.network_file.specs.Network.{IsNetwork, Network}
 use Rattle.region_body.specs.Places.{link_in, link_out, moved, place_at, swept, with_entered}
 use Rattle.region_body.specs.declared.place.Place.{Place}
 use Rattle.region_body.specs.declared.followed.FollowedLink.{FollowedLink}
-use Rattle.region_body.specs.Carrying.{AreTiesFollowed, CanCarry, CanPass, brought, passed, taken}
+use Rattle.region_body.specs.Carrying.{AreTiesFollowed, CanCarry, CanPass, brought, held_before, passed, taken}
 use Rattle.region_body.specs.Gates.{demand_into}
 use Rattle.region_body.specs.Moves.{ArePartsOf, IsScene, IsSeen}
 use Rattle.region_body.specs.Placed.{ArePlaced, ArePlacesInBounds, PlacedCells}
 use Rattle.region_body.specs.declared.tie.Tie.{Tie}
 use Rattle.region_body.proofs.Parting.{can_carry, parts-are}
+use Rattle.region_body.proofs.Spots.{held-same}
 use Rattle.region_body.proofs.Whole.{AreBrought, AreSteps, CanStep, IsFresh, can_step, parts-followed, scene-followed, scene-fresh, seen-fresh, steps-moved}
 
 -- places that were swept, and the other connectors of that step
@@ -25,14 +26,15 @@ pub record IsSwept (net : Network) (cells halo connectors : List ℕ) (t : ℕ) 
   pub followed : AreTiesFollowed t placed.ties ties
   pub long : length swept_places ≡ length fresh
   pub swept_each : (p : ℕ) → p < length fresh → place_at swept_places p ≡ swept fresh p
+  pub noted_long : length before ≡ length fresh
   pub noted : (p : ℕ) → p < length fresh → slice_index before p ≡ (place_at fresh p).n
 
 -- what these connectors take from place p and what they bring to it, and the gates besides
 abbrev pub outs_of : (t : ℕ) → (before : List ℕ) → (put : List (Option ℕ)) → List Tie → (p : ℕ) → ℕ
-outs_of t before put ties p = sum_by (taken t (slice_index before) put p) ties
+outs_of t before put ties p = sum_by (taken t (held_before before put) p) ties
 
 abbrev pub carried_to : (t : ℕ) → (before : List ℕ) → (put : List (Option ℕ)) → List Tie → (p : ℕ) → ℕ
-carried_to t before put ties p = sum_by (brought t (slice_index before) put p) ties
+carried_to t before put ties p = sum_by (brought t (held_before before put) p) ties
 
 abbrev pub ins_of : (t : ℕ) → (before : List ℕ) → (put : List (Option ℕ)) → List Tie → PlacedCells → (p : ℕ) → ℕ
 ins_of t before put ties placed p = carried_to t before put ties p + sum_by (demand_into t p) placed.gates
@@ -64,7 +66,9 @@ brought-of net cells halo connectors t n placed put fresh links ties swept_place
     let seen = seen-fresh net t n cells halo connectors placed fresh put is.laid is.seen is.renewed.most in
     record {
       parts = parts-followed net t n cells placed.ties ties (outs_of t before put ties) (carried_to t before put ties) is.followed
-          (parts-are net t n cells halo ties fresh put (slice_index before) scene seen (λ q within. is.noted q (omega (arith, within, scene.place_each))));
+          (parts-are net t n cells halo ties fresh put (held_before before put) scene seen
+          (λ spot. held-same (length before) (length fresh) (slice_index before) (λ p. (place_at fresh p).n) put spot is.noted_long
+          (λ p within. is.noted p (omega (arith, within, is.noted_long)))));
       demands = λ p. refl;
     }
 

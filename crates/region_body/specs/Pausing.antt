@@ -12,7 +12,7 @@ use Rattle.region_body.specs.declared.tie.Tie.{Tie}
 -- the tie's connector carries nothing before this step, as long as its cells hold what they do
 abbrev pub IsIdleUntil : List Place → (put : List (Option ℕ)) → (until : ℕ) → Tie → Type 0
 IsIdleUntil places put until tie =
-    (s : ℕ) → tie.course.step ≤ s → s < until → flow_at tie.course s (three_held tie (held_in places) put) ≡ no_flow
+    (s : ℕ) → tie.course.step ≤ s → s < until → flow_at tie.course s (three_held tie (held_in places put)) ≡ no_flow
 
 -- before this step nothing moves by these links between neighbours nor by these connectors, as long as the halo holds this
 pub record AreIdle (places : List Place) (links : List FollowedLink) (ties : List Tie) (put : List (Option ℕ)) (until : ℕ) : Type 0 where

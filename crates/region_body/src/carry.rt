@@ -1,7 +1,7 @@
-ghost use Rattle.std.specs.Prelude.{◌≡◌, ◌<◌, ◌≤◌, ℕ, All, length, slice_index, sum_by};
+ghost use Rattle.std.specs.Prelude.{◌≡◌, ◌<◌, ◌≤◌, ℕ, All, length, sum_by};
 ghost use Rattle.region_body.specs.declared.rule.Rule.TheVariants.{Diverging, Linking, Merging};
 ghost use Rattle.region_body.specs.Places.{place_at};
-ghost use Rattle.region_body.specs.Carrying.{CanCarry, CanPass, brought, passed, taken};
+ghost use Rattle.region_body.specs.Carrying.{CanCarry, CanPass, brought, held_before, passed, taken};
 
 use crate::held::Held;
 use crate::passing::{bring, take};
@@ -15,11 +15,11 @@ pub(crate) fn carry_all(t: u64, ties: &[Tie], held: &Held, places: &mut [Place])
     requires each { All (λ tie. CanCarry t tie places.old held.now.put.now) ties.now }
     requires one_each { length held.now.own.now ≡ length places.old }
     requires can { (p : ℕ) → p < length places.old → CanPass (place_at places.old p)
-        (sum_by (brought t (slice_index held.now.own.now) held.now.put.now p) ties.now)
-        (sum_by (taken t (slice_index held.now.own.now) held.now.put.now p) ties.now) }
+        (sum_by (brought t (held_before held.now.own.now held.now.put.now) p) ties.now)
+        (sum_by (taken t (held_before held.now.own.now held.now.put.now) p) ties.now) }
     ensures { (p : ℕ) → p < length places.old → place_at places.new p ≡ passed (place_at places.old p)
-        (sum_by (brought t (slice_index held.now.own.now) held.now.put.now p) ties.now)
-        (sum_by (taken t (slice_index held.now.own.now) held.now.put.now p) ties.now) }
+        (sum_by (brought t (held_before held.now.own.now held.now.put.now) p) ties.now)
+        (sum_by (taken t (held_before held.now.own.now held.now.put.now) p) ties.now) }
 {
     for tie in ties {
         carry(t, tie, held, places);
@@ -32,11 +32,11 @@ fn carry(t: u64, tie: &Tie, held: &Held, places: &mut [Place])
     requires tie { CanCarry t tie.now places.old held.now.put.now }
     requires one_each { length held.now.own.now ≡ length places.old }
     requires can { (p : ℕ) → p < length places.old → CanPass (place_at places.old p)
-        (brought t (slice_index held.now.own.now) held.now.put.now p tie.now)
-        (taken t (slice_index held.now.own.now) held.now.put.now p tie.now) }
+        (brought t (held_before held.now.own.now held.now.put.now) p tie.now)
+        (taken t (held_before held.now.own.now held.now.put.now) p tie.now) }
     ensures { (p : ℕ) → p < length places.old → place_at places.new p ≡ passed (place_at places.old p)
-        (brought t (slice_index held.now.own.now) held.now.put.now p tie.now)
-        (taken t (slice_index held.now.own.now) held.now.put.now p tie.now) }
+        (brought t (held_before held.now.own.now held.now.put.now) p tie.now)
+        (taken t (held_before held.now.own.now held.now.put.now) p tie.now) }
 {
     match tie.course.rule() {
         Rule::Linking => link(t, tie, held, places),
@@ -52,11 +52,11 @@ fn link(t: u64, tie: &Tie, held: &Held, places: &mut [Place])
     requires tie { CanCarry t tie.now places.old held.now.put.now }
     requires one_each { length held.now.own.now ≡ length places.old }
     requires can { (p : ℕ) → p < length places.old → CanPass (place_at places.old p)
-        (brought t (slice_index held.now.own.now) held.now.put.now p tie.now)
-        (taken t (slice_index held.now.own.now) held.now.put.now p tie.now) }
+        (brought t (held_before held.now.own.now held.now.put.now) p tie.now)
+        (taken t (held_before held.now.own.now held.now.put.now) p tie.now) }
     ensures { (p : ℕ) → p < length places.old → place_at places.new p ≡ passed (place_at places.old p)
-        (brought t (slice_index held.now.own.now) held.now.put.now p tie.now)
-        (taken t (slice_index held.now.own.now) held.now.put.now p tie.now) }
+        (brought t (held_before held.now.own.now held.now.put.now) p tie.now)
+        (taken t (held_before held.now.own.now held.now.put.now) p tie.now) }
 {
     let [a, b, _] = tie.cells;
     let flow = tie.course.flow([held.at(a), held.at(b), 0]);
@@ -71,11 +71,11 @@ fn merge(t: u64, tie: &Tie, held: &Held, places: &mut [Place])
     requires tie { CanCarry t tie.now places.old held.now.put.now }
     requires one_each { length held.now.own.now ≡ length places.old }
     requires can { (p : ℕ) → p < length places.old → CanPass (place_at places.old p)
-        (brought t (slice_index held.now.own.now) held.now.put.now p tie.now)
-        (taken t (slice_index held.now.own.now) held.now.put.now p tie.now) }
+        (brought t (held_before held.now.own.now held.now.put.now) p tie.now)
+        (taken t (held_before held.now.own.now held.now.put.now) p tie.now) }
     ensures { (p : ℕ) → p < length places.old → place_at places.new p ≡ passed (place_at places.old p)
-        (brought t (slice_index held.now.own.now) held.now.put.now p tie.now)
-        (taken t (slice_index held.now.own.now) held.now.put.now p tie.now) }
+        (brought t (held_before held.now.own.now held.now.put.now) p tie.now)
+        (taken t (held_before held.now.own.now held.now.put.now) p tie.now) }
 {
     let [a, b, c] = tie.cells;
     let flow = tie.course.flow([held.at(a), held.at(b), held.at(c)]);
@@ -91,11 +91,11 @@ fn diverge(t: u64, tie: &Tie, held: &Held, places: &mut [Place])
     requires tie { CanCarry t tie.now places.old held.now.put.now }
     requires one_each { length held.now.own.now ≡ length places.old }
     requires can { (p : ℕ) → p < length places.old → CanPass (place_at places.old p)
-        (brought t (slice_index held.now.own.now) held.now.put.now p tie.now)
-        (taken t (slice_index held.now.own.now) held.now.put.now p tie.now) }
+        (brought t (held_before held.now.own.now held.now.put.now) p tie.now)
+        (taken t (held_before held.now.own.now held.now.put.now) p tie.now) }
     ensures { (p : ℕ) → p < length places.old → place_at places.new p ≡ passed (place_at places.old p)
-        (brought t (slice_index held.now.own.now) held.now.put.now p tie.now)
-        (taken t (slice_index held.now.own.now) held.now.put.now p tie.now) }
+        (brought t (held_before held.now.own.now held.now.put.now) p tie.now)
+        (taken t (held_before held.now.own.now held.now.put.now) p tie.now) }
 {
     let [a, b, c] = tie.cells;
     let flow = tie.course.flow([held.at(a), held.at(b), held.at(c)]);

@@ -1,7 +1,5 @@
-ghost use Rattle.std.specs.Prelude.{◌≡◌, length, slice_index};
-ghost use Rattle.region_body.specs.Carrying.{IsWithin, held_at};
-
-use crate::spot::Spot;
+ghost use Rattle.std.specs.Prelude.{◌≡◌, length};
+ghost use Rattle.region_body.specs.Carrying.{IsWithin, held_before};
 
 /// What cells held as a step began: those of the region by a list, those of its halo by what was put there.
 #[derive(Clone, Copy)]
@@ -13,16 +11,16 @@ pub(crate) struct Held<'a> {
 impl Held<'_> {
     /// What the cell at a spot held.
     #[inline(always)]
-    pub(crate) fn at(&self, spot: Spot) -> u64
+    pub(crate) fn at(&self, spot: usize) -> u64
         requires { IsWithin (length self.now.own.now) self.now.put.now spot }
-        ensures { result ≡ held_at (slice_index self.now.own.now) self.now.put.now spot }
+        ensures { result ≡ held_before self.now.own.now self.now.put.now spot }
     {
-        match spot {
-            Spot::Own(p) => self.own[p as usize],
-            Spot::Halo(j) => match self.put[j as usize] {
-                Some(n) => n,
-                None => 0,
-            },
+        if spot < self.own.len() {
+            return self.own[spot];
+        }
+        match self.put[spot - self.own.len()] {
+            Some(n) => n,
+            None => 0,
         }
     }
 }

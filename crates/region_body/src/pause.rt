@@ -7,7 +7,7 @@ ghost use Rattle.region_body.specs.Pausing.{AreIdle, IsIdleUntil};
 use crate::followed::FollowedLink;
 use crate::movement::moving;
 use crate::place::Place;
-use crate::spot::Sight;
+use crate::sight::Sight;
 use crate::tie::Tie;
 
 /// For how long nothing moves among cells.
@@ -91,7 +91,7 @@ fn ties_until(ties: &[Tie], sight: &Sight) -> u64
 // What the cells at its spots hold.
 fn held_by(tie: &Tie, sight: &Sight) -> [u64; 3]
     requires { (m : ℕ) → m < 3 → IsThere sight.now.places.now sight.now.put.now (spot_at tie.now m) }
-    ensures { result ≡ three_held tie.now (held_in sight.now.places.now) sight.now.put.now }
+    ensures { result ≡ three_held tie.now (held_in sight.now.places.now sight.now.put.now) }
 {
     let [a, b, c] = tie.cells;
     [sight.held(a), sight.held(b), sight.held(c)]

@@ -1,12 +1,11 @@
 use crate::connector_course::ConnectorCourse;
-use crate::spot::Spot;
 
 /// A connector that isn't a link from a place to the next, with the spots of its cells in the order of its fields; that of
 /// a link downstream stands twice.
 #[derive(Drop)]
 pub(crate) struct Tie {
     pub(crate) connector: u32,
-    pub(crate) cells: [Spot; 3],
+    pub(crate) cells: [usize; 3],
     /// What it carries, followed forward.
     pub(crate) course: ConnectorCourse,
 }

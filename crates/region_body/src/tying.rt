@@ -5,7 +5,6 @@ ghost use Rattle.region_body.specs.Carrying.{IsSpotOf, IsTie, AreSpotsOf};
 ghost use Rattle.region_body.specs.Joining.{AreKnown, IsKnown};
 
 use crate::connector_course::ConnectorCourse;
-use crate::spot::Spot;
 use crate::tie::Tie;
 use network_file::Net;
 use no_memory::NoMemory;
@@ -38,7 +37,7 @@ pub(crate) fn tied(
 }
 
 // The spots of the cells of connector `k`.
-fn spots_of(net: &Net, k: u32, cells: &[u32], halo: &[u32]) -> [Spot; 3]
+fn spots_of(net: &Net, k: u32, cells: &[u32], halo: &[u32]) -> [usize; 3]
     requires there { k < length net.now.connectors }
     requires known { AreKnown cells.now halo.now (connector_at net.now.connectors k) }
     requires increasing { IsStrictlyIncreasing cells.now }
@@ -56,7 +55,7 @@ fn spots_of(net: &Net, k: u32, cells: &[u32], halo: &[u32]) -> [Spot; 3]
 }
 
 // The spot of a cell, among the region's own or in its halo.
-fn spot_of(cell: u32, cells: &[u32], halo: &[u32]) -> Spot
+fn spot_of(cell: u32, cells: &[u32], halo: &[u32]) -> usize
     requires known { IsKnown cells.now halo.now cell }
     requires increasing { IsStrictlyIncreasing cells.now }
     requires halo_increasing { IsStrictlyIncreasing halo.now }
@@ -65,7 +64,7 @@ fn spot_of(cell: u32, cells: &[u32], halo: &[u32]) -> Spot
     ensures { IsSpotOf cells.now halo.now cell result }
 {
     match cells.binary_search(&cell) {
-        Ok(own) => Spot::Own(own as u32),
-        Err(_) => Spot::Halo(place(halo, cell)),
+        Ok(own) => own,
+        Err(_) => cells.len() + place(halo, cell) as usize,
     }
 }

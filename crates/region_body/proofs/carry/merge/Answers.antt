@@ -1,21 +1,20 @@
-use Rattle.std.specs.Prelude.{slice_index}
 use Rattle.std.proofs.Common.{◌≡◌, ◌<◌, ◌≤◌, ◌+◌, ℕ, [], ◌∷◌, length, sym, ap, ◌∙◌, arith}
 use Rattle.region_body.specs.Flows.{flow_at}
 use Rattle.flow_model.specs.declared.carried.Flow.{Flow}
 use Rattle.region_body.specs.Places.{place_at, with_entered, with_left}
 use Rattle.region_body.specs.declared.place.Place.{Place}
-use Rattle.region_body.specs.Carrying.{CanPass, at_spot, brought, carried_of, passed, spot_at, taken}
+use Rattle.region_body.specs.Carrying.{CanPass, at_spot, brought, carried_of, held_before, passed, spot_at, taken}
 use Rattle.region_body.proofs.MovedPlaces.{can-bring, can-take, can-take-more, left-twice}
 use Rattle.region_body.proofs.Ruled.{merge-moves}
 use Rattle.region_body.proofs.carry.merge.Goals.{After-flow-flow}
 use Rattle.region_body.proofs.carry.merge.Goals as goal
 
 moves : (c : After-flow-flow) (p : ℕ) →
-    (taken c.args.t (slice_index c.args.held.now.own.now) c.args.held.now.put.now p c.args.tie.now ≡
+    (taken c.args.t (held_before c.args.held.now.own.now c.args.held.now.put.now) p c.args.tie.now ≡
     at_spot (spot_at c.args.tie.now 0) c.flow-flow.result.out1 p + at_spot (spot_at c.args.tie.now 1) c.flow-flow.result.out2 p) ×
-    (brought c.args.t (slice_index c.args.held.now.own.now) c.args.held.now.put.now p c.args.tie.now ≡ at_spot (spot_at c.args.tie.now 2) c.flow-flow.result.in1 p)
+    (brought c.args.t (held_before c.args.held.now.own.now c.args.held.now.put.now) p c.args.tie.now ≡ at_spot (spot_at c.args.tie.now 2) c.flow-flow.result.in1 p)
 moves c p =
-    merge-moves c.args.t (slice_index c.args.held.now.own.now) c.args.held.now.put.now p c.args.tie.now c.flow-flow.result c.requires.rule
+    merge-moves c.args.t (held_before c.args.held.now.own.now c.args.held.now.put.now) p c.args.tie.now c.flow-flow.result c.requires.rule
     (rw (c.at.ensures, c.at-2.ensures, c.at-3.ensures) at (c.flow-flow.ensures.later c.args.t c.requires.tie.step c.requires.tie.until))
 
 pub take-requires-clause-can : goal.take-requires-clause-can

@@ -1,10 +1,9 @@
-use Rattle.std.specs.Prelude.{slice_index, slice_index_or}
+use Rattle.std.specs.Prelude.{slice_index}
 use Rattle.std.proofs.Common.{◌≡◌, ℕ, zero, suc, ◌<◌, [], ◌∷◌, ap, arith, subst, sym, ◌∙◌}
 use Rattle.network_file.specs.Connectors.{connector_at}
 use Rattle.network_file.proofs.NetworkFacts.{read_connector}
 use Rattle.region_cut.specs.ConnectorCells.{three_cells}
 use Rattle.region_body.specs.Carrying.{IsSpotOf}
-use Rattle.region_body.specs.declared.spot.Spot.TheVariants.{Own}
 use Rattle.region_body.proofs.Known.{known_cell}
 use Rattle.region_body.proofs.tying.spots_of.Goals as goal
 
@@ -30,7 +29,7 @@ returns c =
   where
     at : c.three_cells.result ≡ three_cells (connector_at c.args.net.now.connectors c.args.k) → (m : ℕ) → m < 3 →
         IsSpotOf c.args.cells.now c.args.halo.now (slice_index (three_cells (connector_at c.args.net.now.connectors c.args.k)) m)
-        (slice_index_or (c.spot_of.result ∷ c.spot_of-2.result ∷ c.spot_of-3.result ∷ []) m (Own 0))
+        (slice_index (c.spot_of.result ∷ c.spot_of-2.result ∷ c.spot_of-3.result ∷ []) m)
     at three zero few = subst (λ cs. IsSpotOf c.args.cells.now c.args.halo.now (slice_index cs 0) c.spot_of.result) three c.spot_of.ensures
     at three (suc zero) few = subst (λ cs. IsSpotOf c.args.cells.now c.args.halo.now (slice_index cs 1) c.spot_of-2.result) three c.spot_of-2.ensures
     at three (suc (suc zero)) few = subst (λ cs. IsSpotOf c.args.cells.now c.args.halo.now (slice_index cs 2) c.spot_of-3.result) three c.spot_of-3.ensures

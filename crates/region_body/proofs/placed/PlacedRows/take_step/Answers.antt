@@ -78,8 +78,8 @@ Swept c can places before =
 
 is-swept : (c : After-follow-self-inside) (can : Can c) (places swept_places : List Place) (before : List ℕ) → places ≡ c.refresh.new.places →
     length swept_places ≡ length places → ((p : ℕ) → p < length places → place_at swept_places p ≡ swept places p) →
-    ((p : ℕ) → p < length places → slice_index before p ≡ (place_at places p).n) → Swept c can swept_places before
-is-swept c can places swept_places before same long each noted = record {
+    ((p : ℕ) → p < length places → slice_index before p ≡ (place_at places p).n) → length before ≡ length (opened c.self.inside).before → Swept c can swept_places before
+is-swept c can places swept_places before same long each noted noted_long = record {
   sound = sound c;
   in_time = c.requires.in_time;
   laid = can.laid;
@@ -89,6 +89,7 @@ is-swept c can places swept_places before same long each noted = record {
   followed = followed c;
   long = long ∙ ap length same;
   swept_each = rw same at each;
+  noted_long = noted_long ∙ can.laid.before_each ∙ sym can.laid.one_each ∙ sym (fresh c can).long;
   noted = rw same at noted;
 }
 
@@ -114,7 +115,7 @@ carry_all-requires-clause-each c =
     let before = c.sweep.new.before in
     let ties : List Tie = c.follow-self-inside.new.ties in
     let same : c.deref_mut-4.result.now ≡ c.refresh.new.places = c.deref_mut-4.ensures.value ∙ fresh-is e in
-    let is = is-swept e can c.deref_mut-4.result.now places before same c.sweep.auto.places c.sweep.ensures.places c.sweep.ensures.before in
+    let is = is-swept e can c.deref_mut-4.result.now places before same c.sweep.auto.places c.sweep.ensures.places c.sweep.ensures.before (c.sweep.auto.before ∙ ap length c.deref_mut-5.ensures.value) in
     rw (c.deref_mut-6.ensures.value ∙ swept-is e c.deref_mut-4.result.now places same c.sweep.auto.places, c.deref-2.ensures.value ∙ ties-are e)
     (λ k d within. can-carry-each c.args.net.now c.args.cells.now can.halo can.connectors c.args.t can.n (opened c.self.inside) c.args.put.now c.refresh.new.places
     c.refresh.new.links ties places before k d is within)
@@ -127,7 +128,7 @@ carry_all-requires-clause-can c =
     let before = c.sweep.new.before in
     let ties : List Tie = c.follow-self-inside.new.ties in
     let same : c.deref_mut-4.result.now ≡ c.refresh.new.places = c.deref_mut-4.ensures.value ∙ fresh-is e in
-    let is = is-swept e can c.deref_mut-4.result.now places before same c.sweep.auto.places c.sweep.ensures.places c.sweep.ensures.before in
+    let is = is-swept e can c.deref_mut-4.result.now places before same c.sweep.auto.places c.sweep.ensures.places c.sweep.ensures.before (c.sweep.auto.before ∙ ap length c.deref_mut-5.ensures.value) in
     rw (
       c.deref_mut-6.ensures.value ∙ swept-is e c.deref_mut-4.result.now places same c.sweep.auto.places,
       c.deref-2.ensures.value ∙ ties-are e,
@@ -167,7 +168,7 @@ bring_demands-requires-clause-fits c =
     let before = c.sweep.new.before in
     let ties : List Tie = c.follow-self-inside.new.ties in
     let same : c.deref_mut-4.result.now ≡ c.refresh.new.places = c.deref_mut-4.ensures.value ∙ fresh-is e in
-    let is = is-swept e can c.deref_mut-4.result.now places before same c.sweep.auto.places c.sweep.ensures.places c.sweep.ensures.before in
+    let is = is-swept e can c.deref_mut-4.result.now places before same c.sweep.auto.places c.sweep.ensures.places c.sweep.ensures.before (c.sweep.auto.before ∙ ap length c.deref_mut-5.ensures.value) in
     let swept_is : c.deref_mut-6.result.now ≡ places = c.deref_mut-6.ensures.value ∙ swept-is e c.deref_mut-4.result.now places same c.sweep.auto.places in
     let carried_is : c.deref_mut-8.result.now ≡ c.carry_all.new.places =
     c.deref_mut-8.ensures.value ∙ carried-is e c.deref_mut-4.result.now places c.deref_mut-6.result.now c.carry_all.new.places same c.sweep.auto.places swept_is c.carry_all.auto.places in
@@ -182,7 +183,7 @@ bring_demands-requires-clause-fits c =
 
 taken-steps : (c : After-follow-self-inside) (can : Can c) (places swept_places before_carry carried before_demands after : List Place) (before own : List ℕ) (ties : List Tie) →
     (gates : List GatePlace) → places ≡ c.refresh.new.places → length swept_places ≡ length places → ((p : ℕ) → p < length places → place_at swept_places p ≡ swept places p) →
-    ((p : ℕ) → p < length places → slice_index before p ≡ (place_at places p).n) → before_carry ≡ swept_places → ties ≡ c.follow-self-inside.new.ties → own ≡ before →
+    ((p : ℕ) → p < length places → slice_index before p ≡ (place_at places p).n) → length before ≡ length (opened c.self.inside).before → before_carry ≡ swept_places → ties ≡ c.follow-self-inside.new.ties → own ≡ before →
     length carried ≡ length before_carry →
     ((p : ℕ) → p < length before_carry → place_at carried p ≡
     passed (place_at before_carry p) (carried_to c.args.t own c.args.put.now ties p) (outs_of c.args.t own c.args.put.now ties p)) →
@@ -191,9 +192,9 @@ taken-steps : (c : After-follow-self-inside) (can : Can c) (places swept_places 
     AreSteps c.args.net.now c.args.cells.now can.halo can.connectors c.args.t can.n (opened c.self.inside) c.refresh.new.places c.refresh.new.links
     (outs_of c.args.t before c.args.put.now c.follow-self-inside.new.ties) (carried_to c.args.t before c.args.put.now c.follow-self-inside.new.ties)
     (ins_of c.args.t before c.args.put.now c.follow-self-inside.new.ties (opened c.self.inside)) after
-taken-steps c can places swept_places before_carry carried before_demands after before own ties gates same long each noted swept_same ties_same own_same long_carried passes
+taken-steps c can places swept_places before_carry carried before_demands after before own ties gates same long each noted noted_long swept_same ties_same own_same long_carried passes
     carried_same gates_same long_after enters =
-    let is = is-swept c can places swept_places before same long each noted in
+    let is = is-swept c can places swept_places before same long each noted noted_long in
     steps-of c.args.net.now c.args.cells.now can.halo can.connectors c.args.t can.n (opened c.self.inside) c.args.put.now c.refresh.new.places c.refresh.new.links
     c.follow-self-inside.new.ties swept_places before carried after is (long_carried ∙ ap length swept_same) (long_after ∙ ap length carried_same)
     (rw (swept_same, ties_same, own_same) at passes) (rw (carried_same, gates_same) at enters)
@@ -218,7 +219,7 @@ returns-clause-rows c =
     ∙ c.refresh.auto.places ∙ c.deref_mut-2.ensures.len) in
     let steps = λ (can : Can e).
     taken-steps e can c.deref_mut-4.result.now places c.deref_mut-6.result.now carried c.deref_mut-8.result.now after noted c.deref.result.now c.deref-2.result.now
-    c.deref_mut-7.result.now same c.sweep.auto.places c.sweep.ensures.places c.sweep.ensures.before swept_is (c.deref-2.ensures.value ∙ ties-are e)
+    c.deref_mut-7.result.now same c.sweep.auto.places c.sweep.ensures.places c.sweep.ensures.before (c.sweep.auto.before ∙ ap length c.deref_mut-5.ensures.value) swept_is (c.deref-2.ensures.value ∙ ties-are e)
     (c.deref.ensures.value ∙ before_is) c.carry_all.auto.places c.carry_all.ensures carried_is c.deref_mut-7.ensures.value c.bring_demands.auto.places
     c.bring_demands.ensures.places in
     rw (after_is, waited-unowed c.self.inside.pause.owed after (none-owed e)) (
@@ -248,7 +249,7 @@ returns-clause-placed c =
     ∙ c.refresh.auto.places ∙ c.deref_mut-2.ensures.len) in
     let steps = λ (can : Can e).
     taken-steps e can c.deref_mut-4.result.now places c.deref_mut-6.result.now carried c.deref_mut-8.result.now after noted c.deref.result.now c.deref-2.result.now
-    c.deref_mut-7.result.now same c.sweep.auto.places c.sweep.ensures.places c.sweep.ensures.before swept_is (c.deref-2.ensures.value ∙ ties-are e)
+    c.deref_mut-7.result.now same c.sweep.auto.places c.sweep.ensures.places c.sweep.ensures.before (c.sweep.auto.before ∙ ap length c.deref_mut-5.ensures.value) swept_is (c.deref-2.ensures.value ∙ ties-are e)
     (c.deref.ensures.value ∙ before_is) c.carry_all.auto.places c.carry_all.ensures carried_is c.deref_mut-7.ensures.value c.bring_demands.auto.places
     c.bring_demands.ensures.places in
     let placed : PlacedCells = opened c.self.inside in
@@ -308,7 +309,7 @@ invariant_of-self c =
     ∙ c.refresh.auto.places ∙ c.deref_mut-2.ensures.len) in
     let steps = λ (can : Can e).
     taken-steps e can c.deref_mut-4.result.now places c.deref_mut-6.result.now carried c.deref_mut-8.result.now after noted c.deref.result.now c.deref-2.result.now
-    c.deref_mut-7.result.now same c.sweep.auto.places c.sweep.ensures.places c.sweep.ensures.before swept_is (c.deref-2.ensures.value ∙ ties-are e)
+    c.deref_mut-7.result.now same c.sweep.auto.places c.sweep.ensures.places c.sweep.ensures.before (c.sweep.auto.before ∙ ap length c.deref_mut-5.ensures.value) swept_is (c.deref-2.ensures.value ∙ ties-are e)
     (c.deref.ensures.value ∙ before_is) c.carry_all.auto.places c.carry_all.ensures carried_is c.deref_mut-7.ensures.value c.bring_demands.auto.places
     c.bring_demands.ensures.places in
     let can = can-step e in
