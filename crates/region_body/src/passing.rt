@@ -7,7 +7,7 @@ use crate::place::Place;
 /// So much leaves the place at a spot. Of the halo nothing is written.
 #[inline(always)]
 pub(crate) fn take(places: &mut [Place], spot: usize, parts: u64)
-    requires can { (p : ℕ) → p < length places.old → CanPass (place_at places.old p) 0 (at_spot spot parts p) }
+    requires { (p : ℕ) → p < length places.old → CanPass (place_at places.old p) 0 (at_spot spot parts p) }
     ensures { (p : ℕ) → p < length places.old → place_at places.new p ≡ with_left (place_at places.old p) (at_spot spot parts p) }
 {
     if spot < places.len() {
@@ -18,7 +18,7 @@ pub(crate) fn take(places: &mut [Place], spot: usize, parts: u64)
 /// So much enters it.
 #[inline(always)]
 pub(crate) fn bring(places: &mut [Place], spot: usize, parts: u64)
-    requires can { (p : ℕ) → p < length places.old → CanPass (place_at places.old p) (at_spot spot parts p) 0 }
+    requires { (p : ℕ) → p < length places.old → CanPass (place_at places.old p) (at_spot spot parts p) 0 }
     ensures { (p : ℕ) → p < length places.old → place_at places.new p ≡ with_entered (place_at places.old p) (at_spot spot parts p) }
 {
     if spot < places.len() {

@@ -17,15 +17,15 @@ moves c p =
     diverge-moves c.args.t (held_before c.args.held.now.own.now c.args.held.now.put.now) p c.args.tie.now c.flow-flow.result c.requires.rule
     (rw (c.at.ensures, c.at-2.ensures, c.at-3.ensures) at (c.flow-flow.ensures.later c.args.t c.requires.tie.step c.requires.tie.until))
 
-pub take-requires-clause-can : goal.take-requires-clause-can
-take-requires-clause-can c = λ p within.
-    let is = moves (goal.at.take-requires-clause-can c).After-flow-flow p in
+pub take-requires : goal.take-requires
+take-requires c = λ p within.
+    let is = moves (goal.at.take-requires c).After-flow-flow p in
     let out = is.0 in
     can-take (place_at c.args.places.now p) (at_spot (spot_at c.args.tie.now 0) c.flow-flow.result.out1 p) _ _ (c.requires.can p within) (omega (arith, out))
 
-pub bring-requires-clause-can : goal.bring-requires-clause-can
-bring-requires-clause-can c = λ p within.
-    let is = moves (goal.at.bring-requires-clause-can c).After-flow-flow p in
+pub bring-requires : goal.bring-requires
+bring-requires c = λ p within.
+    let is = moves (goal.at.bring-requires c).After-flow-flow p in
     let out = is.0 in
     let into = is.1 in
     let first = c.take.ensures p (omega arith) in
@@ -34,9 +34,9 @@ bring-requires-clause-can c = λ p within.
     can-bring (place_at c.args.places.now p) (place_at c.take.new.places p) (at_spot (spot_at c.args.tie.now 1) c.flow-flow.result.in1 p) _ _ (omega (arith, n, into))
     (omega (arith, gone, out)) (c.requires.can p (omega arith))
 
-pub bring-requires-2-clause-can : goal.bring-requires-2-clause-can
-bring-requires-2-clause-can c = λ p within.
-    let is = moves (goal.at.bring-requires-2-clause-can c).After-flow-flow p in
+pub bring-requires-2 : goal.bring-requires-2
+bring-requires-2 c = λ p within.
+    let is = moves (goal.at.bring-requires-2 c).After-flow-flow p in
     let out = is.0 in
     let into = is.1 in
     let first = c.take.ensures p (omega arith) in

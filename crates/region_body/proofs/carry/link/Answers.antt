@@ -16,15 +16,15 @@ moves c p =
     link-moves c.args.t (held_before c.args.held.now.own.now c.args.held.now.put.now) p c.args.tie.now c.flow-flow.result 0 c.requires.rule
     (rw (c.at.ensures, c.at-2.ensures) at (c.flow-flow.ensures.later c.args.t c.requires.tie.step c.requires.tie.until))
 
-pub take-requires-clause-can : goal.take-requires-clause-can
-take-requires-clause-can c = λ p within.
-    let is = moves (goal.at.take-requires-clause-can c).After-flow-flow p in
+pub take-requires : goal.take-requires
+take-requires c = λ p within.
+    let is = moves (goal.at.take-requires c).After-flow-flow p in
     let out = is.0 in
     can-take (place_at c.args.places.now p) (at_spot (spot_at c.args.tie.now 0) c.flow-flow.result.out1 p) _ _ (c.requires.can p within) (omega (arith, out))
 
-pub bring-requires-clause-can : goal.bring-requires-clause-can
-bring-requires-clause-can c = λ p within.
-    let is = moves (goal.at.bring-requires-clause-can c).After-flow-flow p in
+pub bring-requires : goal.bring-requires
+bring-requires c = λ p within.
+    let is = moves (goal.at.bring-requires c).After-flow-flow p in
     let out = is.0 in
     let into = is.1 in
     let then_is = c.take.ensures p (omega arith) in
