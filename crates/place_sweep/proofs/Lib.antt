@@ -1,5 +1,0 @@
-pub mod Links
-pub mod Sets
-pub mod Factors
-pub mod Flows
-pub mod Limits

@@ -1,4 +1,0 @@
-pub mod Space
-pub mod Capacity
-pub mod Places
-pub mod Moving
