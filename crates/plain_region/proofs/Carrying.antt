@@ -18,7 +18,7 @@ use Rattle.flow_model.proofs.CellFlows.{inflow-by, inflow-none, outflow-by, outf
 use Rattle.network_file.proofs.NetworkFacts.{connector_at-sound}
 use Rattle.flow_model.proofs.Locality.{leads_into-touches, leads_out_of-touches}
 use Rattle.region_cut.specs.ConnectorCells.{three_cells}
-use Rattle.place_rows.proofs.Parting.{flow_between-three, three_in_bounds}
+use Rattle.region_body.proofs.Parting.{flow_between-three, three_in_bounds}
 use Rattle.region_step.specs.Advance.{known}
 use Rattle.region_step.specs.Apart.{AreApart}
 use Rattle.plain_region.specs.Carrying.{CanCarry, IsChangeOf, IsScene, IsThere, carried_of, change_at, held_at, moved_by}

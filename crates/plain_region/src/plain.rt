@@ -11,7 +11,7 @@ use crate::wiring::Wiring;
 use flow_model::Row;
 use network_file::Net;
 use no_memory::NoMemory;
-use place_rows::nothing_put;
+use region_body::nothing_put;
 use region_cut::Chart;
 use region_step::{Note, Start, is_recorded};
 use std::alloc::Global;

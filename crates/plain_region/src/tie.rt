@@ -2,7 +2,7 @@ ghost use Rattle.std.specs.Prelude.{◌≡◌, ◌<◌, ◌^◌, All, IfOk, leng
 ghost use Rattle.std.specs.List.Sorted.{IsStrictlyIncreasing};
 ghost use Rattle.network_file.specs.Connectors.{connector_at};
 ghost use Rattle.plain_region.specs.Layout.{AreTies, IsPlaceOf, IsTie};
-ghost use Rattle.place_rows.specs.Joining.{AreKnown, IsKnown};
+ghost use Rattle.region_body.specs.Joining.{AreKnown, IsKnown};
 
 use crate::place::Place;
 use network_file::Net;

@@ -12,11 +12,11 @@ use Rattle.flow_model.specs.declared.row.Row.{Row}
 use Rattle.flow_model.proofs.States.{next_row-in_bounds}
 use Rattle.region_cut.specs.Chart.{ChartLists, chart_of, list_at}
 use Rattle.region_cut.specs.Cuttings.{region_count}
-use Rattle.place_sweep.specs.Places.{place_at}
-use Rattle.place_rows.specs.Moves.{IsSeen}
-use Rattle.place_rows.specs.Placed.{ArePlacesInBounds, ArePlaced, CanAdvance, PlacedCells}
-use Rattle.place_rows.specs.Rows.{rows_of}
-use Rattle.place_rows.proofs.Whole.{length-rows_after, row_at-rows_after, row_at-rows_of}
+use Rattle.region_body.specs.Places.{place_at}
+use Rattle.region_body.specs.Moves.{IsSeen}
+use Rattle.region_body.specs.Placed.{ArePlacesInBounds, ArePlaced, CanAdvance, PlacedCells}
+use Rattle.region_body.specs.Rows.{rows_of}
+use Rattle.region_body.proofs.Whole.{length-rows_after, row_at-rows_after, row_at-rows_of}
 use Rattle.region_step.specs.Advance.{HasHaloPut, HasRowsInBounds, advanced, known, next_rows_of}
 use Rattle.region_step.specs.Opened.{IsIn, halo_cells}
 use Rattle.region_step.specs.Recording.{is_recorded, note_of, notes_of, recorded_after}

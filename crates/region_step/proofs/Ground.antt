@@ -24,7 +24,7 @@ use Rattle.region_cut.proofs.Meetings.{halo-by, halo-from, touches-touches_regio
 use Rattle.region_cut.proofs.Membership.{Contains-border_of, Contains-cells_in, Contains-connectors_of, Contains-halo_of, cells_in-Contains, cells_in-increasing, connectors_of-Contains, halo_of-Contains, halo_of-increasing}
 use Rattle.region_step.specs.Apart.{AreApart}
 use Rattle.region_step.specs.Opened.{halo_cells}
-use Rattle.place_rows.specs.Joining.{AreKnown, IsKnown}
+use Rattle.region_body.specs.Joining.{AreKnown, IsKnown}
 
 -- what holds of the lists of region r
 pub record IsGround (net : Network) (cut : List ℕ) (r : ℕ) (cells halo connectors border : List ℕ) : Type 0 where

@@ -1,6 +1,6 @@
 -- What a region's body keeps beside its state.
 use Rattle.std.specs.Prelude.{ℕ, List}
-use Rattle.place_rows.specs.Placed.{PlacedCells}
+use Rattle.region_body.specs.Placed.{PlacedCells}
 
 pub record Layout : Type 0 where
   -- its cells as places

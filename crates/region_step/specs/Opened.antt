@@ -3,8 +3,8 @@ use Rattle.std.specs.Prelude.{◌≡◌, ℕ, ◌+◌, ◌*◌, ◌<◌, ◌≤�
 use Rattle.network_file.specs.Network.{Network}
 use Rattle.region_cut.specs.Chart.{ChartLists, chart_of, list_at}
 use Rattle.region_cut.specs.Cuttings.{region_count}
-use Rattle.place_rows.specs.Placed.{ArePlaced}
-use Rattle.place_rows.specs.Rows.{rows_of}
+use Rattle.region_body.specs.Placed.{ArePlaced}
+use Rattle.region_body.specs.Rows.{rows_of}
 use Rattle.region_step.specs.Opening.{ArePlaces}
 use Rattle.region_step.specs.Recording.{recorded_after}
 use Rattle.region_step.specs.Region.{RegionValue}

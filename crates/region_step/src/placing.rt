@@ -1,7 +1,7 @@
 ghost use Rattle.std.specs.Prelude.{◌≡◌, ◌<◌, IfOk, map, slice_index};
 ghost use Rattle.flow_model.specs.State.{row_at};
-ghost use Rattle.place_rows.specs.Placed.{ArePlaced};
-ghost use Rattle.place_rows.specs.Rows.{rows_of};
+ghost use Rattle.region_body.specs.Placed.{ArePlaced};
+ghost use Rattle.region_body.specs.Rows.{rows_of};
 ghost use Rattle.region_cut.specs.Chart.{chart_of, list_at};
 ghost use Rattle.region_cut.specs.Cuttings.{region_count};
 ghost use Rattle.region_step.specs.Opened.{halo_cells};
@@ -11,7 +11,7 @@ use crate::opening::halo_cells;
 use crate::start::Start;
 use network_file::Net;
 use no_memory::NoMemory;
-use place_rows::{Cells, PlacedRows};
+use region_body::{Cells, PlacedRows};
 use region_cut::Chart;
 use std::alloc::Global;
 

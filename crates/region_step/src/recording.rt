@@ -1,11 +1,11 @@
 ghost use Rattle.std.specs.Prelude.{◌≡◌, ◌+◌, ◌*◌, ◌<◌, ◌≤◌, ◌^◌, ◌++◌, [], IfOk, IsTrue, if◌then◌else◌, length, vec_capacity};
 ghost use Rattle.signal_plan.specs.declared.bounds.TheConstants.{MOST_STEPS};
-ghost use Rattle.place_rows.specs.Rows.{rows_of};
+ghost use Rattle.region_body.specs.Rows.{rows_of};
 ghost use Rattle.region_step.specs.Recording.{is_recorded, notes_of, recorded_after};
 
 use crate::note::Note;
 use no_memory::NoMemory;
-use place_rows::PlacedRows;
+use region_body::PlacedRows;
 use std::alloc::Global;
 
 /// Whether step `t` of so many is recorded: `every` divides it, or it is the last one. Where `every` is 0 none is.

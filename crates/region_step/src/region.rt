@@ -13,7 +13,7 @@ use crate::start::Start;
 use flow_model::Row;
 use network_file::Net;
 use no_memory::NoMemory;
-use place_rows::{PlacedRows, nothing_put};
+use region_body::{PlacedRows, nothing_put};
 use region_cut::Chart;
 use std::alloc::Global;
 use std::marker::Model;
@@ -37,7 +37,7 @@ pub struct Region {
 
 impl Model for Region {
     ghost use Rattle.std.specs.Prelude.{vec_capacity};
-    ghost use Rattle.place_rows.specs.Rows.{rows_of};
+    ghost use Rattle.region_body.specs.Rows.{rows_of};
     ghost use Rattle.region_step.specs.Region.{RegionValue};
 
     ghost Value = { RegionValue };

@@ -3,7 +3,7 @@ use Rattle.std.proofs.lemmas.List.Sorted.{searched}
 use Rattle.region_cut.proofs.HaloPlaces.{not_past}
 use Rattle.region_cut.proofs.Increasing.{rising}
 use Rattle.region_cut.proofs.Membership.{place-in}
-use Rattle.place_rows.proofs.Known.{listed, other_known}
+use Rattle.region_body.proofs.Known.{listed, other_known}
 use Rattle.plain_region.proofs.tie.place_of.Goals as goal
 
 pub returns-in-Ok : goal.returns-in-Ok

@@ -3,7 +3,7 @@ use Rattle.std.specs.List.{position_or_len}
 use Rattle.std.proofs.Common.{◌≡◌, ℕ, [], ◌∷◌, ◌++◌, length, get_or, take, arith, ap, sym, ◌∙◌}
 use Rattle.std.proofs.lemmas.List.{get_or-map, length-map, map-append, take_all, take_more}
 use Rattle.region_cut.proofs.Membership.{place-in}
-use Rattle.place_rows.proofs.Known.{listed}
+use Rattle.region_body.proofs.Known.{listed}
 use Rattle.region_step.proofs.opening.border_places.Goals as goal
 
 pub place-requires-clause-listed : goal.place-requires-clause-listed

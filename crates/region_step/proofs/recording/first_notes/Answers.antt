@@ -1,8 +1,8 @@
 use Rattle.std.proofs.Common.{ℕ, ◌+◌, ◌*◌, ◌≤◌, List, [], ap, arith, ◌∙◌, length}
 use Rattle.std.specs.Prelude.{if◌then◌else◌, vec_capacity, ◌++◌}
 use Rattle.flow_model.specs.declared.row.Row.{Row}
-use Rattle.place_rows.specs.Rows.{rows_of}
-use Rattle.place_rows.proofs.Whole.{length-rows_of}
+use Rattle.region_body.specs.Rows.{rows_of}
+use Rattle.region_body.proofs.Whole.{length-rows_of}
 use Rattle.region_step.specs.Recording.{is_recorded, notes_of, recorded_after}
 use Rattle.region_step.proofs.Advancing.{noted-room}
 use Rattle.region_step.proofs.recording.first_notes.Goals as goal

@@ -3,8 +3,8 @@ use Rattle.std.proofs.lemmas.List.{append_assoc, map-append, take_all, take_more
 use Rattle.flow_model.specs.Rows.{empty_row}
 use Rattle.flow_model.specs.State.{row_at}
 use Rattle.flow_model.specs.declared.row.Row.{Row}
-use Rattle.place_rows.specs.Rows.{rows_of}
-use Rattle.place_rows.proofs.Whole.{length-rows_of}
+use Rattle.region_body.specs.Rows.{rows_of}
+use Rattle.region_body.proofs.Whole.{length-rows_of}
 use Rattle.region_step.specs.Recording.{note_of, notes_of}
 use Rattle.region_step.specs.declared.note.Note.{Note}
 use Rattle.region_step.proofs.recording.note_rows.Goals as goal

@@ -1,6 +1,6 @@
 use Rattle.std.specs.Prelude.{vec_capacity}
 use Rattle.std.proofs.Common.{◌≡◌, ◌≤◌, ◌++◌, take}
-use Rattle.place_rows.specs.Rows.{rows_of}
+use Rattle.region_body.specs.Rows.{rows_of}
 use Rattle.region_step.specs.Recording.{notes_of}
 use Rattle.region_step.proofs.recording.note_rows.Given as goal
 

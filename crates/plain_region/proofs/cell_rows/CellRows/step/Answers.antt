@@ -4,7 +4,7 @@ use Rattle.std.proofs.lemmas.List.{with_items_is}
 use Rattle.flow_model.specs.State.{rows_after}
 use Rattle.region_step.specs.Advance.{known}
 use Rattle.plain_region.specs.Carrying.{CanChangeAt, IsChangeOf, change_at, rows_changed}
-use Rattle.place_rows.proofs.Whole.{length-rows_after}
+use Rattle.region_body.proofs.Whole.{length-rows_after}
 use Rattle.plain_region.proofs.Advancing.{can_change, rows_changed-is}
 use Rattle.plain_region.proofs.cell_rows.CellRows.step.Goals as goal
 

@@ -1,7 +1,7 @@
 use Rattle.std.specs.Prelude.{slice_index}
 use Rattle.std.proofs.Common.{◌≡◌, ℕ, List, length, get_or, arith, ap, sym, ◌∙◌}
 use Rattle.std.proofs.lemmas.List.{get_or_default}
-use Rattle.place_rows.proofs.Whole.{length-rows_of}
+use Rattle.region_body.proofs.Whole.{length-rows_of}
 use Rattle.flow_model.specs.State.{occupancy}
 use Rattle.region_cut.specs.Chart.{list_at}
 use Rattle.region_step.proofs.Places.{one_place}

@@ -4,7 +4,7 @@ use Rattle.std.proofs.lemmas.List.{get_or_default, length-map, length-replicate}
 use Rattle.network_file.specs.Network.{IsNetwork}
 use Rattle.flow_model.specs.State.{row_at}
 use Rattle.flow_model.specs.declared.row.Row.{Row}
-use Rattle.place_rows.specs.Rows.{rows_of}
+use Rattle.region_body.specs.Rows.{rows_of}
 use Rattle.region_cut.specs.Chart.{list_at}
 use Rattle.region_step.specs.Recording.{is_recorded, notes_of}
 use Rattle.region_step.proofs.Ground.{ground}

@@ -1,5 +1,5 @@
 use Rattle.std.proofs.Common.{length, ap, arith}
-use Rattle.place_rows.proofs.Whole.{length-rows_of}
+use Rattle.region_body.proofs.Whole.{length-rows_of}
 use Rattle.region_step.proofs.region.Region.row.Goals as goal
 
 pub row-requires : goal.row-requires

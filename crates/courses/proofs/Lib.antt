@@ -1,0 +1,5 @@
+pub mod Phases
+pub mod Passing
+pub mod Starts
+pub mod Cells
+pub mod Links

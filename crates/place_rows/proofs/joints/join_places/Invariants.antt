@@ -1,7 +1,0 @@
-use Rattle.std.proofs.Common.{take}
-use Rattle.place_rows.proofs.Extending.{AreJoined}
-use Rattle.place_rows.proofs.joints.join_places.Given as goal
-
-abbrev pub invariant-loop-k : goal.invariant-loop-k
-invariant-loop-k l =
-    AreJoined l.net l.t l.cells l.halo (take l.k-index l.connectors) l.initial.places l.places l.links.items l.ties.items

@@ -1,7 +1,0 @@
-use Rattle.std.specs.Prelude.{All, ◌⊎◌}
-use Rattle.std.proofs.Common.{◌≡◌, ◌≤◌, take}
-use Rattle.place_sweep.specs.Places.{place_at}
-use Rattle.place_rows.proofs.pause.links_until.Given as goal
-
-abbrev pub invariant-loop-link : goal.invariant-loop-link
-invariant-loop-link l = All (λ link. (place_at l.places link.place).n ≡ 0 ⊎ l.until ≤ link.until) (take l.link-index l.links)

@@ -1,7 +1,0 @@
-use Rattle.std.specs.Prelude.{All}
-use Rattle.std.proofs.Common.{take}
-use Rattle.place_rows.specs.Pausing.{IsIdleUntil}
-use Rattle.place_rows.proofs.pause.ties_until.Given as goal
-
-abbrev pub invariant-loop-tie : goal.invariant-loop-tie
-invariant-loop-tie l = All (IsIdleUntil l.sight.places.now l.sight.put.now l.until) (take l.tie-index l.ties)

@@ -1,6 +1,0 @@
-pub mod Links
-pub mod Sets
-pub mod PartSums
-pub mod Factors
-pub mod Flows
-pub mod Limits

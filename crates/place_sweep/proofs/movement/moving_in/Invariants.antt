@@ -1,5 +1,0 @@
-use Rattle.place_sweep.specs.Moving.{MoveNothingIn}
-use Rattle.place_sweep.proofs.movement.moving_in.Given as goal
-
-abbrev pub invariant-loop-p : goal.invariant-loop-p
-invariant-loop-p l = MoveNothingIn l.places l.from l.p

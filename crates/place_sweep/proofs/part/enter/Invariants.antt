@@ -1,8 +1,0 @@
-use Rattle.std.proofs.Common.{◌≡◌, ◌<◌, ℕ, length, take}
-use Rattle.place_sweep.specs.Places.{place_at}
-use Rattle.place_sweep.specs.Parts.{parts_at, with_entered}
-use Rattle.place_sweep.proofs.part.enter.Given as goal
-
-abbrev pub invariant-loop-part : goal.invariant-loop-part
-invariant-loop-part l =
-    (p : ℕ) → p < length l.places → place_at l.places p ≡ with_entered (place_at l.initial.places p) (parts_at (take l.part-index l.parts) p)

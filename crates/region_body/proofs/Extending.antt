@@ -1,0 +1,221 @@
+-- What links carry at most, once one more connector is joined.
+use Rattle.std.specs.Prelude.{All, Bool, not, ◌||◌, map, slice_index, if◌then◌else◌}
+use Rattle.std.specs.List.{filter, list_any, range_with_len}
+use Rattle.std.specs.List.Sorted.{IsStrictlyIncreasing}
+use Rattle.std.proofs.Common.{◌≡◌, ◌≢◌, ℕ, ◌+◌, ◌<◌, ◌≤◌, inl, inr, true, false, List, [], ◌∷◌, ◌++◌, length, get_or, take, refl, sym, ap, ◌∙◌, arith}
+use Rattle.std.proofs.lemmas.Bool.{cases_Bool}
+use Rattle.std.proofs.lemmas.List.{append-nil, map-append, take_more}
+use Rattle.std.proofs.lemmas.List.Elements.{All-push, filter-append}
+use Rattle.std.proofs.lemmas.List.Folds.{list_any-append}
+use Rattle.network_file.specs.Connectors.{connector_at}
+use Rattle.network_file.specs.Network.{Network}
+use Rattle.network_file.specs.declared.connector.Connector.{Connector}
+use Rattle.network_file.specs.declared.connector.Connector.TheVariants.{Link}
+use Rattle.region_body.specs.Places.{place_at}
+use Rattle.region_body.specs.declared.place.Place.{Place}
+use Rattle.region_cut.proofs.Anys.{finds}
+use Rattle.region_cut.proofs.Increasing.{position_is}
+use Rattle.region_cut.proofs.Ranges.{range-Contains}
+use Rattle.courses.specs.Links.{most_between}
+use Rattle.region_body.specs.Followed.{AreFollowed, IsThere}
+use Rattle.region_body.specs.declared.followed.FollowedLink.{FollowedLink}
+use Rattle.region_body.specs.Chains.{is_chained, is_joined, is_link, most_out, odd_ones}
+use Rattle.region_body.specs.Joining.{Extends, IsAt}
+use Rattle.region_body.specs.Carrying.{IsTie}
+use Rattle.region_body.specs.declared.tie.Tie.{Tie}
+use Rattle.region_body.proofs.Links.{link-is}
+
+-- one connector more
+pub joined-more : (net : Network) (cells connectors : List ℕ) (j q : ℕ) → j < length connectors →
+    is_joined net cells (take (j + 1) connectors) q ≡
+    (is_joined net cells (take j connectors) q || is_link cells q (connector_at net.connectors (get_or connectors j 0)))
+unfolding is_joined
+joined-more net cells connectors j q within =
+    ap (list_any (λ k. is_link cells q (connector_at net.connectors k))) (take_more connectors j 0 within)
+    ∙ list_any-append (λ k. is_link cells q (connector_at net.connectors k)) (take j connectors) (get_or connectors j 0 ∷ [])
+    ∙ ap (λ b. is_joined net cells (take j connectors) q || b) (one (is_link cells q (connector_at net.connectors (get_or connectors j 0))))
+  where
+    one : (b : Bool) → (b || false) ≡ b
+    one true = refl
+    one false = refl
+
+or_true : (b : Bool) → (b || true) ≡ true
+or_true true = refl
+or_true false = refl
+
+or_false : (b : Bool) → (b || false) ≡ b
+or_false true = refl
+or_false false = refl
+
+-- a link joins one place alone
+one-place : (cells : List ℕ) (p q : ℕ) (connector : Connector) → IsStrictlyIncreasing cells → is_link cells p connector ≡ true → q ≢ p →
+    is_link cells q connector ≡ false
+one-place cells p q connector rising linked other = elim (cases_Bool (is_link cells q connector)) [
+  | inl too ↦
+      let here = link-is cells p connector linked in
+      let there = link-is cells q connector too in
+      let within = here.within in
+      let inside = there.within in
+      let both : Link (slice_index cells p) (slice_index cells (p + 1)) ≡ Link (slice_index cells q) (slice_index cells (q + 1)) = sym here.is ∙ there.is in
+      let same : slice_index cells p ≡ slice_index cells q = cc in
+      let place : q ≡ p =
+      sym (position_is cells q (slice_index cells q) rising (omega arith) refl) ∙ position_is cells p (slice_index cells q) rising (omega arith) same in
+      absurd (other place)
+  | inr apart ↦ apart
+]
+
+most-by : (net : Network) (cells connectors : List ℕ) (q s : ℕ) (b : Bool) → is_joined net cells connectors q ≡ b →
+    most_out net cells connectors q s ≡ (if b then most_between net.plan (slice_index cells q) (slice_index cells (q + 1)) s else 0)
+unfolding most_out
+most-by net cells connectors q s b is = ap (λ b. if b then most_between net.plan (slice_index cells q) (slice_index cells (q + 1)) s else 0) is
+
+most-same : (net : Network) (cells first later : List ℕ) (q s : ℕ) → is_joined net cells later q ≡ is_joined net cells first q →
+    most_out net cells later q s ≡ most_out net cells first q s
+unfolding most_out
+most-same net cells first later q s same = ap (λ b. if b then most_between net.plan (slice_index cells q) (slice_index cells (q + 1)) s else 0) same
+
+-- one that is chained
+pub extends-more : (net : Network) (cells connectors : List ℕ) (j p : ℕ) (links : List FollowedLink) → j < length connectors → IsStrictlyIncreasing cells →
+    is_link cells p (connector_at net.connectors (get_or connectors j 0)) ≡ true →
+    All (λ link. is_joined net cells (take j connectors) link.place ≡ true) links →
+    Extends net.plan cells p links (most_out net cells (take j connectors)) (most_out net cells (take (j + 1) connectors))
+extends-more net cells connectors j p links within rising linked joined =
+    let connector : Connector = connector_at net.connectors (get_or connectors j 0) in
+    record {
+      here = λ s. most-by net cells (take (j + 1) connectors) p s true
+          (joined-more net cells connectors j p within ∙ ap (λ b. is_joined net cells (take j connectors) p || b) linked ∙ or_true (is_joined net cells (take j connectors) p));
+      others = λ q s other. most-same net cells (take j connectors) (take (j + 1) connectors) q s
+          (joined-more net cells connectors j q within ∙ ap (λ b. is_joined net cells (take j connectors) q || b) (one-place cells p q connector rising linked other)
+          ∙ or_false (is_joined net cells (take j connectors) q));
+      linked = λ k d inside s.
+          let q : ℕ = (get_or links k d).place in
+          let first = joined k d inside in
+          most-same net cells (take j connectors) (take (j + 1) connectors) q s
+          (joined-more net cells connectors j q within ∙ ap (λ b. b || is_link cells q connector) first ∙ sym first);
+    }
+
+-- one that isn't
+pub unchained-more : (net : Network) (cells connectors : List ℕ) (j q s : ℕ) → j < length connectors →
+    is_chained cells (connector_at net.connectors (get_or connectors j 0)) ≡ false →
+    most_out net cells (take (j + 1) connectors) q s ≡ most_out net cells (take j connectors) q s
+unchained-more net cells connectors j q s within odd =
+    let connector : Connector = connector_at net.connectors (get_or connectors j 0) in
+    let none : is_link cells q connector ≡ false = elim (cases_Bool (is_link cells q connector)) [
+      | inl linked ↦
+          let at = link-is cells q connector linked in
+          let inside = at.within in
+          let chained : is_chained cells connector ≡ true =
+          finds (λ m. is_link cells m connector) (range_with_len 0 (length cells)) q (range-Contains (length cells) q (omega arith)) linked in
+          cc
+      | inr apart ↦ apart
+    ] in
+    most-same net cells (take j connectors) (take (j + 1) connectors) q s
+    (joined-more net cells connectors j q within ∙ ap (λ b. is_joined net cells (take j connectors) q || b) none ∙ or_false (is_joined net cells (take j connectors) q))
+
+-- the same by another name
+pub followed-same : (most later : ℕ → ℕ → ℕ) (places : List Place) (links : List FollowedLink) (t : ℕ) → ((q s : ℕ) → later q s ≡ most q s) →
+    AreFollowed most places links t → AreFollowed later places links t
+followed-same most later places links t same followed = record {
+  courses = λ k d within s. followed.courses k d within s ∙ sym (same (get_or links k d).place s);
+  each = λ p within. elim (followed.each p within) [
+    | inl constant ↦ inl (λ s from. constant s from ∙ sym (same p s))
+    | inr (m, has) ↦ inr (
+      m,
+      record {
+        there = has.there;
+        its = has.its;
+        steady = λ d s from before. has.steady d s from before ∙ sym (same p s);
+      },
+    )
+  ];
+}
+
+-- nothing is joined yet
+pub followed-none : (net : Network) (cells connectors : List ℕ) (places : List Place) (t : ℕ) → ((p : ℕ) → (place_at places p).most ≡ 0) →
+    AreFollowed (most_out net cells (take 0 connectors)) places [] t
+unfolding most_out is_joined
+followed-none net cells connectors places t none = record {
+  courses = λ k d within. absurd (omega arith);
+  each = λ p within. inl (λ s from. none p);
+}
+
+-- the numbers of those that aren't chained
+pub odd-more : (net : Network) (cells connectors : List ℕ) (j : ℕ) (b : Bool) → j < length connectors →
+    is_chained cells (connector_at net.connectors (get_or connectors j 0)) ≡ b →
+    odd_ones net cells (take (j + 1) connectors) ≡ odd_ones net cells (take j connectors) ++ (if b then [] else get_or connectors j 0 ∷ [])
+odd-more net cells connectors j b within is =
+    let odd : ℕ → Bool = λ k. not (is_chained cells (connector_at net.connectors k)) in
+    ap (filter odd) (take_more connectors j 0 within) ∙ filter-append odd (take j connectors) (get_or connectors j 0 ∷ [])
+    ∙ ap (λ list. filter odd (take j connectors) ++ list) (one odd (get_or connectors j 0) b (ap not is))
+  where
+    one : (odd : ℕ → Bool) (x : ℕ) (b : Bool) → odd x ≡ not b → filter odd (x ∷ []) ≡ (if b then [] else x ∷ [])
+    one odd x true is = rw is refl
+    one odd x false is = rw is refl
+
+-- the places keep all but their most
+pub record AreJoined (net : Network) (t : ℕ) (cells halo connectors : List ℕ) (first places : List Place) (links : List FollowedLink) (ties : List Tie) : Type 0 where
+  pub only_most : (q : ℕ) → place_at places q ≡ record (place_at first q) { most = (place_at places q).most }
+  pub links_there : All (IsThere (length cells) t) links
+  pub joined : All (λ link. is_joined net cells connectors link.place ≡ true) links
+  pub followed : AreFollowed (most_out net cells connectors) places links t
+  pub numbers : map (λ tie. tie.connector) ties ≡ odd_ones net cells connectors
+  pub tied : All (IsTie net cells halo) ties
+  pub come : All (λ tie. tie.course.step ≤ t) ties
+
+pub joined-none : (net : Network) (t : ℕ) (cells halo connectors : List ℕ) (places : List Place) → ((p : ℕ) → (place_at places p).most ≡ 0) →
+    AreJoined net t cells halo (take 0 connectors) places places [] []
+joined-none net t cells halo connectors places none = record {
+  only_most = λ q. refl;
+  links_there = λ k d within. absurd (omega arith);
+  joined = λ k d within. absurd (omega arith);
+  followed = followed-none net cells connectors places t none;
+  numbers = refl;
+  tied = λ k d within. absurd (omega arith);
+  come = λ k d within. absurd (omega arith);
+}
+
+-- a chained connector more
+pub joined-chained : (net : Network) (t : ℕ) (cells halo connectors : List ℕ) (first places after : List Place) (links later : List FollowedLink) (ties : List Tie)
+    (j p : ℕ) → j < length connectors → IsStrictlyIncreasing cells → is_link cells p (connector_at net.connectors (get_or connectors j 0)) ≡ true →
+    AreJoined net t cells halo (take j connectors) first places links ties → All (IsThere (length cells) t) later → IsAt p links later →
+    ((q : ℕ) → place_at after q ≡ record (place_at places q) { most = (place_at after q).most }) →
+    ((most next : ℕ → ℕ → ℕ) → AreFollowed most places links t → Extends net.plan cells p links most next → AreFollowed next after later t) →
+    AreJoined net t cells halo (take (j + 1) connectors) first after later ties
+joined-chained net t cells halo connectors first places after links later ties j p within rising linked has there at only follows =
+    let connector : Connector = connector_at net.connectors (get_or connectors j 0) in
+    let at_link = link-is cells p connector linked in
+    let inside = at_link.within in
+    let chained : is_chained cells connector ≡ true =
+    finds (λ m. is_link cells m connector) (range_with_len 0 (length cells)) p (range-Contains (length cells) p (omega arith)) linked in
+    record {
+      only_most = λ q. only q ∙ ap {B = Place} (λ place. record place { most = (place_at after q).most }) (has.only_most q);
+      links_there = there;
+      joined = at.each (is_joined net cells (take (j + 1) connectors))
+          (λ k d lt. joined-more net cells connectors j (get_or links k d).place within ∙ ap (λ b. b || is_link cells (get_or links k d).place connector) (has.joined k d lt))
+          (joined-more net cells connectors j p within ∙ ap (λ b. is_joined net cells (take j connectors) p || b) linked ∙ or_true (is_joined net cells (take j connectors) p));
+      followed = follows (most_out net cells (take j connectors)) (most_out net cells (take (j + 1) connectors)) has.followed
+          (extends-more net cells connectors j p links within rising linked has.joined);
+      numbers = has.numbers ∙ sym (odd-more net cells connectors j true within chained ∙ append-nil (odd_ones net cells (take j connectors)));
+      tied = has.tied;
+      come = has.come;
+    }
+
+-- another more
+pub joined-odd : (net : Network) (t : ℕ) (cells halo connectors : List ℕ) (first places : List Place) (links : List FollowedLink) (ties : List Tie) (tie : Tie)
+    (j : ℕ) → j < length connectors → is_chained cells (connector_at net.connectors (get_or connectors j 0)) ≡ false →
+    tie.connector ≡ get_or connectors j 0 → IsTie net cells halo tie → tie.course.step ≡ 0 →
+    AreJoined net t cells halo (take j connectors) first places links ties →
+    AreJoined net t cells halo (take (j + 1) connectors) first places links (ties ++ tie ∷ [])
+joined-odd net t cells halo connectors first places links ties tie j within odd number tied step has = record {
+  only_most = has.only_most;
+  links_there = has.links_there;
+  joined = λ k d lt.
+      joined-more net cells connectors j (get_or links k d).place within
+      ∙ ap (λ b. b || is_link cells (get_or links k d).place (connector_at net.connectors (get_or connectors j 0))) (has.joined k d lt);
+  followed = followed-same (most_out net cells (take j connectors)) (most_out net cells (take (j + 1) connectors)) places links t
+      (λ q s. unchained-more net cells connectors j q s within odd) has.followed;
+  numbers = map-append (λ tie. tie.connector) ties (tie ∷ []) ∙ ap (λ list. list ++ tie.connector ∷ []) has.numbers
+      ∙ ap (λ k. odd_ones net cells (take j connectors) ++ k ∷ []) number ∙ sym (odd-more net cells connectors j false within odd);
+  tied = All-push (IsTie net cells halo) ties tie has.tied tied;
+  come = All-push (λ tie. tie.course.step ≤ t) ties tie has.come (omega arith);
+}

@@ -1,0 +1,88 @@
+-- A place that is joined to the next, and the links that follow.
+use Rattle.std.specs.Prelude.{slice_index}
+use Rattle.std.proofs.Common.{◌≡◌, ◌≢◌, ℕ, ◌+◌, ◌<◌, ◌≤◌, inl, inr, List, [], ◌∷◌, ◌++◌, length, get_or, set, refl, sym, ap, ◌∙◌, arith}
+use Rattle.std.proofs.lemmas.Bool.{cases_eq}
+use Rattle.std.proofs.lemmas.List.{get_or-set_other, get_or-set_same, get_or_append_left, get_or_push, length-set, length_push}
+use Rattle.std.proofs.lemmas.List.Elements.{All-push}
+use Rattle.signal_plan.specs.Records.{PlanRecords}
+use Rattle.region_body.specs.Places.{no_place, place_at}
+use Rattle.region_body.specs.declared.place.Place.{Place}
+use Rattle.courses.specs.Courses.{IsSteady}
+use Rattle.courses.specs.Links.{LinkValues, most_at, most_between}
+use Rattle.region_body.specs.Followed.{AreFollowed, IsCourse, IsFollowed}
+use Rattle.region_body.specs.declared.followed.FollowedLink.{FollowedLink}
+use Rattle.region_body.specs.Joining.{Extends}
+
+-- the course of the link from the p-th cell to the next, and what its place carries at most from step t on
+pub record IsJoined (plan : PlanRecords) (cells : List ℕ) (p t : ℕ) (course : LinkValues) (value until : ℕ) : Type 0 where
+  pub course_is : (s : ℕ) → most_at course s ≡ most_between plan (slice_index cells p) (slice_index cells (p + 1)) s
+  pub value_is : value ≡ most_at course t
+  pub steady : IsSteady (most_at course) t until
+
+-- the other places
+others-follow : (plan : PlanRecords) (cells : List ℕ) (most later : ℕ → ℕ → ℕ) (place : Place) (links after : List FollowedLink) (t p q m : ℕ) →
+    Extends plan cells p links most later → q ≢ p → length links ≤ length after →
+    ((k : ℕ) (d : FollowedLink) → k < length links → get_or after k d ≡ get_or links k d) →
+    IsFollowed most place links t q m → IsFollowed later place after t q m
+others-follow plan cells most later place links after t p q m extends other longer same has = record {
+  there = let there = has.there in omega arith;
+  its = λ d. ap (λ link. link.place) (same m d has.there) ∙ has.its d;
+  steady = λ d s from within.
+      has.steady d s from (rw (same m d has.there) at within) ∙ sym (extends.others q s other);
+}
+
+-- the most never changes
+pub joined-constant : (plan : PlanRecords) (cells : List ℕ) (most later : ℕ → ℕ → ℕ) (places : List Place) (links : List FollowedLink) (t p : ℕ)
+    (course : LinkValues) (value until : ℕ) → p < length places → IsJoined plan cells p t course value until →
+    ((s u : ℕ) → most_at course s ≡ most_at course u) → AreFollowed most places links t → Extends plan cells p links most later →
+    AreFollowed later (set places p (record (place_at places p) { most = value })) links t
+joined-constant plan cells most later places links t p course value until there joined constant followed extends =
+    let place : Place = record (place_at places p) { most = value } in
+    record {
+      courses = λ k d within s. followed.courses k d within s ∙ sym (extends.linked k d within s);
+      each = λ q lt. elim (cases_eq q p) [
+        | inl same ↦ rw (same, get_or-set_same places p place no_place there)
+            (inl (λ s from. joined.value_is ∙ constant t s ∙ joined.course_is s ∙ sym (extends.here s)))
+        | inr other ↦ rw (get_or-set_other places p q place no_place other)
+            (elim (followed.each q (omega (arith, length-set places p place))) [
+              | inl steady ↦ inl (λ s from. steady s from ∙ sym (extends.others q s other))
+              | inr (m, has) ↦ inr (m, others-follow plan cells most later (place_at places q) links links t p q m extends other (omega arith) (λ k d within. refl) has)
+            ])
+      ];
+    }
+
+-- the most changes, and a link follows it
+pub joined-followed : (plan : PlanRecords) (cells : List ℕ) (most later : ℕ → ℕ → ℕ) (places : List Place) (links : List FollowedLink) (t p : ℕ)
+    (link : FollowedLink) (value : ℕ) → p < length places → IsJoined plan cells p t link.course value link.until → link.place ≡ p →
+    AreFollowed most places links t → Extends plan cells p links most later →
+    AreFollowed later (set places p (record (place_at places p) { most = value })) (links ++ link ∷ []) t
+joined-followed plan cells most later places links t p link value there joined its followed extends =
+    let place : Place = record (place_at places p) { most = value } in
+    let after : List FollowedLink = links ++ link ∷ [] in
+    let longer = length_push links link in
+    record {
+      courses = All-push (IsCourse later) links link (λ k d within s. followed.courses k d within s ∙ sym (extends.linked k d within s))
+          (λ s. joined.course_is s ∙ sym (extends.here s) ∙ ap (λ q. later q s) (sym its));
+      each = λ q lt. elim (cases_eq q p) [
+        | inl same ↦ rw (same, get_or-set_same places p place no_place there)
+            (inr (
+              length links,
+              record {
+                there = omega arith;
+                its = λ d. ap (λ one. one.place) (get_or_push links link d (length links) refl) ∙ its;
+                steady = λ d s from within.
+                    joined.value_is ∙ sym (joined.steady s from (rw (get_or_push links link d (length links) refl) at within))
+                    ∙ joined.course_is s ∙ sym (extends.here s);
+              },
+            ))
+        | inr other ↦ rw (get_or-set_other places p q place no_place other)
+            (elim (followed.each q (omega (arith, length-set places p place))) [
+              | inl steady ↦ inl (λ s from. steady s from ∙ sym (extends.others q s other))
+              | inr (m, has) ↦ inr (
+                m,
+                others-follow plan cells most later (place_at places q) links after t p q m extends other (omega arith)
+                    (λ k d within. get_or_append_left links (link ∷ []) d k within) has,
+              )
+            ])
+      ];
+    }

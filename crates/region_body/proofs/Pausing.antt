@@ -1,0 +1,415 @@
+-- Cells among which nothing moves keep all but how long they waited.
+use Rattle.std.specs.Prelude.{All, None, Option, ◌==◌, map, slice_index, if◌then◌else◌}
+use Rattle.std.specs.List.{range_with_len, sum_by}
+use Rattle.std.proofs.Common.{◌≡◌, Bool, ℕ, zero, suc, ◌+◌, ◌-◌, ◌^◌, ◌<◌, ◌≤◌, inl, inr, true, false, List, [], ◌∷◌, length, get_or, refl, sym, ap, ◌∙◌, subst, zero-add, add-one, arith}
+use Rattle.std.proofs.lemmas.Bool.{cases_lt}
+use Rattle.std.proofs.lemmas.List.{ext_get_or}
+use Rattle.std.proofs.lemmas.List.FromFn.{get_or-map-range_with_len, length-map-range_with_len}
+use Rattle.signal_plan.proofs.Sums.{sum_by-zero}
+use Rattle.network_file.specs.Connectors.{connector_at}
+use Rattle.network_file.specs.Network.{IsNetwork, Network}
+use Rattle.flow_model.specs.Flows.{amount_beside, entering, flow_of, inflow, leaving, outflow}
+use Rattle.flow_model.specs.Limits.{room_at}
+use Rattle.flow_model.specs.State.{rows_after}
+use Rattle.flow_model.specs.Rows.{empty_row, next_row}
+use Rattle.region_body.specs.Flows.{flow_at, no_flow}
+use Rattle.region_body.specs.Places.{carried, link_in, link_out, moved, no_place, place_at}
+use Rattle.region_body.specs.Space.{IsSpaceOf}
+use Rattle.region_body.specs.declared.place.Place.{Place}
+use Rattle.region_body.proofs.Neighbours.{link_in-first, link_in-more, link_out-carried, place_at-past}
+use Rattle.courses.specs.Courses.{Course, value_at}
+use Rattle.courses.specs.Cells.{CellValues}
+use Rattle.region_body.specs.Followed.{AreFollowed}
+use Rattle.region_body.specs.declared.followed.FollowedLink.{FollowedLink}
+use Rattle.region_body.specs.Carrying.{IsSpotOf, IsThere, IsTie, held_in, spot_at, three_held}
+use Rattle.region_body.specs.Chains.{most_out}
+use Rattle.region_body.specs.Gates.{AreGatesKept, demand_into}
+use Rattle.region_body.specs.Moves.{ArePartsOf, IsScene, IsSeen, in_by, out_by}
+use Rattle.region_body.specs.Pausing.{AreIdle, IsIdleUntil}
+use Rattle.region_body.specs.Placed.{ArePlacesInBounds, ArePlaced, CanAdvance, PlacedCells, WaitThrough}
+use Rattle.region_body.specs.Rows.{IsOf, origin_at, row_of, rows_of}
+use Rattle.region_body.specs.Waiting.{waited}
+use Rattle.region_body.specs.declared.gate.GatePlace.{GatePlace}
+use Rattle.region_body.specs.declared.pause.Pause.{Pause}
+use Rattle.region_body.specs.declared.tie.Tie.{Tie}
+use Rattle.region_body.proofs.Parting.{carried-is}
+use Rattle.region_body.proofs.Spots.{held-same}
+use Rattle.region_body.proofs.Stays.{length-waited, n-waited, place_at-waited, waited-same}
+use Rattle.region_body.proofs.Ties.{demands-kept, gates-kept}
+use Rattle.region_body.proofs.Whole.{IsMoved, held-sum, length-rows_after, length-rows_of, ready, row-after, row_at-rows_after, row_at-rows_of, steps-moved}
+
+-- where nothing is carried nothing leaves a cell and nothing enters it
+
+amount_beside-nothing : (i : ℕ) (cells : List ℕ) → amount_beside i cells (0 ∷ 0 ∷ []) ≡ 0
+amount_beside-nothing i [] = refl
+amount_beside-nothing i (a ∷ []) = none (i == a)
+  where
+    none : (b : Bool) → (if b then 0 else 0) + 0 ≡ 0
+    none true = refl
+    none false = refl
+amount_beside-nothing i (a ∷ b ∷ cells) = both (i == a) (i == b) cells
+  where
+    both : (a b : Bool) (cells : List ℕ) → (if a then 0 else 0) + ((if b then 0 else 0) + amount_beside i cells []) ≡ 0
+    both true true [] = refl
+    both true false [] = refl
+    both false true [] = refl
+    both false false [] = refl
+    both true true (c ∷ cells) = refl
+    both true false (c ∷ cells) = refl
+    both false true (c ∷ cells) = refl
+    both false false (c ∷ cells) = refl
+
+-- the links to neighbours
+
+-- the places with the most of step t
+abbrev fresh : Network → (cells connectors : List ℕ) → (t : ℕ) → List Place → List Place
+fresh net cells connectors t places =
+    map (λ p. record (place_at places p) { most = most_out net cells connectors p t }) (range_with_len 0 (length places))
+
+length-fresh : (net : Network) (cells connectors : List ℕ) (t : ℕ) (places : List Place) → length (fresh net cells connectors t places) ≡ length places
+length-fresh net cells connectors t places =
+    length-map-range_with_len (λ p. record (place_at places p) { most = most_out net cells connectors p t }) 0 (length places)
+
+fresh-at : (net : Network) (cells connectors : List ℕ) (t : ℕ) (places : List Place) (p : ℕ) → p < length places →
+    place_at (fresh net cells connectors t places) p ≡ record (place_at places p) { most = most_out net cells connectors p t }
+fresh-at net cells connectors t places p within =
+    get_or-map-range_with_len (λ p. record (place_at places p) { most = most_out net cells connectors p t }) 0 (length places) p p no_place within (zero-add p)
+
+-- what a place holds and its space
+fresh-next : (net : Network) (cells connectors : List ℕ) (t : ℕ) (places : List Place) (p : ℕ) (place : Place) →
+    carried place (place_at (fresh net cells connectors t places) p) ≡ carried place (place_at places p)
+fresh-next net cells connectors t places p place = elim (cases_lt p (length places)) [
+  | inl within ↦ ap (carried place) (fresh-at net cells connectors t places p within)
+  | inr past ↦
+      ap (carried place) (place_at-past (fresh net cells connectors t places) p (omega (arith, past, length-fresh net cells connectors t places))
+      ∙ sym (place_at-past places p (omega (arith, past))))
+]
+
+no_course : Course ℕ
+no_course = record { start = 0; changes = []; step = 0 }
+
+no_cell : CellValues
+no_cell = record { capacity = no_course; signal = None }
+
+no_link : FollowedLink
+no_link = record { place = 0; until = 0; course = record { up = no_cell; down = no_cell; step = 0 } }
+
+fresh-still : (net : Network) (cells connectors : List ℕ) (t until : ℕ) (places : List Place) (links : List FollowedLink) (ties : List Tie) (put : List (Option ℕ)) (p : ℕ) →
+    AreFollowed (most_out net cells connectors) places links t → AreIdle places links ties put until → t < until → p < length places →
+    link_out (fresh net cells connectors t places) p ≡ 0
+fresh-still net cells connectors t until places links ties put p followed idle before within =
+    let place : Place = place_at places p in
+    let is : link_out (fresh net cells connectors t places) p ≡ carried (record place { most = most_out net cells connectors p t }) (place_at places (p + 1)) =
+    link_out-carried (fresh net cells connectors t places) p ∙ fresh-next net cells connectors t places (p + 1) (place_at (fresh net cells connectors t places) p)
+    ∙ ap (λ one. carried one (place_at places (p + 1))) (fresh-at net cells connectors t places p within) in
+    let still : carried place (place_at places (p + 1)) ≡ 0 = sym (link_out-carried places p) ∙ idle.still p within in
+    let same : place.most ≡ most_out net cells connectors p t → link_out (fresh net cells connectors t places) p ≡ 0 =
+    λ most. is ∙ rw (← most) still in
+    elim (followed.each p within) [
+      | inl constant ↦ same (constant t (omega arith))
+      | inr (m, has) ↦ elim (idle.changes m no_link has.there) [
+        | inl empty ↦
+            let none : place.n ≡ 0 = ap (λ q. (place_at places q).n) (sym (has.its no_link)) ∙ empty in
+            is ∙ omega (arith, none)
+        | inr later ↦ same (has.steady no_link t (omega arith) (omega (arith, later, before)))
+      ]
+    ]
+
+-- the other connectors
+
+still-flow : (net : Network) (t : ℕ) (n : ℕ → ℕ) (cells halo : List ℕ) (ties : List Tie) (places : List Place) (put : List (Option ℕ)) (until k : ℕ) (tie : Tie) →
+    IsScene net t cells halo ties places put → IsSeen n cells halo places put → All (λ tie. tie.course.step ≤ t) ties → All (IsIdleUntil places put until) ties →
+    t < until → k < length ties → flow_of net t n (connector_at net.connectors (get_or ties k tie).connector) ≡ no_flow
+still-flow net t n cells halo ties places put until k tie scene seen come idle before there =
+    sym (carried-is net t n cells halo ties places put (get_or ties k tie) scene seen (scene.tied.tied k tie there))
+    ∙ idle k tie there t (come k tie there) before
+
+none-out : (net : Network) (t i : ℕ) (n : ℕ → ℕ) (k : ℕ) → flow_of net t n (connector_at net.connectors k) ≡ no_flow → out_by net t n i k ≤ 0
+none-out net t i n k none =
+    let is = ap (leaving i (connector_at net.connectors k)) none ∙ amount_beside-nothing i _ in omega (arith, is)
+
+none-in : (net : Network) (t i : ℕ) (n : ℕ → ℕ) (k : ℕ) → flow_of net t n (connector_at net.connectors k) ≡ no_flow → in_by net t n i k ≤ 0
+none-in net t i n k none =
+    let is = ap (entering i (connector_at net.connectors k)) none ∙ amount_beside-nothing i _ in omega (arith, is)
+
+none-demanded : (t p : ℕ) (gates : List GatePlace) → All (λ gate. value_at gate.course t ≡ 0) gates → sum_by (demand_into t p) gates ≡ 0
+none-demanded t p gates none = sum_by-zero (demand_into t p) gates (λ k d within.
+    let gate : GatePlace = get_or gates k d in
+    let is : demand_into t p gate ≡ 0 = ap (λ x. if gate.place == p then x else 0) (none k d within) ∙ neither (gate.place == p) 0 in
+    omega (arith, is))
+  where
+    neither : (b : Bool) (x : ℕ) → (if b then x else x) ≡ x
+    neither true x = refl
+    neither false x = refl
+
+-- nothing leaves a cell that waits through step t, and nothing enters it
+
+pub still : (net : Network) (t : ℕ) (n : ℕ → ℕ) (cells halo connectors : List ℕ) (placed : PlacedCells) (put : List (Option ℕ)) → IsNetwork net → t < net.steps →
+    ArePlaced net cells halo connectors t placed → ArePlacesInBounds net cells halo t placed put → IsSeen n cells halo placed.places put → WaitThrough t placed put →
+    (p : ℕ) → p < length cells → (outflow net t n (slice_index cells p) ≡ 0) × (inflow net t n (slice_index cells p) ≡ 0)
+still net t n cells halo connectors placed put sound before has bounds seen wait =
+    let idle : AreIdle placed.places placed.links placed.ties put placed.pause.until =
+    subst (λ put. AreIdle placed.places placed.links placed.ties put placed.pause.until) wait.same (has.pause.idle t wait.paused) in
+    let scene : IsScene net t cells halo placed.ties placed.places put = record {
+      sound = sound;
+      before = before;
+      tied = has.tied;
+      place_each = has.one_each;
+      put_each = bounds.put_each;
+      own = λ p within. (ready net t n cells halo connectors placed put p sound before has bounds seen within).row.held;
+      around = bounds.around;
+    } in
+    let flow = λ (k : ℕ) (d : Tie) (there : k < length placed.ties).
+    still-flow net t n cells halo placed.ties placed.places put placed.pause.until k d scene seen has.come idle.tied wait.paused there in
+    let parts : ArePartsOf net t n cells placed.ties (λ p. 0) (λ p. 0) = record {
+      taken = λ p within. sym (sum_by-zero (λ tie. out_by net t n (slice_index cells p) tie.connector) placed.ties
+          (λ k d there. none-out net t (slice_index cells p) n (get_or placed.ties k d).connector (flow k d there)));
+      brought = λ p within. sym (sum_by-zero (λ tie. in_by net t n (slice_index cells p) tie.connector) placed.ties
+          (λ k d there. none-in net t (slice_index cells p) n (get_or placed.ties k d).connector (flow k d there)));
+    } in
+    let places : List Place = fresh net cells connectors t placed.places in
+    let none : (p : ℕ) → p < length cells → link_out places p ≡ 0 =
+    λ p within. fresh-still net cells connectors t placed.pause.until placed.places placed.links placed.ties put p has.followed idle wait.paused (omega (arith, has.one_each)) in
+    let moves : IsMoved net t n cells places (λ p. 0) (λ p. 0) =
+    steps-moved net cells halo connectors t n placed places (λ p. 0) (λ p. 0) (λ p. 0) put sound before has bounds seen
+    (length-fresh net cells connectors t placed.places) (fresh-at net cells connectors t placed.places) parts
+    (λ p. omega (arith, none-demanded t p placed.gates wait.demand_nothing)) in
+    λ p within. (
+      omega (arith, moves.leaves p within, none p within),
+      omega (arith, moves.enters p within, none-before places p within none),
+    )
+  where
+    none-before : (places : List Place) (p : ℕ) → p < length cells → ((p : ℕ) → p < length cells → link_out places p ≡ 0) → link_in places p ≡ 0
+    none-before places zero within none = link_in-first places
+    none-before places (suc p) within none = ap (link_in places) (sym (add-one p)) ∙ link_in-more places p ∙ none p (omega arith)
+
+-- what a place held once more is its step in which nothing moved
+waits-step : (place : Place) (enters leaves : ℕ) → enters ≡ 0 → leaves ≡ 0 → waited 1 place ≡ moved place enters leaves
+unfolding waited
+waits-step place enters leaves none none_out =
+    let n : place.n + enters - leaves ≡ place.n = omega arith in
+    let gone : place.gone + leaves ≡ place.gone = omega arith in
+    rw (n, gone) refl
+
+cell-waits : (net : Network) (t : ℕ) (n : ℕ → ℕ) (cells halo connectors : List ℕ) (placed : PlacedCells) (put : List (Option ℕ)) → IsNetwork net → t < net.steps →
+    ArePlaced net cells halo connectors t placed → ArePlacesInBounds net cells halo t placed put → IsSeen n cells halo placed.places put → WaitThrough t placed put →
+    (p : ℕ) → p < length cells →
+    (row_of (origin_at placed.origins p) (waited 1 (place_at placed.places p)) ≡ next_row net t n (slice_index cells p) (row_of (origin_at placed.origins p) (place_at placed.places p))) ×
+    IsOf net (slice_index cells p) (origin_at placed.origins p) (waited 1 (place_at placed.places p))
+cell-waits net t n cells halo connectors placed put sound before has bounds seen wait p within =
+    let place : Place = place_at placed.places p in
+    let none = still net t n cells halo connectors placed put sound before has bounds seen wait p within in
+    row-after net t n (slice_index cells p) (origin_at placed.origins p) place place (waited 1 place) place.most 0 0
+    (ready net t n cells halo connectors placed put p sound before has bounds seen within) refl (waits-step place 0 0 refl refl) (sym none.1) (sym none.0)
+
+-- the cells as they are after a step of waiting
+abbrev pub waiting : PlacedCells → (gates : List GatePlace) → (before : List ℕ) → PlacedCells
+waiting placed gates before = record placed {
+  places = map (waited 1) placed.places;
+  before = before;
+  gates = gates;
+  pause = record placed.pause { owed = placed.pause.owed + 1 };
+}
+
+pub rows-waited : (net : Network) (cells : List ℕ) (t : ℕ) (placed : PlacedCells) (put : List (Option ℕ)) → IsNetwork net → t < net.steps → WaitThrough t placed put →
+    (can : CanAdvance net cells t placed put) → rows_of placed.origins (map (waited 1) placed.places) ≡ rows_after net t can.n cells (rows_of placed.origins placed.places)
+rows-waited net cells t placed put sound before wait can =
+    let rows = rows_after net t can.n cells (rows_of placed.origins placed.places) in
+    ext_get_or empty_row (rows_of placed.origins (map (waited 1) placed.places)) rows
+    (length-rows_of placed.origins (map (waited 1) placed.places) ∙ can.laid.origin_each ∙ sym (length-rows_after net t can.n cells (rows_of placed.origins placed.places)))
+    (λ p lt.
+    let inside : p < length placed.origins = omega (arith, length-rows_of placed.origins (map (waited 1) placed.places)) in
+    let within : p < length cells = omega (arith, can.laid.origin_each) in
+    row_at-rows_of placed.origins (map (waited 1) placed.places) p inside
+    ∙ ap (row_of (origin_at placed.origins p)) (place_at-waited 1 placed.places p (omega (arith, within, can.laid.one_each)))
+    ∙ (cell-waits net t can.n cells can.halo can.connectors placed put sound before can.laid can.bounds can.seen wait p within).0
+    ∙ sym (row_at-rows_after net t can.n cells (rows_of placed.origins placed.places) p within
+    ∙ ap (next_row net t can.n (slice_index cells p)) (row_at-rows_of placed.origins placed.places p inside)))
+
+-- what moves by their connectors is as before
+
+held-waited : (places : List Place) (put : List (Option ℕ)) (spot : ℕ) → held_in (map (waited 1) places) put spot ≡ held_in places put spot
+held-waited places put spot =
+    held-same (length (map (waited 1) places)) (length places) (λ p. (place_at (map (waited 1) places) p).n) (λ p. (place_at places p).n) put spot (length-waited 1 places)
+    (λ p within. n-waited 1 places p)
+
+three-waited : (tie : Tie) (places : List Place) (put : List (Option ℕ)) → three_held tie (held_in (map (waited 1) places) put) ≡ three_held tie (held_in places put)
+three-waited tie places put =
+    rw (held-waited places put (spot_at tie 0), held-waited places put (spot_at tie 1), held-waited places put (spot_at tie 2)) refl
+
+next-waited : (places : List Place) (p : ℕ) (place : Place) → carried place (place_at (map (waited 1) places) p) ≡ carried place (place_at places p)
+next-waited places p place = elim (cases_lt p (length places)) [
+  | inl within ↦ ap (carried place) (place_at-waited 1 places p within ∙ waited-same 1 (place_at places p))
+  | inr past ↦
+      ap (carried place) (place_at-past (map (waited 1) places) p (omega (arith, past, length-waited 1 places))
+      ∙ sym (place_at-past places p (omega (arith, past))))
+]
+
+out-waited : (places : List Place) (p : ℕ) → p < length places → link_out (map (waited 1) places) p ≡ link_out places p
+out-waited places p within =
+    link_out-carried (map (waited 1) places) p ∙ next-waited places (p + 1) (place_at (map (waited 1) places) p)
+    ∙ ap (λ one. carried one (place_at places (p + 1))) (place_at-waited 1 places p within ∙ waited-same 1 (place_at places p))
+    ∙ sym (link_out-carried places p)
+
+idle-waited : (places : List Place) (links : List FollowedLink) (ties : List Tie) (put : List (Option ℕ)) (until : ℕ) → AreIdle places links ties put until →
+    AreIdle (map (waited 1) places) links ties put until
+idle-waited places links ties put until idle = record {
+  still = λ p within. let here : p < length places = omega (arith, within, length-waited 1 places) in out-waited places p here ∙ idle.still p here;
+  changes = λ k d within. elim (idle.changes k d within) [
+    | inl empty ↦ inl (n-waited 1 places (get_or links k d).place ∙ empty)
+    | inr later ↦ inr later
+  ];
+  tied = λ k d within s from before.
+      ap (flow_at (get_or ties k d).course s) (three-waited (get_or ties k d) places put) ∙ idle.tied k d within s from before;
+}
+
+followed-waited : (most : ℕ → ℕ → ℕ) (places : List Place) (links : List FollowedLink) (t : ℕ) → AreFollowed most places links t →
+    AreFollowed most (map (waited 1) places) links (t + 1)
+followed-waited most places links t has = record {
+  courses = has.courses;
+  each = λ p within.
+      let here : p < length places = omega (arith, within, length-waited 1 places) in
+      let is = ap (λ place. place.most) (place_at-waited 1 places p here ∙ waited-same 1 (place_at places p)) in
+      elim (has.each p here) [
+        | inl stays ↦ inl (λ s from. is ∙ stays s (omega (arith, from)))
+        | inr (m, by) ↦ inr (m, record { there = by.there; its = by.its; steady = λ d s from before. is ∙ by.steady d s (omega (arith, from)) before })
+      ];
+}
+
+pub placed-waited : (net : Network) (cells : List ℕ) (t : ℕ) (placed : PlacedCells) (put : List (Option ℕ)) (gates : List GatePlace) (before : List ℕ) → IsNetwork net →
+    t < net.steps → WaitThrough t placed put → AreGatesKept t placed.gates gates → length before ≡ length placed.before →
+    ((p : ℕ) → p < length placed.places → slice_index before p ≡ (place_at placed.places p).n) →
+    (can : CanAdvance net cells t placed put) → ArePlaced net cells can.halo can.connectors (t + 1) (waiting placed gates before)
+placed-waited net cells t placed put gates before sound in_time wait kept long noted can =
+    let has = can.laid in
+    let space_is = λ (p : ℕ) (within : p < length cells).
+    ap (λ place. place.space) (place_at-waited 1 placed.places p (omega (arith, within, has.one_each)) ∙ waited-same 1 (place_at placed.places p)) in
+    record {
+      around = has.around;
+      known = has.known;
+      tied = has.tied;
+      numbers = has.numbers;
+      one_each = length-waited 1 placed.places ∙ has.one_each;
+      origin_each = has.origin_each;
+      before_each = long ∙ has.before_each;
+      own = λ p within.
+          subst (IsOf net (slice_index cells p) (origin_at placed.origins p)) (sym (place_at-waited 1 placed.places p (omega (arith, within, has.one_each))))
+          (cell-waits net t can.n cells can.halo can.connectors placed put sound in_time has can.bounds can.seen wait p within).1;
+      space = λ p within. subst (λ space. IsSpaceOf space (room_at net.cells (slice_index cells p))) (sym (space_is p within)) (has.space p within);
+      come = λ k d within. omega (arith, has.come k d within);
+      unchanged = has.unchanged;
+      gates = gates-kept t placed.gates gates kept ∙ has.gates;
+      demands = λ k d within.
+          let is = demands-kept net cells t placed.gates gates kept has.demands k d within in
+          record { demand = is.demand; step = omega (arith, is.step) };
+      links = λ k d within.
+          let there = has.links k d within in
+          record { place = omega (arith, there.place, length-waited 1 placed.places); step = omega (arith, there.step) };
+      followed = followed-waited (most_out net cells can.connectors) placed.places placed.links t has.followed;
+      pause = record {
+        idle = λ s within. idle-waited placed.places placed.links placed.ties placed.seen placed.pause.until (has.pause.idle s within);
+        owed = omega (arith, has.pause.owed);
+        kept = λ some p within.
+            let here : p < length placed.places = omega (arith, within, length-waited 1 placed.places) in
+            noted p here ∙ sym (n-waited 1 placed.places p);
+      };
+      seen_each = has.seen_each;
+    }
+
+-- no sum of a place runs too large as it waits
+pub sums-fit : (net : Network) (cells : List ℕ) (t : ℕ) (placed : PlacedCells) (put : List (Option ℕ)) → IsNetwork net → t < net.steps →
+    CanAdvance net cells t placed put → (p : ℕ) → p < length placed.origins → (origin_at placed.origins p).is_exit ≡ false →
+    (place_at placed.places p).held + (place_at placed.places p).n < 2 ^ 64
+sums-fit net cells t placed put sound before can p inside other =
+    let within : p < length cells = omega (arith, can.laid.origin_each) in
+    held-sum net t can.n (slice_index cells p) (origin_at placed.origins p) (place_at placed.places p)
+    (ready net t can.n cells can.halo can.connectors placed put p sound before can.laid can.bounds can.seen within) other
+
+-- cells that wake, with gates that were asked
+
+abbrev pub awake : PlacedCells → List GatePlace → PlacedCells
+awake placed gates = record placed { gates = gates; pause = record placed.pause { owed = 0; until = 0 } }
+
+pub placed-awake : (net : Network) (cells halo connectors : List ℕ) (t : ℕ) (placed : PlacedCells) (gates : List GatePlace) →
+    ArePlaced net cells halo connectors t placed → AreGatesKept t placed.gates gates → ArePlaced net cells halo connectors t (awake placed gates)
+placed-awake net cells halo connectors t placed gates has kept = record {
+  around = has.around;
+  known = has.known;
+  tied = has.tied;
+  numbers = has.numbers;
+  one_each = has.one_each;
+  origin_each = has.origin_each;
+  before_each = has.before_each;
+  own = has.own;
+  space = has.space;
+  come = has.come;
+  unchanged = has.unchanged;
+  gates = gates-kept t placed.gates gates kept ∙ has.gates;
+  demands = demands-kept net cells t placed.gates gates kept has.demands;
+  links = has.links;
+  followed = has.followed;
+  pause = record { idle = λ s none. absurd (omega (arith, none)); owed = omega arith; kept = λ some. absurd (omega (arith, some)) };
+  seen_each = has.seen_each;
+}
+
+pub advance-awake : (net : Network) (cells : List ℕ) (t : ℕ) (placed : PlacedCells) (gates : List GatePlace) (put : List (Option ℕ)) →
+    AreGatesKept t placed.gates gates → CanAdvance net cells t placed put → CanAdvance net cells t (awake placed gates) put
+advance-awake net cells t placed gates put kept can = record {
+  halo = can.halo;
+  connectors = can.connectors;
+  n = can.n;
+  laid = placed-awake net cells can.halo can.connectors t placed gates can.laid kept;
+  bounds = record { own = can.bounds.own; put_each = can.bounds.put_each; around = can.bounds.around };
+  seen = can.seen;
+}
+
+-- what a step says of them it says of the cells as they were
+pub rows-awake : (net : Network) (cells : List ℕ) (t : ℕ) (old mid new : PlacedCells) (gates : List GatePlace) (put : List (Option ℕ)) → mid ≡ awake old gates →
+    AreGatesKept t old.gates gates → ((can : CanAdvance net cells t mid put) → rows_of new.origins new.places ≡ rows_after net t can.n cells (rows_of mid.origins mid.places)) →
+    (can : CanAdvance net cells t old put) → rows_of new.origins new.places ≡ rows_after net t can.n cells (rows_of old.origins old.places)
+unfolding advance-awake
+rows-awake net cells t old mid new gates put is kept =
+    rw is (λ rows can. rows (advance-awake net cells t old gates put kept can))
+
+pub places-awake : (net : Network) (cells : List ℕ) (t : ℕ) (old mid new : PlacedCells) (gates : List GatePlace) (put : List (Option ℕ)) → mid ≡ awake old gates →
+    AreGatesKept t old.gates gates → ((can : CanAdvance net cells t mid put) → ArePlaced net cells can.halo can.connectors (t + 1) new) →
+    (can : CanAdvance net cells t old put) → ArePlaced net cells can.halo can.connectors (t + 1) new
+unfolding advance-awake
+places-awake net cells t old mid new gates put is kept =
+    rw is (λ placed can. placed (advance-awake net cells t old gates put kept can))
+
+-- with another pause the cells are placed as before
+pub placed-paused : (net : Network) (cells halo connectors : List ℕ) (t : ℕ) (placed : PlacedCells) (pause : Pause) (put : List (Option ℕ)) →
+    ArePlaced net cells halo connectors t placed → pause.owed ≡ 0 → length put ≡ length halo →
+    ((s : ℕ) → s < pause.until → AreIdle placed.places placed.links placed.ties put pause.until) →
+    ArePlaced net cells halo connectors t (record placed { pause = pause; seen = put })
+placed-paused net cells halo connectors t placed pause put has none put_each idle = record {
+  around = has.around;
+  known = has.known;
+  tied = has.tied;
+  numbers = has.numbers;
+  one_each = has.one_each;
+  origin_each = has.origin_each;
+  before_each = has.before_each;
+  own = has.own;
+  space = has.space;
+  come = has.come;
+  unchanged = has.unchanged;
+  gates = has.gates;
+  demands = has.demands;
+  links = has.links;
+  followed = has.followed;
+  pause = record { idle = idle; owed = omega (arith, none); kept = λ some. absurd (omega (arith, none, some)) };
+  seen_each = put_each;
+}
+
+-- the spots of a tie are there
+pub spots-there : (net : Network) (cells halo : List ℕ) (places : List Place) (put : List (Option ℕ)) (tie : Tie) → length places ≡ length cells →
+    length put ≡ length halo → IsTie net cells halo tie → (m : ℕ) → m < 3 → IsThere places put (spot_at tie m)
+spots-there net cells halo places put tie long put_each tied m few = there (spot_at tie m) _ (tied.spots m few)
+  where
+    there : (spot i : ℕ) → IsSpotOf cells halo i spot → IsThere places put spot
+    there spot i spotted = elim spotted [
+      | inl own ↦ omega (arith, own.0, long, put_each)
+      | inr (j, at, within, is) ↦ omega (arith, at, within, long, put_each)
+    ]

@@ -1,0 +1,563 @@
+-- A whole step of places is the step of their cells.
+use Rattle.std.specs.Prelude.{All, Bool, Option, ◌==◌, map, slice_index, if◌then◌else◌}
+use Rattle.std.proofs.lemmas.List.Elements.{Contains-get_or}
+use Rattle.std.specs.List.{Contains, filter, range_with_len, sum_by}
+use Rattle.std.proofs.Common.{◌≡◌, ℕ, ◌+◌, ◌-◌, ◌^◌, ◌<◌, ◌≤◌, inl, inr, true, false, List, length, get_or, refl, sym, ap, ◌∙◌, subst, zero-add, arith}
+use Rattle.std.proofs.lemmas.Bool.{cases_Bool, cases_eq, eq-eqb, ne_eqb}
+use Rattle.std.proofs.lemmas.List.{ext_get_or, get_or-map, length-map}
+use Rattle.std.proofs.lemmas.List.FromFn.{get_or-map-range_with_len, length-map-range_with_len}
+use Rattle.signal_plan.specs.Capacity.{capacity_at}
+use Rattle.signal_plan.specs.Demand.{demand_at}
+use Rattle.signal_plan.proofs.Sums.{sum_by-filter, sum_by_agree, sum_by_range_one}
+use Rattle.network_file.specs.Cells.{is_gate_at, is_road}
+use Rattle.network_file.specs.declared.cell.Cell.{Cell}
+use Rattle.network_file.specs.declared.cell.Kind.{Kind}
+use Rattle.network_file.specs.declared.cell.Kind.TheVariants.{Road, Gate, Exit}
+use Rattle.network_file.specs.Network.{IsNetwork, Network}
+use Rattle.flow_model.specs.Bounds.{IsHeldInBounds, IsRowInBounds}
+use Rattle.flow_model.specs.Flows.{inflow, outflow}
+use Rattle.flow_model.specs.Limits.{room_at, room_by}
+use Rattle.flow_model.specs.Rows.{empty_row, moved_row, next_row}
+use Rattle.flow_model.specs.State.{row_at, rows_after}
+use Rattle.flow_model.specs.declared.row.Row.{Row}
+use Rattle.flow_model.proofs.Bounds.{IsChange, IsSmall, changes, moved_row-in_bounds, small}
+use Rattle.flow_model.proofs.CellKinds.{cell_at}
+use Rattle.flow_model.proofs.CellLimits.{capacity_at-le}
+use Rattle.flow_model.proofs.Flows.{inflow-gate}
+use Rattle.region_body.specs.Places.{AreSound, link_in, link_out, moved, place_at}
+use Rattle.region_body.specs.Space.{HasSpace, IsSpaceOf, boundless}
+use Rattle.region_body.specs.declared.place.Place.{Place}
+use Rattle.region_body.proofs.LinkFlows.{held-fits}
+use Rattle.region_body.specs.Chains.{AreAround, most_out, odd_ones}
+use Rattle.region_body.specs.Placed.{ArePlacesInBounds, ArePlaced, CanAdvance, PlacedCells}
+use Rattle.region_body.specs.Followed.{AreFollowed, IsThere}
+use Rattle.region_body.specs.declared.followed.FollowedLink.{FollowedLink}
+use Rattle.region_cut.proofs.Ranges.{Contains-filter_range}
+use Rattle.region_body.specs.Moves.{ArePartsOf, IsScene, IsSeen, demand_for, in_by, out_by}
+use Rattle.region_body.specs.Rows.{AreSettled, IsOf, origin_at, row_of, rows_of}
+use Rattle.region_body.specs.declared.origin.Origin.{Origin}
+use Rattle.region_body.specs.declared.tie.Tie.{Tie}
+use Rattle.region_body.proofs.Flowing.{HasPlaces, in-gate, in-total, odd_sum, out-total}
+use Rattle.region_body.proofs.Stepping.{row-stepped, stepped-is_of}
+use Rattle.region_body.proofs.Ties.{come-followed, demands-asked, demands-into, gates-asked, numbers-followed, sum_by-map, tied-followed}
+use Rattle.region_body.specs.Carrying.{AreTiesFollowed}
+use Rattle.region_body.specs.Pausing.{IsPauseOf}
+use Rattle.region_body.specs.declared.pause.Pause.{Pause}
+use Rattle.region_body.specs.Gates.{AreAsked, demand_into}
+use Rattle.region_body.specs.declared.gate.GatePlace.{GatePlace}
+
+-- the rows of places, one by one
+pub row_at-rows_of : (origins : List Origin) (places : List Place) (p : ℕ) → p < length origins →
+    row_at (rows_of origins places) p ≡ row_of (origin_at origins p) (place_at places p)
+unfolding rows_of
+row_at-rows_of origins places p within =
+    get_or-map-range_with_len (λ p. row_of (origin_at origins p) (place_at places p)) 0 (length origins) p p empty_row within (zero-add p)
+
+pub length-rows_of : (origins : List Origin) (places : List Place) → length (rows_of origins places) ≡ length origins
+unfolding rows_of
+length-rows_of origins places = length-map-range_with_len (λ p. row_of (origin_at origins p) (place_at places p)) 0 (length origins)
+
+-- the demand of the gate at place p, and none where it is no gate's
+demand-sum : (net : Network) (t : ℕ) (cells : List ℕ) (p : ℕ) → p < length cells →
+    sum_by (demand_for net.plan t cells p) (filter (λ q. is_gate_at net.cells (slice_index cells q)) (range_with_len 0 (length cells))) ≡
+    (if is_gate_at net.cells (slice_index cells p) then demand_at net.plan (slice_index cells p) t else 0)
+demand-sum net t cells p within =
+    let gate : ℕ → Bool = λ q. is_gate_at net.cells (slice_index cells q) in
+    let own : ℕ = if gate p then demand_at net.plan (slice_index cells p) t else 0 in
+    sum_by-filter (demand_for net.plan t cells p) gate (range_with_len 0 (length cells))
+    ∙ sum_by_agree (λ q. if gate q then demand_for net.plan t cells p q else 0) (λ q. if p == q then own else 0) (range_with_len 0 (length cells))
+    (λ q. elim (cases_eq p q) [
+      | inl same ↦
+          let here : (p == q) ≡ true = eq-eqb p q same in
+          let there : (q == p) ≡ true = eq-eqb q p (sym same) in
+          rw (here, there, same) refl
+      | inr other ↦
+          let here : (p == q) ≡ false = ne_eqb p q other in
+          let there : (q == p) ≡ false = ne_eqb q p (λ equal. other (sym equal)) in
+          rw (here, there) (none (gate q) 0)
+    ])
+    ∙ sum_by_range_one own p 0 (length cells) (omega arith) (omega arith)
+  where
+    none : (b : Bool) (x : ℕ) → (if b then x else x) ≡ x
+    none true x = refl
+    none false x = refl
+
+-- what enters a cell in all and what leaves it
+
+pub record IsMoved (net : Network) (t : ℕ) (n : ℕ → ℕ) (cells : List ℕ) (places : List Place) (outs ins : ℕ → ℕ) : Type 0 where
+  pub leaves : (p : ℕ) → p < length cells → link_out places p + outs p ≡ outflow net t n (slice_index cells p)
+  pub enters : (p : ℕ) → p < length cells → link_in places p + ins p ≡ inflow net t n (slice_index cells p)
+
+pub moves-of : (net : Network) (t : ℕ) (n : ℕ → ℕ) (cells connectors : List ℕ) (ties : List Tie) (places : List Place) (outs carried ins : ℕ → ℕ) →
+    IsNetwork net → AreAround net cells connectors → HasPlaces net t n cells connectors places →
+    map (λ tie. tie.connector) ties ≡ odd_ones net cells connectors → ArePartsOf net t n cells ties outs carried →
+    ((p : ℕ) → ins p ≡ carried p +
+    sum_by (demand_for net.plan t cells p) (filter (λ q. is_gate_at net.cells (slice_index cells q)) (range_with_len 0 (length cells)))) →
+    IsMoved net t n cells places outs ins
+moves-of net t n cells connectors ties places outs carried ins sound around has numbers parts demands = record {
+  leaves = λ p within.
+      let i : ℕ = slice_index cells p in
+      let sum : outs p ≡ odd_sum net cells connectors (out_by net t n i) =
+      parts.taken p within ∙ sum_by-map (out_by net t n i) (λ tie. tie.connector) ties ∙ ap (sum_by (out_by net t n i)) numbers in
+      ap (λ x. link_out places p + x) sum ∙ out-total net t n cells connectors places p sound around has within;
+  enters = λ p within.
+      let i : ℕ = slice_index cells p in
+      let sum : carried p ≡ odd_sum net cells connectors (in_by net t n i) =
+      parts.brought p within ∙ sum_by-map (in_by net t n i) (λ tie. tie.connector) ties ∙ ap (sum_by (in_by net t n i)) numbers in
+      let demand = demand-sum net t cells p within in
+      let all = demands p in
+      elim (cases_Bool (is_gate_at net.cells i)) [
+        | inl gate ↦
+            let none = in-gate net t n cells connectors places p sound around has within gate in
+            let brings : (if is_gate_at net.cells i then demand_at net.plan i t else 0) ≡ demand_at net.plan i t =
+            ap (λ b. if b then demand_at net.plan i t else 0) gate in
+            let whole = inflow-gate net t i n gate in
+            let first = none.0 in
+            let second = none.1 in
+            omega arith
+        | inr other ↦
+            let brings : (if is_gate_at net.cells i then demand_at net.plan i t else 0) ≡ 0 =
+            ap (λ b. if b then demand_at net.plan i t else 0) other in
+            let whole = in-total net t n cells connectors places p sound around has within other in
+            omega arith
+      ];
+}
+
+-- a cell has space for what it holds and a step's capacity
+pub has-space : (net : Network) (t i n q : ℕ) → i < length net.cells → IsHeldInBounds net t i n → n + q ≤ boundless → HasSpace n q (room_at net.cells i)
+has-space net t i n q has bounds few =
+    let here = cell_at net.cells i has in
+    let room = rw here.1 at bounds.road in
+    rw here.1 (of_kind here.0 here.0.kind n q room few)
+  where
+    of_kind : (cell : Cell) (kind : Kind) (n q : ℕ) → (is_road kind ≡ true → n ≤ cell.room) → n + q ≤ boundless → HasSpace n q (room_by kind cell)
+    of_kind cell Road n q road few = road refl
+    of_kind cell Gate n q road few = few
+    of_kind cell Exit n q road few = few
+
+-- what holds of one cell as a step begins
+pub record IsReady (net : Network) (t : ℕ) (n : ℕ → ℕ) (i : ℕ) (origin : Origin) (place : Place) : Type 0 where
+  pub there : i < length net.cells
+  pub held : n i ≡ place.n
+  pub is_of : IsOf net i origin place
+  pub row : IsRowInBounds net t i (row_of origin place)
+  pub small : IsSmall (row_of origin place)
+  pub change : IsChange net t i place.n (inflow net t n i) (outflow net t n i)
+  pub next : IsRowInBounds net (t + 1) i (moved_row net i (row_of origin place) (inflow net t n i) (outflow net t n i))
+  pub after : IsSmall (moved_row net i (row_of origin place) (inflow net t n i) (outflow net t n i))
+
+pub ready : (net : Network) (t : ℕ) (n : ℕ → ℕ) (cells halo connectors : List ℕ) (placed : PlacedCells) (put : List (Option ℕ)) (p : ℕ) →
+    IsNetwork net → t < net.steps → ArePlaced net cells halo connectors t placed → ArePlacesInBounds net cells halo t placed put →
+    IsSeen n cells halo placed.places put → p < length cells →
+    IsReady net t n (slice_index cells p) (origin_at placed.origins p) (place_at placed.places p)
+ready net t n cells halo connectors placed put p sound before has bounds seen within =
+    let i : ℕ = slice_index cells p in
+    let origin : Origin = origin_at placed.origins p in
+    let place : Place = place_at placed.places p in
+    let there : i < length net.cells = has.around.there p 0 within in
+    let held : n i ≡ place.n = seen.own p within in
+    let row : IsRowInBounds net t i (row_of origin place) =
+    subst (IsRowInBounds net t i) (row_at-rows_of placed.origins placed.places p (omega (arith, has.origin_each))) (bounds.own p within) in
+    let change : IsChange net t i place.n (inflow net t n i) (outflow net t n i) =
+    subst (λ x. IsChange net t i x (inflow net t n i) (outflow net t n i)) held
+    (changes net t i n (inflow net t n i) (outflow net t n i) sound there (λ gate. inflow-gate net t i n gate) (omega arith) (omega arith)) in
+    let next : IsRowInBounds net (t + 1) i (moved_row net i (row_of origin place) (inflow net t n i) (outflow net t n i)) =
+    moved_row-in_bounds net t i (row_of origin place) (inflow net t n i) (outflow net t n i) sound before there row change in
+    record {
+      there = there;
+      held = held;
+      is_of = has.own p within;
+      row = row;
+      small = small net t i (row_of origin place) sound (omega (arith, before)) there row;
+      change = change;
+      next = next;
+      after = small net (t + 1) i (moved_row net i (row_of origin place) (inflow net t n i) (outflow net t n i)) sound (omega (arith, before)) there next;
+    }
+
+-- the sum of what a road or a gate held fits
+pub held-sum : (net : Network) (t : ℕ) (n : ℕ → ℕ) (i : ℕ) (origin : Origin) (place : Place) → IsReady net t n i origin place →
+    origin.is_exit ≡ false → place.held + place.n < 2 ^ 64
+held-sum net t n i origin place is other =
+    let wait : (if origin.is_exit then 0 else place.held - place.gone) ≡ place.held - place.gone =
+    ap (λ b. if b then 0 else place.held - place.gone) other in
+    let sum = is.small.wait in
+    let gone = is.small.gone in
+    let now = is.small.n in
+    let begun = is.is_of.sums other in
+    omega arith
+
+-- the places of cells in bounds, once each has the most of its link
+pub has-places : (net : Network) (t : ℕ) (n : ℕ → ℕ) (cells halo connectors : List ℕ) (placed : PlacedCells) (places : List Place) (put : List (Option ℕ)) →
+    IsNetwork net → t < net.steps → ArePlaced net cells halo connectors t placed → ArePlacesInBounds net cells halo t placed put →
+    IsSeen n cells halo placed.places put → length places ≡ length placed.places →
+    ((p : ℕ) → p < length placed.places → place_at places p ≡ record (place_at placed.places p) { most = most_out net cells connectors p t }) →
+    HasPlaces net t n cells connectors places
+has-places net t n cells halo connectors placed places put sound before has bounds seen long fresh =
+    let each = λ (p : ℕ) (within : p < length cells). fresh p (omega (arith, has.one_each)) in
+    record {
+      one_each = long ∙ has.one_each;
+      held = λ p within. ap (λ place. place.n) (each p within) ∙ sym (seen.own p within);
+      space = λ p within.
+          subst (λ space. IsSpaceOf space (room_at net.cells (slice_index cells p))) (sym (ap (λ place. place.space) (each p within))) (has.space p within);
+      fits = λ p within.
+          let i : ℕ = slice_index cells p in
+          let is = ready net t n cells halo connectors placed put p sound before has bounds seen within in
+          let few = is.small.n in
+          let capacity = capacity_at-le net t i sound is.there in
+          subst (λ x. HasSpace x (capacity_at net.plan i t) (room_at net.cells i)) (sym (ap (λ place. place.n) (each p within)))
+          (has-space net t i (place_at placed.places p).n (capacity_at net.plan i t) is.there is.row.held (omega arith));
+      most = λ p within. ap (λ place. place.most) (each p within);
+    }
+
+-- each can hold what it holds, and what it holds may go
+pub sound-fresh : (net : Network) (t : ℕ) (n : ℕ → ℕ) (cells halo connectors : List ℕ) (placed : PlacedCells) (places : List Place) (put : List (Option ℕ)) →
+    IsNetwork net → t < net.steps → ArePlaced net cells halo connectors t placed → ArePlacesInBounds net cells halo t placed put →
+    IsSeen n cells halo placed.places put → length places ≡ length placed.places →
+    ((p : ℕ) → p < length placed.places → place_at places p ≡ record (place_at placed.places p) { most = most_out net cells connectors p t }) →
+    AreSound places
+sound-fresh net t n cells halo connectors placed places put sound before has bounds seen long fresh =
+    let same : length places ≡ length cells = long ∙ has.one_each in
+    let placing = has-places net t n cells halo connectors placed places put sound before has bounds seen long fresh in
+    let own = λ (p : ℕ) (within : p < length places). ready net t n cells halo connectors placed put p sound before has bounds seen (omega arith) in
+    let each = λ (p : ℕ) (within : p < length places). fresh p (omega arith) in
+    record {
+      room = λ p within.
+          let i : ℕ = slice_index cells p in
+          held-fits (place_at places p).n (capacity_at net.plan i t) (place_at places p).space (room_at net.cells i) (placing.space p (omega arith)) (placing.fits p (omega arith));
+      gone = λ p within.
+          let is = own p within in
+          let n_is = ap (λ place. place.n) (each p within) in
+          let gone_is = ap (λ place. place.gone) (each p within) in
+          let few = is.small.n in
+          let gone = is.small.gone in
+          omega arith;
+    }
+
+-- so much leaves each in a step and enters it: it holds so much, and no sum is too large
+pub record CanStep (places : List Place) (outs ins : ℕ → ℕ) : Type 0 where
+  pub held : (p : ℕ) → p < length places → link_out places p + outs p ≤ (place_at places p).n
+  pub gone : (p : ℕ) → p < length places → (place_at places p).gone + (link_out places p + outs p) < 2 ^ 64
+  pub fits : (p : ℕ) → p < length places → (place_at places p).n + (link_in places p + ins p) < 2 ^ 64
+
+pub can_step : (net : Network) (t : ℕ) (n : ℕ → ℕ) (cells halo connectors : List ℕ) (placed : PlacedCells) (places : List Place) (put : List (Option ℕ)) (outs ins : ℕ → ℕ) →
+    IsNetwork net → t < net.steps → ArePlaced net cells halo connectors t placed → ArePlacesInBounds net cells halo t placed put →
+    IsSeen n cells halo placed.places put → length places ≡ length placed.places →
+    ((p : ℕ) → p < length placed.places → place_at places p ≡ record (place_at placed.places p) { most = most_out net cells connectors p t }) →
+    IsMoved net t n cells places outs ins →
+    CanStep places outs ins
+can_step net t n cells halo connectors placed places put outs ins sound before has bounds seen long fresh moves =
+    let same : length places ≡ length cells = long ∙ has.one_each in
+    let own = λ (p : ℕ) (within : p < length places). ready net t n cells halo connectors placed put p sound before has bounds seen (omega arith) in
+    let each = λ (p : ℕ) (within : p < length places). fresh p (omega arith) in
+    record {
+      held = λ p within.
+          let is = own p within in
+          let n_is = ap (λ place. place.n) (each p within) in
+          let leaves = moves.leaves p (omega arith) in
+          let held = is.change.held in
+          omega arith;
+      gone = λ p within.
+          let is = own p within in
+          let gone_is = ap (λ place. place.gone) (each p within) in
+          let leaves = moves.leaves p (omega arith) in
+          let sent = is.change.sent in
+          let gone = is.small.gone in
+          omega arith;
+      fits = λ p within.
+          let is = own p within in
+          let n_is = ap (λ place. place.n) (each p within) in
+          let enters = moves.enters p (omega arith) in
+          let held = is.change.held in
+          let sent = is.change.sent in
+          let after = is.after.n in
+          omega arith;
+    }
+
+-- and come to the rows of the cells' step
+pub row-after : (net : Network) (t : ℕ) (n : ℕ → ℕ) (i : ℕ) (origin : Origin) (place fresh after : Place) (most enters leaves : ℕ) →
+    IsReady net t n i origin place → fresh ≡ record place { most = most } → after ≡ moved fresh enters leaves →
+    enters ≡ inflow net t n i → leaves ≡ outflow net t n i →
+    (row_of origin after ≡ next_row net t n i (row_of origin place)) × IsOf net i origin after
+unfolding next_row
+row-after net t n i origin place fresh after most enters leaves is fresh_is after_is came went =
+    let fits = held-sum net t n i origin place is in
+    let row = row-stepped net t i origin place (inflow net t n i) (outflow net t n i) is.is_of is.change fits in
+    let of_cell = stepped-is_of net t i origin place (inflow net t n i) (outflow net t n i) is.is_of is.change fits in
+    rw (after_is, fresh_is, came, went) (row, record { first = of_cell.first; exit = of_cell.exit; began = of_cell.began; sums = of_cell.sums })
+
+pub length-rows_after : (net : Network) (t : ℕ) (n : ℕ → ℕ) (cells : List ℕ) (rows : List Row) → length (rows_after net t n cells rows) ≡ length cells
+unfolding rows_after
+length-rows_after net t n cells rows = length-map-range_with_len (λ p. next_row net t n (slice_index cells p) (row_at rows p)) 0 (length cells)
+
+pub row_at-rows_after : (net : Network) (t : ℕ) (n : ℕ → ℕ) (cells : List ℕ) (rows : List Row) (p : ℕ) → p < length cells →
+    row_at (rows_after net t n cells rows) p ≡ next_row net t n (slice_index cells p) (row_at rows p)
+unfolding rows_after
+row_at-rows_after net t n cells rows p within =
+    get_or-map-range_with_len (λ p. next_row net t n (slice_index cells p) (row_at rows p)) 0 (length cells) p p empty_row within (zero-add p)
+
+-- the places once each has the most of its link in step t
+pub record IsFresh (net : Network) (cells connectors : List ℕ) (t : ℕ) (placed : PlacedCells) (fresh : List Place) (links : List FollowedLink) : Type 0 where
+  pub long : length fresh ≡ length placed.places
+  pub most : (p : ℕ) → p < length placed.places → place_at fresh p ≡ record (place_at placed.places p) { most = most_out net cells connectors p t }
+  pub links_there : All (IsThere (length fresh) t) links
+  pub followed : AreFollowed (most_out net cells connectors) fresh links t
+
+pub fresh-of : (net : Network) (cells halo connectors : List ℕ) (t : ℕ) (placed : PlacedCells) (places fresh : List Place) (first links : List FollowedLink) →
+    ArePlaced net cells halo connectors t placed → places ≡ placed.places → first ≡ placed.links → length fresh ≡ length places →
+    All (IsThere (length places) t) links →
+    ((most : ℕ → ℕ → ℕ) → AreFollowed most places first t → (p : ℕ) → p < length places → place_at fresh p ≡ record (place_at places p) { most = most p t }) →
+    ((most : ℕ → ℕ → ℕ) → AreFollowed most places first t → AreFollowed most fresh links t) →
+    IsFresh net cells connectors t placed fresh links
+fresh-of net cells halo connectors t placed places fresh first links has same_places same_links long there most followed =
+    let before : AreFollowed (most_out net cells connectors) places first t = rw (same_places, same_links) has.followed in
+    record {
+      long = long ∙ ap length same_places;
+      most = λ p within.
+          most (most_out net cells connectors) before p (rw same_places within)
+          ∙ ap {B = Place} (λ list. record (place_at list p) { most = most_out net cells connectors p t }) same_places;
+      links_there = rw long there;
+      followed = followed (most_out net cells connectors) before;
+    }
+
+-- what leaves and enters in the step: what the ties carry, and what the gates demand besides
+pub record AreBrought (net : Network) (cells : List ℕ) (t : ℕ) (n : ℕ → ℕ) (placed : PlacedCells) (outs carried ins : ℕ → ℕ) : Type 0 where
+  pub parts : ArePartsOf net t n cells placed.ties outs carried
+  pub demands : (p : ℕ) → ins p ≡ carried p + sum_by (demand_into t p) placed.gates
+
+-- the parts of a step, one after the other
+pub record AreSteps (net : Network) (cells halo connectors : List ℕ) (t : ℕ) (n : ℕ → ℕ) (placed : PlacedCells) (fresh : List Place)
+    (links : List FollowedLink) (outs carried ins : ℕ → ℕ) (after : List Place) : Type 0 where
+  pub renewed : IsFresh net cells connectors t placed fresh links
+  pub brought : AreBrought net cells t n placed outs carried ins
+  pub long_after : length after ≡ length fresh
+  pub stepped_each : (p : ℕ) → p < length fresh →
+      place_at after p ≡ moved (place_at fresh p) (link_in fresh p + ins p) (link_out fresh p + outs p)
+
+-- what is seen of the places stays so when their most is written
+pub seen-fresh : (net : Network) (t : ℕ) (n : ℕ → ℕ) (cells halo connectors : List ℕ) (placed : PlacedCells) (fresh : List Place) (put : List (Option ℕ)) →
+    ArePlaced net cells halo connectors t placed → IsSeen n cells halo placed.places put →
+    ((p : ℕ) → p < length placed.places → place_at fresh p ≡ record (place_at placed.places p) { most = most_out net cells connectors p t }) →
+    IsSeen n cells halo fresh put
+seen-fresh net t n cells halo connectors placed fresh put has seen most = record {
+  own = λ p within. seen.own p within ∙ sym (ap (λ place. place.n) (most p (omega (arith, has.one_each))));
+  around = seen.around;
+}
+
+-- the scene of the other connectors
+pub scene-fresh : (net : Network) (t : ℕ) (n : ℕ → ℕ) (cells halo connectors : List ℕ) (placed : PlacedCells) (fresh : List Place) (put : List (Option ℕ)) →
+    IsNetwork net → t < net.steps → ArePlaced net cells halo connectors t placed → ArePlacesInBounds net cells halo t placed put →
+    IsSeen n cells halo placed.places put → length fresh ≡ length placed.places →
+    ((p : ℕ) → p < length placed.places → place_at fresh p ≡ record (place_at placed.places p) { most = most_out net cells connectors p t }) →
+    IsScene net t cells halo placed.ties fresh put
+scene-fresh net t n cells halo connectors placed fresh put sound before has bounds seen long most = record {
+  sound = sound;
+  before = before;
+  tied = has.tied;
+  place_each = long ∙ has.one_each;
+  put_each = bounds.put_each;
+  own = λ p within.
+      let is = ready net t n cells halo connectors placed put p sound before has bounds seen within in
+      subst (IsHeldInBounds net t (slice_index cells p)) (sym (ap (λ place. place.n) (most p (omega (arith, has.one_each))))) is.row.held;
+  around = bounds.around;
+}
+
+-- so it is with the connectors once they are followed
+pub scene-followed : (net : Network) (t : ℕ) (cells halo : List ℕ) (old new : List Tie) (places : List Place) (put : List (Option ℕ)) →
+    IsScene net t cells halo old places put → AreTiesFollowed t old new → IsScene net t cells halo new places put
+scene-followed net t cells halo old new places put scene followed = record {
+  sound = scene.sound;
+  before = scene.before;
+  tied = tied-followed net cells halo t old new scene.tied followed;
+  place_each = scene.place_each;
+  put_each = scene.put_each;
+  own = scene.own;
+  around = scene.around;
+}
+
+-- and what they take and bring is that of the connectors as they were
+pub parts-followed : (net : Network) (t : ℕ) (n : ℕ → ℕ) (cells : List ℕ) (old new : List Tie) (outs ins : ℕ → ℕ) → AreTiesFollowed t old new →
+    ArePartsOf net t n cells new outs ins → ArePartsOf net t n cells old outs ins
+parts-followed net t n cells old new outs ins followed parts =
+    let same : (f : ℕ → ℕ) → sum_by (λ tie. f tie.connector) new ≡ sum_by (λ tie. f tie.connector) old =
+    λ f. sum_by-map f (λ (tie : Tie). tie.connector) new ∙ ap (sum_by f) (numbers-followed t old new followed) ∙ sym (sum_by-map f (λ (tie : Tie). tie.connector) old) in
+    record {
+      taken = λ p within. parts.taken p within ∙ same (out_by net t n (slice_index cells p));
+      brought = λ p within. parts.brought p within ∙ same (in_by net t n (slice_index cells p));
+    }
+
+-- the gates' places are there
+pub gates-there : (net : Network) (cells halo connectors : List ℕ) (t : ℕ) (placed : PlacedCells) → ArePlaced net cells halo connectors t placed →
+    All (λ gate. gate.place < length cells) placed.gates
+gates-there net cells halo connectors t placed has = λ k d within.
+    let places : List ℕ = map (λ gate. gate.place) placed.gates in
+    let listed : Contains places (get_or places k 0) = Contains-get_or places k 0 (omega (arith, length-map placed.gates (λ (gate : GatePlace). gate.place))) in
+    let there = (Contains-filter_range (λ p. is_gate_at net.cells (slice_index cells p)) (length cells) (get_or places k 0)
+    (subst (λ list. Contains list (get_or places k 0)) has.gates listed)).0 in
+    rw (get_or-map (λ (gate : GatePlace). gate.place) placed.gates k d 0 within) at there
+
+pub steps-moved : (net : Network) (cells halo connectors : List ℕ) (t : ℕ) (n : ℕ → ℕ) (placed : PlacedCells) (fresh : List Place)
+    (outs carried ins : ℕ → ℕ) (put : List (Option ℕ)) →
+    IsNetwork net → t < net.steps → ArePlaced net cells halo connectors t placed → ArePlacesInBounds net cells halo t placed put →
+    IsSeen n cells halo placed.places put → length fresh ≡ length placed.places →
+    ((p : ℕ) → p < length placed.places → place_at fresh p ≡ record (place_at placed.places p) { most = most_out net cells connectors p t }) →
+    ArePartsOf net t n cells placed.ties outs carried →
+    ((p : ℕ) → ins p ≡ carried p + sum_by (demand_into t p) placed.gates) →
+    IsMoved net t n cells fresh outs ins
+steps-moved net cells halo connectors t n placed fresh outs carried ins put sound before has bounds seen long most parts demands =
+    moves-of net t n cells connectors placed.ties fresh outs carried ins sound has.around
+    (has-places net t n cells halo connectors placed fresh put sound before has bounds seen long most) has.numbers parts
+    (λ p.
+    demands p
+    ∙ ap (λ x. carried p + x) (demands-into net t cells p placed.gates has.demands ∙ ap (sum_by (demand_for net.plan t cells p)) has.gates))
+
+-- each cell after the step
+pub cell-after : (net : Network) (cells halo connectors : List ℕ) (t : ℕ) (n : ℕ → ℕ) (placed : PlacedCells) (fresh : List Place) (links : List FollowedLink)
+    (outs carried ins : ℕ → ℕ) (after : List Place) (put : List (Option ℕ)) (p : ℕ) →
+    IsNetwork net → t < net.steps → ArePlaced net cells halo connectors t placed → ArePlacesInBounds net cells halo t placed put →
+    IsSeen n cells halo placed.places put → AreSteps net cells halo connectors t n placed fresh links outs carried ins after → p < length cells →
+    (row_of (origin_at placed.origins p) (place_at after p) ≡
+    next_row net t n (slice_index cells p) (row_of (origin_at placed.origins p) (place_at placed.places p))) ×
+    IsOf net (slice_index cells p) (origin_at placed.origins p) (place_at after p)
+cell-after net cells halo connectors t n placed fresh links outs carried ins after put p sound before has bounds seen steps within =
+    let here : p < length placed.places = omega (arith, has.one_each) in
+    let there : p < length fresh = omega (arith, steps.renewed.long) in
+    let moves = steps-moved net cells halo connectors t n placed fresh outs carried ins put sound before has bounds seen steps.renewed.long steps.renewed.most steps.brought.parts steps.brought.demands in
+    row-after net t n (slice_index cells p) (origin_at placed.origins p) (place_at placed.places p) (place_at fresh p) (place_at after p)
+    (most_out net cells connectors p t) (link_in fresh p + ins p) (link_out fresh p + outs p)
+    (ready net t n cells halo connectors placed put p sound before has bounds seen within) (steps.renewed.most p here) (steps.stepped_each p there)
+    (moves.enters p within) (moves.leaves p within)
+
+-- the rows after the step
+pub rows-after : (net : Network) (cells halo connectors : List ℕ) (t : ℕ) (n : ℕ → ℕ) (placed : PlacedCells) (fresh : List Place) (links : List FollowedLink)
+    (outs carried ins : ℕ → ℕ) (after : List Place) (put : List (Option ℕ)) →
+    IsNetwork net → t < net.steps → ArePlaced net cells halo connectors t placed → ArePlacesInBounds net cells halo t placed put →
+    IsSeen n cells halo placed.places put → AreSteps net cells halo connectors t n placed fresh links outs carried ins after →
+    rows_of placed.origins after ≡ rows_after net t n cells (rows_of placed.origins placed.places)
+rows-after net cells halo connectors t n placed fresh links outs carried ins after put sound before has bounds seen steps =
+    ext_get_or empty_row (rows_of placed.origins after) (rows_after net t n cells (rows_of placed.origins placed.places))
+    (length-rows_of placed.origins after ∙ has.origin_each ∙ sym (length-rows_after net t n cells (rows_of placed.origins placed.places)))
+    (λ p lt.
+    let inside : p < length placed.origins = omega (arith, length-rows_of placed.origins after) in
+    let within : p < length cells = omega (arith, has.origin_each) in
+    row_at-rows_of placed.origins after p inside
+    ∙ (cell-after net cells halo connectors t n placed fresh links outs carried ins after put p sound before has bounds seen steps within).0
+    ∙ sym (row_at-rows_after net t n cells (rows_of placed.origins placed.places) p within
+    ∙ ap (next_row net t n (slice_index cells p)) (row_at-rows_of placed.origins placed.places p inside)))
+
+-- the links follow on
+
+follows-later : (most : ℕ → ℕ → ℕ) (fresh after : List Place) (links : List FollowedLink) (t : ℕ) → length after ≡ length fresh →
+    ((p : ℕ) → p < length fresh → (place_at after p).most ≡ (place_at fresh p).most) → AreFollowed most fresh links t → AreFollowed most after links (t + 1)
+follows-later most fresh after links t long same followed = record {
+  courses = followed.courses;
+  each = λ p within.
+      let here : p < length fresh = omega arith in
+      let is = same p here in
+      elim (followed.each p here) [
+        | inl constant ↦ inl (λ s from. is ∙ constant s (omega arith))
+        | inr (m, has) ↦ inr (
+          m,
+          record {
+            there = has.there;
+            its = has.its;
+            steady = λ d s from before. is ∙ has.steady d s (omega arith) before;
+          },
+        )
+      ];
+}
+
+pub placed-after : (net : Network) (cells halo connectors : List ℕ) (t : ℕ) (n : ℕ → ℕ) (placed : PlacedCells) (fresh : List Place) (links : List FollowedLink)
+    (outs carried ins : ℕ → ℕ) (after : List Place) (before_list : List ℕ) (ties : List Tie) (until : ℕ) (gates : List GatePlace) (pause : Pause) (seen_list : List (Option ℕ)) (put : List (Option ℕ)) →
+    IsNetwork net → t < net.steps → ArePlaced net cells halo connectors t placed → ArePlacesInBounds net cells halo t placed put →
+    IsSeen n cells halo placed.places put → AreSteps net cells halo connectors t n placed fresh links outs carried ins after →
+    length before_list ≡ length placed.before → AreTiesFollowed t placed.ties ties → All (λ tie. until ≤ tie.course.until) ties → AreAsked t placed.gates gates → IsPauseOf after before_list links ties seen_list (t + 1) pause → length seen_list ≡ length halo →
+    ArePlaced net cells halo connectors (t + 1) (record {
+      places = after;
+      origins = placed.origins;
+      before = before_list;
+      links = links;
+      ties = ties;
+      ties_until = until;
+      gates = gates;
+      pause = pause;
+      seen = seen_list;
+    })
+placed-after net cells halo connectors t n placed fresh links outs carried ins after before_list ties until gates pause seen_list put sound before has bounds seen steps long
+    ties_are unchanged gates_are pausing seen_each =
+    let same : length after ≡ length cells = steps.long_after ∙ steps.renewed.long ∙ has.one_each in
+    let ties_long = ties_are.long in
+    let gates_long = gates_are.long in
+    record {
+      around = has.around;
+      known = has.known;
+      tied = tied-followed net cells halo t placed.ties ties has.tied ties_are;
+      numbers = numbers-followed t placed.ties ties ties_are ∙ has.numbers;
+      one_each = same;
+      origin_each = has.origin_each;
+      before_each = long ∙ has.before_each;
+      own = λ p within.
+          (cell-after net cells halo connectors t n placed fresh links outs carried ins after put p sound before has bounds seen steps within).1;
+      space = λ p within.
+          let there : p < length fresh = omega (arith, steps.renewed.long, has.one_each) in
+          let here : p < length placed.places = omega (arith, has.one_each) in
+          let is = ap (λ place. place.space) (steps.stepped_each p there) ∙ ap (λ place. place.space) (steps.renewed.most p here) in
+          subst (λ space. IsSpaceOf space (room_at net.cells (slice_index cells p))) (sym is) (has.space p within);
+      come = come-followed t placed.ties ties ties_are;
+      unchanged = unchanged;
+      gates = gates-asked t placed.gates gates gates_are ∙ has.gates;
+      demands = demands-asked net cells t placed.gates gates gates_are has.demands;
+      links = λ k d within.
+          let there = steps.renewed.links_there k d within in
+          record { place = omega (arith, there.place, steps.long_after); step = omega (arith, there.step) };
+      followed = follows-later (most_out net cells connectors) fresh after links t steps.long_after
+          (λ p there. ap (λ place. place.most) (steps.stepped_each p there)) steps.renewed.followed;
+      pause = pausing;
+      seen_each = seen_each;
+    }
+
+-- no sum of a place is too large after the step
+pub settled-after : (net : Network) (cells halo connectors : List ℕ) (t : ℕ) (n : ℕ → ℕ) (placed : PlacedCells) (fresh : List Place) (links : List FollowedLink)
+    (outs carried ins : ℕ → ℕ) (after : List Place) (before_list : List ℕ) (put : List (Option ℕ)) →
+    IsNetwork net → t < net.steps → ArePlaced net cells halo connectors t placed → ArePlacesInBounds net cells halo t placed put →
+    IsSeen n cells halo placed.places put → AreSteps net cells halo connectors t n placed fresh links outs carried ins after →
+    length before_list ≡ length placed.before → AreSettled placed.origins after before_list
+unfolding next_row
+settled-after net cells halo connectors t n placed fresh links outs carried ins after before_list put sound before has bounds seen steps long = record {
+  one_each = steps.long_after ∙ steps.renewed.long ∙ has.one_each ∙ sym has.origin_each;
+  before_each = long ∙ has.before_each ∙ sym has.origin_each;
+  each = λ p inside.
+      let within : p < length cells = omega (arith, has.origin_each) in
+      let next = cell-after net cells halo connectors t n placed fresh links outs carried ins after put p sound before has bounds seen steps within in
+      let is = ready net t n cells halo connectors placed put p sound before has bounds seen within in
+      let n_is = ap (λ row. row.n) next.0 in
+      let gone_is = ap (λ row. row.gone) next.0 in
+      let few = is.after.n in
+      let few_gone = is.after.gone in
+      let i : ℕ = slice_index cells p in
+      let there : p < length fresh = omega (arith, steps.renewed.long, has.one_each) in
+      let here : p < length placed.places = omega (arith, has.one_each) in
+      let space_is = ap (λ place. place.space) (steps.stepped_each p there) ∙ ap (λ place. place.space) (steps.renewed.most p here) in
+      let space : IsSpaceOf (place_at after p).space (room_at net.cells i) =
+      subst (λ space. IsSpaceOf space (room_at net.cells i)) (sym space_is) (has.space p within) in
+      let held : IsHeldInBounds net (t + 1) i (place_at after p).n = subst (IsHeldInBounds net (t + 1) i) (sym n_is) is.next.held in
+      record {
+        began = next.1.began;
+        sums = next.1.sums;
+        fits = omega arith;
+        room = held-fits (place_at after p).n 0 (place_at after p).space (room_at net.cells i) space
+            (has-space net (t + 1) i (place_at after p).n 0 is.there held (omega arith));
+      };
+}
+
+-- what a step says of the cells as they are kept it says of them as contracts see them
+pub rows-read : (net : Network) (cells : List ℕ) (t : ℕ) (placed old : PlacedCells) (put : List (Option ℕ)) (origins : List Origin) (places : List Place) → placed ≡ old →
+    ((can : CanAdvance net cells t placed put) → rows_of origins places ≡ rows_after net t can.n cells (rows_of placed.origins placed.places)) →
+    (can : CanAdvance net cells t old put) → rows_of origins places ≡ rows_after net t can.n cells (rows_of old.origins old.places)
+rows-read net cells t placed old put origins places is says =
+    subst (λ from. (can : CanAdvance net cells t from put) → rows_of origins places ≡ rows_after net t can.n cells (rows_of from.origins from.places)) is says
+
+pub placed-read : (net : Network) (cells : List ℕ) (t : ℕ) (placed old : PlacedCells) (put : List (Option ℕ)) (new : PlacedCells) → placed ≡ old →
+    ((can : CanAdvance net cells t placed put) → ArePlaced net cells can.halo can.connectors (t + 1) new) →
+    (can : CanAdvance net cells t old put) → ArePlaced net cells can.halo can.connectors (t + 1) new
+placed-read net cells t placed old put new is says =
+    subst (λ from. (can : CanAdvance net cells t from put) → ArePlaced net cells can.halo can.connectors (t + 1) new) is says

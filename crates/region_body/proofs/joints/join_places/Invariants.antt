@@ -1,0 +1,7 @@
+use Rattle.std.proofs.Common.{take}
+use Rattle.region_body.proofs.Extending.{AreJoined}
+use Rattle.region_body.proofs.joints.join_places.Given as goal
+
+abbrev pub invariant-loop-k : goal.invariant-loop-k
+invariant-loop-k l =
+    AreJoined l.net l.t l.cells l.halo (take l.k-index l.connectors) l.initial.places l.places l.links.items l.ties.items

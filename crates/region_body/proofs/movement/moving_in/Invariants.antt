@@ -1,0 +1,5 @@
+use Rattle.region_body.specs.Moving.{MoveNothingIn}
+use Rattle.region_body.proofs.movement.moving_in.Given as goal
+
+abbrev pub invariant-loop-p : goal.invariant-loop-p
+invariant-loop-p l = MoveNothingIn l.places l.from l.p

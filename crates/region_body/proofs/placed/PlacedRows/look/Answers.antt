@@ -1,0 +1,35 @@
+use Rattle.std.specs.Prelude.{map}
+use Rattle.std.proofs.Common.{◌≡◌, ap, ◌∙◌}
+use Rattle.region_body.specs.Waiting.{waited}
+use Rattle.region_body.proofs.Stays.{sound-settled, unowed, waited-none}
+use Rattle.region_body.proofs.placed.PlacedRows.look.Goals.{After-deref-3}
+use Rattle.region_body.proofs.placed.PlacedRows.look.Goals as goal
+
+none-owed : (c : After-deref-3) → c.self.inside.pause.owed ≡ 0
+none-owed c = ap (λ rows. rows.pause.owed) c.self.view_is ∙ c.requires.none_owed
+
+places-are : (c : After-deref-3) → c.deref.result.now ≡ c.args.self.now.places
+places-are c = c.deref.ensures.value ∙ unowed c.self.inside.pause.owed c.self.inside.places.items c.args.self.now.places (ap (λ rows. rows.places) c.self.view_is) (none-owed c)
+
+links-are : (c : After-deref-3) → c.deref-2.result.now ≡ c.args.self.now.links
+links-are c = c.deref-2.ensures.value ∙ ap (λ rows. rows.links) c.self.view_is
+
+ties-are : (c : After-deref-3) → c.deref-3.result.now ≡ c.args.self.now.ties
+ties-are c = c.deref-3.ensures.value ∙ ap (λ rows. rows.ties) c.self.view_is
+
+pub of-self-inside-requires-clause-sound : goal.of-self-inside-requires-clause-sound
+of-self-inside-requires-clause-sound c =
+    rw c.deref.ensures.value
+    (sound-settled c.self.inside.origins.items c.self.inside.places.items c.self.inside.before.items
+    (rw (ap (λ k. map (waited k) c.self.inside.places.items) (none-owed c) ∙ waited-none c.self.inside.places.items) at c.self.invariant))
+
+pub of-self-inside-requires-clause-there : goal.of-self-inside-requires-clause-there
+of-self-inside-requires-clause-there c = rw (places-are c, links-are c) c.requires.there
+
+pub of-self-inside-requires-clause-spots : goal.of-self-inside-requires-clause-spots
+of-self-inside-requires-clause-spots c = rw (places-are c, ties-are c) c.requires.spots
+
+pub returns-clause-idle : goal.returns-clause-idle
+returns-clause-idle c =
+    let e : After-deref-3 = (goal.at.returns-clause-idle c).After-deref-3 in
+    rw (places-are e, links-are e, ties-are e) at c.of-self-inside.ensures.idle

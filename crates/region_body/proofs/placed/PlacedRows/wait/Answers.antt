@@ -1,0 +1,27 @@
+use Rattle.std.specs.Prelude.{map}
+use Rattle.std.proofs.Common.{◌≡◌, ◌+◌, ℕ, List, sym, ap, ◌∙◌}
+use Rattle.region_body.specs.Placed.{PlacedCells}
+use Rattle.region_body.specs.Waiting.{waited}
+use Rattle.region_body.proofs.Stays.{settled-waits, waited-more}
+use Rattle.region_body.proofs.placed.PlacedRows.wait.Goals as goal
+
+pub invariant_of-self : goal.invariant_of-self
+invariant_of-self c =
+    let inside = c.self.inside in
+    let old = c.args.self.now in
+    let is = c.note_first.ensures.only_before in
+    let places : map (waited inside.pause.owed) inside.places.items ≡ old.places =
+    ap (λ rows. rows.places) c.self.view_is ∙ ap (λ rows. rows.places) is in
+    let origins : inside.origins.items ≡ old.origins = ap (λ rows. rows.origins) c.self.view_is ∙ ap (λ rows. rows.origins) is in
+    rw (← waited-more inside.pause.owed inside.places.items)
+    (settled-waits inside.origins.items (map (waited inside.pause.owed) inside.places.items) inside.before.items c.self.invariant
+    (rw (origins, places) c.requires.sums))
+
+pub returns-clause-waits : goal.returns-clause-waits
+returns-clause-waits c =
+    let inside = c.self.inside in
+    let more : PlacedCells → PlacedCells = λ rows.
+    record rows { places = map (waited 1) rows.places; pause = record rows.pause { owed = rows.pause.owed + 1 } } in
+    rw (← waited-more inside.pause.owed inside.places.items)
+    (ap more (c.self.view_is ∙ c.note_first.ensures.only_before)
+    ∙ ap (λ (before : List ℕ). record (more c.args.self.now) { before = before }) (sym (ap (λ rows. rows.before) c.self.view_is)))

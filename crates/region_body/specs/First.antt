@@ -1,0 +1,23 @@
+-- The places of cells as they are opened.
+use Rattle.std.specs.Prelude.{◌≡◌, ℕ, ◌+◌}
+use Rattle.network_file.specs.Cells.{is_exit_at}
+use Rattle.network_file.specs.Network.{Network}
+use Rattle.flow_model.specs.Bounds.{first_at}
+use Rattle.flow_model.specs.Limits.{room_at}
+use Rattle.flow_model.specs.declared.row.Row.{Row}
+use Rattle.region_body.specs.Space.{IsSpaceOf}
+use Rattle.region_body.specs.declared.place.Place.{Place}
+use Rattle.region_body.specs.declared.origin.Origin.{Origin}
+
+-- what never changes of cell i
+pub record IsOriginOf (net : Network) (i : ℕ) (origin : Origin) : Type 0 where
+  pub first : origin.first ≡ first_at net.cells i
+  pub exit : origin.is_exit ≡ is_exit_at net.cells i
+
+-- the place of cell i with this row, joined to no other
+pub record IsFirst (net : Network) (i : ℕ) (row : Row) (place : Place) : Type 0 where
+  pub n : place.n ≡ row.n
+  pub gone : place.gone ≡ row.gone
+  pub held : place.held ≡ row.wait + row.gone
+  pub most : place.most ≡ 0
+  pub space : IsSpaceOf place.space (room_at net.cells i)

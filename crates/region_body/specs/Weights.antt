@@ -1,0 +1,17 @@
+-- The weights of a connector: the priorities of a merge, the turning shares of a diverge.
+use Rattle.std.specs.Prelude.{ℕ, ◌≤◌}
+use Rattle.signal_plan.specs.Limits.{most_ratio}
+use Rattle.courses.specs.Courses.{Course, value_at}
+
+-- a priority or a turning share
+abbrev pub IsWeight : (weight : ℕ) → Type 0
+IsWeight weight = (1 ≤ weight) × (weight ≤ most_ratio)
+
+-- both are weights
+pub record AreBoth (pair : ℕ × ℕ) : Type 0 where
+  pub first : IsWeight pair.0
+  pub second : IsWeight pair.1
+
+-- so are both in each step
+abbrev pub AreWeights : Course (ℕ × ℕ) → Type 0
+AreWeights weights = (t : ℕ) → AreBoth (value_at weights t)

@@ -1,0 +1,105 @@
+ghost use Rattle.std.specs.Prelude.{◌≡◌, ◌<◌, ◌≤◌, ℕ, All, length, sum_by};
+ghost use Rattle.region_body.specs.declared.rule.Rule.TheVariants.{Diverging, Linking, Merging};
+ghost use Rattle.region_body.specs.Places.{place_at};
+ghost use Rattle.region_body.specs.Carrying.{CanCarry, CanPass, brought, held_before, passed, taken};
+
+use crate::held::Held;
+use crate::passing::{bring, take};
+use crate::place::Place;
+use crate::rule::Rule;
+use crate::tie::Tie;
+
+/// What all these connectors take from places and bring to them in step `t`, by what their cells held as it began.
+#[inline(never)]
+pub(crate) fn carry_all(t: u64, ties: &[Tie], held: &Held, places: &mut [Place])
+    requires each { All (λ tie. CanCarry t tie places.old held.now.put.now) ties.now }
+    requires one_each { length held.now.own.now ≡ length places.old }
+    requires can { (p : ℕ) → p < length places.old → CanPass (place_at places.old p)
+        (sum_by (brought t (held_before held.now.own.now held.now.put.now) p) ties.now)
+        (sum_by (taken t (held_before held.now.own.now held.now.put.now) p) ties.now) }
+    ensures { (p : ℕ) → p < length places.old → place_at places.new p ≡ passed (place_at places.old p)
+        (sum_by (brought t (held_before held.now.own.now held.now.put.now) p) ties.now)
+        (sum_by (taken t (held_before held.now.own.now held.now.put.now) p) ties.now) }
+{
+    for tie in ties {
+        carry(t, tie, held, places);
+    }
+}
+
+// What one of them takes and brings.
+#[inline(always)]
+fn carry(t: u64, tie: &Tie, held: &Held, places: &mut [Place])
+    requires tie { CanCarry t tie.now places.old held.now.put.now }
+    requires one_each { length held.now.own.now ≡ length places.old }
+    requires can { (p : ℕ) → p < length places.old → CanPass (place_at places.old p)
+        (brought t (held_before held.now.own.now held.now.put.now) p tie.now)
+        (taken t (held_before held.now.own.now held.now.put.now) p tie.now) }
+    ensures { (p : ℕ) → p < length places.old → place_at places.new p ≡ passed (place_at places.old p)
+        (brought t (held_before held.now.own.now held.now.put.now) p tie.now)
+        (taken t (held_before held.now.own.now held.now.put.now) p tie.now) }
+{
+    match tie.course.rule() {
+        Rule::Linking => link(t, tie, held, places),
+        Rule::Merging => merge(t, tie, held, places),
+        Rule::Diverging => diverge(t, tie, held, places),
+    }
+}
+
+// A link, from the first of its cells to the second.
+#[inline(always)]
+fn link(t: u64, tie: &Tie, held: &Held, places: &mut [Place])
+    requires rule { tie.now.course.rule ≡ Linking }
+    requires tie { CanCarry t tie.now places.old held.now.put.now }
+    requires one_each { length held.now.own.now ≡ length places.old }
+    requires can { (p : ℕ) → p < length places.old → CanPass (place_at places.old p)
+        (brought t (held_before held.now.own.now held.now.put.now) p tie.now)
+        (taken t (held_before held.now.own.now held.now.put.now) p tie.now) }
+    ensures { (p : ℕ) → p < length places.old → place_at places.new p ≡ passed (place_at places.old p)
+        (brought t (held_before held.now.own.now held.now.put.now) p tie.now)
+        (taken t (held_before held.now.own.now held.now.put.now) p tie.now) }
+{
+    let [a, b, _] = tie.cells;
+    let flow = tie.course.flow([held.at(a), held.at(b), 0]);
+    take(places, a, flow.out1);
+    bring(places, b, flow.in1);
+}
+
+// A merge, from the first and the second to the third.
+#[inline(always)]
+fn merge(t: u64, tie: &Tie, held: &Held, places: &mut [Place])
+    requires rule { tie.now.course.rule ≡ Merging }
+    requires tie { CanCarry t tie.now places.old held.now.put.now }
+    requires one_each { length held.now.own.now ≡ length places.old }
+    requires can { (p : ℕ) → p < length places.old → CanPass (place_at places.old p)
+        (brought t (held_before held.now.own.now held.now.put.now) p tie.now)
+        (taken t (held_before held.now.own.now held.now.put.now) p tie.now) }
+    ensures { (p : ℕ) → p < length places.old → place_at places.new p ≡ passed (place_at places.old p)
+        (brought t (held_before held.now.own.now held.now.put.now) p tie.now)
+        (taken t (held_before held.now.own.now held.now.put.now) p tie.now) }
+{
+    let [a, b, c] = tie.cells;
+    let flow = tie.course.flow([held.at(a), held.at(b), held.at(c)]);
+    take(places, a, flow.out1);
+    take(places, b, flow.out2);
+    bring(places, c, flow.in1);
+}
+
+// A diverge, from the first to the second and the third.
+#[inline(always)]
+fn diverge(t: u64, tie: &Tie, held: &Held, places: &mut [Place])
+    requires rule { tie.now.course.rule ≡ Diverging }
+    requires tie { CanCarry t tie.now places.old held.now.put.now }
+    requires one_each { length held.now.own.now ≡ length places.old }
+    requires can { (p : ℕ) → p < length places.old → CanPass (place_at places.old p)
+        (brought t (held_before held.now.own.now held.now.put.now) p tie.now)
+        (taken t (held_before held.now.own.now held.now.put.now) p tie.now) }
+    ensures { (p : ℕ) → p < length places.old → place_at places.new p ≡ passed (place_at places.old p)
+        (brought t (held_before held.now.own.now held.now.put.now) p tie.now)
+        (taken t (held_before held.now.own.now held.now.put.now) p tie.now) }
+{
+    let [a, b, c] = tie.cells;
+    let flow = tie.course.flow([held.at(a), held.at(b), held.at(c)]);
+    take(places, a, flow.out1);
+    bring(places, b, flow.in1);
+    bring(places, c, flow.in2);
+}

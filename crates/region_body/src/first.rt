@@ -1,0 +1,39 @@
+ghost use Rattle.std.specs.Prelude.{◌≡◌, ◌<◌, ◌≤◌, length};
+ghost use Rattle.flow_model.specs.Bounds.{IsRowInBounds, first_at};
+ghost use Rattle.network_file.specs.Cells.{is_exit_at};
+ghost use Rattle.region_body.specs.First.{IsFirst, IsOriginOf};
+
+use crate::cell_space::space_of;
+use crate::origin::Origin;
+use crate::place::Place;
+use flow_model::Row;
+use network_file::{Kind, Net};
+
+/// What never changes of cell `i`.
+pub(crate) fn origin_of(net: &Net, i: u32) -> Origin
+    requires there { i < length net.now.cells }
+    ensures { IsOriginOf net.now i result }
+{
+    let cell = &net.cells[i as usize];
+    Origin {
+        first: cell.first,
+        is_exit: cell.kind == Kind::Exit,
+    }
+}
+
+/// The place of cell `i` with this row at step `t`, joined to no other.
+pub(crate) fn place_of(net: &Net, t: u64, i: u32, row: &Row) -> Place
+    requires there { i < length net.now.cells }
+    requires in_time { t ≤ net.now.steps }
+    requires bounds { IsRowInBounds net.now t i row.now }
+    ensures { IsFirst net.now i row.now result }
+{
+    let _steps = net.steps;
+    Place {
+        n: row.n,
+        gone: row.gone,
+        held: row.wait + row.gone,
+        most: 0,
+        space: space_of(net, i),
+    }
+}

@@ -1,0 +1,49 @@
+ghost use Rattle.std.specs.Prelude.{◌≡◌, ◌+◌, ◌<◌, ◌≤◌, ℕ, All, OnOk, length};
+ghost use Rattle.region_body.specs.Places.{place_at};
+ghost use Rattle.region_body.specs.Followed.{AreFollowed, IsThere};
+ghost use Rattle.region_body.specs.Joining.{Extends, IsAt};
+
+use crate::followed::FollowedLink;
+use crate::place::Place;
+use courses::LinkCourse;
+use network_file::Net;
+use no_memory::NoMemory;
+use std::alloc::Global;
+
+/// Joins the `p`-th place to the next by the link between their cells, from step `t` on. Where the most of the link
+/// changes it is followed. Where memory is refused the place may be joined already.
+pub(crate) fn join_next(
+    alloc: Global,
+    net: &Net,
+    t: u64,
+    cells: &[u32],
+    p: u32,
+    places: &mut [Place],
+    links: &mut Vec<FollowedLink>,
+) -> Result<(), NoMemory>
+    requires in_time { t ≤ net.now.steps }
+    requires within { p + 1 < length cells.now }
+    requires there { All (λ i. i < length net.now.cells) cells.now }
+    requires one_each { length places.old ≡ length cells.now }
+    requires links { All (IsThere (length places.old) t) links.old.items }
+    ensures links { OnOk result (All (IsThere (length places.old) t) links.new.items) }
+    ensures at { OnOk result (IsAt p links.old.items links.new.items) }
+    ensures only_most { (q : ℕ) → place_at places.new q ≡ record (place_at places.old q) { most = (place_at places.new q).most } }
+    ensures followed { OnOk result ((most later : ℕ → ℕ → ℕ) → AreFollowed most places.old links.old.items t →
+        Extends net.now.plan cells.now p links.old.items most later → AreFollowed later places.new links.new.items t) }
+{
+    let _steps = net.steps;
+    let (up, down) = (cells[p as usize], cells[p as usize + 1]);
+    let mut course = LinkCourse::new(alloc, &net.plan, up, down)?;
+    let now = course.move_to(t);
+    places[p as usize].most = now.value;
+    if course.is_constant() {
+        return Ok(());
+    }
+    links.push(FollowedLink {
+        place: p,
+        until: now.until,
+        course,
+    })?;
+    Ok(())
+}

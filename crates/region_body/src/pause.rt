@@ -1,0 +1,111 @@
+ghost use Rattle.std.specs.Prelude.{◌≡◌, ◌<◌, ◌≤◌, ◌⊎◌, ℕ, All, IsTrue, length};
+ghost use Rattle.region_body.specs.Flows.{flow_at, no_flow};
+ghost use Rattle.region_body.specs.Places.{AreSound, place_at};
+ghost use Rattle.region_body.specs.Carrying.{IsThere, held_in, spot_at, three_held};
+ghost use Rattle.region_body.specs.Pausing.{AreIdle, IsIdleUntil};
+
+use crate::followed::FollowedLink;
+use crate::movement::moving;
+use crate::place::Place;
+use crate::sight::Sight;
+use crate::tie::Tie;
+
+/// For how long nothing moves among cells.
+#[derive(Clone, Copy)]
+pub(crate) struct Pause {
+    /// The steps that they have waited through and that the sums of their places don't count yet.
+    pub(crate) owed: u64,
+    /// Before this step nothing moves among them, as long as their halo holds what it held when that was found and no gate
+    /// demands anything.
+    pub(crate) until: u64,
+    /// A place out of which something moved, or may have.
+    pub(crate) mover: usize,
+}
+
+impl Pause {
+    /// The pause of cells among which something may move.
+    pub(crate) const NONE: Pause = Pause {
+        owed: 0,
+        until: 0,
+        mover: 0,
+    };
+
+    /// The pause of cells with these places and connectors as they are now, looked for from a place on.
+    pub(crate) fn of(
+        mover: usize,
+        places: &[Place],
+        links: &[FollowedLink],
+        ties: &[Tie],
+        put: &[Option<u64>],
+    ) -> Pause
+        requires sound { AreSound places.now }
+        requires there { All (λ link. link.place < length places.now) links.now }
+        requires spots { All (λ tie. (m : ℕ) → m < 3 → IsThere places.now put.now (spot_at tie m)) ties.now }
+        ensures none_owed { result.owed ≡ 0 }
+        ensures idle { (s : ℕ) → s < result.until → AreIdle places.now links.now ties.now put.now result.until }
+    {
+        match moving(places, mover) {
+            Some(mover) => Pause {
+                owed: 0,
+                until: 0,
+                mover,
+            },
+            None => Pause {
+                owed: 0,
+                until: links_until(links, places).min(ties_until(ties, &Sight { places, put })),
+                mover,
+            },
+        }
+    }
+}
+
+// The first change of a link whose place holds something.
+fn links_until(links: &[FollowedLink], places: &[Place]) -> u64
+    requires { All (λ link. link.place < length places.now) links.now }
+    ensures { All (λ link. (place_at places.now link.place).n ≡ 0 ⊎ result ≤ link.until) links.now }
+{
+    let mut until = u64::MAX;
+    for link in links {
+        if places[link.place as usize].n != 0 {
+            until = until.min(link.until);
+        }
+    }
+    until
+}
+
+// A step before which none of these connectors carries anything as long as their cells hold what they do; 0 where one does.
+fn ties_until(ties: &[Tie], sight: &Sight) -> u64
+    requires { All (λ tie. (m : ℕ) → m < 3 → IsThere sight.now.places.now sight.now.put.now (spot_at tie m)) ties.now }
+    ensures { All (IsIdleUntil sight.now.places.now sight.now.put.now result) ties.now }
+{
+    let mut until = u64::MAX;
+    for tie in ties {
+        until = until.min(tie.course.idle_until(held_by(tie, sight)));
+        if until == 0 {
+            return 0;
+        }
+    }
+    until
+}
+
+// What the cells at its spots hold.
+fn held_by(tie: &Tie, sight: &Sight) -> [u64; 3]
+    requires { (m : ℕ) → m < 3 → IsThere sight.now.places.now sight.now.put.now (spot_at tie.now m) }
+    ensures { result ≡ three_held tie.now (held_in sight.now.places.now sight.now.put.now) }
+{
+    let [a, b, c] = tie.cells;
+    [sight.held(a), sight.held(b), sight.held(c)]
+}
+
+/// Whether two halos hold the same.
+pub(crate) fn hold_the_same(seen: &[Option<u64>], put: &[Option<u64>]) -> bool
+    requires { length seen.now ≡ length put.now }
+    ensures { IsTrue result → seen.now ≡ put.now }
+{
+    for j in 0..seen.len() {
+        if seen[j] != put[j] {
+            return false;
+        }
+    }
+    true
+}

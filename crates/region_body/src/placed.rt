@@ -1,0 +1,293 @@
+ghost use Rattle.std.specs.Prelude.{◌≡◌, ◌+◌, ◌<◌, ◌≤◌, ◌^◌, ℕ, false, All, IfOk, IsTrue, length, map, slice_index};
+ghost use Rattle.flow_model.specs.Bounds.{IsRowInBounds};
+ghost use Rattle.flow_model.specs.State.{occupancy, row_at, rows_after};
+ghost use Rattle.region_body.specs.Places.{place_at};
+ghost use Rattle.region_body.specs.Carrying.{IsThere, spot_at};
+ghost use Rattle.region_body.specs.Gates.{AreGatesKept};
+ghost use Rattle.region_body.specs.Pausing.{AreIdle};
+ghost use Rattle.region_body.specs.Placed.{AreCells, ArePlaced, CanAdvance, WaitThrough};
+ghost use Rattle.region_body.specs.Rows.{origin_at, rows_of};
+ghost use Rattle.region_body.specs.Waiting.{waited};
+
+use crate::carry::carry_all;
+use crate::cells::Cells;
+use crate::demands::{bring_demands, nothing_demanded};
+use crate::follow::follow;
+use crate::followed::{FollowedLink, refresh};
+use crate::gate::GatePlace;
+use crate::held::Held;
+use crate::joints::join_places;
+use crate::opening::{earlier_of, gates_of, nothing_put, origins_of, places_of};
+use crate::origin::Origin;
+use crate::pause::{Pause, hold_the_same};
+use crate::place::Place;
+use crate::sweep::sweep;
+use crate::tie::Tie;
+use crate::waiting::{note_held, wait_all, waited};
+use flow_model::Row;
+use network_file::Net;
+use no_memory::NoMemory;
+use signal_plan::MOST_STEPS;
+use std::alloc::Global;
+use std::fmt;
+use std::marker::Model;
+
+/// The rows of some cells of a network at a step, kept as places side by side in the order of the cells.
+#[derive(Drop)]
+pub struct PlacedRows {
+    places: Vec<Place>,
+    origins: Vec<Origin>,
+    before: Vec<u64>,
+    links: Vec<FollowedLink>,
+    ties: Vec<Tie>,
+    // None of these changes before this step.
+    ties_until: u64,
+    gates: Vec<GatePlace>,
+    pause: Pause,
+    // What was put for the cells of the halo as the pause was looked for.
+    seen: Vec<Option<u64>>,
+}
+
+impl Model for PlacedRows {
+    ghost use Rattle.std.specs.Prelude.{map};
+    ghost use Rattle.region_body.specs.Placed.{PlacedCells};
+    ghost use Rattle.region_body.specs.Rows.{AreSettled};
+    ghost use Rattle.region_body.specs.Waiting.{waited};
+
+    ghost Value = { PlacedCells };
+
+    ghost view = { λ rows. record {
+      places = map (waited rows.pause.owed) rows.places.items;
+      origins = rows.origins.items;
+      before = rows.before.items;
+      links = rows.links.items;
+      ties = rows.ties.items;
+      ties_until = rows.ties_until;
+      gates = rows.gates.items;
+      pause = rows.pause;
+      seen = rows.seen.items;
+    } };
+
+    ghost invariant = { λ rows. AreSettled rows.origins.items (map (waited rows.pause.owed) rows.places.items) rows.before.items };
+}
+
+// Places and courses are not shown.
+impl fmt::Debug for PlacedRows {
+    fn fmt<W: fmt::Write>(&self, f: &mut fmt::Formatter<W>) -> fmt::Result {
+        f.debug_struct("PlacedRows").finish_non_exhaustive()
+    }
+}
+
+impl PlacedRows {
+    /// These cells with their rows at step `t` and what they held earlier, joined by these connectors. Of all rows and
+    /// earlier occupancies those of these cells are used. All memory that a step needs is taken here.
+    pub fn new(
+        alloc: Global,
+        net: &Net,
+        t: u64,
+        region: &Cells,
+        rows: &[Row],
+        earlier: &[u64],
+    ) -> Result<PlacedRows, NoMemory>
+        requires in_time { t ≤ net.now.steps }
+        requires cells { AreCells net.now region.now.cells.now region.now.halo.now region.now.connectors.now }
+        requires rows { All (λ i. i < length rows.now) region.now.cells.now }
+        requires earlier { All (λ i. i < length earlier.now) region.now.cells.now }
+        requires bounds { All (λ i. IsRowInBounds net.now t i (row_at rows.now i)) region.now.cells.now }
+        ensures placed { IfOk result (λ placed. ArePlaced net.now region.now.cells.now region.now.halo.now region.now.connectors.now t placed) }
+        ensures rows { IfOk result (λ placed. rows_of placed.origins placed.places ≡ map (row_at rows.now) region.now.cells.now) }
+        ensures before { IfOk result (λ placed. placed.before ≡ map (slice_index earlier.now) region.now.cells.now) }
+    {
+        let _steps = net.steps;
+        let cells = region.cells;
+        let origins = origins_of(alloc, net, cells)?;
+        let mut places = places_of(alloc, net, t, cells, rows)?;
+        let before = earlier_of(alloc, earlier, cells)?;
+        let gates = gates_of(alloc, net, cells)?;
+        let joints = join_places(
+            alloc,
+            net,
+            t,
+            cells,
+            region.halo,
+            region.connectors,
+            &mut places,
+        )?;
+        let seen = nothing_put(alloc, region.halo.len())?;
+        Ok(PlacedRows {
+            places,
+            origins,
+            before,
+            links: joints.links,
+            ties: joints.ties,
+            ties_until: 0,
+            gates,
+            pause: Pause::NONE,
+            seen,
+        })
+    }
+
+    /// How many cells there are.
+    pub fn count(&self) -> usize
+        ensures { result ≡ length self.now.origins }
+    {
+        self.origins.len()
+    }
+
+    /// The row of the `i`-th cell.
+    pub fn row(&self, i: u32) -> Row
+        requires { i < length self.now.origins }
+        ensures { result ≡ row_at (rows_of self.now.origins self.now.places) i }
+    {
+        let place = waited(&self.places[i as usize], self.pause.owed);
+        self.origins[i as usize].row(&place)
+    }
+
+    /// What the `i`-th cell holds.
+    pub fn held(&self, i: u32) -> u64
+        requires { i < length self.now.origins }
+        ensures { result ≡ occupancy (rows_of self.now.origins self.now.places) i }
+    {
+        self.places[i as usize].n
+    }
+
+    /// All that has gone out of it since step 0.
+    pub fn gone(&self, i: u32) -> u64
+        requires { i < length self.now.origins }
+        ensures { result ≡ (row_at (rows_of self.now.origins self.now.places) i).gone }
+    {
+        self.places[i as usize].gone
+    }
+
+    /// What it held a step before.
+    pub fn before(&self, i: u32) -> u64
+        requires { i < length self.now.before }
+        ensures { result ≡ slice_index self.now.before i }
+    {
+        self.before[i as usize]
+    }
+
+    /// Takes the cells through step `t`, by what was put for each cell of their halo. Where nothing moves among them, and
+    /// that is known, their places are not looked at.
+    pub fn step(&mut self, net: &Net, t: u64, cells: &[u32], put: &[Option<u64>])
+        requires in_time { t < net.now.steps }
+        requires can { CanAdvance net.now cells.now t self.old put.now }
+        ensures rows { (can : CanAdvance net.now cells.now t self.old put.now) → rows_of self.new.origins self.new.places ≡
+            rows_after net.now t can.n cells.now (rows_of self.old.origins self.old.places) }
+        ensures placed { (can : CanAdvance net.now cells.now t self.old put.now) →
+            ArePlaced net.now cells.now can.halo can.connectors (t + 1) self.new }
+        ensures before { (p : ℕ) → p < length cells.now → slice_index self.new.before p ≡ (place_at self.old.places p).n }
+    {
+        let _steps = net.steps;
+        if self.waits_through(t, put) {
+            self.wait();
+        } else {
+            self.wake();
+            self.take_step(net, t, cells, put);
+            self.look(put);
+        }
+    }
+
+    // Whether nothing moves among the cells in step `t`, as far as it is known.
+    fn waits_through(&mut self, t: u64, put: &[Option<u64>]) -> bool
+        requires in_time { t ≤ MOST_STEPS }
+        requires step { All (λ gate. gate.course.step ≤ t) self.old.gates }
+        requires seen { length self.old.seen ≡ length put.now }
+        ensures only_gates { self.new ≡ record self.old { gates = self.new.gates } }
+        ensures gates { AreGatesKept t self.old.gates self.new.gates }
+        ensures waits { IsTrue result → WaitThrough t self.old put.now }
+    {
+        t < self.pause.until
+            && hold_the_same(&self.seen, put)
+            && nothing_demanded(t, &mut self.gates)
+    }
+
+    // They wait a step. That is noted in the first one, and counted in the sums of their places when they wake.
+    fn wait(&mut self)
+        requires few { self.old.pause.owed ≤ MOST_STEPS }
+        requires kept { 1 ≤ self.old.pause.owed → (p : ℕ) → p < length self.old.places → slice_index self.old.before p ≡ (place_at self.old.places p).n }
+        requires sums { (p : ℕ) → p < length self.old.origins → (origin_at self.old.origins p).is_exit ≡ false →
+            (place_at self.old.places p).held + (place_at self.old.places p).n < 2 ^ 64 }
+        ensures waits { self.new ≡ record self.old {
+          places = map (waited 1) self.old.places;
+          before = self.new.before;
+          pause = record self.old.pause { owed = self.old.pause.owed + 1 };
+        } }
+        ensures long { length self.new.before ≡ length self.old.before }
+        ensures before { (p : ℕ) → p < length self.old.places → slice_index self.new.before p ≡ (place_at self.old.places p).n }
+    {
+        self.note_first();
+        self.pause.owed += 1;
+    }
+
+    // Notes what they hold, where they don't wait yet.
+    fn note_first(&mut self)
+        requires kept { 1 ≤ self.old.pause.owed → (p : ℕ) → p < length self.old.places → slice_index self.old.before p ≡ (place_at self.old.places p).n }
+        ensures only_before { self.new ≡ record self.old { before = self.new.before } }
+        ensures long { length self.new.before ≡ length self.old.before }
+        ensures before { (p : ℕ) → p < length self.old.places → slice_index self.new.before p ≡ (place_at self.old.places p).n }
+    {
+        if self.pause.owed == 0 {
+            note_held(&self.places, &mut self.before);
+        }
+    }
+
+    // Ends their pause.
+    fn wake(&mut self)
+        ensures { self.new ≡ record self.old { pause = record self.old.pause { owed = 0; until = 0 } } }
+    {
+        self.count_owed();
+        self.pause.until = 0;
+    }
+
+    // Counts the steps that they have waited in the sums of their places.
+    fn count_owed(&mut self)
+        ensures { self.new ≡ record self.old { pause = record self.old.pause { owed = 0 } } }
+    {
+        if self.pause.owed > 0 {
+            wait_all(&mut self.places, self.pause.owed);
+            self.pause.owed = 0;
+        }
+    }
+
+    // Takes them through step `t` by their places.
+    fn take_step(&mut self, net: &Net, t: u64, cells: &[u32], put: &[Option<u64>])
+        requires in_time { t < net.now.steps }
+        requires can { CanAdvance net.now cells.now t self.old put.now }
+        requires none_owed { self.old.pause.owed ≡ 0 }
+        requires awake { self.old.pause.until ≡ 0 }
+        ensures rows { (can : CanAdvance net.now cells.now t self.old put.now) → rows_of self.new.origins self.new.places ≡
+            rows_after net.now t can.n cells.now (rows_of self.old.origins self.old.places) }
+        ensures placed { (can : CanAdvance net.now cells.now t self.old put.now) →
+            ArePlaced net.now cells.now can.halo can.connectors (t + 1) self.new }
+        ensures before { (p : ℕ) → p < length cells.now → slice_index self.new.before p ≡ (place_at self.old.places p).n }
+        ensures awake { self.new.pause ≡ self.old.pause }
+        ensures seen { self.new.seen ≡ self.old.seen }
+    {
+        let _steps = net.steps;
+        refresh(&mut self.links, &mut self.places, t);
+        self.ties_until = follow(t, &mut self.ties, self.ties_until);
+        sweep(&mut self.places, &mut self.before);
+        let held = Held {
+            own: &self.before,
+            put,
+        };
+        carry_all(t, &self.ties, &held, &mut self.places);
+        bring_demands(t, &mut self.gates, &mut self.places);
+    }
+
+    // Looks for how long nothing moves among them, as long as this is put for their halo.
+    fn look(&mut self, put: &[Option<u64>])
+        requires none_owed { self.old.pause.owed ≡ 0 }
+        requires seen { length self.old.seen ≡ length put.now }
+        requires there { All (λ link. link.place < length self.old.places) self.old.links }
+        requires spots { All (λ tie. (m : ℕ) → m < 3 → IsThere self.old.places put.now (spot_at tie m)) self.old.ties }
+        ensures only_pause { self.new ≡ record self.old { pause = self.new.pause; seen = put.now } }
+        ensures none_owed { self.new.pause.owed ≡ 0 }
+        ensures idle { (s : ℕ) → s < self.new.pause.until →
+            AreIdle self.old.places self.old.links self.old.ties put.now self.new.pause.until }
+    {
+        self.pause = Pause::of(self.pause.mover, &self.places, &self.links, &self.ties, put);
+        self.seen.copy_from_slice(put);
+    }
+}

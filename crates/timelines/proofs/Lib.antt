@@ -1,5 +1,0 @@
-pub mod Phases
-pub mod Passing
-pub mod Starts
-pub mod Links
-pub mod Following

@@ -1,7 +1,0 @@
-use Rattle.std.proofs.Common.{ℕ}
-use Rattle.timelines.specs.Passing.{HasPassed}
-use Rattle.timelines.proofs.timeline.pass.Given as goal
-
-abbrev pub invariant-loop-k : goal.invariant-loop-k
-invariant-loop-k l =
-    (start : ℕ) → HasPassed start l.changes l.initial.k l.initial.value l.t → HasPassed start l.changes l.k l.value l.t
