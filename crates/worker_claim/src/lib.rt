@@ -3,12 +3,10 @@
 //! `drive` makes a number of sweeps with one pass, `crew` has several members drive at once, each in a thread of its own
 //! where one can be made, `crew_watch` does so while one more pass takes a shot, and `finish` brings all regions to the
 //! goal with the pass that has all seats. The helpers of `crew_hints` and `crew_watch_hints` hand the numbers of regions to
-//! each other through the deques of their `nests`, in place of sweeps. No call takes memory but `nests`, `Nest::fill` and
-//! the calls with helpers, the last of which never answer that there is none.
+//! each other through their nests (`number_deques`), in place of sweeps. No call takes memory but those with helpers, which
+//! never answer that there is none.
 #![tactic(auto)]
 
-mod deque;
-mod deque_rule;
 mod driven;
 mod driving;
 mod finishing;
@@ -17,12 +15,9 @@ mod helper;
 mod helping;
 mod member;
 mod members;
-mod nest;
-mod nesting;
 mod part;
 mod pausing;
 mod sweep;
-mod thief;
 mod watching;
 
 pub use driven::Driven;
@@ -33,6 +28,4 @@ pub use helper::Helper;
 pub use helping::crew_hints;
 pub use member::Member;
 pub use members::crew;
-pub use nest::Nest;
-pub use nesting::nests;
 pub use watching::crew_watch;
