@@ -8,13 +8,7 @@ use crate::driven::Driven;
 use region_slots::{Field, Gate, Pass};
 
 /// One turn on each region, in order of number from `first` on and round.
-pub(crate) fn sweep<G: Gate>(
-    field: &Field,
-    pass: &mut Pass,
-    goal: u64,
-    first: u32,
-    gate: &G,
-) -> Driven
+pub fn sweep<G: Gate>(field: &Field, pass: &mut Pass, goal: u64, first: u32, gate: &G) -> Driven
     requires belongs { IsPassOf field.now pass.old }
     requires there { first < region_count field.now.terms.chart.now.cut }
     requires in_time { goal ≤ field.now.terms.net.now.steps }

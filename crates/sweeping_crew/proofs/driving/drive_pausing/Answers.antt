@@ -4,8 +4,8 @@ use Rattle.region_cut.specs.Cuttings.{region_count}
 use Rattle.worker_claim.specs.Driving.{HasSwept}
 use Rattle.worker_claim.specs.Turns.{added}
 use Rattle.worker_claim.specs.declared.driven.Driven.{Driven}
-use Rattle.worker_claim.proofs.Sweeping.{swept-more}
-use Rattle.worker_claim.proofs.driving.drive_pausing.Goals as goal
+use Rattle.sweeping_crew.proofs.Sweeps.{swept-more}
+use Rattle.sweeping_crew.proofs.driving.drive_pausing.Goals as goal
 
 pub then-driven-requires : goal.then-driven-requires
 then-driven-requires g c =

@@ -1,12 +1,10 @@
 ghost use Rattle.std.specs.Prelude.{◌≡◌, ◌<◌, ◌≤◌};
 ghost use Rattle.region_cut.specs.Cuttings.{region_count};
 ghost use Rattle.region_slots.specs.FieldView.{IsPassOf};
-ghost use Rattle.worker_claim.specs.Driving.{HasDriven};
+ghost use Rattle.sweeping_crew.specs.Driving.{HasDriven};
 
-use crate::driven::Driven;
-use crate::pausing::pause_where;
-use crate::sweep::sweep;
 use region_slots::{Field, Gate, Pass, Pauses};
+use worker_claim::{Driven, pause_where, sweep};
 
 /// Makes so many sweeps with a pass, or fewer where all turns of one find their region at the goal or past it. A sweep is
 /// one turn on each region, in order of number from `first` on and round.

@@ -1,9 +1,11 @@
 ghost use Rattle.std.specs.Prelude.{◌≡◌, ◌≤◌};
-ghost use Rattle.worker_claim.specs.Members.{AreDriven, AreMembersOf, IsDriven, IsMemberOf};
+ghost use Rattle.worker_claim.specs.Members.{IsMemberOf};
+ghost use Rattle.sweeping_crew.specs.Members.{AreDriven, AreMembersOf, IsDriven};
 
-use crate::member::Member;
+use crate::driving::drive;
 use region_slots::{Field, Gate};
 use std::thread::{Threads, for_each_mut};
+use worker_claim::Member;
 
 /// Has each member drive, all at once where the threads can be made, and one after the other where they can't.
 pub fn crew<R: Threads + Sync, G: Gate>(
@@ -22,6 +24,16 @@ pub fn crew<R: Threads + Sync, G: Gate>(
     let work = move |_k: usize, member: &mut Member|
         requires { IsMemberOf field.now member.old × (goal ≤ field.now.terms.net.now.steps) }
         ensures { IsDriven field.entry.now goal sweeps member.old member.new }
-    { member.drive(field, goal, sweeps, gate) };
+    { drive_member(field, member, goal, sweeps, gate) };
     for_each_mut(rt, members, threads, &work);
+}
+
+// Drives with a member's pass.
+fn drive_member<G: Gate>(field: &Field, member: &mut Member, goal: u64, sweeps: u32, gate: &G)
+    requires member { IsMemberOf field.now member.old }
+    requires in_time { goal ≤ field.now.terms.net.now.steps }
+    ensures { IsDriven field.now goal sweeps member.old member.new }
+{
+    let first = member.first;
+    member.driven = drive(field, &mut member.pass, goal, sweeps, first, gate);
 }

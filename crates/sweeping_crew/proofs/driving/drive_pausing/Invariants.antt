@@ -2,7 +2,7 @@ use Rattle.std.proofs.Common.{◌≡◌, ◌≤◌, ◌-◌}
 use Rattle.region_cut.specs.Cuttings.{region_count}
 use Rattle.region_slots.specs.FieldView.{IsPassOf}
 use Rattle.worker_claim.specs.Driving.{HasSwept}
-use Rattle.worker_claim.proofs.driving.drive_pausing.Given as goal
+use Rattle.sweeping_crew.proofs.driving.drive_pausing.Given as goal
 
 -- so many sweeps were made
 abbrev pub invariant-loop-made : goal.invariant-loop-made

@@ -1,8 +1,8 @@
 use Rattle.std.specs.Prelude.{slice_index_or}
 use Rattle.std.proofs.Common.{subst, rules}
-use Rattle.worker_claim.specs.Members.{IsDriven}
+use Rattle.sweeping_crew.specs.Members.{IsDriven}
 use Rattle.worker_claim.specs.declared.member.Member.{Member}
-use Rattle.worker_claim.proofs.members.crew.Goals as goal
+use Rattle.sweeping_crew.proofs.members.crew.Goals as goal
 
 pub returns : goal.returns
 returns g c = record {
