@@ -1,8 +1,8 @@
 use crate::driven::Driven;
 use crate::member::Member;
+use crate::one_sweep::turns;
 use crate::part::sweep_within;
 use crate::pausing::pause_where;
-use crate::sweep::turns;
 use number_deques::Nest;
 use region_slots::{Field, Gate, Pauses};
 

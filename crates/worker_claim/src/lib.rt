@@ -12,9 +12,9 @@ mod help_watching;
 mod helper;
 mod helping;
 mod member;
+mod one_sweep;
 mod part;
 mod pausing;
-mod sweep;
 mod watching;
 
 pub use driven::Driven;
@@ -23,6 +23,6 @@ pub use help_watching::crew_watch_hints;
 pub use helper::Helper;
 pub use helping::crew_hints;
 pub use member::Member;
+pub use one_sweep::sweep;
 pub use pausing::pause_where;
-pub use sweep::sweep;
 pub use watching::watch;

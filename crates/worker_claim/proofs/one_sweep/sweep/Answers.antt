@@ -4,7 +4,7 @@ use Rattle.border_rows.specs.declared.view.Terms.{Terms}
 use Rattle.worker_claim.specs.Turns.{HasTurned}
 use Rattle.worker_claim.proofs.Nearing.{nearer}
 use Rattle.worker_claim.proofs.Sweeping.{added-up, round-swept}
-use Rattle.worker_claim.proofs.sweep.sweep.Goals as goal
+use Rattle.worker_claim.proofs.one_sweep.sweep.Goals as goal
 
 pub returns-clause-swept : goal.returns-clause-swept
 returns-clause-swept g c =

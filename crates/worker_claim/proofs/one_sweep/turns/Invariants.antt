@@ -1,7 +1,7 @@
 use Rattle.std.proofs.Common.{◌≡◌, false}
 use Rattle.region_slots.specs.FieldView.{IsPassOf}
 use Rattle.worker_claim.specs.Turns.{HasTurned}
-use Rattle.worker_claim.proofs.sweep.turns.Given as goal
+use Rattle.worker_claim.proofs.one_sweep.turns.Given as goal
 
 -- the regions before this one had a turn
 abbrev pub invariant-loop-region : goal.invariant-loop-region

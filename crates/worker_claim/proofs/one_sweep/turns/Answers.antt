@@ -4,7 +4,7 @@ use Rattle.border_rows.specs.declared.view.View.{View}
 use Rattle.worker_claim.specs.Turns.{HasTurned, counted, none}
 use Rattle.worker_claim.specs.declared.driven.Driven.{Driven}
 use Rattle.worker_claim.proofs.Turning.{counted-added, counted-all, turned-more, turned-one}
-use Rattle.worker_claim.proofs.sweep.turns.Goals as goal
+use Rattle.worker_claim.proofs.one_sweep.turns.Goals as goal
 
 pub loop-region-preserved : goal.loop-region-preserved
 loop-region-preserved g c =
