@@ -16,7 +16,7 @@ use region_cut::Cut;
 use region_slots::Gate;
 use std::alloc::Global;
 use std::thread::Threads;
-use workerless_call::network_in;
+use workerless_call::{network_in, regions_wanted};
 
 /// The report of a network that workers take through its steps in parts, each in another cutting.
 pub(crate) fn recut_text<R: Threads + Sync, G: Gate>(
@@ -50,7 +50,8 @@ fn report_in_parts<R: Threads + Sync, G: Gate>(
     ensures { IfOk result (λ text. text.items ≡ report_of net.now 0) }
 {
     let _steps = net.steps;
-    let cuts = cuts_of_parts(alloc, net, request.regions, request.parts)?;
+    let regions = regions_wanted(net, request);
+    let cuts = cuts_of_parts(alloc, net, regions, request.parts)?;
     recut_report(rt, alloc, net, cuts, request.workers, gate)
 }
 

@@ -16,7 +16,7 @@ use region_cut::charted;
 use region_slots::Gate;
 use std::alloc::Global;
 use std::thread::Threads;
-use workerless_call::network_in;
+use workerless_call::{network_in, regions_wanted};
 
 /// What is in a made network, and its totals once workers have taken it through all its steps, in regions.
 pub(crate) fn sample_text<R: Threads + Sync, G: Gate>(
@@ -50,7 +50,7 @@ fn sample_totals<R: Threads + Sync, G: Gate>(
     ensures { IfOk result (λ text. text.items ≡ sample_of request.size request.seed net.now) }
 {
     let _steps = net.steps;
-    let chart = charted(alloc, net, request.regions)?;
+    let chart = charted(alloc, net, regions_wanted(net, request))?;
     let regions = last_regions(rt, alloc, net, &chart, 0, request.workers, gate)?;
     let mut text = Vec::new(alloc);
     put_sample_line(&mut text, net, request.size, request.seed)?;

@@ -7,4 +7,5 @@ pub mod NetworkInput
 pub mod Recording
 pub mod Task
 pub mod UsedCutting
+pub mod UsedRegions
 pub mod Words

@@ -4,10 +4,11 @@ use Rattle.command_words.specs.declared.request.Request.{Request}
 use Rattle.network_file.specs.Network.{Network}
 use Rattle.region_cut.specs.Cuttings.{even_cutting}
 use Rattle.cut_grow.specs.Grown.{IsGrown}
+use Rattle.workerless_call.specs.UsedRegions.{regions_wanted}
 
--- into how many regions a network is cut: as many as are asked for, or as there are cells
+-- into how many regions a network is cut: as many as are wanted, or as there are cells
 abbrev pub regions_asked : Network → Request → ℕ
-regions_asked net request = min request.regions (length net.cells)
+regions_asked net request = min (regions_wanted (length net.cells) request) (length net.cells)
 
 -- a cutting for a request: the file's where it has one, and else the even one, or a grown one where that is asked for
 pub record IsCuttingOf (net : Network) (request : Request) (cut : List ℕ) : Type 0 where

@@ -9,6 +9,7 @@ ghost use Rattle.workerless_call.specs.CutMode.{IsCutText, ShowsGrown, cut_line,
 ghost use Rattle.workerless_call.specs.Task.{task_of};
 
 use crate::network_input::network_in;
+use crate::used_regions::regions_wanted;
 use call_ending::Refusal;
 use command_words::Request;
 use cut_grow::{cut_count, grow};
@@ -26,7 +27,10 @@ pub fn cut_text(alloc: Global, request: Request, input: &[u8]) -> Result<Vec<u8>
     ensures refusal { IfErr result (IsRefusalOf (cut_refused (task_of request input.now)) ⊥) }
 {
     match network_in(alloc, input) {
-        Ok(net) => Ok(grown_beside_even(alloc, &net, request.regions)?),
+        Ok(net) => {
+            let regions = regions_wanted(&net, request);
+            Ok(grown_beside_even(alloc, &net, regions)?)
+        }
         Err(refusal) => Err(refusal),
     }
 }

@@ -3,8 +3,8 @@
 //!
 //! - `words` has the words read ([`request_of`]), and `command_line` has those that a program was called with. `input`
 //!   brings the input of a request ([`input_of`]): it has the tables by mode `reads_source` and `most_input`.
-//! - `network_input` reads a network, or tells its fault; `recording` says how much a run may record, and `used_cutting`
-//!   in which regions it is.
+//! - `network_input` reads a network, or tells its fault; `recording` says how much a run may record, `used_cutting` in
+//!   which regions it is, and `used_regions` in how many.
 //! - `check_mode`, `convert_mode`, `cut_mode` and `choose_mode` find the texts of these modes, each with its definition of
 //!   the same name in specs/. A choice runs its networks in one region each.
 #![tactic(auto)]
@@ -18,6 +18,7 @@ mod input;
 mod network_input;
 mod recording;
 mod used_cutting;
+mod used_regions;
 mod words;
 
 pub use check_mode::check_text;
@@ -29,4 +30,5 @@ pub use input::input_of;
 pub use network_input::{network_in, refused};
 pub use recording::{large_record, records_too_much};
 pub use used_cutting::chart_asked;
+pub use used_regions::regions_wanted;
 pub use words::request_of;

@@ -5,6 +5,7 @@ ghost use Rattle.region_cut.specs.Chart.{chart_of};
 ghost use Rattle.cut_grow.specs.Grown.{IsGrown};
 ghost use Rattle.workerless_call.specs.UsedCutting.{IsCuttingOf};
 
+use crate::used_regions::regions_wanted;
 use command_words::Request;
 use cut_grow::grow;
 use network_file::Net;
@@ -19,11 +20,12 @@ pub fn chart_asked(alloc: Global, net: &Net, request: Request) -> Result<Chart, 
     ensures one_each { IfOk result (λ chart. length chart.cut ≡ length net.now.cells) }
     ensures cutting { IfOk result (λ chart. IsCuttingOf net.now request chart.cut) }
 {
+    let regions = regions_wanted(net, request);
     if request.grown && net.regions.is_empty() {
-        let cut = grown_cut(alloc, net, request.regions)?;
+        let cut = grown_cut(alloc, net, regions)?;
         return Chart::new(alloc, net, cut);
     }
-    charted(alloc, net, request.regions)
+    charted(alloc, net, regions)
 }
 
 // A grown cutting into so many regions, or as many as there are cells.
