@@ -125,3 +125,17 @@ def test_the_regions_of_the_file_come_first(run):
         hold((0, REPORT, b""), run([*words, "--cut", "grown"], input=content))
     text = run(["save", "--until", "3", "--regions", "3", "--cut", "grown"], input=content)[1]
     assert [line.split(b",")[1] for line in text.splitlines() if line.startswith(b"row,")] == [b"1", b"0", b"1"]
+
+
+@pytest.mark.parametrize("cells, workers, regions", [
+    (3, 4, 1), (511, 16, 1), (512, 16, 2), (767, 2, 2), (768, 2, 3), (5000, 1, 1), (4095, 2, 15), (4096, 2, 16), (9000, 2, 16),
+    (9000, 4, 32), (9000, 16, 35),
+])
+def test_regions_are_chosen_by_the_cells_and_the_workers(cells, workers, regions, run):
+    """One for one worker, else one for each 256 cells, at least 1 and at most 8 for each worker."""
+    names = ["g", *(f"r{i}" for i in range(cells - 2)), "x"]
+    chain = lines("; ".join(["ctm,1; steps,1; gate,g,2,0", *(f"road,{it},6,2,1,2,0" for it in names[1:-1]), "exit,x,2",
+                             *(f"link,{one},{other}" for one, other in zip(names, names[1:]))]))
+    status, text, err = run(["cut", "--regions", "auto", "--workers", str(workers)], input=chain)
+    assert (status, err) == (0, b"")
+    assert text.startswith(b"cut,%d," % regions)

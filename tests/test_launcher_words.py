@@ -19,7 +19,8 @@ def rows_of(heading, page=FORMAT):
 
 MODES = {row[0].strip("`"): re.findall(r"`--(\w+)`", row[1]) for row in rows_of("Mode")}
 OPTIONS = {row[0].strip("`-"): row[1:3] for row in rows_of("Option")}
-RANGES = {name: tuple(map(int, values.split()[2::2])) for name, (values, _) in OPTIONS.items() if "number" in values}
+RANGES = {name: tuple(map(int, re.findall(r"\d+", values))) for name, (values, _) in OPTIONS.items() if "number" in values}
+WORDS_TOO = {name: word for name, (values, _) in OPTIONS.items() if "number" in values for word in re.findall(r"`(\w+)`", values)}
 WORDS = {name: re.findall(r"`(\w+)`", values) for name, (values, _) in OPTIONS.items() if "number" not in values}
 DEFAULTS = {name: default.strip("`") for name, (_, default) in OPTIONS.items()}
 REFUSED = [shlex.split(example)[1:] for row in rows_of("Words") for example in re.findall(r"`(ctm[^`]*)`", row[1])]
@@ -27,6 +28,7 @@ REFUSED = [shlex.split(example)[1:] for row in rows_of("Words") for example in r
 
 def test_the_page_has_the_tables_that_are_read():
     assert (len(MODES), len(RANGES), len(DEFAULTS), WORDS) == (10, 8, 9, {"cut": ["even", "grown"]})
+    assert WORDS_TOO == {"regions": "auto"}
     assert len(REFUSED) >= 20
 
 
@@ -38,8 +40,9 @@ def test_help_has_the_modes_options_and_ranges_of_the_page(without_rt):
     assert {name: [one, other] for name, one, other, _ in words} == WORDS
     shown = dict(re.findall(r"^  (\w+) .*\n(?: +options: (.*))?", modes, re.MULTILINE))
     assert {mode: words.replace("--", "").split() for mode, words in shown.items()} == MODES
-    terms = re.findall(r"^  --(\w+) .*; from (\d+) to (\d+), and (\d+) where", options, re.MULTILINE)
+    terms = re.findall(r"^  --(\w+) .*; from (\d+) to (\d+)(?: or \w+)?, and (\d+) where", options, re.MULTILINE)
     assert {name: (int(least), int(most)) for name, least, most, _ in terms} == RANGES
+    assert dict(re.findall(r"^  --(\w+) .*; from \d+ to \d+ or (\w+), and", options, re.MULTILINE)) == WORDS_TOO
     assert {name: default for name, _, _, default in [*terms, *words]} == DEFAULTS
 
 
@@ -56,6 +59,8 @@ def test_the_manual_has_the_modes_options_and_ranges_of_the_page():
     assert {name: (int(least), int(most)) for name, (least, most, _) in terms.items()} == RANGES
     words = {name: re.findall(r"^\.BR (\w+) ,$", told[name], re.MULTILINE) for name in WORDS}
     assert words == WORDS
+    assert {name: re.findall(r"^\.BR (\w+) :$", told[name], re.MULTILINE) for name in WORDS_TOO} == \
+        {name: [word] for name, word in WORDS_TOO.items()}
     assert {name: default for name, (_, _, default) in terms.items()} | {name: own[0] for name, own in words.items()} == DEFAULTS
 
 
@@ -68,6 +73,9 @@ def words_at_the_ends():
         mode = next(mode for mode, options in MODES.items() if option in options)
         for value in [*words, *(word.upper() for word in words), " ".join(words), "", "0"]:
             yield [mode, f"--{option}={value}"]
+    for option, word in WORDS_TOO.items():
+        mode = next(mode for mode, options in MODES.items() if option in options)
+        yield from ([mode, f"--{option}={value}"] for value in (word, word.upper(), word[:-1], f"{word} 1"))
     for mode, options in MODES.items():
         yield [mode]
         yield from ([mode, f"--{option}", "1"] for option in RANGES)
@@ -109,7 +117,8 @@ def test_words_are_refused_where_the_program_refuses_them(words, run, without_rt
     (["run", "--cut=even grown"], ["--cut takes even or grown, and not even\\ grown"]),
     (["run", "--cut"], ["--cut has no value; it takes even or grown"]),
     (["recut", "--parts", "0"], ["--parts takes", "from 1 to 64", "and not 0"]),
-    (["cut", "--cut", "grown"], ["cut has no option --cut", "it has --regions"]),
+    (["cut", "--cut", "grown"], ["cut has no option --cut", "it has --regions --workers"]),
+    (["run", "--regions", "most"], ["--regions takes", "from 1 to 512", ", or auto, and not most"]),
     (["drive"], ["drive is no mode", "run watch sample save resume choose recut cut check convert"]),
     ([], ["no mode is given", "run watch sample save resume choose recut cut check convert"]),
     (["run", "check"], ["check is a word too many"]),

@@ -92,14 +92,14 @@ def _write(stream: IO[bytes], content: bytes) -> None:
         pass
 
 
-def takes(option: str, program: str | Path | None = None) -> bool:
-    """Whether `run` takes an option with the value 1, asked of the program itself over the smallest network."""
-    return _takes(option, str(program or program_path()))
+def takes(option: str, program: str | Path | None = None, value: str = "1") -> bool:
+    """Whether `run` takes an option with a value, asked of the program itself over the smallest network."""
+    return _takes(option, value, str(program or program_path()))
 
 
 @lru_cache(maxsize=None)
-def _takes(option: str, program: str) -> bool:
-    return ask(("run", option, "1"), SMALLEST, program).status == 0
+def _takes(option: str, value: str, program: str) -> bool:
+    return ask(("run", option, value), SMALLEST, program).status == 0
 
 
 def run_words(every: int, workers: int = 1, program: str | Path | None = None) -> list[str]:
@@ -110,13 +110,15 @@ def run_words(every: int, workers: int = 1, program: str | Path | None = None) -
             raise Problem("this ctm takes no --every, so it records nothing; build the newest")
         words += ["--every", str(every)]
     if workers > 1 and takes("--workers", program):
-        words += ["--regions", str(regions_for(workers)), "--workers", str(workers)]
+        words += ["--regions", regions_for(workers, program), "--workers", str(workers)]
     return words
 
 
-def regions_for(workers: int) -> int:
-    """Into how many regions a network is cut for so many workers."""
-    return min(512, 8 * workers) if workers > 1 else 1
+def regions_for(workers: int, program: str | Path | None = None) -> str:
+    """Into how many regions a network is cut for so many workers: as the program chooses, where it does."""
+    if workers == 1:
+        return "1"
+    return "auto" if takes("--regions", program, "auto") else str(min(512, 8 * workers))
 
 
 def recording_step(steps: int, cells: int) -> int:

@@ -1,6 +1,6 @@
 -- The options: the word of each, its values, and its default.
 use Rattle.std.specs.Prelude.{ℕ, List, [], ◌∷◌, Option, codes}
-use Rattle.command_words.specs.Values.{IsAmong, OptionValues, numbers, value_among, words}
+use Rattle.command_words.specs.Values.{IsAmong, OptionValues, numbers, numbers_or, value_among, words}
 use Rattle.command_words.specs.declared.setting.Setting.{Setting}
 use Rattle.command_words.specs.declared.setting.Setting.TheVariants.{Regions, Cutting, Parts, Workers, Every, Shots, Until, Size, Seed}
 
@@ -15,7 +15,7 @@ abbrev pub terms : List ℕ → OptionValues → (default : ℕ) → SettingTerm
 terms word values default = record { word = word; values = values; default = default }
 
 abbrev pub terms_of : Setting → SettingTerms
-terms_of Regions = terms (codes "regions") (numbers 1 512) 1
+terms_of Regions = terms (codes "regions") (numbers_or 512 (codes "auto")) 1
 terms_of Cutting = terms (codes "cut") (words (codes "even" ∷ codes "grown" ∷ [])) 0
 terms_of Parts = terms (codes "parts") (numbers 1 64) 4
 terms_of Workers = terms (codes "workers") (numbers 1 16) 1

@@ -1,5 +1,5 @@
 -- What the words on the command line ask for.
-use Rattle.std.specs.Prelude.{ℕ, Bool, eqb, List, Option, Some, None, if◌then◌else◌, codes}
+use Rattle.std.specs.Prelude.{ℕ, ◌≤◌, Bool, eqb, IfSome, List, Option, Some, None, if◌then◌else◌, codes}
 use Rattle.clap.specs.Walk.{first_of, is_empty}
 use Rattle.clap.specs.Words.{Row, fault_of, matches_of}
 use Rattle.command_words.specs.KnownWords.{command}
@@ -20,6 +20,10 @@ value_given mode option (Some text) = if takes_option mode option then value_spe
 abbrev pub value_of : Mode → Setting → List Row → Option ℕ
 value_of mode option found = value_given mode option (first_of (terms_of option).word found)
 
+-- the number of regions, where it isn't to be chosen
+abbrev pub number_unless_chosen : (value : ℕ) → Option ℕ
+number_unless_chosen value = if eqb value 0 then None else Some value
+
 -- the request, from what `clap` found
 unfoldable pub request_in : List Row → Option Request
 request_in found = do
@@ -36,7 +40,7 @@ request_in found = do
   seed ← value_of mode Seed found
   Some (record {
     mode = mode;
-    regions = regions;
+    regions = number_unless_chosen regions;
     -- the second of its words
     grown = eqb cutting 1;
     parts = parts;
@@ -58,7 +62,7 @@ request_of words = if are_taken words then request_in (matches_of command words)
 
 -- each value is within its option's range
 pub record IsInRange (request : Request) : Type 0 where
-  pub regions : IsAllowed Regions request.regions
+  pub regions : IfSome request.regions (λ k. (1 ≤ k) × IsAllowed Regions k)
   pub parts : IsAllowed Parts request.parts
   pub workers : IsAllowed Workers request.workers
   pub every : IsAllowed Every request.every

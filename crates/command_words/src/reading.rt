@@ -1,7 +1,7 @@
 ghost use Rattle.std.specs.Prelude.{◌≡◌, IfOk, IfSome, None, Some, map, option_map, string_bytes};
 ghost use Rattle.clap.specs.Words.{first_of, found_of, rows_of};
 ghost use Rattle.command_words.specs.Settings.{IsAllowed};
-ghost use Rattle.command_words.specs.Words.{IsInRange, request_in, request_of, value_of};
+ghost use Rattle.command_words.specs.Words.{IsInRange, number_unless_chosen, request_in, request_of, value_of};
 
 use crate::known_words::{MODE, known_words};
 use crate::mode::Mode;
@@ -33,7 +33,7 @@ fn requested(matches: &ArgMatches) -> Option<Request>
     let mode = Mode::named(text_at(matches, MODE)?)?;
     Some(Request {
         mode,
-        regions: value(matches, mode, Setting::Regions)?,
+        regions: unless_chosen(value(matches, mode, Setting::Regions)?),
         grown: value(matches, mode, Setting::Cutting)? == GROWN,
         parts: value(matches, mode, Setting::Parts)?,
         workers: value(matches, mode, Setting::Workers)?,
@@ -43,6 +43,13 @@ fn requested(matches: &ArgMatches) -> Option<Request>
         size: value(matches, mode, Setting::Size)?,
         seed: value(matches, mode, Setting::Seed)?,
     })
+}
+
+// The number of regions for a value of its option, where it isn't to be chosen.
+fn unless_chosen(value: u32) -> Option<u32>
+    ensures { result ≡ number_unless_chosen value }
+{
+    if value == 0 { None } else { Some(value) }
 }
 
 // The value of an option in a mode.

@@ -5,8 +5,8 @@ use crate::mode::Mode;
 pub struct Request {
     /// What to do.
     pub mode: Mode,
-    /// Into how many regions the network is cut, 1 to 512.
-    pub regions: u32,
+    /// Into how many regions the network is cut, 1 to 512; where there is no number, it is chosen by the cells and the workers.
+    pub regions: Option<u32>,
     /// Whether the regions are grown along the roads, and not even in the order of the file.
     pub grown: bool,
     /// Into how many parts of about as many steps a run is cut, each in a cutting of its own, 1 to 64.

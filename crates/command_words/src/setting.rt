@@ -65,7 +65,7 @@ impl Setting {
     {
         // Each line has its line in `terms_of` (specs/Settings.antt).
         match self {
-            Setting::Regions => Terms::new("regions", Values::Numbers(1, 512), 1),
+            Setting::Regions => Terms::new("regions", Values::NumbersOr(512, "auto"), 1),
             Setting::Cutting => Terms::new("cut", Values::Words(&["even", "grown"]), 0),
             Setting::Parts => Terms::new("parts", Values::Numbers(1, 64), 4),
             Setting::Workers => Terms::new("workers", Values::Numbers(1, 16), 1),

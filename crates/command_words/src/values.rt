@@ -1,5 +1,5 @@
-ghost use Rattle.std.specs.Prelude.{◌≡◌, ◌<◌, ◌≤◌, ◌^◌, IfSome, bytes_eq, length, position};
-ghost use Rattle.command_words.specs.Values.{AreFew, IsAmong, numbers, value_among, values_kept};
+ghost use Rattle.std.specs.Prelude.{◌≡◌, ◌<◌, ◌≤◌, ◌^◌, IfSome, Some, bytes_eq, if◌then◌else◌, length, position};
+ghost use Rattle.command_words.specs.Values.{AreFew, IsAmong, number_within, value_among, values_kept};
 
 use fixed_flow::whole;
 
@@ -8,6 +8,8 @@ use fixed_flow::whole;
 pub enum Values {
     /// The whole numbers from the first of these to the second, both allowed.
     Numbers(u32, u32),
+    /// The whole numbers from 1 to this one, and a word, which stands for 0.
+    NumbersOr(u32, &'static str),
     /// Words. Each stands for its place among them, counted from 0.
     Words(&'static [&'static str]),
 }
@@ -22,21 +24,33 @@ impl Values {
     {
         match self {
             Values::Numbers(least, most) => number(text, least, most),
+            Values::NumbersOr(most, word) => number_or(text, most, word),
             Values::Words(words) => place(words, text),
         }
     }
 }
 
 // The whole number that a text spells, where it is in this range.
-#[tactic(auto, unfolding(crate::specs::Values::value_among))]
+#[tactic(auto, unfolding(crate::specs::Values::number_within))]
 fn number(text: &str, least: u32, most: u32) -> Option<u32>
-    ensures value { result ≡ value_among (numbers least most) text.now }
-    ensures among { IfSome result (IsAmong (numbers least most)) }
+    ensures value { result ≡ number_within least most text.now }
+    ensures among { IfSome result (λ value. (least ≤ value) × (value ≤ most)) }
 {
     match whole(text.as_bytes()) {
         Some(value) if least <= value && value <= most => Some(value),
         _ => None,
     }
+}
+
+// The whole number from 1 on that a text spells, where it is in this range, or 0 where it is this word.
+fn number_or(text: &str, most: u32, word: &str) -> Option<u32>
+    ensures value { result ≡ if bytes_eq text.now word.now then Some 0 else number_within 1 most text.now }
+    ensures among { IfSome result (λ value. value ≤ most) }
+{
+    if text == word {
+        return Some(0);
+    }
+    number(text, 1, most)
 }
 
 // The place of a word among these.

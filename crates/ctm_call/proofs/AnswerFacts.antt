@@ -1,5 +1,5 @@
--- The answer by its cases, and inputs that a source may have.
-use Rattle.std.proofs.Common.{◌≡◌, ℕ, ◌+◌, ◌<◌, ◌≤◌, Bool, true, false, List, [], Option, Some, None, Result, Ok, Err, IfOk, IfErr, String, Global, IfSome, refl, sym, ◌∙◌, length, replicate, arith, rules}
+-- The answer by its cases.
+use Rattle.std.proofs.Common.{◌≡◌, ℕ, ◌+◌, ◌<◌, ◌≤◌, Bool, true, false, List, [], Option, Some, None, Result, Ok, Err, IfOk, IfErr, String, Global, refl, ◌∙◌, if◌then◌else◌, length, nat_lt, rules}
 use Rattle.std.proofs.lemmas.Bool.{false≢true}
 use Rattle.std.proofs.lemmas.List.{length-replicate}
 use Rattle.command_words.specs.declared.request.Request.{Request}
@@ -9,9 +9,10 @@ use Rattle.call_ending.specs.Refusing.{IsRefusalOf, Why}
 use Rattle.call_ending.specs.declared.refusal.Refusal.{Refusal}
 use Rattle.call_ending.specs.declared.refusal.Refusal.TheVariants as refusal
 use Rattle.ctm_call.specs.Answer.{IsTextBy, IsTextOf, answer_of, answer_to, answer_unless, why_by, why_in}
-use Rattle.ctm_call.specs.Input.{IsInput, IsInputOf, Reads, large_input, most_input, most_read, reads_source}
-use Rattle.ctm_call.specs.Task.{Task, task_of}
-use Rattle.ctm_call.specs.Words.{IsOfWords, requested, words_refused}
+use Rattle.workerless_call.specs.Input.{IsInput, IsInputOf, Reads, large_input, most_input, why_long}
+use Rattle.workerless_call.specs.Task.{Task, task_of}
+use Rattle.workerless_call.specs.Words.{IsOfWords, requested, words_refused}
+use Rattle.workerless_call.proofs.Inputs.{allowed, some_input_of}
 
 pub answer_of-words : (words : List (String Global)) (input : List ℕ) → requested words ≡ None → answer_of words input ≡ Err words_refused
 unfolding answer_of
@@ -32,41 +33,6 @@ pub why_in-unless : (why : Option Why) (task : Task) → why_in (answer_unless w
 why_in-unless None task = refl
 why_in-unless (Some why) task = refl
 
--- a refusal that was possible before a read could fail is possible
-pub allowed : (why : Option Why) (ReadFailed : Type 0) (told : Refusal) → IsRefusalOf why ⊥ told → IsRefusalOf why ReadFailed told
-allowed why ReadFailed (refusal.Told status line) is = is
-allowed why ReadFailed refusal.ReadFault is = absurd is
-allowed why ReadFailed refusal.WriteFault is = absurd is
-allowed why ReadFailed refusal.NoMemory is = is
-
--- some input that a source may have
-pub some_input : (left : Option (List ℕ)) → (input : List ℕ) × IfSome left (λ bytes. input ≡ bytes)
-some_input None = ([], tt)
-some_input (Some bytes) = (bytes, refl)
-
--- one that is longer than a limit, where the source has no less
-pub long_input : (most : ℕ) (left : Option (List ℕ)) → IfSome left (λ bytes. most < length bytes) →
-    (input : List ℕ) × IfSome left (λ bytes. input ≡ bytes) × (most < length input)
-long_input most None none = (replicate (most + 1) 0, tt, omega (arith, length-replicate {A = ℕ}))
-long_input most (Some bytes) long = (bytes, refl, long)
-
--- where a request makes its input, that is its input whatever the source has
-pub made_input_is : (request : Request) (left : Option (List ℕ)) → reads_source request.mode ≡ false → IsInput request left (made request.size request.seed)
-made_input_is request left makes = record { read = λ reads. absurd (false≢true (sym makes ∙ reads)); own = λ no. refl }
-
--- and else what the source has
-pub read_input_is : (request : Request) (left : Option (List ℕ)) (input : List ℕ) → reads_source request.mode ≡ true → IfSome left (λ bytes. input ≡ bytes) → IsInput request left input
-read_input_is request left input reads has = record { read = λ yes. has; own = λ makes. absurd (false≢true (sym makes ∙ reads)) }
-
-some_input_by : (request : Request) (left : Option (List ℕ)) (reads : Bool) → reads_source request.mode ≡ reads → (input : List ℕ) × IsInput request left input
-some_input_by request left true reads = let some = some_input left in (some.0, read_input_is request left some.0 reads some.1)
-some_input_by request left false makes = (made request.size request.seed, made_input_is request left makes)
-
--- some input that a request may have
-pub some_input_of : (request : Option Request) (left : Option (List ℕ)) → (input : List ℕ) × IsInputOf request left input
-some_input_of None left = some_input left
-some_input_of (Some request) left = some_input_by request left (reads_source request.mode) refl
-
 of_words : (asked : Option Request) (why : Option Why) (ReadFailed : Type 0) (told : Refusal) → (asked ≡ None → why ≡ Some words_refused) →
     IsOfWords asked told → IsRefusalOf why ReadFailed told
 of_words None why ReadFailed told none is = rw (none refl) (allowed (Some words_refused) ReadFailed told is)
@@ -79,12 +45,22 @@ refused_words words left ReadFailed told is =
     let some = some_input_of (requested words) left in
     (some.0, some.1, of_words (requested words) _ ReadFailed told (λ none. rw (answer_of-words words some.0 none) refl) is)
 
+early : (long : Bool) (why : Option Why) (task : Task) (ReadFailed : Type 0) (told : Refusal) → IsRefusalOf (if long then Some large_input else None) ReadFailed told →
+    IsRefusalOf (why_in (if long then Err large_input else answer_unless why task)) ReadFailed told
+early true why task ReadFailed told is = is
+early false why task ReadFailed (refusal.Told by line) is = absurd cc
+early false why task ReadFailed refusal.ReadFault is = is
+early false why task ReadFailed refusal.WriteFault is = is
+early false why task ReadFailed refusal.NoMemory is = is
+
 -- an input that is refused before its mode looks at it, or can't be had
 pub refused_input : (words : List (String Global)) (request : Request) (left : Option (List ℕ)) (told : Refusal) (Rose : Type 0) → requested words ≡ Some request →
-    (input : List ℕ) × IsInput request left input × IsRefusalOf (why_in (answer_to request input)) (Reads (Some request) × Rose) told →
+    (input : List ℕ) × IsInput request left input × IsRefusalOf (why_long request.mode input) (Reads (Some request) × Rose) told →
     (input : List ℕ) × IsInputOf (requested words) left input × IsRefusalOf (why_in (answer_of words input)) (Reads (requested words) × Rose) told
 refused_input words request left told Rose asked given =
-    (given.0, rw asked given.1, rw (answer_of-request words given.0 request asked) (rw asked given.2))
+    let why = why_by request.mode (task_of request given.0) in
+    let told_so = early (nat_lt (most_input request.mode) (length given.0)) why (task_of request given.0) _ told given.2 in
+    (given.0, rw asked given.1, rw (answer_of-request words given.0 request asked) (rw asked told_so))
 
 -- a text of the mode is one of the answer
 pub answered_text : {A : Type 0} (items : A → List ℕ) (words : List (String Global)) (request : Request) (left : Option (List ℕ)) (input : List ℕ) →
@@ -107,11 +83,3 @@ answered_refusal words request left input ReadFailed asked is fits (Err told) gi
   rw (answer_of-request words input request asked ∙ answer_to-fits request input fits)
       (rw (why_in-unless (why_by request.mode (task_of request input)) (task_of request input)) (allowed _ ReadFailed told given)),
 )
-
--- a source that isn't read loses nothing
-pub loses_nothing : (left : Option (List ℕ)) (most : ℕ) → LosesAtMost left left most
-loses_nothing None most = ([], omega arith, tt)
-loses_nothing (Some bytes) most = ([], omega arith, refl)
-
-pub most_read-reads : (request : Request) → reads_source request.mode ≡ true → most_read (Some request) ≡ most_input request.mode + 1
-most_read-reads request reads = rw reads refl

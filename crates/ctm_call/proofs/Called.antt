@@ -6,8 +6,8 @@ use Rattle.call_ending.specs.declared.refusal.Refusal.{Refusal}
 use Rattle.call_ending.specs.declared.status.Status.{Status}
 use Rattle.call_ending.proofs.Ended.{ended-unwritten, ended-written}
 use Rattle.ctm_call.specs.Answer.{IsTextOf, answer_of, why_in}
-use Rattle.ctm_call.specs.Input.{IsInputOf}
-use Rattle.ctm_call.specs.Words.{requested}
+use Rattle.workerless_call.specs.Input.{IsInputOf}
+use Rattle.workerless_call.specs.Words.{requested}
 
 pub called : {A : Type 0} (words : List (String Global)) (left : Option (List ℕ)) (IsRead ReadFailed : Type 0) (status : Status) (out err : SinkUse)
     (items : A → List ℕ) (answer : Result A Refusal) →

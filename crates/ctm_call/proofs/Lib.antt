@@ -1,6 +1,5 @@
 pub mod AnswerFacts
 pub mod Called
-pub mod Choosing
 pub mod RecutParts
 pub mod Resumed
 pub mod Resuming

@@ -18,14 +18,14 @@ use Rattle.call_ending.specs.Status.{status_number}
 use Rattle.call_ending.specs.declared.status.Status.{Status}
 use Rattle.call_ending.specs.declared.status.Status.TheVariants as status
 use Rattle.ctm_call.specs.Answer.{IsTextOf, answer_of, answer_to, answer_unless, why_by, why_in}
-use Rattle.ctm_call.specs.ChooseMode.{choose_refused, plans_refused, why_of_candidate, why_of_candidates}
-use Rattle.ctm_call.specs.Input.{Reads, large_input, most_input}
-use Rattle.ctm_call.specs.NetworkInput.{why_of_network}
+use Rattle.workerless_call.specs.ChooseMode.{choose_refused, plans_refused, why_of_candidate, why_of_candidates}
+use Rattle.workerless_call.specs.Input.{Reads, large_input, most_input}
+use Rattle.workerless_call.specs.NetworkInput.{why_of_network}
 use Rattle.ctm_call.specs.ResumeMode.{why_by_content, why_by_cutting, why_unstarted}
-use Rattle.ctm_call.specs.Recording.{large_record, recorded_values, why_unrecorded}
-use Rattle.ctm_call.specs.Task.{Task, task_of}
+use Rattle.workerless_call.specs.Recording.{large_record, recorded_values, why_unrecorded}
+use Rattle.workerless_call.specs.Task.{Task, task_of}
 use Rattle.ctm_call.specs.WatchMode.{first_why, large_shots, shown_rows, why_unshown}
-use Rattle.ctm_call.specs.Words.{requested}
+use Rattle.workerless_call.specs.Words.{requested}
 use Rattle.ctm_call.proofs.AnswerFacts.{answer_of-request, answer_of-words}
 
 -- a reason with another status

@@ -14,9 +14,9 @@ use Rattle.saved_run.specs.SavedText.{saved_text}
 use Rattle.saved_run.specs.declared.row_line.RowLine.{RowLine}
 use Rattle.network_run.specs.Near.{near_end}
 use Rattle.call_ending.specs.Refusing.{Why}
-use Rattle.ctm_call.specs.NetworkInput.{IsNetworkWith, why_of_network}
-use Rattle.ctm_call.specs.Task.{Task}
-use Rattle.ctm_call.specs.UsedCutting.{IsCuttingOf}
+use Rattle.workerless_call.specs.NetworkInput.{IsNetworkWith, why_of_network}
+use Rattle.workerless_call.specs.Task.{Task}
+use Rattle.workerless_call.specs.UsedCutting.{IsCuttingOf}
 
 abbrev pub save_refused : Task → Option Why
 save_refused task = why_of_network (network_of task.input) (λ net. None)

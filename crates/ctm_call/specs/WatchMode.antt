@@ -3,14 +3,14 @@ use Rattle.std.specs.Prelude.{◌≡◌, ℕ, ◌*◌, ◌++◌, List, Option, S
 use Rattle.command_words.specs.declared.request.Request.{Request}
 use Rattle.network_file.specs.Network.{Network}
 use Rattle.network_file.specs.Reading.{network_of}
-use Rattle.snapshot.specs.Shots.{AreShots}
+use Rattle.shot_lines.specs.Shots.{AreShots}
 use Rattle.delay_report.specs.Report.{report_of}
 use Rattle.call_ending.specs.Refusing.{Why}
 use Rattle.call_ending.specs.declared.status.Status.TheVariants as status
-use Rattle.ctm_call.specs.NetworkInput.{IsNetworkWith, why_of_network}
-use Rattle.ctm_call.specs.Recording.{why_unrecorded}
-use Rattle.ctm_call.specs.Task.{Task}
-use Rattle.ctm_call.specs.UsedCutting.{IsCuttingOf}
+use Rattle.workerless_call.specs.NetworkInput.{IsNetworkWith, why_of_network}
+use Rattle.workerless_call.specs.Recording.{why_unrecorded}
+use Rattle.workerless_call.specs.Task.{Task}
+use Rattle.workerless_call.specs.UsedCutting.{IsCuttingOf}
 
 -- how many rows the shots show: cells times shots
 abbrev pub shown_rows : Network → (shots : ℕ) → ℕ

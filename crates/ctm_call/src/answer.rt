@@ -4,28 +4,23 @@ ghost use Rattle.ctm_ports.specs.ReadEnd.{LosesAtMost};
 ghost use Rattle.command_words.specs.Words.{IsInRange};
 ghost use Rattle.call_ending.specs.Refusing.{IsRefusalOf};
 ghost use Rattle.ctm_call.specs.Answer.{IsTextBy, IsTextOf, answer_of, why_by, why_in};
-ghost use Rattle.ctm_call.specs.Input.{IsInputOf, IsReadWhole, IsUnread, Reads, most_input, most_read};
-ghost use Rattle.ctm_call.specs.Task.{task_of};
-ghost use Rattle.ctm_call.specs.Words.{requested};
+ghost use Rattle.workerless_call.specs.Input.{IsInputOf, IsReadWhole, IsUnread, Reads, most_input, most_read};
+ghost use Rattle.workerless_call.specs.Task.{task_of};
+ghost use Rattle.workerless_call.specs.Words.{requested};
 
-use crate::check_mode::check_text;
-use crate::choose_mode::choose_text;
-use crate::convert_mode::convert_text;
-use crate::cut_mode::cut_text;
-use crate::input::input_of;
 use crate::recut_mode::recut_text;
 use crate::resume_mode::resume_text;
 use crate::run_mode::run_text;
 use crate::sample_mode::sample_text;
 use crate::save_mode::saved;
 use crate::watch_mode::watch_text;
-use crate::words::request_of;
 use call_ending::Refusal;
 use command_words::{Mode, Request};
 use ctm_ports::Source;
 use region_slots::Gate;
 use std::alloc::Global;
 use std::thread::Threads;
+use workerless_call::{check_text, choose_text, convert_text, cut_text, input_of, request_of};
 
 /// The text that answers the words over the input that the source gives, or why there is none.
 pub(crate) fn answer<R: Threads + Sync, S: Source, G: Gate>(

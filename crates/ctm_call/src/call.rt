@@ -4,8 +4,8 @@ ghost use Rattle.ctm_ports.specs.ReadEnd.{LosesAtMost};
 ghost use Rattle.call_ending.specs.Ending.{HasEnded, sink_use};
 ghost use Rattle.call_ending.specs.declared.status.Status.TheVariants as status;
 ghost use Rattle.ctm_call.specs.Answer.{IsTextOf, answer_of, why_in};
-ghost use Rattle.ctm_call.specs.Input.{IsInputOf, IsReadWhole, IsUnread, Reads, most_read};
-ghost use Rattle.ctm_call.specs.Words.{requested};
+ghost use Rattle.workerless_call.specs.Input.{IsInputOf, IsReadWhole, IsUnread, Reads, most_read};
+ghost use Rattle.workerless_call.specs.Words.{requested};
 
 use crate::answer::answer;
 use call_ending::{Status, end};

@@ -5,9 +5,8 @@ ghost use Rattle.delay_report.specs.Report.{report_of};
 ghost use Rattle.call_ending.specs.Refusing.{IsRefusalOf};
 ghost use Rattle.ctm_call.specs.RecutMode.{IsRecutText, recut_refused};
 ghost use Rattle.ctm_call.specs.Recutting.{part_cutting, part_cuttings};
-ghost use Rattle.ctm_call.specs.Task.{task_of};
+ghost use Rattle.workerless_call.specs.Task.{task_of};
 
-use crate::network_input::network_in;
 use crate::recutting::recut_report;
 use call_ending::Refusal;
 use command_words::Request;
@@ -17,6 +16,7 @@ use region_cut::Cut;
 use region_slots::Gate;
 use std::alloc::Global;
 use std::thread::Threads;
+use workerless_call::{network_in, regions_wanted};
 
 /// The report of a network that workers take through its steps in parts, each in another cutting.
 pub(crate) fn recut_text<R: Threads + Sync, G: Gate>(
@@ -50,7 +50,8 @@ fn report_in_parts<R: Threads + Sync, G: Gate>(
     ensures { IfOk result (λ text. text.items ≡ report_of net.now 0) }
 {
     let _steps = net.steps;
-    let cuts = cuts_of_parts(alloc, net, request.regions, request.parts)?;
+    let regions = regions_wanted(net, request);
+    let cuts = cuts_of_parts(alloc, net, regions, request.parts)?;
     recut_report(rt, alloc, net, cuts, request.workers, gate)
 }
 

@@ -11,10 +11,10 @@ use delay_report::report_from;
 use network_file::Net;
 use network_run::regions_from;
 use no_memory::NoMemory;
-use recut_run::even_start;
 use region_cut::{Chart, Cut};
 use region_slots::Gate;
 use region_step::{Region, Start};
+use saved_run::even_start;
 use std::alloc::Global;
 use std::thread::Threads;
 

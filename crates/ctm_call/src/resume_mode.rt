@@ -9,9 +9,8 @@ ghost use Rattle.delay_report.specs.FromStart.{report_from};
 ghost use Rattle.delay_report.specs.Report.{report_of};
 ghost use Rattle.call_ending.specs.Refusing.{IsRefusalOf};
 ghost use Rattle.ctm_call.specs.ResumeMode.{IsResumeText, resume_refused, saved_refused, why_of_fault};
-ghost use Rattle.ctm_call.specs.Task.{task_of};
+ghost use Rattle.workerless_call.specs.Task.{task_of};
 
-use crate::network_input::refused;
 use call_ending::{Cause, Line, Refusal};
 use command_words::Request;
 use delay_report::report_from;
@@ -24,6 +23,7 @@ use region_step::{Region, Start};
 use saved_run::{LoadFault, LoadRefusal, load};
 use std::alloc::Global;
 use std::thread::Threads;
+use workerless_call::refused;
 
 /// The report of a saved run that workers take on to the last step.
 pub(crate) fn resume_text<R: Threads + Sync, G: Gate>(

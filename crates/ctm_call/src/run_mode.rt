@@ -4,11 +4,8 @@ ghost use Rattle.network_file.specs.declared.limits.TheConstants.{MOST_BYTES};
 ghost use Rattle.delay_report.specs.Report.{report_of};
 ghost use Rattle.call_ending.specs.Refusing.{IsRefusalOf};
 ghost use Rattle.ctm_call.specs.RunMode.{IsRunText, run_refused};
-ghost use Rattle.ctm_call.specs.Task.{task_of};
+ghost use Rattle.workerless_call.specs.Task.{task_of};
 
-use crate::network_input::network_in;
-use crate::recording::{large_record, records_too_much};
-use crate::used_cutting::chart_asked;
 use call_ending::Refusal;
 use command_words::Request;
 use delay_report::run_report;
@@ -18,6 +15,7 @@ use no_memory::NoMemory;
 use region_slots::Gate;
 use std::alloc::Global;
 use std::thread::Threads;
+use workerless_call::{chart_asked, large_record, network_in, records_too_much};
 
 /// The report of a network that workers take through all its steps, in regions.
 pub(crate) fn run_text<R: Threads + Sync, G: Gate>(

@@ -3,19 +3,20 @@ ghost use Rattle.command_words.specs.Words.{IsInRange};
 ghost use Rattle.network_file.specs.declared.limits.TheConstants.{MOST_BYTES};
 ghost use Rattle.call_ending.specs.Refusing.{IsRefusalOf};
 ghost use Rattle.ctm_call.specs.SampleMode.{IsSampleText, sample_line, sample_of, sample_refused};
-ghost use Rattle.ctm_call.specs.Task.{task_of};
+ghost use Rattle.workerless_call.specs.Task.{task_of};
 
-use crate::network_input::network_in;
 use call_ending::Refusal;
 use command_words::Request;
 use delay_report::put_last_totals;
 use line_fields::put_count;
 use network_file::Net;
-use network_run::{charted, last_regions};
+use network_run::last_regions;
 use no_memory::NoMemory;
+use region_cut::charted;
 use region_slots::Gate;
 use std::alloc::Global;
 use std::thread::Threads;
+use workerless_call::{network_in, regions_wanted};
 
 /// What is in a made network, and its totals once workers have taken it through all its steps, in regions.
 pub(crate) fn sample_text<R: Threads + Sync, G: Gate>(
@@ -49,7 +50,7 @@ fn sample_totals<R: Threads + Sync, G: Gate>(
     ensures { IfOk result (λ text. text.items ≡ sample_of request.size request.seed net.now) }
 {
     let _steps = net.steps;
-    let chart = charted(alloc, net, request.regions)?;
+    let chart = charted(alloc, net, regions_wanted(net, request))?;
     let regions = last_regions(rt, alloc, net, &chart, 0, request.workers, gate)?;
     let mut text = Vec::new(alloc);
     put_sample_line(&mut text, net, request.size, request.seed)?;

@@ -4,10 +4,8 @@ ghost use Rattle.network_file.specs.Reading.{network_of};
 ghost use Rattle.network_file.specs.declared.limits.TheConstants.{MOST_BYTES};
 ghost use Rattle.call_ending.specs.Refusing.{IsRefusalOf};
 ghost use Rattle.ctm_call.specs.SaveMode.{IsSaveText, IsSavedRun, save_refused};
-ghost use Rattle.ctm_call.specs.Task.{task_of};
+ghost use Rattle.workerless_call.specs.Task.{task_of};
 
-use crate::network_input::network_in;
-use crate::used_cutting::chart_asked;
 use call_ending::Refusal;
 use command_words::Request;
 use network_file::Net;
@@ -17,6 +15,7 @@ use region_slots::Gate;
 use saved_run::save_text;
 use std::alloc::Global;
 use std::thread::Threads;
+use workerless_call::{chart_asked, network_in};
 
 /// The saved text of a network whose regions workers take near a step.
 pub(crate) fn saved<R: Threads + Sync, G: Gate>(

@@ -2,12 +2,9 @@ ghost use Rattle.std.specs.Prelude.{◌≡◌, ◌≤◌, IfErr, IfOk, None, Som
 ghost use Rattle.command_words.specs.Words.{IsInRange};
 ghost use Rattle.network_file.specs.declared.limits.TheConstants.{MOST_BYTES};
 ghost use Rattle.call_ending.specs.Refusing.{IsRefusalOf};
-ghost use Rattle.ctm_call.specs.Task.{task_of};
+ghost use Rattle.workerless_call.specs.Task.{task_of};
 ghost use Rattle.ctm_call.specs.WatchMode.{HasShotsAndReport, IsWatchText, large_shots, shown_rows, watch_refused};
 
-use crate::network_input::network_in;
-use crate::recording::{large_record, records_too_much};
-use crate::used_cutting::chart_asked;
 use call_ending::{Cause, Line, Refusal};
 use command_words::Request;
 use delay_report::run_report;
@@ -17,6 +14,7 @@ use no_memory::NoMemory;
 use region_slots::Gate;
 use std::alloc::Global;
 use std::thread::Threads;
+use workerless_call::{chart_asked, large_record, network_in, records_too_much};
 
 /// The most rows that a run's shots may show: cells times shots.
 const MOST_SHOWN: u64 = 4_000_000;

@@ -2,10 +2,11 @@
 #![tactic(auto)]
 
 use call_ending::{Refusal, tell};
-use ctm_call::{ctm, given_words};
+use ctm_call::ctm;
 use ctm_ports::{StdSink, StdSource};
 use region_slots::OpenGate;
 use std::process::ExitCode;
+use workerless_call::given_words;
 
 fn main(rt: HostRuntime) -> ExitCode {
     let mut source = StdSource::new(rt.stdin());

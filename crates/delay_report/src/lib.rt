@@ -4,7 +4,7 @@
 //!
 //! ```text
 //! let net = Net::read(alloc, &bytes)?;                                        // network_file: the first fault has its place
-//! let chart = charted(alloc, &net, 16)?;                                      // network_run: the file's regions, or even ones
+//! let chart = charted(alloc, &net, 16)?;                                      // region_cut: the file's regions, or even ones
 //! let regions = last_regions(rt, alloc, &net, &chart, 0, 4, &OpenGate)?;      // recorded at no step
 //! let report = run_report(alloc, &net, &chart, &regions, 0)?;                 // that of the plain recurrences
 //! let rows = run_rows(alloc, &net, &chart, &regions)?;                        // or the rows of all cells

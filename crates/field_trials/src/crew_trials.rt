@@ -8,7 +8,8 @@ use snapshot::ShotRoom;
 use std::process::Abort;
 use std::slice;
 use std::thread::Threads;
-use worker_claim::{Driven, Member, crew, crew_watch, drive};
+use sweeping_crew::{crew, crew_watch, drive};
+use worker_claim::{Driven, Member};
 
 // How many turns moved their region, found it behind, or found it at the goal, and whether all of a sweep did that.
 pub(crate) fn counts(moved: u64, behind: u64, ended: u64, all: bool) -> Driven {

@@ -4,9 +4,10 @@ ghost use Rattle.region_slots.specs.FieldView.{IsPassOf};
 ghost use Rattle.worker_claim.specs.Helping.{IsHelperOf};
 
 use no_memory::NoMemory;
+use number_deques::{Nest, nests};
 use region_slots::{Field, Pass};
 use std::alloc::Global;
-use worker_claim::{Helper, Member, Nest, nests};
+use worker_claim::{Helper, Member};
 
 // The nests of two members for so many regions, each filled once for each of these members.
 pub(crate) fn two_nests(

@@ -4,7 +4,7 @@ use Rattle.region_cut.specs.Cuttings.{region_count}
 use Rattle.border_rows.specs.declared.view.Terms.{Terms}
 use Rattle.border_rows.specs.declared.view.View.{View}
 use Rattle.region_slots.specs.FieldView.{FieldValue, IsPassOf, PassValue}
-use Rattle.worker_claim.specs.Nests.{NestValue}
+use Rattle.number_deques.specs.Nests.{NestValue}
 use Rattle.worker_claim.specs.declared.helper.Helper.{Helper}
 use Rattle.worker_claim.specs.declared.member.Member.{Member}
 use Rattle.network_run.specs.Enlisted.{IsEnlisted}

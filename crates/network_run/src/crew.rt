@@ -1,10 +1,11 @@
 ghost use Rattle.std.specs.Prelude.{◌≡◌, ◌*◌, ◌/◌, ◌<◌, ◌≤◌};
 
 use no_memory::NoMemory;
+use number_deques::{Nest, nests};
 use region_slots::{Field, Pass};
 use std::alloc::Global;
 use std::marker::Model;
-use worker_claim::{Helper, Member, Nest, nests};
+use worker_claim::{Helper, Member};
 
 /// The workers of a run. From `enlist` to `dismiss` each is a member of the field, with a pass of its own; their nests they
 /// keep.

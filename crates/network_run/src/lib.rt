@@ -2,7 +2,6 @@
 //! through their steps in rounds, and the caller finishes what they leave. A run that is watched is shown in between.
 #![tactic(auto)]
 
-mod charting;
 mod crew;
 mod near;
 mod rounds;
@@ -10,7 +9,6 @@ mod run;
 mod watch;
 mod watched_run;
 
-pub use charting::charted;
 pub use near::room_near;
 pub use run::{last_regions, regions_from};
 pub use watched_run::{Watched, watched_regions};

@@ -5,7 +5,8 @@ ghost use Rattle.region_step.specs.Standing.{AllStand};
 ghost use Rattle.region_cut.specs.LawfulSteps.{AreLawful};
 ghost use Rattle.region_step.specs.Start.{Fits, zero_start};
 ghost use Rattle.snapshot.specs.Rooms.{IsRoomFor};
-ghost use Rattle.snapshot.specs.Shots.{AreShots, goal_of};
+ghost use Rattle.snapshot.specs.Shots.{goal_of};
+ghost use Rattle.shot_lines.specs.Shots.{AreShots};
 ghost use Rattle.region_slots.specs.FieldView.{IsPassOf};
 ghost use Rattle.worker_claim.specs.Driving.{AllReach};
 
@@ -16,7 +17,8 @@ use no_memory::NoMemory;
 use region_cut::Chart;
 use region_slots::{Closed, Field, Gate, Pass};
 use region_step::{Region, Start};
-use snapshot::{ShotRoom, shot_text};
+use shot_lines::shot_text;
+use snapshot::ShotRoom;
 use std::alloc::Global;
 use std::thread::Threads;
 

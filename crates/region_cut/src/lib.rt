@@ -30,4 +30,4 @@ pub use cut::Cut;
 pub use fault::{CutFault, CutRefusal};
 pub use halo::Halo;
 pub use list_place::place;
-pub use own_or_even::cutting;
+pub use own_or_even::{charted, cutting};

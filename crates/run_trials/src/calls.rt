@@ -9,7 +9,8 @@ use region_cut::Chart;
 use region_slots::{Field, OpenGate, Pass};
 use std::alloc::Global;
 use std::thread::Threads;
-use worker_claim::{Member, crew};
+use sweeping_crew::crew;
+use worker_claim::Member;
 
 // How many seats a field has on which such calls are made.
 pub(crate) const SEATS: u32 = 5;

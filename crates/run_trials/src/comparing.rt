@@ -15,7 +15,7 @@ use snapshot::ShotRoom;
 use std::alloc::Global;
 use std::process::Abort;
 use std::thread::Threads;
-use worker_claim::drive;
+use sweeping_crew::drive;
 
 // Compares the rows of a field after such calls, taken to the last step, with those of whole steps.
 pub(crate) fn compare_rows<R: Abort + Threads + Sync>(

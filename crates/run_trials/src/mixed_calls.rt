@@ -12,7 +12,7 @@ use std::alloc::Global;
 use std::sync::atomic::{AtomicU64, Ordering};
 use std::thread::{Threads, for_each_mut, yield_now};
 use step_words::is_lawful;
-use worker_claim::drive;
+use sweeping_crew::drive;
 
 // The last step of the chain.
 const LAST: u64 = 200;

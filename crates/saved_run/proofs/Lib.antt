@@ -9,3 +9,4 @@ pub mod Starts
 pub mod Futures
 pub mod Deciding
 pub mod Starting
+pub mod EvenStarts

@@ -9,3 +9,4 @@ pub mod Charting
 pub mod Loading
 pub mod Laws
 pub mod Futures
+pub mod EvenStart

@@ -1,5 +1,5 @@
--- The rows of a shot, and the shots of a run one after the other.
-use Rattle.std.specs.Prelude.{flat_map, slice_index}
+-- The rows of a shot.
+use Rattle.std.specs.Prelude.{slice_index}
 use Rattle.std.specs.List.{range_with_len}
 use Rattle.std.proofs.Common.{◌≡◌, ℕ, ◌+◌, ◌<◌, ◌≤◌, inl, inr, List, [], ◌∷◌, ◌++◌, length, refl, sym, ap, subst, ◌∙◌, arith}
 use Rattle.std.proofs.Math.ListN.{get_or-append}
@@ -16,8 +16,6 @@ use Rattle.flow_model.proofs.CellKinds.{road_at-there}
 use Rattle.flow_model.proofs.States.{state_at-in_bounds}
 use Rattle.flow_ledger.specs.UnevenSteps.{StandAt}
 use Rattle.flow_ledger.proofs.BooksLaws.{books-law}
-use Rattle.line_fields.specs.Fields.{lines_of}
-use Rattle.line_fields.proofs.Lines.{lines_of-more, lines_of-same}
 use Rattle.region_cut.specs.Chart.{ChartLists, list_at}
 use Rattle.region_cut.specs.Cuttings.{region_at, region_count}
 use Rattle.region_cut.specs.LawfulSteps.{AreLawful}
@@ -28,7 +26,7 @@ use Rattle.region_step.proofs.StartLaws.{zero_start-lawful, zero_start-true, zer
 use Rattle.snapshot.specs.Rooms.{IsRoomFor, RoomValue}
 use Rattle.snapshot.specs.RunLaws.{cell_step}
 use Rattle.snapshot.specs.RunLaws.{AreRowsAt}
-use Rattle.snapshot.specs.Shots.{KeepsBooks, AreShots, IsShotBetween, goal_of, rows_at, shot_of}
+use Rattle.snapshot.specs.Shots.{IsShotBetween, KeepsBooks, rows_at}
 use Rattle.snapshot.specs.Snapshots.{IsSnapshot}
 use Rattle.snapshot.proofs.Crossing.{flights-crossing, nothing-inside}
 use Rattle.snapshot.proofs.RunLaws.{stand_at}
@@ -85,44 +83,6 @@ shown-rows net chart room sound one_each fits shows =
     let there : i < length net.cells = omega (arith, within, fits.rows, one_each) in
     shows.rows i there ∙ recurrences (cell_step cut room.steps i) i there (omega (arith, zeros (region_count cut) (region_at cut i))) ∙
     sym (row_at-rows_at net cut room.steps i there))
-
--- the text of the first shots, `count` of `shots` that are taken in all
-pub record AreFirstShots (net : Network) (cut : List ℕ) (shots count : ℕ) (text : List ℕ) : Type 0 where
-  pub steps : List (List ℕ)
-  pub one_each : length steps ≡ count
-  pub each : (i : ℕ) → i < count → IsShotBetween net cut (goal_of net.steps shots i) (goal_of net.steps shots (i + 1)) (list_at steps i)
-  pub lines : text ≡ flat_map (λ i. shot_of net cut (i + 1) (list_at steps i)) (range_with_len 0 count)
-
--- before the first shot
-pub shots-none : (net : Network) (cut : List ℕ) (shots : ℕ) → AreFirstShots net cut shots 0 []
-shots-none net cut shots = record { steps = []; one_each = refl; each = λ i none. absurd (omega (arith, none)); lines = refl }
-
--- one shot more
-pub shots-more : (net : Network) (cut : List ℕ) (shots k : ℕ) (text steps : List ℕ) → AreFirstShots net cut shots k text →
-    IsShotBetween net cut (goal_of net.steps shots k) (goal_of net.steps shots (k + 1)) steps → AreFirstShots net cut shots (k + 1) (text ++ shot_of net cut (k + 1) steps)
-unfolding lines_of
-shots-more net cut shots k text steps are next =
-    let all : List (List ℕ) = are.steps ++ steps ∷ [] in
-    let line : List (List ℕ) → ℕ → List ℕ = λ taken i. shot_of net cut (i + 1) (list_at taken i) in
-    let front : (i : ℕ) → i < k → list_at are.steps i ≡ list_at all i = λ i before. sym (get_or-append are.steps (steps ∷ []) [] i (omega (arith, before, are.one_each))) in
-    let last : steps ≡ list_at all k = sym (get_or-append_seam are.steps steps [] []) ∙ ap (list_at all) are.one_each in
-    record {
-      steps = all;
-      one_each = length-append are.steps (steps ∷ []) ∙ ap (λ n. n + 1) are.one_each;
-      each = λ i within. elim (cases_eq i k) [
-        | inl is ↦ subst (λ j. IsShotBetween net cut (goal_of net.steps shots j) (goal_of net.steps shots (j + 1)) (list_at all j)) (sym is)
-            (subst (IsShotBetween net cut (goal_of net.steps shots k) (goal_of net.steps shots (k + 1))) last next)
-        | inr other ↦
-            let before : i < k = omega (arith, within, other) in
-            subst (IsShotBetween net cut (goal_of net.steps shots i) (goal_of net.steps shots (i + 1))) (front i before) (are.each i before)
-      ];
-      lines = ap (λ begun. begun ++ shot_of net cut (k + 1) steps) (are.lines ∙ lines_of-same (line are.steps) (line all) k (λ i before. ap (shot_of net cut (i + 1)) (front i before))) ∙
-          ap (λ taken. lines_of (line all) k ++ shot_of net cut (k + 1) taken) last ∙ sym (lines_of-more (line all) k);
-    }
-
--- all of them
-pub shots-all : (net : Network) (cut : List ℕ) (shots : ℕ) (text : List ℕ) → AreFirstShots net cut shots shots text → AreShots net cut shots text
-shots-all net cut shots text are = record { steps = are.steps; one_each = are.one_each; each = are.each; lines = are.lines }
 
 -- what a snapshot of a true start shows, whatever the steps at which its regions start: rows of the recurrences, so that the
 -- laws of books and flights hold of them

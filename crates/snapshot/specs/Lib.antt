@@ -1,5 +1,4 @@
 pub mod Rooms
 pub mod RunLaws
-pub mod ShotText
 pub mod Shots
 pub mod Snapshots

@@ -1,6 +1,6 @@
--- The shots of a run that is watched, and what holds of each of them.
-use Rattle.std.specs.Prelude.{◌≡◌, ℕ, ◌+◌, ◌*◌, ◌/◌, ◌<◌, ◌≤◌, false, List, ℤ, pos, ◌+ℤ◌, ◌-ℤ◌, flat_map, length, map, slice_index}
-use Rattle.std.specs.List.{fold, range_with_len}
+-- What holds of each shot of a run that is watched.
+use Rattle.std.specs.Prelude.{◌≡◌, ℕ, ◌+◌, ◌*◌, ◌/◌, ◌<◌, ◌≤◌, false, List, ℤ, pos, ◌+ℤ◌, ◌-ℤ◌, length, map, slice_index}
+use Rattle.std.specs.List.{filter, fold, range_with_len}
 use Rattle.network_file.specs.Connectors.{connector_at}
 use Rattle.network_file.specs.Network.{Network}
 use Rattle.flow_model.specs.Bounds.{KeepsRooms}
@@ -9,10 +9,8 @@ use Rattle.flow_model.specs.declared.row.Row.{Row}
 use Rattle.flow_ledger.specs.Books.{books_of}
 use Rattle.flow_ledger.specs.Flight.{flight_of}
 use Rattle.flow_ledger.specs.declared.network_books.Books.{Books}
-use Rattle.region_cut.specs.Chart.{list_at}
 use Rattle.region_cut.specs.Cuttings.{region_at, region_count}
 use Rattle.region_cut.specs.LawfulSteps.{AreLawful}
-use Rattle.snapshot.specs.ShotText.{crossing, shot_lines}
 use Rattle.region_cut.specs.Joins.{crosses}
 
 -- goal i of so many shots: the goals divide the steps evenly, rounded down
@@ -28,7 +26,11 @@ rows_at net cut steps = map (λ i. row_at (state_at net (slice_index steps (regi
 abbrev pub IsBalanced : Books → Type 0
 IsBalanced books = books.inside +ℤ books.flight ≡ books.initial +ℤ books.entered -ℤ books.left
 
--- what is under way at the connectors that touch more than one region, together
+-- the connectors that touch cells of more than one region, in the order of the file
+abbrev pub crossing : Network → (cut : List ℕ) → List ℕ
+crossing net cut = filter (λ k. crosses cut (connector_at net.connectors k)) (range_with_len 0 (length net.connectors))
+
+-- what is under way at these, together
 unfoldable pub flights_crossing : Network → (cut : List ℕ) → List Row → ℤ
 flights_crossing net cut rows = fold (λ sum k. sum +ℤ flight_of net rows k) (pos 0) (crossing net cut)
 
@@ -53,15 +55,3 @@ pub record IsShotBetween (net : Network) (cut : List ℕ) (from to : ℕ) (steps
   pub books : KeepsBooks net cut (rows_at net cut steps)
   -- no road holds more than its room
   pub rooms : KeepsRooms net (rows_at net cut steps)
-
--- the text of shot i, whose rows are those of the plain recurrences, each at its own region's step
-abbrev pub shot_of : Network → (cut : List ℕ) → (number : ℕ) → (steps : List ℕ) → List ℕ
-shot_of net cut number steps = shot_lines net cut number steps (rows_at net cut steps)
-
--- the text of so many shots
-pub record AreShots (net : Network) (cut : List ℕ) (shots : ℕ) (text : List ℕ) : Type 0 where
-  -- the steps of the regions in each of them
-  pub steps : List (List ℕ)
-  pub one_each : length steps ≡ shots
-  pub each : (i : ℕ) → i < shots → IsShotBetween net cut (goal_of net.steps shots i) (goal_of net.steps shots (i + 1)) (list_at steps i)
-  pub lines : text ≡ flat_map (λ i. shot_of net cut (i + 1) (list_at steps i)) (range_with_len 0 shots)

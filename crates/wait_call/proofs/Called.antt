@@ -10,7 +10,7 @@ use Rattle.call_ending.specs.declared.refusal.Refusal.{Refusal}
 use Rattle.call_ending.specs.declared.status.Status.{Status}
 use Rattle.call_ending.specs.declared.status.Status.TheVariants as status
 use Rattle.call_ending.proofs.Ended.{ended-unwritten, ended-written}
-use Rattle.ctm_call.specs.Input.{large_input}
+use Rattle.workerless_call.specs.Input.{large_input}
 use Rattle.wait_call.specs.Answer.{IsTextOf, answer_by, answer_of, answer_of_file, most_input, why_in}
 
 pub called : {A : Type 0} (words : List (String Global)) (left : Option (List ℕ)) (IsRead ReadFailed : Type 0) (told : Status) (out err : SinkUse)

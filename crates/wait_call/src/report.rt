@@ -5,15 +5,15 @@ ghost use Rattle.wait_call.specs.Answer.{IsTextOf, answer_to, most_input, why_in
 
 use crate::waiting_run::last_regions;
 use call_ending::Refusal;
-use ctm_call::network_in;
 use delay_report::run_report;
 use network_file::Net;
-use network_run::charted;
 use no_memory::NoMemory;
+use region_cut::charted;
 use region_slots::Gate;
 use std::alloc::Global;
 use std::sync::Wait;
 use std::thread::Threads;
+use workerless_call::network_in;
 
 /// In how many regions a network is run whose file gives none, where it has as many cells.
 const REGIONS: u32 = 64;

@@ -4,10 +4,9 @@ ghost use Rattle.region_slots.specs.FieldView.{IsPassOf};
 
 use crate::meeting::Meeting;
 use network_file::{MOST_BYTES, Net};
-use network_run::charted;
 use no_memory::NoMemory;
 use parked_crew::{Board, parked};
-use region_cut::Chart;
+use region_cut::{Chart, charted};
 use region_slots::{Field, Pass};
 use region_step::Start;
 use std::alloc::Global;

@@ -1,4 +1,3 @@
-pub mod Below
 pub mod Helped
 pub mod Nearing
 pub mod Sweeping

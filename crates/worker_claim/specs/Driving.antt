@@ -29,10 +29,6 @@ pub record HasSwept (count goal made : ℕ) (old new : View) (driven : Driven) :
   pub all : IsTrue driven.all → (count ≤ driven.ended) × AllReach count goal new
   pub not_all : driven.all ≡ false → driven.moved + driven.held + driven.behind ≡ 0 → driven.ended ≡ 0
 
--- at most so many sweeps, and fewer only where all turns of one found their region at goal or past it
-abbrev pub HasDriven : (count goal sweeps : ℕ) (old new : View) → Driven → Type 0
-HasDriven count goal sweeps old new driven = (made : ℕ) × (made ≤ sweeps) × (made < sweeps → IsTrue driven.all) × HasSwept count goal made old new driven
-
 -- how many steps below goal a pass has last seen so many regions, in all
 abbrev pub steps_left : (count goal : ℕ) → View → ℕ
 steps_left count goal view = sum_by (λ r. goal - slice_index view.seen r) (range_with_len 0 count)

@@ -1,6 +1,5 @@
 pub mod Driving
 pub mod Helping
 pub mod Members
-pub mod Nests
 pub mod Turns
 pub mod Watching

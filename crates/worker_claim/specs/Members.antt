@@ -1,25 +1,10 @@
 -- The members of a crew.
-use Rattle.std.specs.Prelude.{◌≡◌, ℕ, ◌<◌, List, length, slice_index_or}
+use Rattle.std.specs.Prelude.{◌<◌}
 use Rattle.region_cut.specs.Cuttings.{region_count}
 use Rattle.region_slots.specs.FieldView.{FieldValue, IsPassOf}
-use Rattle.worker_claim.specs.Driving.{HasDriven}
 use Rattle.worker_claim.specs.declared.member.Member.{Member}
 
 -- a member with a pass of the field, whose sweeps begin at one of its regions
 pub record IsMemberOf (field : FieldValue) (member : Member) : Type 0 where
   pub belongs : IsPassOf field member.pass
   pub there : member.first < region_count field.terms.chart.now.cut
-
-abbrev pub AreMembersOf : FieldValue → List Member → Type 0
-AreMembersOf field members = (k : ℕ) (d : Member) → k < length members → IsMemberOf field (slice_index_or members k d)
-
--- what a drive leaves of a member
-pub record IsDriven (field : FieldValue) (goal sweeps : ℕ) (old new : Member) : Type 0 where
-  pub belongs : IsPassOf field new.pass
-  pub same : (new.pass.id ≡ old.pass.id) × (new.first ≡ old.first)
-  pub driven : HasDriven (region_count field.terms.chart.now.cut) goal sweeps old.pass.knows new.pass.knows new.driven
-
--- and of each member of a crew
-pub record AreDriven (field : FieldValue) (goal sweeps : ℕ) (old new : List Member) : Type 0 where
-  pub one_each : length new ≡ length old
-  pub each : (k : ℕ) (d : Member) → k < length old → IsDriven field goal sweeps (slice_index_or old k d) (slice_index_or new k d)

@@ -15,7 +15,7 @@ pub struct Driven {
 
 impl Driven {
     /// No turn.
-    pub(crate) fn none() -> Driven
+    pub fn none() -> Driven
         ensures { result ≡ none }
     {
         Driven {
@@ -43,7 +43,7 @@ impl Driven {
     }
 
     /// The turns of both, of which the later ones tell whether all regions are at the goal.
-    pub(crate) fn then(self, later: Driven) -> Driven
+    pub fn then(self, later: Driven) -> Driven
         requires { turns_of self + turns_of later < 2 ^ 64 }
         ensures { result ≡ added self later }
     {

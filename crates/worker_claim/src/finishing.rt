@@ -4,7 +4,7 @@ ghost use Rattle.region_slots.specs.FieldView.{IsPassOf};
 ghost use Rattle.region_slots.specs.Turning.{IsWithin};
 ghost use Rattle.worker_claim.specs.Driving.{AllReach};
 
-use crate::sweep::sweep;
+use crate::one_sweep::sweep;
 use region_slots::{Field, Gate, Pass};
 
 /// Brings each region to the goal, or leaves it past it, with the pass that has all of the field's seats. Nobody else can

@@ -1,9 +1,9 @@
 use crate::driven::Driven;
 use crate::member::Member;
-use crate::nest::Nest;
+use crate::one_sweep::turns;
 use crate::part::sweep_within;
 use crate::pausing::pause_where;
-use crate::sweep::turns;
+use number_deques::Nest;
 use region_slots::{Field, Gate, Pauses};
 
 /// A member of a crew that hands numbers of regions on: the member, whose `driven` tells what came of its last turns, and

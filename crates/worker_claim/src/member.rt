@@ -1,8 +1,7 @@
 use crate::driven::Driven;
-use crate::driving::drive;
-use region_slots::{Field, Gate, Pass};
+use region_slots::Pass;
 
-/// A member of a crew: a pass, the region at which its sweeps begin, and what came of its last drive.
+/// A member of a crew: a pass, the region at which its sweeps begin, and what came of its last turns.
 #[derive(Drop)]
 pub struct Member {
     pub pass: Pass,
@@ -11,11 +10,10 @@ pub struct Member {
 }
 
 impl Member {
-    ghost use Rattle.std.specs.Prelude.{◌≡◌, ◌≤◌};
-    ghost use Rattle.worker_claim.specs.Members.{IsDriven, IsMemberOf};
+    ghost use Rattle.std.specs.Prelude.{◌≡◌};
     ghost use Rattle.worker_claim.specs.Turns.{none};
 
-    /// A member that hasn't driven yet.
+    /// A member that hasn't worked yet.
     pub fn new(pass: Pass, first: u32) -> Member
         ensures { result ≡ record { pass = pass; first = first; driven = none } }
     {
@@ -24,14 +22,5 @@ impl Member {
             first,
             driven: Driven::none(),
         }
-    }
-
-    /// Drives with the member's pass.
-    pub(crate) fn drive<G: Gate>(&mut self, field: &Field, goal: u64, sweeps: u32, gate: &G)
-        requires member { IsMemberOf field.now self.old }
-        requires in_time { goal ≤ field.now.terms.net.now.steps }
-        ensures { IsDriven field.now goal sweeps self.old self.new }
-    {
-        self.driven = drive(field, &mut self.pass, goal, sweeps, self.first, gate);
     }
 }

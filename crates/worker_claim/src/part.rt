@@ -4,7 +4,7 @@ ghost use Rattle.region_slots.specs.FieldView.{IsPassOf};
 ghost use Rattle.worker_claim.specs.Turns.{HasWorked, turns_of};
 
 use crate::driven::Driven;
-use crate::sweep::{sweep, turns};
+use crate::one_sweep::{sweep, turns};
 use region_slots::{Field, Gate, Pass};
 
 /// A sweep, or its first turns where so many are left that it can't be whole.

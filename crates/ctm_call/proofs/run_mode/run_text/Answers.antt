@@ -1,4 +1,4 @@
-use Rattle.ctm_call.specs.Recording.{why_unrecorded}
+use Rattle.workerless_call.specs.Recording.{why_unrecorded}
 use Rattle.ctm_call.proofs.run_mode.run_text.Goals as goal
 
 pub returns-in-Err-clause-refusal : goal.returns-in-Err-clause-refusal

@@ -1,5 +1,5 @@
 use Rattle.std.proofs.Common.{◌≡◌, ◌++◌, List, ℕ, ap, subst, sym, ◌∙◌}
-use Rattle.snapshot.specs.Shots.{AreShots}
+use Rattle.shot_lines.specs.Shots.{AreShots}
 use Rattle.delay_report.specs.Report.{report_of}
 use Rattle.ctm_call.proofs.watch_mode.shots_and_report.Goals as goal
 

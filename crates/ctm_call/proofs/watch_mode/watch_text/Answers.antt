@@ -1,4 +1,4 @@
-use Rattle.ctm_call.specs.Recording.{why_unrecorded}
+use Rattle.workerless_call.specs.Recording.{why_unrecorded}
 use Rattle.ctm_call.specs.WatchMode.{first_why, why_unshown}
 use Rattle.ctm_call.proofs.watch_mode.watch_text.Goals as goal
 

@@ -6,10 +6,11 @@ use Rattle.region_cut.specs.Cuttings.{region_count}
 use Rattle.region_step.specs.Start.{zero_start}
 use Rattle.region_step.proofs.Steps.{zero_start-at}
 use Rattle.snapshot.specs.Rooms.{IsRoomFor, RoomValue}
-use Rattle.snapshot.specs.ShotText.{shot_lines}
+use Rattle.shot_lines.specs.ShotText.{shot_lines}
 use Rattle.snapshot.specs.Shots.{IsShotBetween, goal_of, rows_at}
 use Rattle.snapshot.specs.Snapshots.{IsSnapshot}
-use Rattle.snapshot.proofs.ShotLaws.{AreFirstShots, shot-between, shots-more, shown-rows}
+use Rattle.snapshot.proofs.ShotLaws.{shot-between, shown-rows}
+use Rattle.shot_lines.proofs.ManyShots.{AreFirstShots, shots-more}
 use Rattle.network_run.proofs.watched_run.take_shots.Goals as goal
 
 pub loop-i-preserved : goal.loop-i-preserved

@@ -2,7 +2,7 @@ use Rattle.std.proofs.Common.{◌≡◌, ◌≤◌}
 use Rattle.region_cut.specs.Cuttings.{region_count}
 use Rattle.snapshot.specs.Rooms.{IsRoomFor}
 use Rattle.snapshot.specs.Shots.{goal_of}
-use Rattle.snapshot.proofs.ShotLaws.{AreFirstShots}
+use Rattle.shot_lines.proofs.ManyShots.{AreFirstShots}
 use Rattle.region_slots.specs.FieldView.{IsPassOf}
 use Rattle.worker_claim.specs.Driving.{AllReach}
 use Rattle.network_run.proofs.watched_run.take_shots.Given as goal

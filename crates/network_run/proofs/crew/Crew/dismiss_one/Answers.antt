@@ -1,7 +1,7 @@
 use Rattle.std.specs.Prelude.{slice_index}
 use Rattle.std.proofs.Common.{◌≡◌, ◌∷◌, ◌++◌, ℕ, List, [], length, sym, ap, subst, ◌∙◌, arith}
 use Rattle.std.proofs.lemmas.List.{length-append, map-append}
-use Rattle.worker_claim.specs.Nests.{NestValue}
+use Rattle.number_deques.specs.Nests.{NestValue}
 use Rattle.worker_claim.specs.declared.helper.Helper.{Helper}
 use Rattle.worker_claim.specs.declared.member.Member.{Member}
 use Rattle.network_run.specs.Crews.{AreHelpersFor, AreNestsFor, CrewValue}

@@ -1,6 +1,6 @@
 use Rattle.std.proofs.Common.{◌≡◌, ◌∷◌, ◌++◌, ℕ, List, [], length, sym, ap, subst, ◌∙◌, arith}
 use Rattle.std.proofs.lemmas.List.{length-append}
-use Rattle.worker_claim.specs.Nests.{NestValue}
+use Rattle.number_deques.specs.Nests.{NestValue}
 use Rattle.worker_claim.specs.declared.helper.Helper.{Helper}
 use Rattle.network_run.specs.Crews.{AreHelpersFor, AreNestsFor}
 use Rattle.network_run.proofs.Crewing.{All-fewer, All-last, All-one_more}

@@ -1,5 +1,5 @@
 use Rattle.std.proofs.Common.{◌+◌, ◌-◌, ◌≤◌, ℕ, sym, subst, ap, ◌∙◌, arith}
-use Rattle.worker_claim.specs.Nests.{NestValue}
+use Rattle.number_deques.specs.Nests.{NestValue}
 use Rattle.worker_claim.specs.Turns.{HasWorked, turns_of}
 use Rattle.worker_claim.specs.declared.driven.Driven.{Driven}
 use Rattle.worker_claim.proofs.Helped.{worked-more}

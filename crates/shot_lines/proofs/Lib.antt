@@ -1,0 +1,2 @@
+pub mod FlightLines
+pub mod ManyShots

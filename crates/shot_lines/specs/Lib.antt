@@ -1,0 +1,2 @@
+pub mod ShotText
+pub mod Shots

@@ -1,0 +1,47 @@
+-- The text of a shot (docs/FORMAT.md, "The shots").
+use Rattle.std.specs.Prelude.{ℕ, ◌++◌, List, codes, flat_map, length, slice_index}
+use Rattle.network_file.specs.Cells.{name_at}
+use Rattle.network_file.specs.Network.{Network}
+use Rattle.network_file.specs.declared.cell.Cell.{Cell}
+use Rattle.flow_model.specs.State.{row_at}
+use Rattle.flow_model.specs.declared.row.Row.{Row}
+use Rattle.flow_ledger.specs.Books.{books_of}
+use Rattle.flow_ledger.specs.Flight.{flight_of}
+use Rattle.flow_ledger.specs.declared.network_books.Books.{Books}
+use Rattle.line_fields.specs.Fields.{count_field, lines_of, row_fields, signed_field}
+use Rattle.snapshot.specs.Shots.{crossing}
+
+-- `shot,number,inside,flight,initial,entered,left`
+unfoldable pub books_line : (number : ℕ) → Books → List ℕ
+books_line number books =
+    codes "shot" ++ count_field number ++ signed_field books.inside ++ signed_field books.flight ++ signed_field books.initial
+    ++ signed_field books.entered ++ signed_field books.left ++ codes "\n"
+
+-- `region,r,step`
+unfoldable pub region_line : (r step : ℕ) → List ℕ
+region_line r step = codes "region" ++ count_field r ++ count_field step ++ codes "\n"
+
+-- `flight,k,amount`
+unfoldable pub flight_line : Network → List Row → (k : ℕ) → List ℕ
+flight_line net rows k = codes "flight" ++ count_field k ++ signed_field (flight_of net rows k) ++ codes "\n"
+
+-- `row,name,n,come,gone,wait`
+unfoldable pub row_line : (name : List ℕ) → Row → List ℕ
+row_line name row = codes "row," ++ row_fields name row ++ codes "\n"
+
+-- one line for each region
+unfoldable pub region_lines : (steps : List ℕ) → List ℕ
+region_lines steps = lines_of (λ r. region_line r (slice_index steps r)) (length steps)
+
+-- one for each connector that touches cells of more than one region
+unfoldable pub flight_lines : Network → (cut : List ℕ) → List Row → List ℕ
+flight_lines net cut rows = flat_map (flight_line net rows) (crossing net cut)
+
+-- and one for each cell
+unfoldable pub row_lines : List Cell → List Row → List ℕ
+row_lines cells rows = lines_of (λ i. row_line (name_at cells i) (row_at rows i)) (length cells)
+
+-- shot `number` of a network cut so, by the steps of its regions and the rows of its cells
+unfoldable pub shot_lines : Network → (cut : List ℕ) → (number : ℕ) → (steps : List ℕ) → List Row → List ℕ
+shot_lines net cut number steps rows =
+    books_line number (books_of net rows) ++ region_lines steps ++ flight_lines net cut rows ++ row_lines net.cells rows

@@ -1,0 +1,44 @@
+ghost use Rattle.std.specs.Prelude.{◌≡◌, ◌++◌, ◌<◌, OnOk, length};
+ghost use Rattle.std.specs.Io.{StartsWith};
+ghost use Rattle.shot_lines.specs.ShotText.{flight_line, flight_lines};
+
+use flow_ledger::flight;
+use flow_model::Row;
+use line_fields::{put_count, put_signed};
+use network_file::Net;
+use no_memory::NoMemory;
+use region_cut::{Chart, crosses};
+
+/// Appends a line for each connector that touches cells of more than one region, by its flight.
+pub(crate) fn put_flight_lines(
+    text: &mut Vec<u8>,
+    net: &Net,
+    chart: &Chart,
+    rows: &[Row],
+) -> Result<(), NoMemory>
+    requires rows { length rows.now ≡ length net.now.cells }
+    requires one_each { length chart.now.cut ≡ length net.now.cells }
+    ensures lines { OnOk result (text.new.items ≡ text.old.items ++ flight_lines net.now chart.now.cut rows.now) }
+    ensures kept { StartsWith text.new.items text.old.items }
+{
+    for k in 0..net.connectors.len() as u32 {
+        if crosses(net, chart, k) {
+            put_flight_line(text, net, rows, k)?;
+        }
+    }
+    Ok(())
+}
+
+#[tactic(auto, unfolding(crate::specs::ShotText::flight_line))]
+fn put_flight_line(text: &mut Vec<u8>, net: &Net, rows: &[Row], k: u32) -> Result<(), NoMemory>
+    requires rows { length rows.now ≡ length net.now.cells }
+    requires has_connector { k < length net.now.connectors }
+    ensures line { OnOk result (text.new.items ≡ text.old.items ++ flight_line net.now rows.now k) }
+    ensures kept { StartsWith text.new.items text.old.items }
+{
+    text.extend_from_slice(b"flight")?;
+    put_count(text, u64::from(k))?;
+    put_signed(text, flight(net, rows, k))?;
+    text.extend_from_slice(b"\n")?;
+    Ok(())
+}

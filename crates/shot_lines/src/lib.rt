@@ -1,0 +1,9 @@
+//! The text of a shot of a run that is watched (docs/FORMAT.md, "The shots").
+#![tactic(auto)]
+
+mod flight_lines;
+mod region_lines;
+mod row_lines;
+mod whole_shot;
+
+pub use whole_shot::shot_text;

@@ -1,0 +1,12 @@
+use Rattle.std.proofs.Common.{◌≡◌, ◌≤◌, ◌-◌}
+use Rattle.region_cut.specs.Cuttings.{region_count}
+use Rattle.region_slots.specs.FieldView.{IsPassOf}
+use Rattle.worker_claim.specs.Driving.{HasSwept}
+use Rattle.sweeping_crew.proofs.driving.drive_pausing.Given as goal
+
+-- so many sweeps were made
+abbrev pub invariant-loop-made : goal.invariant-loop-made
+invariant-loop-made g l = (l.made ≤ l.sweeps) × IsPassOf l.field l.pass × (l.pass.id ≡ l.initial.pass.id) × HasSwept (region_count l.field.terms.chart.now.cut) l.goal l.made l.initial.pass.knows l.pass.knows l.driven × (l.pauses ≤ l.made)
+
+abbrev pub decreases-loop-made : goal.decreases-loop-made
+decreases-loop-made g l = l.sweeps - l.made

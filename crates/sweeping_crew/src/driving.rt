@@ -1,0 +1,57 @@
+ghost use Rattle.std.specs.Prelude.{◌≡◌, ◌<◌, ◌≤◌};
+ghost use Rattle.region_cut.specs.Cuttings.{region_count};
+ghost use Rattle.region_slots.specs.FieldView.{IsPassOf};
+ghost use Rattle.sweeping_crew.specs.Driving.{HasDriven};
+
+use region_slots::{Field, Gate, Pass, Pauses};
+use worker_claim::{Driven, pause_where, sweep};
+
+/// Makes so many sweeps with a pass, or fewer where all turns of one find their region at the goal or past it. A sweep is
+/// one turn on each region, in order of number from `first` on and round.
+pub fn drive<G: Gate>(
+    field: &Field,
+    pass: &mut Pass,
+    goal: u64,
+    sweeps: u32,
+    first: u32,
+    gate: &G,
+) -> Driven
+    requires belongs { IsPassOf field.now pass.old }
+    requires there { first < region_count field.now.terms.chart.now.cut }
+    requires in_time { goal ≤ field.now.terms.net.now.steps }
+    ensures belongs { IsPassOf field.now pass.new × (pass.new.id ≡ pass.old.id) }
+    ensures driven { HasDriven (region_count field.now.terms.chart.now.cut) goal sweeps pass.old.knows pass.new.knows result }
+{
+    let mut pauses = Pauses::none();
+    drive_pausing(field, pass, goal, sweeps, first, gate, &mut pauses)
+}
+
+// The same. It lets others go on at most once for each sweep.
+fn drive_pausing<G: Gate>(
+    field: &Field,
+    pass: &mut Pass,
+    goal: u64,
+    sweeps: u32,
+    first: u32,
+    gate: &G,
+    pauses: &mut Pauses,
+) -> Driven
+    requires belongs { IsPassOf field.now pass.old }
+    requires there { first < region_count field.now.terms.chart.now.cut }
+    requires in_time { goal ≤ field.now.terms.net.now.steps }
+    requires none { pauses.old ≡ 0 }
+    ensures belongs { IsPassOf field.now pass.new × (pass.new.id ≡ pass.old.id) }
+    ensures driven { HasDriven (region_count field.now.terms.chart.now.cut) goal sweeps pass.old.knows pass.new.knows result }
+    ensures paused { pauses.new ≤ sweeps }
+{
+    let _regions = field.regions();
+    let mut driven = Driven::none();
+    let mut made = 0;
+    while made < sweeps && !driven.all {
+        let swept = sweep(field, pass, goal, first, gate);
+        driven = driven.then(swept);
+        made += 1;
+        pause_where(pauses, swept.moved == 0 && !swept.all);
+    }
+    driven
+}

@@ -1,0 +1,39 @@
+ghost use Rattle.std.specs.Prelude.{◌≡◌, ◌≤◌};
+ghost use Rattle.worker_claim.specs.Members.{IsMemberOf};
+ghost use Rattle.sweeping_crew.specs.Members.{AreDriven, AreMembersOf, IsDriven};
+
+use crate::driving::drive;
+use region_slots::{Field, Gate};
+use std::thread::{Threads, for_each_mut};
+use worker_claim::Member;
+
+/// Has each member drive, all at once where the threads can be made, and one after the other where they can't.
+pub fn crew<R: Threads + Sync, G: Gate>(
+    rt: &R,
+    field: &Field,
+    members: &mut [Member],
+    goal: u64,
+    sweeps: u32,
+    gate: &G,
+)
+    requires members { AreMembersOf field.now members.old }
+    requires in_time { goal ≤ field.now.terms.net.now.steps }
+    ensures driven { AreDriven field.now goal sweeps members.old members.new }
+{
+    let threads = members.len().max(1);
+    let work = move |_k: usize, member: &mut Member|
+        requires { IsMemberOf field.now member.old × (goal ≤ field.now.terms.net.now.steps) }
+        ensures { IsDriven field.entry.now goal sweeps member.old member.new }
+    { drive_member(field, member, goal, sweeps, gate) };
+    for_each_mut(rt, members, threads, &work);
+}
+
+// Drives with a member's pass.
+fn drive_member<G: Gate>(field: &Field, member: &mut Member, goal: u64, sweeps: u32, gate: &G)
+    requires member { IsMemberOf field.now member.old }
+    requires in_time { goal ≤ field.now.terms.net.now.steps }
+    ensures { IsDriven field.now goal sweeps member.old member.new }
+{
+    let first = member.first;
+    member.driven = drive(field, &mut member.pass, goal, sweeps, first, gate);
+}

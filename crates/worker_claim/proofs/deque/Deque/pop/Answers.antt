@@ -1,5 +1,0 @@
-use Rattle.worker_claim.proofs.Below.{takes}
-use Rattle.worker_claim.proofs.deque.Deque.pop.Goals as goal
-
-pub pop_as-requires-clause-fifo : goal.pop_as-requires-clause-fifo
-pop_as-requires-clause-fifo c = λ fifo. takes _ _

@@ -1,5 +1,0 @@
-use Rattle.worker_claim.proofs.Below.{forks}
-use Rattle.worker_claim.proofs.deque.Deque.thief.Goals as goal
-
-pub another-pass-requires : goal.another-pass-requires
-another-pass-requires c = forks _ _ c.self.invariant.1

@@ -1,5 +1,0 @@
-use Rattle.std.proofs.Common.{◌≡◌}
-use Rattle.worker_claim.proofs.nest.Nest.fill.Given as goal
-
-abbrev pub invariant-loop-region : goal.invariant-loop-region
-invariant-loop-region l = l.self ≡ l.initial.self

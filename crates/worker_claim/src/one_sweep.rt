@@ -1,0 +1,57 @@
+ghost use Rattle.std.specs.Prelude.{◌≡◌, ◌+◌, ◌<◌, ◌≤◌, false};
+ghost use Rattle.region_cut.specs.Cuttings.{region_count};
+ghost use Rattle.region_slots.specs.FieldView.{IsPassOf};
+ghost use Rattle.worker_claim.specs.Driving.{HasSwept, steps_left};
+ghost use Rattle.worker_claim.specs.Turns.{HasTurned, IsCounted};
+
+use crate::driven::Driven;
+use region_slots::{Field, Gate, Pass};
+
+/// One turn on each region, in order of number from `first` on and round.
+pub fn sweep<G: Gate>(field: &Field, pass: &mut Pass, goal: u64, first: u32, gate: &G) -> Driven
+    requires belongs { IsPassOf field.now pass.old }
+    requires there { first < region_count field.now.terms.chart.now.cut }
+    requires in_time { goal ≤ field.now.terms.net.now.steps }
+    ensures belongs { IsPassOf field.now pass.new × (pass.new.id ≡ pass.old.id) }
+    ensures swept { HasSwept (region_count field.now.terms.chart.now.cut) goal 1 pass.old.knows pass.new.knows result }
+    ensures counted { IsCounted field.now.terms pass.old.knows pass.new.knows goal result }
+    ensures nearer { pass.old.knows.share ≡ field.now.terms.seats → result.all ≡ false →
+        steps_left (region_count field.now.terms.chart.now.cut) goal pass.new.knows < steps_left (region_count field.now.terms.chart.now.cut) goal pass.old.knows }
+{
+    let regions = field.regions();
+    let later = turns(field, pass, goal, first, regions, gate);
+    let earlier = turns(field, pass, goal, 0, first, gate);
+    let ended = later.ended + earlier.ended;
+    Driven {
+        moved: later.moved + earlier.moved,
+        held: later.held + earlier.held,
+        behind: later.behind + earlier.behind,
+        ended,
+        all: ended == u64::from(regions),
+    }
+}
+
+/// One turn on each region from one number to below another.
+pub(crate) fn turns<G: Gate>(
+    field: &Field,
+    pass: &mut Pass,
+    goal: u64,
+    from: u32,
+    to: u32,
+    gate: &G,
+) -> Driven
+    requires belongs { IsPassOf field.now pass.old }
+    requires some { from ≤ to }
+    requires there { to ≤ region_count field.now.terms.chart.now.cut }
+    requires in_time { goal ≤ field.now.terms.net.now.steps }
+    ensures belongs { IsPassOf field.now pass.new × (pass.new.id ≡ pass.old.id) }
+    ensures turned { HasTurned field.now.terms pass.old.knows pass.new.knows from to goal result }
+    ensures going { result.all ≡ false }
+{
+    let mut driven = Driven::none();
+    for region in from..to {
+        let turn = field.turn(pass, region, goal, gate);
+        driven.count(turn);
+    }
+    driven
+}

@@ -1,0 +1,17 @@
+-- Into how many regions a network is cut.
+use Rattle.std.specs.Prelude.{ℕ, ◌*◌, ◌/◌, Option, Some, None, if◌then◌else◌, max, min, nat_le}
+use Rattle.command_words.specs.declared.request.Request.{Request}
+
+-- how many are chosen for so many cells and workers: one for one worker, and else up to eight for each of them, of 256
+-- cells or more each
+abbrev pub chosen_regions : (cells workers : ℕ) → ℕ
+chosen_regions cells workers = if nat_le workers 1 then 1 else max (min (cells / 256) (8 * workers)) 1
+
+-- the number that the words give, or else the one that is chosen
+abbrev pub wanted_by : Option ℕ → (chosen : ℕ) → ℕ
+wanted_by (Some regions) chosen = regions
+wanted_by None chosen = chosen
+
+-- how many a request has a network of so many cells cut into, where it has so many cells
+abbrev pub regions_wanted : (cells : ℕ) → Request → ℕ
+regions_wanted cells request = wanted_by request.regions (chosen_regions cells request.workers)

@@ -1,0 +1,44 @@
+ghost use Rattle.std.specs.Prelude.{◌≡◌, ◌≤◌, IfOk, length, min};
+ghost use Rattle.command_words.specs.Words.{IsInRange};
+ghost use Rattle.network_file.specs.declared.limits.TheConstants.{MOST_REGIONS};
+ghost use Rattle.region_cut.specs.Chart.{chart_of};
+ghost use Rattle.cut_grow.specs.Grown.{IsGrown};
+ghost use Rattle.workerless_call.specs.UsedCutting.{IsCuttingOf};
+
+use crate::used_regions::regions_wanted;
+use command_words::Request;
+use cut_grow::grow;
+use network_file::Net;
+use no_memory::NoMemory;
+use region_cut::{Chart, Cut, CutRefusal, charted};
+use std::alloc::Global;
+
+/// The chart of a network in the regions that its file gives, or else in even or in grown ones, as is asked for.
+pub fn chart_asked(alloc: Global, net: &Net, request: Request) -> Result<Chart, NoMemory>
+    requires in_range { IsInRange request }
+    ensures chart { IfOk result (λ chart. chart ≡ chart_of net.now chart.cut) }
+    ensures one_each { IfOk result (λ chart. length chart.cut ≡ length net.now.cells) }
+    ensures cutting { IfOk result (λ chart. IsCuttingOf net.now request chart.cut) }
+{
+    let regions = regions_wanted(net, request);
+    if request.grown && net.regions.is_empty() {
+        let cut = grown_cut(alloc, net, regions)?;
+        return Chart::new(alloc, net, cut);
+    }
+    charted(alloc, net, regions)
+}
+
+// A grown cutting into so many regions, or as many as there are cells.
+fn grown_cut(alloc: Global, net: &Net, regions: u32) -> Result<Cut, NoMemory>
+    requires some { 1 ≤ regions }
+    requires few { regions ≤ MOST_REGIONS }
+    ensures grown { IfOk result (λ cut. IsGrown net.now (min regions (length net.now.cells)) cut) }
+    ensures one_each { IfOk result (λ cut. length cut ≡ length net.now.cells) }
+{
+    let list = grow(alloc, net, regions.min(net.cells.len() as u32))?;
+    match Cut::of(alloc, net, &list) {
+        Ok(cut) => Ok(cut),
+        // A grown list is a cutting, so that it has no fault.
+        Err(CutRefusal::Fault(_) | CutRefusal::NoMemory) => Err(NoMemory),
+    }
+}

@@ -1,0 +1,39 @@
+ghost use Rattle.std.specs.Prelude.{◌≡◌, ◌≤◌, length};
+ghost use Rattle.command_words.specs.Words.{IsInRange};
+ghost use Rattle.network_file.specs.declared.limits.TheConstants.{MOST_REGIONS};
+ghost use Rattle.workerless_call.specs.UsedRegions.{chosen_regions, regions_wanted};
+
+use command_words::Request;
+use network_file::Net;
+
+/// The most regions for each worker where their number is chosen: enough that none waits long for another.
+const EACH: u32 = 8;
+
+/// The fewest cells of a region where the number of regions is chosen: below, the turns cost more than the steps.
+const FEWEST_CELLS: u32 = 256;
+
+/// Into how many regions a request has a network cut, or more than there are cells.
+pub fn regions_wanted(net: &Net, request: Request) -> u32
+    requires in_range { IsInRange request }
+    ensures wanted { result ≡ regions_wanted (length net.now.cells) request }
+    ensures some { 1 ≤ result }
+    ensures few { result ≤ MOST_REGIONS }
+{
+    match request.regions {
+        Some(regions) => regions,
+        None => chosen_regions(net.cells.len() as u32, request.workers),
+    }
+}
+
+// The number that is chosen for so many cells and workers.
+fn chosen_regions(cells: u32, workers: u32) -> u32
+    requires { workers ≤ 16 }
+    ensures chosen { result ≡ chosen_regions cells workers }
+    ensures some { 1 ≤ result }
+    ensures few { result ≤ MOST_REGIONS }
+{
+    if workers <= 1 {
+        return 1;
+    }
+    (cells / FEWEST_CELLS).min(EACH * workers).max(1)
+}
