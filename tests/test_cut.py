@@ -136,6 +136,6 @@ def test_regions_are_chosen_by_the_cells_and_the_workers(cells, workers, regions
     names = ["g", *(f"r{i}" for i in range(cells - 2)), "x"]
     chain = lines("; ".join(["ctm,1; steps,1; gate,g,2,0", *(f"road,{it},6,2,1,2,0" for it in names[1:-1]), "exit,x,2",
                              *(f"link,{one},{other}" for one, other in zip(names, names[1:]))]))
-    status, text, err = run(["cut", "--regions", "auto", "--workers", str(workers)], input=chain)
+    status, text, err = run(["save", "--until", "1", "--regions", "auto", "--workers", str(workers)], input=chain)
     assert (status, err) == (0, b"")
-    assert text.startswith(b"cut,%d," % regions)
+    assert len({line.split(b",")[1] for line in text.splitlines() if line.startswith(b"row,")}) == regions

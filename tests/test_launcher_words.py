@@ -117,7 +117,7 @@ def test_words_are_refused_where_the_program_refuses_them(words, run, without_rt
     (["run", "--cut=even grown"], ["--cut takes even or grown, and not even\\ grown"]),
     (["run", "--cut"], ["--cut has no value; it takes even or grown"]),
     (["recut", "--parts", "0"], ["--parts takes", "from 1 to 64", "and not 0"]),
-    (["cut", "--cut", "grown"], ["cut has no option --cut", "it has --regions --workers"]),
+    (["cut", "--cut", "grown"], ["cut has no option --cut", "it has --regions"]),
     (["run", "--regions", "most"], ["--regions takes", "from 1 to 512", ", or auto, and not most"]),
     (["drive"], ["drive is no mode", "run watch sample save resume choose recut cut check convert"]),
     ([], ["no mode is given", "run watch sample save resume choose recut cut check convert"]),

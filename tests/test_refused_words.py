@@ -85,6 +85,7 @@ CASES = [
     ("a cutting for resume", ["resume", "--cut", "even"]),
     ("a cutting for cut", ["cut", "--cut", "grown"]),
     ("a cutting for recut", ["recut", "--cut", "grown"]),
+    ("workers for cut", ["cut", "--workers", "2"]),
     ("a word for regions that isn't auto", ["run", "--regions", "Auto"]),
     ("regions chosen for resume", ["resume", "--regions", "auto"]),
     ("no regions for cut", ["cut", "--regions", "0"]),

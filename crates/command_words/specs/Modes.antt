@@ -51,7 +51,6 @@ takes_option Recut Regions = true
 takes_option Recut Workers = true
 takes_option Recut other = false
 takes_option Cut Regions = true
-takes_option Cut Workers = true
 takes_option Cut other = false
 takes_option Check option = false
 takes_option Convert option = false

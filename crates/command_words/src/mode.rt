@@ -70,7 +70,7 @@ impl Mode {
             (Mode::Choose, _) => false,
             (Mode::Recut, Setting::Parts | Setting::Regions | Setting::Workers) => true,
             (Mode::Recut, _) => false,
-            (Mode::Cut, Setting::Regions | Setting::Workers) => true,
+            (Mode::Cut, Setting::Regions) => true,
             (Mode::Cut, _) => false,
             (Mode::Check, _) => false,
             (Mode::Convert, _) => false,
