@@ -1,5 +1,5 @@
 //! Trials of the shared field through its public calls, in one thread and between two: turns and what they wait for, passes
-//! that were shared off, sweeps, shots, crews, and the rows of regions at uneven steps. There is nothing here but tests.
+//! that were shared off, shots that find a region held, and crews whose members work at once. There is nothing here but tests.
 //!
 //! Each test names a [`Trial`](trial) and a network; `on_field` opens a field of it, and has the trial made.
 #![tactic(auto)]

@@ -16,8 +16,6 @@ pub(crate) const FOUR_REGIONS: &[u8] =
     b"ctm,2\nsteps,4\ngate,g,2,8\nroad,a,6,2,1,1,0\nroad,b,6,2,1,1,0\nexit,x,2\nlink,g,a\nlink,a,b\nlink,b,x\n\
 region,g,0\nregion,a,1\nregion,b,2\nregion,x,3\n";
 
-pub(crate) const VEHICLES: i128 = 1_000_000;
-
 // The chart of a network in the regions that its file gives, or else in one.
 pub(crate) fn charted(alloc: Global, net: &Net) -> Result<Chart, NoMemory>
     ensures chart { IfOk result (λ chart. chart ≡ chart_of net.now chart.cut) }

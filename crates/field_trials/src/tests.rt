@@ -1,6 +1,5 @@
 use crate::help_trials::Way;
-use crate::networks::{FOUR_REGIONS, TWO_REGIONS, VEHICLES};
-use crate::shot_trials::Uneven;
+use crate::networks::{FOUR_REGIONS, TWO_REGIONS};
 use crate::trial::{Trial, on_field};
 use std::test::Fail;
 
@@ -25,50 +24,13 @@ fn a_shared_pass_sees_what_the_other_has_published(rt: HostRuntime) -> Result<()
 }
 
 #[test]
-fn a_shot_shows_each_region_at_its_own_step(rt: HostRuntime) -> Result<(), Fail> {
-    let gate_ahead = Uneven {
-        ahead: 0,
-        steps: [2, 1],
-        inside: 2 * VEHICLES,
-        flight: 2 * VEHICLES,
-        text: b"2.000000",
-        earlier: [4_000_000, 0, 0],
-    };
-    on_field(&rt, rt.alloc(), TWO_REGIONS, Trial::UnevenSteps(gate_ahead))?;
-    let road_ahead = Uneven {
-        ahead: 1,
-        steps: [1, 2],
-        inside: 6 * VEHICLES,
-        flight: -2 * VEHICLES,
-        text: b"-2.000000",
-        earlier: [0, 0, 0],
-    };
-    on_field(&rt, rt.alloc(), TWO_REGIONS, Trial::UnevenSteps(road_ahead))
-}
-
-#[test]
-fn a_shot_is_busy_while_a_turn_holds_a_region(rt: HostRuntime) -> Result<(), Fail> {
-    on_field(&rt, rt.alloc(), TWO_REGIONS, Trial::LateShot)
-}
-
-#[test]
 fn a_busy_shot_holds_and_shows_nothing(rt: HostRuntime) -> Result<(), Fail> {
     on_field(&rt, rt.alloc(), TWO_REGIONS, Trial::BusyShots)
 }
 
 #[test]
-fn a_drive_ends_where_all_regions_are_at_the_goal(rt: HostRuntime) -> Result<(), Fail> {
-    on_field(&rt, rt.alloc(), TWO_REGIONS, Trial::Drives)
-}
-
-#[test]
 fn two_members_work_at_once(rt: HostRuntime) -> Result<(), Fail> {
     on_field(&rt, rt.alloc(), FOUR_REGIONS, Trial::TwoMembers)
-}
-
-#[test]
-fn a_shot_is_taken_while_a_member_drives(rt: HostRuntime) -> Result<(), Fail> {
-    on_field(&rt, rt.alloc(), FOUR_REGIONS, Trial::AMemberAndAShot)
 }
 
 #[test]

@@ -3,10 +3,10 @@ ghost use Rattle.region_cut.specs.Chart.{chart_of};
 ghost use Rattle.snapshot.specs.Rooms.{IsRoomFor};
 ghost use Rattle.region_slots.specs.FieldView.{IsPassOf};
 
-use crate::crew_trials::{a_member_and_a_shot, drives, two_members};
+use crate::crew_trials::two_members;
 use crate::help_trials::{Way, a_helper_alone, two_helpers};
 use crate::networks::charted;
-use crate::shot_trials::{Uneven, busy_shots, late_shot, uneven_steps};
+use crate::shot_trials::busy_shots;
 use crate::turn_trials::{held_before_neighbours, held_for_others, shared_pass, turns_in_order};
 use network_file::{MOST_BYTES, Net};
 use no_memory::NoMemory;
@@ -26,12 +26,8 @@ pub(crate) enum Trial {
     HeldForOthers,
     HeldBeforeNeighbours,
     SharedPass,
-    UnevenSteps(Uneven),
-    LateShot,
     BusyShots,
-    Drives,
     TwoMembers,
-    AMemberAndAShot,
     TwoHelpers,
     AHelperAlone(Way),
 }
@@ -90,12 +86,8 @@ fn make<R: Abort + Threads + Sync>(
         Trial::HeldForOthers => held_for_others(rt, field, pass, last),
         Trial::HeldBeforeNeighbours => held_before_neighbours(rt, field, pass, last),
         Trial::SharedPass => shared_pass(rt, field, pass, last),
-        Trial::UnevenSteps(uneven) => uneven_steps(rt, net, field, pass, room, last, uneven),
-        Trial::LateShot => late_shot(rt, net, field, pass, room, last),
         Trial::BusyShots => busy_shots(rt, net, field, pass, room, last),
-        Trial::Drives => drives(rt, field, pass, last),
         Trial::TwoMembers => two_members(rt, field, pass, last),
-        Trial::AMemberAndAShot => a_member_and_a_shot(rt, field, pass, room, last),
         Trial::TwoHelpers => two_helpers(rt, alloc, field, pass, last),
         Trial::AHelperAlone(way) => a_helper_alone(rt, alloc, field, pass, last, way),
     }

@@ -3,7 +3,7 @@ ghost use Rattle.region_cut.specs.Chart.{chart_of};
 ghost use Rattle.region_slots.specs.FieldView.{IsPassOf};
 ghost use Rattle.snapshot.specs.Rooms.{IsRoomFor};
 
-use crate::calls::{Calls, SEATS, make_calls};
+use crate::mixed_calls::{Found, call_at_once};
 use crate::networks::whole_steps;
 use flow_model::Row;
 use network_file::Net;
@@ -17,19 +17,22 @@ use std::process::Abort;
 use std::thread::Threads;
 use sweeping_crew::drive;
 
-// Compares the rows of a field after such calls, taken to the last step, with those of whole steps.
+// How many seats a field has on which calls are made at once.
+const SEATS: u32 = 5;
+
+// Compares the rows of a field after calls at once, taken to the last step, with those of whole steps.
 pub(crate) fn compare_rows<R: Abort + Threads + Sync>(
     rt: &R,
     alloc: Global,
     net: &Net,
     chart: &Chart,
-    calls: Calls,
+    found: &Found,
 ) -> Result<(), NoMemory>
     requires chart { chart.now ≡ chart_of net.now chart.now.cut }
     requires one_each { length chart.now.cut ≡ length net.now.cells }
 {
     let rows = whole_steps(alloc, net)?;
-    compare_with(rt, alloc, net, chart, calls, &rows)
+    compare_with(rt, alloc, net, chart, found, &rows)
 }
 
 // The same with these rows.
@@ -38,7 +41,7 @@ fn compare_with<R: Abort + Threads + Sync>(
     alloc: Global,
     net: &Net,
     chart: &Chart,
-    calls: Calls,
+    found: &Found,
     rows: &[Row],
 ) -> Result<(), NoMemory>
     requires chart { chart.now ≡ chart_of net.now chart.now.cut }
@@ -47,8 +50,9 @@ fn compare_with<R: Abort + Threads + Sync>(
     let mut room = ShotRoom::new(alloc, net, chart)?;
     let start = Start::zero(alloc, net, chart)?;
     let (field, mut pass) = Field::open(alloc, net, chart, &start, 0, SEATS)?;
-    make_calls(rt, alloc, net, chart, &field, &mut pass, calls);
-    show_last(rt, &field, &mut pass, &mut room, net.steps);
+    let last = net.steps;
+    call_at_once(rt, alloc, net, chart, &field, &mut pass, found, last);
+    show_last(rt, &field, &mut pass, &mut room, last);
     assert!(rt; room.rows() == rows, "the rows of whole steps");
     Ok(())
 }

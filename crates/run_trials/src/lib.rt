@@ -1,7 +1,6 @@
-//! Trials of regions that are taken through their steps: by the plain body and the fast one, side by side; by turns on regions
-//! and with passes that are drawn, by a crew that sweeps, and by passes that take turns, look and take shots at once, each held
-//! against whole steps of the plain recurrences; and from later steps than 0, with what is noted of them. There is nothing
-//! here but tests.
+//! Trials of regions that are taken through their steps: by the plain body and the fast one, side by side; by passes
+//! that take turns, look and take shots at once, held against whole steps of the plain recurrences; and from later steps than
+//! 0, with what is noted of them. There is nothing here but tests.
 #![tactic(auto)]
 
 #[cfg(test)]
@@ -11,13 +10,9 @@ mod bodies;
 #[cfg(test)]
 mod body_tests;
 #[cfg(test)]
-mod calls;
-#[cfg(test)]
 mod compared_networks;
 #[cfg(test)]
 mod comparing;
-#[cfg(test)]
-mod drawn_turns;
 #[cfg(test)]
 mod late_starts;
 #[cfg(test)]

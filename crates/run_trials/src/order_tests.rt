@@ -1,10 +1,9 @@
 ghost use Rattle.std.specs.Prelude.{◌≤◌};
 ghost use Rattle.network_file.specs.declared.limits.TheConstants.{MOST_REGIONS};
 
-use crate::calls::Calls;
 use crate::comparing::compare_rows;
 use crate::mixed_calls::{Found, SHOTS};
-use crate::networks::{CUTTINGS, NETWORKS, cut_text, network};
+use crate::networks::network;
 use network_file::Net;
 use no_memory::NoMemory;
 use region_cut::charted;
@@ -19,61 +18,26 @@ const CHAIN: &str =
 road,e,6,2.5,1,3,1.25; road,f,7,3,1,2,0; road,g,9,2,1,1,9; exit,h,1.5; link,a,b; link,b,c; link,c,d; link,d,e; \
 link,e,f; link,f,g; link,g,h; demand,a,0,150,1.7; limit,h,40,60,0; signal,e,6,2,0,3";
 
-// Compares the rows of a network after such calls, in so many regions where its file gives none.
+// Compares the rows of a network after calls at once, in so many regions where its file gives none.
 fn compare<R: Abort + Threads + Sync>(
     rt: &R,
     alloc: Global,
     net: &Net,
     regions: u32,
-    calls: Calls,
+    found: &Found,
 ) -> Result<(), NoMemory>
     requires some { 1 ≤ regions }
     requires few { regions ≤ MOST_REGIONS }
 {
     let chart = charted(alloc, net, regions)?;
-    compare_rows(rt, alloc, net, &chart, calls)
-}
-
-// Compares the rows of a network that is cut so, after turns that are drawn.
-fn compare_drawn<R: Abort + Threads + Sync>(
-    rt: &R,
-    alloc: Global,
-    text: &str,
-    regions: [u32; 4],
-) -> Result<(), Fail> {
-    let text = cut_text(alloc, text, regions)?;
-    let net = network(rt, alloc, &text)?;
-    for draw in 0..3 {
-        let seed = regions[0].wrapping_add(5 * draw);
-        compare(rt, alloc, &net, 1, Calls::Drawn { seed })?;
-    }
-    Ok(())
-}
-
-#[test]
-fn turns_in_any_order_give_the_rows_of_whole_steps(rt: HostRuntime) -> Result<(), Fail> {
-    for text in NETWORKS {
-        for regions in CUTTINGS {
-            compare_drawn(&rt, rt.alloc(), text, regions)?;
-        }
-    }
-    Ok(())
-}
-
-#[test]
-fn a_crew_that_sweeps_gives_the_rows_of_whole_steps(rt: HostRuntime) -> Result<(), Fail> {
-    for text in NETWORKS {
-        let net = network(&rt, rt.alloc(), text)?;
-        compare(&rt, rt.alloc(), &net, 4, Calls::Swept)?;
-    }
-    Ok(())
+    compare_rows(rt, alloc, net, &chart, found)
 }
 
 #[test]
 fn turns_looks_and_shots_at_once_give_the_rows_of_whole_steps(rt: HostRuntime) -> Result<(), Fail> {
     let net = network(&rt, rt.alloc(), CHAIN)?;
     let found = Found::none();
-    compare(&rt, rt.alloc(), &net, 8, Calls::Mixed { found: &found })?;
+    compare(&rt, rt.alloc(), &net, 8, &found)?;
     assert!(rt; found.taken() >= SHOTS);
     assert_eq!(rt; found.unsound(), 0);
     assert!(rt; found.midway() > 0, "a shot was taken on the way");
