@@ -1,5 +1,5 @@
 -- What comes of sweeps over the regions of a field. A sweep is one turn on each region.
-use Rattle.std.specs.Prelude.{◌≡◌, ◌≢◌, ℕ, ◌+◌, ◌-◌, ◌*◌, ◌<◌, ◌≤◌, IsTrue, false, slice_index}
+use Rattle.std.specs.Prelude.{◌≡◌, ◌≢◌, ◌↔◌, ℕ, zero, suc, Bool, ◌+◌, ◌-◌, ◌*◌, ◌<◌, ◌≤◌, IsTrue, false, List, [], ◌++◌, length, slice_index}
 use Rattle.std.specs.List.{range_with_len, sum, sum_by}
 use Rattle.border_rows.specs.declared.view.View.{View}
 use Rattle.region_slots.specs.Turning.{IsWithin}
@@ -22,16 +22,36 @@ pub record HasSwept (count goal made : ℕ) (old new : View) (driven : Driven) :
   pub keeps : IsWithin old new goal
   pub tried : (r : ℕ) → r < count → tries_at new r ≡ tries_at old r + made
   pub turns : driven.moved + driven.held + driven.behind + driven.ended ≡ made * count
-  pub moved : new.moves ≡ old.moves + driven.moved
+  pub moved : length new.log ≡ length old.log + driven.moved
   pub held : sum new.held_found ≡ sum old.held_found + driven.held
   pub behind : new.short_found ≡ old.short_found + driven.behind
   pub ended : driven.ended ≢ 0 → (r : ℕ) × (r < count) × (goal ≤ slice_index new.seen r)
   pub all : IsTrue driven.all → (count ≤ driven.ended) × AllReach count goal new
   pub not_all : driven.all ≡ false → driven.moved + driven.held + driven.behind ≡ 0 → driven.ended ≡ 0
 
--- at most so many sweeps, and fewer only where all turns of one found their region at goal or past it
-abbrev pub HasDriven : (count goal sweeps : ℕ) (old new : View) → Driven → Type 0
-HasDriven count goal sweeps old new driven = (made : ℕ) × (made ≤ sweeps) × (made < sweeps → IsTrue driven.all) × HasSwept count goal made old new driven
+-- the regions of a sweep, in order of number from the first on and round
+abbrev pub round_from : (count first : ℕ) → List ℕ
+round_from count first = range_with_len first (count - first) ++ range_with_len 0 first
+
+-- and of so many sweeps
+abbrev pub rounds_from : (count first sweeps : ℕ) → List ℕ
+rounds_from count first zero = []
+rounds_from count first (suc sweeps) = rounds_from count first sweeps ++ round_from count first
+
+-- the last sweep that led to a view, after which `all` tells whether all its turns found their region at goal or past it
+pub record IsLast (count goal : ℕ) (new : View) (all : Bool) : Type 0 where
+  pub before : View
+  pub driven : Driven
+  pub swept : HasSwept count goal 1 before new driven
+  pub same : all ≡ driven.all
+  pub all : IsTrue driven.all ↔ (driven.ended ≡ count)
+
+-- at most so many sweeps from the first region on, and fewer only where all turns of one found their region at goal or past
+-- it
+abbrev pub HasDriven : (count goal sweeps first : ℕ) (old new : View) → Driven → Type 0
+HasDriven count goal sweeps first old new driven =
+    (made : ℕ) × (made ≤ sweeps) × (made < sweeps → IsTrue driven.all) × HasSwept count goal made old new driven
+    × (new.tried ≡ old.tried ++ rounds_from count first made) × (made ≢ 0 → IsLast count goal new driven.all)
 
 -- how many steps below goal a pass has last seen so many regions, in all
 abbrev pub steps_left : (count goal : ℕ) → View → ℕ

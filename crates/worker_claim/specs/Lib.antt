@@ -2,5 +2,6 @@ pub mod Driving
 pub mod Helping
 pub mod Members
 pub mod Nests
+pub mod Telling
 pub mod Turns
 pub mod Watching

@@ -13,6 +13,7 @@ pub struct Member {
 impl Member {
     ghost use Rattle.std.specs.Prelude.{◌≡◌, ◌≤◌};
     ghost use Rattle.worker_claim.specs.Members.{IsDriven, IsMemberOf};
+    ghost use Rattle.worker_claim.specs.Telling.{AreTold};
     ghost use Rattle.worker_claim.specs.Turns.{none};
 
     /// A member that hasn't driven yet.
@@ -30,7 +31,8 @@ impl Member {
     pub(crate) fn drive<G: Gate>(&mut self, field: &Field, goal: u64, sweeps: u32, gate: &G)
         requires member { IsMemberOf field.now self.old }
         requires in_time { goal ≤ field.now.terms.net.now.steps }
-        ensures { IsDriven field.now goal sweeps self.old self.new }
+        ensures driven { IsDriven field.now goal sweeps self.old self.new }
+        ensures told { AreTold (G.told_held gate.now) (G.told_freed gate.now) self.old.pass.knows.log self.new.pass.knows.log }
     {
         self.driven = drive(field, &mut self.pass, goal, sweeps, self.first, gate);
     }
