@@ -13,6 +13,7 @@ pub mod RunMode
 pub mod SampleMode
 pub mod SaveMode
 pub mod Task
+pub mod Telling
 pub mod UsedCutting
 pub mod WatchMode
 pub mod Words

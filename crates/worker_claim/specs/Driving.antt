@@ -38,12 +38,12 @@ abbrev pub rounds_from : (count first sweeps : ℕ) → List ℕ
 rounds_from count first zero = []
 rounds_from count first (suc sweeps) = rounds_from count first sweeps ++ round_from count first
 
--- the last sweep that led to a view, after which `all` tells whether all its turns found their region at goal or past it
-pub record IsLast (count goal : ℕ) (new : View) (all : Bool) : Type 0 where
+-- the last sweep that led to a view, after which it tells whether all its turns found their region at goal or past it
+pub record IsLast (count goal : ℕ) (new : View) (all_ended : Bool) : Type 0 where
   pub before : View
   pub driven : Driven
   pub swept : HasSwept count goal 1 before new driven
-  pub same : all ≡ driven.all
+  pub same : all_ended ≡ driven.all
   pub all : IsTrue driven.all ↔ (driven.ended ≡ count)
 
 -- at most so many sweeps from the first region on, and fewer only where all turns of one found their region at goal or past

@@ -212,3 +212,10 @@ returns-clause-moved g c = λ s is.
 
 pub returns-in-Some-clause-seen_in_time : goal.returns-in-Some-clause-seen_in_time
 returns-in-Some-clause-seen_in_time g c = subst (HasSeenInTime c.args.self.now.terms) (sym (ap (λ m. m.0) c.free-in-Some.ensures.given)) c.free-in-Some.ensures.in_time
+
+-- the observer was told of the region at its own step
+pub returns-in-Some-clause-told_behind : goal.returns-in-Some-clause-told_behind
+returns-in-Some-clause-told_behind g c = λ q s is.
+    let short = c.clears.ensures.short c.in-Some.neighbour c.in-Some.s c.in-Some.is in
+    let same = behind-same c.in-Some.neighbour c.in-Some.s q s is in
+    subst (g.G.Gate.told_held c.args.gate.now c.args.region) (sym short.1 ∙ ap (λ t. t + 1) same.1) c.held.ensures
