@@ -36,5 +36,5 @@ rounds-more old between new count first made before one =
 
 -- what isn't false is true
 pub true-unless : (b : Bool) → (b ≡ false → ⊥) → IsTrue b
-true-unless true no = refl
-true-unless false no = absurd (no refl)
+true-unless true unfalse = refl
+true-unless false unfalse = absurd (unfalse refl)

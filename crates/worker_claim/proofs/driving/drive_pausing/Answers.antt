@@ -34,3 +34,16 @@ loop-made-preserved g c =
       told-more (g.G.Gate.told_held c.args.gate.now) (g.G.Gate.told_freed c.args.gate.now) c.args.pass.now.knows.log c.loop-made.pass.knows.log c.sweep-swept.new.pass.knows.log
           c.loop-made.invariant.7 c.sweep-swept.ensures.told,
     )
+
+pub loop-made-init : goal.loop-made-init
+loop-made-init g c = (
+  omega arith,
+  c.requires.belongs,
+  refl,
+  subst (λ (d : Driven). HasSwept (region_count c.args.field.now.terms.chart.now.cut) c.args.goal 0 c.args.pass.now.knows c.args.pass.now.knows d) (sym c.none-driven.ensures)
+      (swept-none c.args.pass.now.knows (region_count c.args.field.now.terms.chart.now.cut) c.args.goal),
+  omega (arith, c.requires.none),
+  sym (append-nil c.args.pass.now.knows.tried),
+  λ some. absurd (some refl),
+  told-none (g.G.Gate.told_held c.args.gate.now) (g.G.Gate.told_freed c.args.gate.now) c.args.pass.now.knows.log,
+)

@@ -41,7 +41,7 @@ returns-clause-all g c =
     subst (λ n. HasTurned terms c.args.pass.now.knows c.turns-later.new.pass.knows c.args.first n c.args.goal c.turns-later.result) c.regions-regions.ensures c.turns-later.ensures.turned in
     let is = added-up terms c.args.pass.now.knows c.turns-later.new.pass.knows c.turns-earlier.new.pass.knows c.args.first c.args.goal c.from.result c.turns-later.result c.turns-earlier.result
     (omega (arith, c.requires.there)) (c.from.ensures ∙ c.regions-regions.ensures) later c.turns-earlier.ensures.turned in
-    (is.all, λ same. true-unless _ (λ no. is.not_all no same))
+    (is.all, λ same. true-unless _ (λ not_all. is.not_all not_all same))
 
 pub returns-clause-order : goal.returns-clause-order
 returns-clause-order g c =

@@ -33,8 +33,9 @@ pub loop-region-init : goal.loop-region-init
 loop-region-init g c = (
   c.requires.belongs,
   refl,
-  turned-none c.args.field.now.terms c.args.pass.now.knows c.args.from c.args.goal,
-  refl,
+  subst (λ (d : Driven). HasTurned c.args.field.now.terms c.args.pass.now.knows c.args.pass.now.knows c.args.from c.args.from c.args.goal d) (sym c.none-driven.ensures)
+      (turned-none c.args.field.now.terms c.args.pass.now.knows c.args.from c.args.goal),
+  ap (λ (d : Driven). d.all) c.none-driven.ensures,
   order-none c.args.pass.now.knows.tried c.args.from,
   told-none (g.G.Gate.told_held c.args.gate.now) (g.G.Gate.told_freed c.args.gate.now) c.args.pass.now.knows.log,
 )
