@@ -20,22 +20,27 @@ use Rattle.network_run.proofs.Crewing.{members_of}
 
 -- members that have made no turn
 pub members-none : (held freed : ℕ → ℕ → Type 0) (members : List Member) → AreMembersTold held freed members members
-members-none held freed members = λ k d within. told-none held freed (slice_index_or members k d).pass.knows.log
+members-none held freed members = record { each = λ k d within. told-none held freed (slice_index_or members k d).pass.knows.log }
 
 -- some turns, and then others
 pub members-more : (held freed : ℕ → ℕ → Type 0) (old between new : List Member) → length between ≡ length old → AreMembersTold held freed old between → AreMembersTold held freed between new →
     AreMembersTold held freed old new
-members-more held freed old between new long before after = λ k d within.
-    told-more held freed (slice_index_or old k d).pass.knows.log (slice_index_or between k d).pass.knows.log (slice_index_or new k d).pass.knows.log (before k d within) (after k d (omega (arith, within, long)))
+members-more held freed old between new long before after = record {
+  each = λ k d within.
+      told-more held freed (slice_index_or old k d).pass.knows.log (slice_index_or between k d).pass.knows.log (slice_index_or new k d).pass.knows.log (before.each k d within)
+      (after.each k d (omega (arith, within, long)));
+}
 
 -- what helpers have published their members have
 pub helpers-told : (held freed : ℕ → ℕ → Type 0) (old new : List Helper) → length new ≡ length old → AreHelpersTold held freed old new → AreMembersTold held freed (members_of old) (members_of new)
-helpers-told held freed [] new long told = λ k d within. absurd (omega (arith, within))
-helpers-told held freed (x ∷ xs) new long told = λ k d within.
-    let member : Helper → Member = λ helper. helper.member in
-    let inside : k < length (x ∷ xs) = omega (arith, within, length-map (x ∷ xs) member) in
-    subst (λ (m : Member). AreTold held freed m.pass.knows.log (get_or (members_of new) k d).pass.knows.log) (sym (get_or-map member (x ∷ xs) k x d inside))
-    (subst (λ (m : Member). AreTold held freed (get_or (x ∷ xs) k x).member.pass.knows.log m.pass.knows.log) (sym (get_or-map member new k x d (omega (arith, inside, long)))) (told k x inside))
+helpers-told held freed [] new long told = record { each = λ k d within. absurd (omega (arith, within)) }
+helpers-told held freed (x ∷ xs) new long told = record {
+  each = λ k d within.
+      let member : Helper → Member = λ helper. helper.member in
+      let inside : k < length (x ∷ xs) = omega (arith, within, length-map (x ∷ xs) member) in
+      subst (λ (m : Member). AreTold held freed m.pass.knows.log (get_or (members_of new) k d).pass.knows.log) (sym (get_or-map member (x ∷ xs) k x d inside))
+      (subst (λ (m : Member). AreTold held freed (get_or (x ∷ xs) k x).member.pass.knows.log m.pass.knows.log) (sym (get_or-map member new k x d (omega (arith, inside, long)))) (told.each k x inside));
+}
 
 -- one member more is united
 pub from-more : (own : List PublishedStep) (members left : List Member) (member : Member) (old new : List PublishedStep) → ((m : Member) → Contains (left ++ member ∷ []) m → Contains members m) →
@@ -57,7 +62,7 @@ told-taken held freed own between last before after long nothing told from finis
       | inl was ↦ inl was
       | inr (member, (k, within, is), here) ↦
           let inside : k < length before = omega (arith, within, long) in
-          elim (told k member inside entry (subst (λ (m : Member). Contains m.pass.knows.log entry) (sym is) here)) [
+          elim (told.each k member inside entry (subst (λ (m : Member). Contains m.pass.knows.log entry) (sym is) here)) [
             | inl was ↦ let none : Contains [] entry = subst (λ log. Contains log entry) (nothing k member inside) was in absurd (omega (arith, none.1))
             | inr new ↦ inr new
           ]

@@ -11,11 +11,9 @@ abbrev pub AreTold : (held freed : (region step : ℕ) → Type 0) → (old new 
 AreTold held freed old new = (entry : PublishedStep) → Contains new entry → Contains old entry ⊎ (held entry.region (entry.step - 1) × freed entry.region entry.step)
 
 -- those of each member of a crew
-abbrev pub AreMembersTold : (held freed : (region step : ℕ) → Type 0) → (old new : List Member) → Type 0
-AreMembersTold held freed old new =
-    (k : ℕ) (d : Member) → k < length old → AreTold held freed (slice_index_or old k d).pass.knows.log (slice_index_or new k d).pass.knows.log
+pub record AreMembersTold (held freed : (region step : ℕ) → Type 0) (old new : List Member) : Type 0 where
+  pub each : (k : ℕ) (d : Member) → k < length old → AreTold held freed (slice_index_or old k d).pass.knows.log (slice_index_or new k d).pass.knows.log
 
 -- and of each helper
-abbrev pub AreHelpersTold : (held freed : (region step : ℕ) → Type 0) → (old new : List Helper) → Type 0
-AreHelpersTold held freed old new =
-    (k : ℕ) (d : Helper) → k < length old → AreTold held freed (slice_index_or old k d).member.pass.knows.log (slice_index_or new k d).member.pass.knows.log
+pub record AreHelpersTold (held freed : (region step : ℕ) → Type 0) (old new : List Helper) : Type 0 where
+  pub each : (k : ℕ) (d : Helper) → k < length old → AreTold held freed (slice_index_or old k d).member.pass.knows.log (slice_index_or new k d).member.pass.knows.log
