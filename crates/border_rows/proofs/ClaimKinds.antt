@@ -18,16 +18,17 @@ use Rattle.region_step.specs.Region.{RegionValue}
 use Rattle.region_step.specs.Standing.{Stands}
 use Rattle.region_step.specs.Start.{StartLists}
 use Rattle.region_step.proofs.Lists.{map_range_same}
-use Rattle.border_rows.specs.Kinds.{found_taken, fresh, freed, later_of, taken}
+use Rattle.border_rows.specs.Kinds.{found_taken, fresh, freed, gathered, later_of, taken}
 use Rattle.border_rows.specs.Places.{claim_place, widths_of}
 use Rattle.border_rows.specs.Standing.{Counts, FieldState, IsHome, IsSpent, IsStanding, steps_made}
-use Rattle.border_rows.specs.Views.{IsHeld, holders, knowers}
+use Rattle.border_rows.specs.Views.{IsHeld, holders, knowers, times_in}
 use Rattle.border_rows.specs.Words.{claim_of, step_of}
 use Rattle.border_rows.specs.declared.view.Hold.{Hold}
 use Rattle.border_rows.specs.declared.view.Terms.{Terms}
 use Rattle.border_rows.specs.declared.view.View.{View}
 use Rattle.border_rows.proofs.ChartWidths.{length-widths_of}
 use Rattle.border_rows.proofs.Keeping.{OldHolds, SameRows, SameSteps, rows-kept, steps-kept}
+use Rattle.border_rows.proofs.Logs.{times_made-same}
 use Rattle.border_rows.proofs.ViewUpdates.{Contains-elem, Contains-set, set-Contains, set-keeps, sum-set}
 use Rattle.border_rows.proofs.WordUpdates.{claim-set, claim-set-border, claim-set-other, claim-set-step}
 
@@ -201,7 +202,7 @@ pub record CountsAlike (view w : View) : Type 0 where
   pub terms : w.terms ≡ view.terms
   pub share : w.share ≡ view.share
   pub seen : w.seen ≡ view.seen
-  pub moves : w.moves ≡ view.moves
+  pub log : w.log ≡ view.log
   pub reach : w.reach ≡ view.reach
 
 -- where no step is published, as many were made
@@ -235,7 +236,14 @@ counts-kept terms chart start seats s words homes id view w old same is alike so
         | inl new ↦ absurd (some_share (sym alike.share ∙ sym (ap (λ x. x.share) new) ∙ none))
         | inr before ↦ old.spent v before none
       ];
-      moves = omega (arith, sum-set (λ v. v.moves) s.views id w view is, alike.moves, old.moves, steps_made-same chart start s.words words same);
+      moves = omega (arith, sum-set (λ v. length v.log) s.views id w view is, ap length alike.log, old.moves, steps_made-same chart start s.words words same);
+      logged = λ r step. omega (
+        arith,
+        sum-set (λ v. times_in v.log r step) s.views id w view is,
+        ap (λ log. times_in log r step) alike.log,
+        old.logged r step,
+        times_made-same chart start s.words words r step same,
+      );
       reach = λ r within. elim (old.reach r within) [
         | inl low ↦ inl (omega (arith, low, same r within))
         | inr (v, has, far) ↦ elim (set-keeps s.views id w view v is has) [
@@ -323,7 +331,7 @@ taken-keeps terms s id r view c old sound is some_share within free =
       steps = steps-kept terms.net.now chart terms.start.now s after old.steps steps from there;
       rows = rows-kept terms.net.now chart terms.start.now s after old.rows steps (claim-rows chart s.words r 1 sound within) from there;
       counts = counts-kept terms chart terms.start.now terms.seats s words s.homes id view (taken view r) old.counts steps is
-          (record { terms = refl; share = refl; seen = refl; moves = refl; reach = refl }) some_share;
+          (record { terms = refl; share = refl; seen = refl; log = refl; reach = refl }) some_share;
     }
 
 -- a region that was taken is found so
@@ -334,7 +342,14 @@ pub found_taken-keeps : (terms : Terms) (s : FieldState) (id r : ℕ) (view : Vi
 found_taken-keeps terms s id r view c old is some_share =
     subst (λ words. IsStanding terms (record { words = words; homes = s.homes; views = set s.views id (found_taken view r) }))
     (sym (set-get_or s.words (claim_place (widths_of terms.chart.now) r) 0))
-    (alike-keeps terms s id view (found_taken view r) old is some_share (record { terms = refl; share = refl; seen = refl; moves = refl; reach = refl }) refl)
+    (alike-keeps terms s id view (found_taken view r) old is some_share (record { terms = refl; share = refl; seen = refl; log = refl; reach = refl }) refl)
+
+-- a look at any word at a moment that a view remembers keeps the rule
+pub gathered-keeps : (terms : Terms) (s : FieldState) (i id : ℕ) (c : List (ℕ × RegionValue)) (view : View) → IsStanding terms s → get_elem? s.views id ≡ some view → view.share ≢ 0 →
+    IsStanding terms (stepped s i (slice_index s.words i) id c (gathered view) keeps)
+gathered-keeps terms s i id c view old is some_share =
+    subst (λ words. IsStanding terms (record { words = words; homes = s.homes; views = set s.views id (gathered view) })) (sym (set-get_or s.words i 0))
+    (alike-keeps terms s id view (gathered view) old is some_share (record { terms = refl; share = refl; seen = refl; log = refl; reach = refl }) refl)
 
 -- a region that a seat holds with its slot, at the step that it has published, is given back
 freed_with-keeps : (terms : Terms) (s : FieldState) (id r : ℕ) (view : View) (hold : Hold) (holds : List Hold) (region : RegionValue) (c : List (ℕ × RegionValue)) → IsStanding terms s →
@@ -385,7 +400,7 @@ freed_with-keeps terms s id r view hold holds region c old sound is some_share w
       steps = steps-kept terms.net.now chart terms.start.now s after old.steps steps (λ v h held knows. from v h held) there;
       rows = rows-kept terms.net.now chart terms.start.now s after old.rows steps (claim-rows chart s.words r 0 sound within) (λ v h held knows. from v h held) there;
       counts = counts-kept terms chart terms.start.now terms.seats s words homes id view (freed view) old.counts steps is
-          (record { terms = refl; share = refl; seen = refl; moves = refl; reach = refl }) some_share;
+          (record { terms = refl; share = refl; seen = refl; log = refl; reach = refl }) some_share;
     }
 
 -- the same for all that the seat carries, where the slot is the first

@@ -4,6 +4,7 @@ pub mod Spans
 pub mod ViewUpdates
 pub mod WordUpdates
 pub mod Keeping
+pub mod Logs
 pub mod ClaimKinds
 pub mod LookKinds
 pub mod SeatKinds

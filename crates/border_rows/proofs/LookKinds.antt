@@ -22,7 +22,7 @@ use Rattle.atomic_table.proofs.Lists.{set_else}
 use Rattle.border_rows.specs.Kinds.{cleared, found_at, found_short, fresh, known_at, looked, with_first}
 use Rattle.border_rows.specs.Places.{step_place, width_at, widths_of}
 use Rattle.border_rows.specs.Standing.{Claims, Counts, FieldState, IsHome, IsStanding, Rows, Steps}
-use Rattle.border_rows.specs.Views.{IsHeld, holders, knowers}
+use Rattle.border_rows.specs.Views.{IsHeld, holders, knowers, times_in}
 use Rattle.border_rows.specs.Words.{border_cell, border_word, step_of, steps_of}
 use Rattle.border_rows.specs.declared.view.Hold.{Hold}
 use Rattle.border_rows.specs.declared.view.Terms.{Terms}
@@ -99,7 +99,7 @@ held-set views id w view hold held = elim (Contains-set views id w view held.sea
 pub record IsReader (terms : Terms) (s : FieldState) (view w : View) : Type 0 where
   pub share : w.share ≡ view.share
   pub alike : w.terms ≡ view.terms
-  pub moves : w.moves ≡ view.moves
+  pub log : w.log ≡ view.log
   pub reach : w.reach ≡ view.reach
   pub long : length w.seen ≡ length view.seen
   pub seen : (q : ℕ) → q < region_count terms.chart.now.cut → slice_index w.seen q ≤ step_of terms.chart.now s.words q
@@ -153,7 +153,8 @@ counts-read terms s homes id view w old is shares reads =
         | inl new ↦ absurd (shared (sym (ap (λ (u : View). u.share) new) ∙ none))
         | inr before ↦ old.spent v before none
       ];
-      moves = omega (arith, sum-set (λ (v : View). v.moves) s.views id w view is, reads.moves, old.moves);
+      moves = omega (arith, sum-set (λ (v : View). length v.log) s.views id w view is, ap length reads.log, old.moves);
+      logged = λ r step. omega (arith, sum-set (λ (v : View). times_in v.log r step) s.views id w view is, ap (λ log. times_in log r step) reads.log, old.logged r step);
       reach = λ r within. elim (old.reach r within) [
         | inl low ↦ inl low
         | inr far ↦ inr (elim (set-keeps s.views id w view far.0 is far.1) [
@@ -206,10 +207,10 @@ word_stays terms s i homes views new = subst (λ words. IsStanding terms record 
 -- a view that has only seen the step of a region keeps the rule
 seen-keeps : (terms : Terms) (s : FieldState) (id r : ℕ) (c : List (ℕ × RegionValue)) (view w : View) →
     IsStanding terms s → get_elem? s.views id ≡ some view → view.share ≢ 0 → r < region_count terms.chart.now.cut →
-    w.share ≡ view.share → w.terms ≡ view.terms → w.moves ≡ view.moves → w.reach ≡ view.reach → w.holds ≡ view.holds →
+    w.share ≡ view.share → w.terms ≡ view.terms → w.log ≡ view.log → w.reach ≡ view.reach → w.holds ≡ view.holds →
     w.seen ≡ set view.seen r (step_of terms.chart.now s.words r) →
     IsStanding terms (stepped s (step_place (widths_of terms.chart.now) r) (step_of terms.chart.now s.words r) id c w keeps)
-seen-keeps terms s id r c view w old is shares within share alike moves reach same saw =
+seen-keeps terms s id r c view w old is shares within share alike log reach same saw =
     let step : ℕ = step_of terms.chart.now s.words r in
     let seat : Contains s.views view = Contains-elem s.views id view is in
     let held : (hold : Hold) → Contains w.holds hold → IsHeld s.views view hold = λ hold has. record { seat = seat; held = subst (λ holds. Contains holds hold) same has } in
@@ -217,7 +218,7 @@ seen-keeps terms s id r c view w old is shares within share alike moves reach sa
     let reads : IsReader terms s view w = record {
       share = share;
       alike = alike;
-      moves = moves;
+      log = log;
       reach = reach;
       long = ap length saw ∙ length-set view.seen r step;
       seen = λ q there. subst (λ seen. slice_index seen q ≤ step_of terms.chart.now s.words q) (sym saw) (seen-read terms s view r q old seat shares within there);
@@ -324,7 +325,7 @@ cleared-keeps terms s id r q c view hold holds old is shares within first region
     let reads : IsReader terms s view w = record {
       share = refl;
       alike = refl;
-      moves = refl;
+      log = refl;
       reach = refl;
       long = length-set view.seen q step;
       seen = λ p there. seen-read terms s view q p old seat shares within there;
@@ -415,7 +416,7 @@ found_at-keeps terms s id r c view hold holds old is shares within some_first ta
     let reads : IsReader terms s view w = record {
       share = refl;
       alike = refl;
-      moves = refl;
+      log = refl;
       reach = refl;
       long = length-set view.seen r step;
       seen = λ p there. seen-read terms s view r p old seat shares within there;

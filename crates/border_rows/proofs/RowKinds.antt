@@ -21,15 +21,17 @@ use Rattle.region_step.specs.Start.{StartLists}
 use Rattle.atomic_table.specs.Table.{keeps, stepped}
 use Rattle.border_rows.specs.Kinds.{published, with_first, wrote}
 use Rattle.border_rows.specs.Places.{row_place, step_place, width_at, widths_of}
-use Rattle.border_rows.specs.Standing.{Claims, Counts, FieldState, IsStanding, Rows, Steps, steps_made}
-use Rattle.border_rows.specs.Views.{IsHeld, holders, knowers}
+use Rattle.border_rows.specs.Standing.{Claims, Counts, FieldState, IsStanding, Rows, Steps, steps_made, times_made}
+use Rattle.border_rows.specs.Views.{IsHeld, holders, knowers, times_in}
 use Rattle.border_rows.specs.Words.{border_cell, border_word, claim_of, step_of, steps_of}
 use Rattle.border_rows.specs.declared.view.Hold.{Hold}
+use Rattle.border_rows.specs.declared.view.PublishedStep.{PublishedStep}
 use Rattle.border_rows.specs.declared.view.Terms.{Terms}
 use Rattle.border_rows.specs.declared.view.View.{View}
 use Rattle.border_rows.proofs.ChartWidths.{length-widths_of}
 use Rattle.border_rows.proofs.Keeping.{neighbours-there, steps_of-same}
 use Rattle.border_rows.proofs.LookKinds.{steps_of-at}
+use Rattle.border_rows.proofs.Logs.{times_made-more, times_made-same}
 use Rattle.border_rows.proofs.ViewUpdates.{Contains-elem, Contains-set, set-Contains, set-keeps, sum-set}
 use Rattle.border_rows.proofs.WordUpdates.{border-set, border-set-claim, border-set-other, border-set-step, step-set, step-set-border, step-set-claim, step-set-other}
 
@@ -332,7 +334,8 @@ pub record IsCounted (terms : Terms) (before after : List ℕ) (view w : View) :
   pub share : w.share ≡ view.share
   pub lengths : length w.seen ≡ length view.seen
   pub seen : (r : ℕ) → r < region_count terms.chart.now.cut → slice_index w.seen r ≤ step_of terms.chart.now after r
-  pub moves : w.moves + steps_made terms.chart.now terms.start.now before ≡ view.moves + steps_made terms.chart.now terms.start.now after
+  pub moves : length w.log + steps_made terms.chart.now terms.start.now before ≡ length view.log + steps_made terms.chart.now terms.start.now after
+  pub logged : (r s : ℕ) → times_in w.log r s + times_made terms.chart.now terms.start.now before r s ≡ times_in view.log r s + times_made terms.chart.now terms.start.now after r s
   pub further : view.reach ≤ w.reach
   pub reach : (r : ℕ) → r < region_count terms.chart.now.cut →
       (step_of terms.chart.now after r ≡ step_of terms.chart.now before r) ⊎ (step_of terms.chart.now after r ≤ w.reach)
@@ -360,7 +363,8 @@ counts-worked terms s id view w words standing seat share rises counted =
         | inl is ↦ absurd (share (sym counted.share ∙ sym (ap (λ (x : View). x.share) is) ∙ none))
         | inr was ↦ old.spent v was none
       ];
-      moves = omega (arith, sum-set (λ (x : View). x.moves) s.views id w view seat, counted.moves, old.moves);
+      moves = omega (arith, sum-set (λ (x : View). length x.log) s.views id w view seat, counted.moves, old.moves);
+      logged = λ r step. omega (arith, sum-set (λ (x : View). times_in x.log r step) s.views id w view seat, counted.logged r step, old.logged r step);
       reach = λ r within. elim (counted.reach r within) [
         | inr far ↦ inr (w, new, far)
         | inl same ↦ elim (old.reach r within) [
@@ -536,6 +540,7 @@ wrote-keeps terms s id c view hold holds n works short all is_n =
       lengths = refl;
       seen = λ q there. omega (arith, step q there, old.counts.seen view q has there);
       moves = omega (arith, steps_made-same chart start s.words words step);
+      logged = λ q u. omega (arith, times_made-same chart start s.words words q u step);
       further = omega arith;
       reach = λ q there. inl (step q there);
     } in
@@ -733,6 +738,11 @@ published-keeps terms s id c view hold holds works full all below =
         | inr apart ↦ omega (arith, get_or-set_other view.seen r q (t + 1) 0 apart, old.counts.seen view q has there, raised.rises q there)
       ];
       moves = omega (arith, steps_made-more chart start s.words words r inside (old.steps.started r inside) more raised.others);
+      logged = λ q u. omega (
+        arith,
+        count_by-cons (λ (entry : PublishedStep). (entry.region == q) && (entry.step == u)) (record { region = r; step = t + 1 }) view.log,
+        times_made-more chart start s.words words r q u t inside (omega (arith, old.steps.started r inside, was)) was own raised.others,
+      );
       further = omega arith;
       reach = λ q there. elim (cases_eq q r) [
         | inl same ↦ inr (omega (arith, ap (step_of chart words) same, own))

@@ -2,7 +2,7 @@
 use Rattle.std.specs.Prelude.{slice_index, sum_by, count_by, max, ◌==◌, ◌&&◌}
 use Rattle.std.specs.List.{Contains, range_with_len}
 use Rattle.std.proofs.Common.{◌≡◌, ◌≢◌, ◌⊎◌, ℕ, zero, suc, ◌+◌, ◌-◌, ◌<◌, ◌≤◌, inl, inr, List, [], ◌∷◌, ◌++◌, length, map, get_or, set, refl, sym, ap, subst, ◌∙◌, arith}
-use Rattle.std.proofs.lemmas.List.{length-map}
+use Rattle.std.proofs.lemmas.List.{length-append, length-map}
 use Rattle.std.proofs.lemmas.List.Elements.{Contains-append_left, Contains-push_cases}
 use Rattle.std.proofs.lemmas.List.FromFn.{fill_by_all, get_or-map-range_with_len, get_or-range_with_len, length-map-range_with_len, length-range_with_len}
 use Rattle.std.proofs.lemmas.List.Sums.{sum_by-cons, sum_by_push}
@@ -22,13 +22,14 @@ use Rattle.atomic_table.proofs.Lists.{at_map, set_else, some_there}
 use Rattle.border_rows.specs.Kinds.{kept, shared_off, spent, together, united}
 use Rattle.border_rows.specs.Places.{width_at, widths_of, words_of}
 use Rattle.border_rows.specs.Standing.{Claims, Counts, FieldState, IsHome, IsSpent, IsStanding, steps_made}
-use Rattle.border_rows.specs.Views.{IsHeld, holders, knowers}
+use Rattle.border_rows.specs.Views.{IsHeld, holders, knowers, times_in}
 use Rattle.border_rows.specs.Words.{border_cell, border_word, claim_of, step_of, steps_of}
 use Rattle.border_rows.specs.declared.view.Hold.{Hold}
 use Rattle.border_rows.specs.declared.view.Terms.{Terms}
 use Rattle.border_rows.specs.declared.view.View.{View}
 use Rattle.border_rows.proofs.Keeping.{neighbours-there}
 use Rattle.border_rows.proofs.LookKinds.{AreRight, all_right, rows-right, steps-right}
+use Rattle.border_rows.proofs.Logs.{times_in-append, times_made-none}
 use Rattle.border_rows.proofs.ViewUpdates.{Contains-elem, Contains-set, set-Contains, set-keeps, sum-set}
 
 -- the words and regions of a field that opens: no region is taken, each stands at the start's step, its row of that step
@@ -48,7 +49,7 @@ pub record IsFirst (terms : Terms) (view : View) : Type 0 where
   pub alike : view.terms ≡ terms ∷ []
   pub share : view.share ≡ terms.seats
   pub seen : view.seen ≡ terms.start.now.steps
-  pub moves : view.moves ≡ 0
+  pub log : view.log ≡ []
   pub reach : view.reach ≡ 0
   pub holds : view.holds ≡ []
 
@@ -128,7 +129,13 @@ opening-stands terms words regions v lawful opens first seats =
             omega (arith, ap (λ (u : View). slice_index u.seen r) (one-Contains v view has), ap (λ seen. slice_index seen r) first.seen, opens.steps r within);
         shares = omega (arith, sum_by-cons (λ (u : View). u.share) v [], first.share);
         spent = λ view has none. absurd (seats (omega (arith, ap (λ (u : View). u.share) (one-Contains v view has), first.share, none)));
-        moves = omega (arith, sum_by-cons (λ (u : View). u.moves) v [], first.moves, none-made net chart start terms.every words regions opens);
+        moves = omega (arith, sum_by-cons (λ (u : View). length u.log) v [], ap length first.log, none-made net chart start terms.every words regions opens);
+        logged = λ r step. omega (
+          arith,
+          sum_by-cons (λ (u : View). times_in u.log r step) v [],
+          ap (λ log. times_in log r step) first.log,
+          times_made-none chart start words r step opens.steps,
+        );
         reach = λ r within. inl (omega (arith, opens.steps r within));
         alike = λ view has some. ap (λ (u : View). u.terms) (one-Contains v view has) ∙ first.alike;
       };
@@ -220,7 +227,8 @@ split-keeps terms s id view old is shares = standing-same terms s (split_views s
     | inr (inl new) ↦ absurd (omega (arith, ap (λ (u : View). u.share) new, none))
     | inr (inr other) ↦ old.counts.spent v other none
   ];
-  moves = omega (arith, split-sum (λ (u : View). u.moves) s.views id view is, old.counts.moves);
+  moves = omega (arith, split-sum (λ (u : View). length u.log) s.views id view is, old.counts.moves);
+  logged = λ r step. omega (arith, split-sum (λ (u : View). times_in u.log r step) s.views id view is, old.counts.logged r step);
   reach = λ r within. elim (old.counts.reach r within) [
     | inl low ↦ inl low
     | inr far ↦ inr (elim (set-keeps s.views id (kept view) view far.0 is far.1) [
@@ -312,11 +320,17 @@ join-keeps terms s id view at other old is apart also shares others empty = stan
   ];
   shares = omega (arith, joined-sum (λ (u : View). u.share) s.views id view at other is also, old.counts.shares);
   spent = λ v has none. elim (joined-cases s.views id view at other v has) [
-    | inl gone ↦ subst IsSpent (sym gone) record { holds = refl; seen = λ r. none-at r; moves = refl; reach = refl }
+    | inl gone ↦ subst IsSpent (sym gone) record { holds = refl; seen = λ r. none-at r; log = refl; reach = refl }
     | inr (inl own) ↦ absurd (omega (arith, ap (λ (u : View). u.share) own, none, shares))
     | inr (inr elsewhere) ↦ old.counts.spent v elsewhere none
   ];
-  moves = omega (arith, joined-sum (λ (u : View). u.moves) s.views id view at other is also, old.counts.moves);
+  moves = omega (arith, joined-sum (λ (u : View). length u.log) s.views id view at other is also, length-append view.log other.log, old.counts.moves);
+  logged = λ r step. omega (
+    arith,
+    joined-sum (λ (u : View). times_in u.log r step) s.views id view at other is also,
+    times_in-append view.log other.log r step,
+    old.counts.logged r step,
+  );
   reach = λ r within. elim (old.counts.reach r within) [
     | inl low ↦ inl low
     | inr far ↦ inr (elim (set-keeps s.views id (united view other) view far.0 is far.1) [

@@ -1,5 +1,5 @@
 -- What each kind of atomic step makes of the view of the seat that makes it.
-use Rattle.std.specs.Prelude.{ℕ, ◌+◌, ◌-◌, max, true, false, List, [], ◌∷◌, length, map, slice_index, slice_set}
+use Rattle.std.specs.Prelude.{ℕ, ◌+◌, ◌-◌, max, true, false, List, [], ◌∷◌, ◌++◌, length, map, slice_index, slice_set}
 use Rattle.std.specs.List.{range_with_len}
 use Rattle.border_rows.specs.declared.view.Hold.{Hold}
 use Rattle.border_rows.specs.declared.view.View.{View}
@@ -14,11 +14,11 @@ fresh r = record { region = r; known = false; step = 0; cleared = []; written = 
 
 -- the claim word of region r was free: the view holds it
 abbrev pub taken : View → (r : ℕ) → View
-taken view r = record view { holds = fresh r ∷ view.holds }
+taken view r = record view { tried = view.tried ++ r ∷ []; holds = fresh r ∷ view.holds }
 
 -- the claim word of region r was taken
 abbrev pub found_taken : View → (r : ℕ) → View
-found_taken view r = record view { held_found = raised view.held_found r }
+found_taken view r = record view { held_found = raised view.held_found r; tried = view.tried ++ r ∷ [] }
 
 -- the step word of region r was looked at, and is t
 abbrev pub looked : View → (r t : ℕ) → View
@@ -33,7 +33,7 @@ with_first change [] = []
 with_first change (hold ∷ holds) = change hold ∷ holds
 
 abbrev pub found_at : View → (r t : ℕ) → View
-found_at view r t = record (looked view r t) { holds = with_first (λ hold. known_at hold t) view.holds }
+found_at view r t = record (looked view r t) { takes = raised view.takes r; holds = with_first (λ hold. known_at hold t) view.holds }
 
 -- the step word of neighbour q of the region held last was read, and is s: at the region's step or past it
 abbrev pub cleared : View → (q s : ℕ) → View
@@ -58,7 +58,7 @@ wrote view = record view { holds = with_first (λ hold. record hold { written = 
 abbrev pub published : View → (r s : ℕ) → View
 published view r s = record view {
   seen = slice_set view.seen r s;
-  moves = view.moves + 1;
+  log = record { region = r; step = s } ∷ view.log;
   reach = max view.reach s;
   holds = with_first (λ hold. record hold { published = true }) view.holds;
 }
@@ -71,6 +71,10 @@ later_of (hold ∷ holds) = holds
 abbrev pub freed : View → View
 freed view = record view { holds = later_of view.holds }
 
+-- at this moment the view holds all regions, each at the step that it has seen of it
+abbrev pub gathered : View → View
+gathered view = record view { moments = view.moments + 1; moment = view.seen }
+
 -- a seat of share 1 is shared off, which has seen as much and has counted nothing
 abbrev pub none_of : List ℕ → List ℕ
 none_of counts = map (λ n. 0) counts
@@ -78,12 +82,16 @@ none_of counts = map (λ n. 0) counts
 abbrev pub shared_off : View → View
 shared_off view = record view {
   share = 1;
-  moves = 0;
+  log = [];
   splits = 0;
   held_found = none_of view.held_found;
   short_found = 0;
   last_short = record { region = 0; neighbour = 0; step = 0 };
   looks = none_of view.looks;
+  takes = none_of view.takes;
+  tried = [];
+  moments = 0;
+  moment = [];
   holds = [];
 }
 
@@ -100,12 +108,15 @@ abbrev pub united : View → View → View
 united view other = record view {
   share = view.share + other.share;
   seen = together max view.seen other.seen;
-  moves = view.moves + other.moves;
+  log = view.log ++ other.log;
   reach = max view.reach other.reach;
   splits = view.splits + other.splits;
   held_found = together (λ a b. a + b) view.held_found other.held_found;
   short_found = view.short_found + other.short_found;
   looks = together (λ a b. a + b) view.looks other.looks;
+  takes = together (λ a b. a + b) view.takes other.takes;
+  tried = view.tried ++ other.tried;
+  moments = view.moments + other.moments;
 }
 
 -- and the other is spent
@@ -114,12 +125,16 @@ spent = record {
   terms = [];
   share = 0;
   seen = [];
-  moves = 0;
+  log = [];
   reach = 0;
   splits = 0;
   held_found = [];
   short_found = 0;
   last_short = record { region = 0; neighbour = 0; step = 0 };
   looks = [];
+  takes = [];
+  tried = [];
+  moments = 0;
+  moment = [];
   holds = [];
 }

@@ -1,6 +1,6 @@
 -- The rule of the field: what holds of its words, of the regions at home and of the seats' views between any two atomic
 -- steps. It has four parts.
-use Rattle.std.specs.Prelude.{◌≡◌, ◌≢◌, ◌⊎◌, ℕ, ◌+◌, ◌-◌, ◌<◌, ◌≤◌, true, List, [], ◌∷◌, length, slice_index, sum_by, if◌then◌else◌}
+use Rattle.std.specs.Prelude.{◌≡◌, ◌≢◌, ◌⊎◌, ℕ, ◌+◌, ◌-◌, ◌<◌, ◌≤◌, ◌&&◌, nat_lt, nat_le, true, List, [], ◌∷◌, length, slice_index, sum_by, if◌then◌else◌}
 use Rattle.std.specs.List.{Contains, range_with_len}
 use mathlib.Core.Option.{some}
 use mathlib.Core.Option as maybe
@@ -16,7 +16,7 @@ use Rattle.region_step.specs.Standing.{Stands}
 use Rattle.region_step.specs.Start.{StartLists}
 use Rattle.atomic_table.specs.Table.{State}
 use Rattle.border_rows.specs.Places.{width_at, widths_of, words_of}
-use Rattle.border_rows.specs.Views.{IsHeld, holders, knowers}
+use Rattle.border_rows.specs.Views.{IsHeld, holders, knowers, times_in}
 use Rattle.border_rows.specs.Words.{border_cell, border_word, claim_of, step_of, steps_of}
 use Rattle.border_rows.specs.declared.view.Hold.{Hold}
 use Rattle.border_rows.specs.declared.view.Terms.{Terms}
@@ -71,21 +71,27 @@ pub record Rows (net : Network) (chart : ChartLists) (start : StartLists) (field
 abbrev pub steps_made : ChartLists → StartLists → (words : List ℕ) → ℕ
 steps_made chart start words = sum_by (λ r. step_of chart words r - slice_index start.steps r) (range_with_len 0 (region_count chart.cut))
 
+-- once for each step s that region r has made since its start, and else not at all
+abbrev pub times_made : ChartLists → StartLists → (words : List ℕ) → (r s : ℕ) → ℕ
+times_made chart start words r s =
+    if nat_lt r (region_count chart.cut) && (nat_lt (slice_index start.steps r) s && nat_le s (step_of chart words r)) then 1 else 0
+
 -- a view whose seat is spent holds nothing and has seen nothing
 pub record IsSpent (view : View) : Type 0 where
   pub holds : view.holds ≡ []
   pub seen : (r : ℕ) → slice_index view.seen r ≡ 0
-  pub moves : view.moves ≡ 0
+  pub log : view.log ≡ []
   pub reach : view.reach ≡ 0
 
--- Counts. No view has seen more of a region than it has published. The shares are the field's seats, the moves of all views
--- are the steps that were made, and no region stands past its start and past each view's reach.
+-- Counts. No view has seen more of a region than it has published. The shares are the field's seats. The logs of
+-- all views have each step that was made once, and nothing else. No region stands past its start and past each view's reach.
 pub record Counts (terms : Terms) (chart : ChartLists) (start : StartLists) (seats : ℕ) (field : FieldState) : Type 0 where
   pub lengths : (view : View) → Contains field.views view → view.share ≢ 0 → length view.seen ≡ region_count chart.cut
   pub seen : (view : View) (r : ℕ) → Contains field.views view → r < region_count chart.cut → slice_index view.seen r ≤ step_of chart field.words r
   pub shares : sum_by (λ view. view.share) field.views ≡ seats
   pub spent : (view : View) → Contains field.views view → view.share ≡ 0 → IsSpent view
-  pub moves : sum_by (λ view. view.moves) field.views ≡ steps_made chart start field.words
+  pub moves : sum_by (λ view. length view.log) field.views ≡ steps_made chart start field.words
+  pub logged : (r s : ℕ) → sum_by (λ view. times_in view.log r s) field.views ≡ times_made chart start field.words r s
   pub reach : (r : ℕ) → r < region_count chart.cut → (step_of chart field.words r ≤ slice_index start.steps r) ⊎
       ((view : View) × Contains field.views view × (step_of chart field.words r ≤ view.reach))
   pub alike : (view : View) → Contains field.views view → view.share ≢ 0 → view.terms ≡ terms ∷ []

@@ -9,4 +9,4 @@ mod span;
 mod view;
 
 pub use places::Places;
-pub use view::{Hold, Short, Terms, View};
+pub use view::{Hold, PublishedStep, Short, Terms, View};

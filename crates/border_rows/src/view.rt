@@ -29,6 +29,12 @@ pub struct Hold {
     pub published: bool,
 }
 
+/// A step that a region has published.
+pub struct PublishedStep {
+    pub region: u64,
+    pub step: u64,
+}
+
 /// A neighbour that was found a step lower than a region.
 pub struct Short {
     pub region: u64,
@@ -44,8 +50,8 @@ pub struct View<'a> {
     pub share: u64,
     /// For each region a step that its word has reached.
     pub seen: [u64; 0],
-    /// How many steps were published through it.
-    pub moves: u64,
+    /// The steps that were published through it, the last one first.
+    pub log: [PublishedStep; 0],
     /// No step published through it lies past this one.
     pub reach: u64,
     /// How many seats were shared off from it.
@@ -58,6 +64,14 @@ pub struct View<'a> {
     pub last_short: Short,
     /// For each region how often its step word was looked at, by itself or when it was taken.
     pub looks: [u64; 0],
+    /// For each region how often it was taken and its step word looked at behind its claim word.
+    pub takes: [u64; 0],
+    /// The regions whose claim word was tried, in the order of the tries.
+    pub tried: [u64; 0],
+    /// At how many moments it held all regions.
+    pub moments: u64,
+    /// The steps of all regions at the last such moment.
+    pub moment: [u64; 0],
     /// The regions that it holds.
     pub holds: [Hold; 0],
 }

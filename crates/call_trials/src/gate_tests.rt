@@ -18,9 +18,6 @@ row,1,0,0,0,0,0; row,2,0,0,0,0,0; row,3,0,0,0,0,0; net";
 // The steps 0 to 3 as bits.
 const ALL_FOUR: u64 = 0b1111;
 
-// What `sample --size 1 --seed 0` gives.
-const SAMPLED: &str = "sample,1,0,3,2,42; total,0.000000,58.068940,58.068940,262.344330";
-
 // The gate of the chain is a step ahead of the rest.
 const CHAIN_SHOT: &str =
     "shot,1,6.000000,2.000000,8.000000,0.000000,0.000000; region,0,1; region,1,0; region,2,0; \
@@ -50,15 +47,6 @@ fn two_workers_work_at_once(rt: HostRuntime) {
 }
 
 #[test]
-fn a_made_network_is_run_in_its_regions(rt: HostRuntime) {
-    let gate = Notes::new();
-    let words = "sample --size 1 --seed 0 --regions 3 --workers 2";
-    call_gives(&rt, rt.alloc(), words, &[], &gate, &[SAMPLED], true);
-    let all = (1 << 42) - 1;
-    assert_eq!(rt; gate.steps(), [all, all, all, 0]);
-}
-
-#[test]
 fn a_shot_is_taken_while_a_worker_is_on_its_way(rt: HostRuntime) {
     let gate = Glance::new();
     let words = "watch --shots 1 --regions 4 --workers 1";
@@ -69,22 +57,6 @@ fn a_shot_is_taken_while_a_worker_is_on_its_way(rt: HostRuntime) {
         2,
         "each waited for the other"
     );
-}
-
-#[test]
-fn workers_that_are_watched_take_every_region_through_every_step(rt: HostRuntime) {
-    let gate = Notes::new();
-    let words = "watch --shots 1 --regions 4 --workers 2";
-    call_gives(
-        &rt,
-        rt.alloc(),
-        words,
-        &[CHAIN],
-        &gate,
-        &[CHAIN_REPORT],
-        false,
-    );
-    assert_eq!(rt; gate.steps(), [ALL_FOUR; 4]);
 }
 
 #[test]

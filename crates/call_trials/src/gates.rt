@@ -33,6 +33,14 @@ impl Notes {
 }
 
 impl Gate for Notes {
+    ghost use Rattle.std.specs.Prelude.{⊤};
+
+    ghost told_held = { λ gate region step. ⊤ };
+
+    ghost told_freed = { λ gate region step. ⊤ };
+
+    ghost told_watched = { λ gate done. ⊤ };
+
     fn held(&self, region: u32, step: u64) {
         if region < 4 && step < 64 {
             let noted = &self.noted[region as usize];
@@ -93,6 +101,14 @@ fn is_set_in_time(flag: &AtomicU64) -> bool {
 }
 
 impl Gate for Meeting {
+    ghost use Rattle.std.specs.Prelude.{⊤};
+
+    ghost told_held = { λ gate region step. ⊤ };
+
+    ghost told_freed = { λ gate region step. ⊤ };
+
+    ghost told_watched = { λ gate done. ⊤ };
+
     fn held(&self, region: u32, step: u64) {
         self.notes.held(region, step);
         match (region, step) {
@@ -134,6 +150,14 @@ impl Glance {
 }
 
 impl Gate for Glance {
+    ghost use Rattle.std.specs.Prelude.{⊤};
+
+    ghost told_held = { λ gate region step. ⊤ };
+
+    ghost told_freed = { λ gate region step. ⊤ };
+
+    ghost told_watched = { λ gate done. ⊤ };
+
     fn held(&self, region: u32, step: u64) {}
 
     fn freed(&self, region: u32, step: u64) {

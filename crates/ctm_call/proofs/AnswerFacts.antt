@@ -8,7 +8,9 @@ use Rattle.net_make.specs.Made.{made}
 use Rattle.call_ending.specs.Refusing.{IsRefusalOf, Why}
 use Rattle.call_ending.specs.declared.refusal.Refusal.{Refusal}
 use Rattle.call_ending.specs.declared.refusal.Refusal.TheVariants as refusal
-use Rattle.ctm_call.specs.Answer.{IsTextBy, IsTextOf, answer_of, answer_to, answer_unless, why_by, why_in}
+use Rattle.std.specs.Prelude.{IsOk}
+use Rattle.ctm_call.specs.Telling.{IsAnswered, IsToldBy}
+use Rattle.ctm_call.specs.Answer.{IsTextBy, answer_of, answer_to, answer_unless, why_by, why_in}
 use Rattle.workerless_call.specs.Input.{IsInput, IsInputOf, Reads, large_input, most_input, why_long}
 use Rattle.workerless_call.specs.Task.{Task, task_of}
 use Rattle.workerless_call.specs.Words.{IsOfWords, requested, words_refused}
@@ -63,13 +65,14 @@ refused_input words request left told Rose asked given =
     (given.0, rw asked given.1, rw (answer_of-request words given.0 request asked) (rw asked told_so))
 
 -- a text of the mode is one of the answer
-pub answered_text : {A : Type 0} (items : A → List ℕ) (words : List (String Global)) (request : Request) (left : Option (List ℕ)) (input : List ℕ) →
+pub answered_text : {A : Type 0} (held freed : ℕ → ℕ → Type 0) (items : A → List ℕ) (words : List (String Global)) (request : Request) (left : Option (List ℕ)) (input : List ℕ) →
     requested words ≡ Some request → IsInput request left input → length input ≤ most_input request.mode → (result : Result A Refusal) →
     IfOk result (λ text. (why_by request.mode (task_of request input) ≡ None) × IsTextBy request.mode (task_of request input) (items text)) →
-    IfOk result (λ text. (input : List ℕ) × IsInputOf (requested words) left input × IsTextOf (answer_of words input) (items text))
-answered_text items words request left input asked is fits (Ok text) given =
-    (input, rw asked is, rw (answer_of-request words input request asked ∙ answer_to-fits request input fits) (rw given.0 given.1))
-answered_text items words request left input asked is fits (Err refusal) given = tt
+    (IsOk result → IsToldBy held freed request.mode (task_of request input)) →
+    IfOk result (λ text. (input : List ℕ) × IsInputOf (requested words) left input × IsAnswered held freed (answer_of words input) (items text))
+answered_text held freed items words request left input asked is fits (Ok text) given told =
+    (input, rw asked is, rw (answer_of-request words input request asked ∙ answer_to-fits request input fits) (rw given.0 (given.1, told refl)))
+answered_text held freed items words request left input asked is fits (Err refusal) given told = tt
 
 -- a refusal of the mode is one of the answer
 pub answered_refusal : {A : Type 0} (words : List (String Global)) (request : Request) (left : Option (List ℕ)) (input : List ℕ) (ReadFailed : Type 0) →

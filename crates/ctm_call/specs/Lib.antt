@@ -5,4 +5,5 @@ pub mod ResumeMode
 pub mod RunMode
 pub mod SampleMode
 pub mod SaveMode
+pub mod Telling
 pub mod WatchMode

@@ -1,9 +1,10 @@
-ghost use Rattle.std.specs.Prelude.{◌≡◌, ◌≤◌, ℕ, List, None, IfErr, IfOk, OnOk, length};
+ghost use Rattle.std.specs.Prelude.{◌≡◌, ◌≤◌, ℕ, List, None, IfErr, IfOk, IsOk, OnOk, length};
 ghost use Rattle.ctm_ports.specs.Count.{Rose};
 ghost use Rattle.ctm_ports.specs.ReadEnd.{LosesAtMost};
 ghost use Rattle.command_words.specs.Words.{IsInRange};
 ghost use Rattle.call_ending.specs.Refusing.{IsRefusalOf};
-ghost use Rattle.ctm_call.specs.Answer.{IsTextBy, IsTextOf, answer_of, why_by, why_in};
+ghost use Rattle.ctm_call.specs.Answer.{IsTextBy, answer_of, why_by, why_in};
+ghost use Rattle.ctm_call.specs.Telling.{IsAnswered, IsToldBy};
 ghost use Rattle.workerless_call.specs.Input.{IsInputOf, IsReadWhole, IsUnread, Reads, most_input, most_read};
 ghost use Rattle.workerless_call.specs.Task.{task_of};
 ghost use Rattle.workerless_call.specs.Words.{requested};
@@ -31,7 +32,7 @@ pub(crate) fn answer<R: Threads + Sync, S: Source, G: Gate>(
     gate: &G,
 ) -> Result<Vec<u8>, Refusal>
     ensures text { IfOk result (λ text. (input : List ℕ) × IsInputOf (requested words.now) (S.left source.old) input
-        × IsTextOf (answer_of words.now input) text.items) }
+        × IsAnswered (G.told_held gate.now) (G.told_freed gate.now) (answer_of words.now input) text.items) }
     ensures refusal { IfErr result (λ refusal. (input : List ℕ) × IsInputOf (requested words.now) (S.left source.old) input
         × IsRefusalOf (why_in (answer_of words.now input)) (Reads (requested words.now) × Rose (S.faults source.old) (S.faults source.new)) refusal) }
     ensures unread { IsUnread (requested words.now) → source.new ≡ source.old }
@@ -60,6 +61,7 @@ fn text_of<R: Threads + Sync, G: Gate>(
     requires in_range { IsInRange request }
     requires few_bytes { length input.now ≤ most_input request.mode }
     ensures text { IfOk result (λ text. (why_by request.mode (task_of request input.now) ≡ None) × IsTextBy request.mode (task_of request input.now) text.items) }
+    ensures told { IsOk result → IsToldBy (G.told_held gate.now) (G.told_freed gate.now) request.mode (task_of request input.now) }
     ensures refusal { IfErr result (IsRefusalOf (why_by request.mode (task_of request input.now)) ⊥) }
 {
     match request.mode {

@@ -3,7 +3,8 @@ ghost use Rattle.ctm_ports.specs.Count.{Rose};
 ghost use Rattle.ctm_ports.specs.ReadEnd.{LosesAtMost};
 ghost use Rattle.call_ending.specs.Ending.{HasEnded, sink_use};
 ghost use Rattle.call_ending.specs.declared.status.Status.TheVariants as status;
-ghost use Rattle.ctm_call.specs.Answer.{IsTextOf, answer_of, why_in};
+ghost use Rattle.ctm_call.specs.Answer.{answer_of, why_in};
+ghost use Rattle.ctm_call.specs.Telling.{IsAnswered};
 ghost use Rattle.workerless_call.specs.Input.{IsInputOf, IsReadWhole, IsUnread, Reads, most_read};
 ghost use Rattle.workerless_call.specs.Words.{requested};
 
@@ -28,9 +29,10 @@ pub fn ctm<R: Threads + Sync, S: Source, O: Sink, E: Sink, G: Gate>(
 ) -> Status
     // There is an input, which is what the source has left where it tells it, or the made network, and by the answer to the
     // words and this input the call ended in one of five ways: it is done, the answer is a refusal, a read of the source
-    // failed where the mode reads it, a write of the text failed, or memory was refused.
+    // failed where the mode reads it, a write of the text failed, or memory was refused. Where a run, a watched run or a
+    // sample has its text, the gate was told of each region of the cutting at each step.
     ensures ended { (input : List ℕ) × IsInputOf (requested words.now) (S.left source.old) input
-        × HasEnded (IsTextOf (answer_of words.now input)) (why_in (answer_of words.now input))
+        × HasEnded (IsAnswered (G.told_held gate.now) (G.told_freed gate.now) (answer_of words.now input)) (why_in (answer_of words.now input))
         (IsReadWhole (requested words.now) (S.left source.new))
         (Reads (requested words.now) × Rose (S.faults source.old) (S.faults source.new))
         result

@@ -1,10 +1,13 @@
-ghost use Rattle.std.specs.Prelude.{◌≡◌, ◌≤◌, IfErr, IfOk, None, length};
+ghost use Rattle.std.specs.Prelude.{◌≡◌, ◌≤◌, IfErr, IfOk, IsOk, None, length};
 ghost use Rattle.command_words.specs.Words.{IsInRange};
 ghost use Rattle.network_file.specs.declared.limits.TheConstants.{MOST_BYTES};
 ghost use Rattle.delay_report.specs.Report.{report_of};
 ghost use Rattle.call_ending.specs.Refusing.{IsRefusalOf};
 ghost use Rattle.ctm_call.specs.RunMode.{IsRunText, run_refused};
 ghost use Rattle.workerless_call.specs.Task.{task_of};
+ghost use Rattle.network_file.specs.Reading.{network_of};
+ghost use Rattle.workerless_call.specs.NetworkInput.{IsNetworkWith};
+ghost use Rattle.ctm_call.specs.Telling.{HasToldRun};
 
 use call_ending::Refusal;
 use command_words::Request;
@@ -28,6 +31,7 @@ pub(crate) fn run_text<R: Threads + Sync, G: Gate>(
     requires in_range { IsInRange request }
     requires few_bytes { length input.now ≤ MOST_BYTES }
     ensures text { IfOk result (λ text. (run_refused (task_of request input.now) ≡ None) × IsRunText (task_of request input.now) text.items) }
+    ensures told { IsOk result → IsNetworkWith (network_of input.now) (λ net. HasToldRun (G.told_held gate.now) (G.told_freed gate.now) net request) }
     ensures refusal { IfErr result (IsRefusalOf (run_refused (task_of request input.now)) ⊥) }
 {
     let net = match network_in(alloc, input) {
@@ -49,7 +53,8 @@ fn report_of_run<R: Threads + Sync, G: Gate>(
     gate: &G,
 ) -> Result<Vec<u8>, NoMemory>
     requires { IsInRange request }
-    ensures { IfOk result (λ text. text.items ≡ report_of net.now request.every) }
+    ensures text { IfOk result (λ text. text.items ≡ report_of net.now request.every) }
+    ensures told { IsOk result → HasToldRun (G.told_held gate.now) (G.told_freed gate.now) net.now request }
 {
     let _steps = net.steps;
     let every = u64::from(request.every);

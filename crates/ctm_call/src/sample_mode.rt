@@ -1,9 +1,12 @@
-ghost use Rattle.std.specs.Prelude.{◌≡◌, ◌≤◌, ◌++◌, IfErr, IfOk, None, OnOk, length};
+ghost use Rattle.std.specs.Prelude.{◌≡◌, ◌≤◌, ◌++◌, IfErr, IfOk, IsOk, None, OnOk, length};
 ghost use Rattle.command_words.specs.Words.{IsInRange};
 ghost use Rattle.network_file.specs.declared.limits.TheConstants.{MOST_BYTES};
 ghost use Rattle.call_ending.specs.Refusing.{IsRefusalOf};
 ghost use Rattle.ctm_call.specs.SampleMode.{IsSampleText, sample_line, sample_of, sample_refused};
 ghost use Rattle.workerless_call.specs.Task.{task_of};
+ghost use Rattle.network_file.specs.Reading.{network_of};
+ghost use Rattle.workerless_call.specs.NetworkInput.{IsNetworkWith};
+ghost use Rattle.ctm_call.specs.Telling.{HasToldSample};
 
 use call_ending::Refusal;
 use command_words::Request;
@@ -29,6 +32,7 @@ pub(crate) fn sample_text<R: Threads + Sync, G: Gate>(
     requires in_range { IsInRange request }
     requires few_bytes { length input.now ≤ MOST_BYTES }
     ensures text { IfOk result (λ text. (sample_refused (task_of request input.now) ≡ None) × IsSampleText (task_of request input.now) text.items) }
+    ensures told { IsOk result → IsNetworkWith (network_of input.now) (λ net. HasToldSample (G.told_held gate.now) (G.told_freed gate.now) net request) }
     ensures refusal { IfErr result (IsRefusalOf (sample_refused (task_of request input.now)) ⊥) }
 {
     match network_in(alloc, input) {
@@ -47,7 +51,8 @@ fn sample_totals<R: Threads + Sync, G: Gate>(
     gate: &G,
 ) -> Result<Vec<u8>, NoMemory>
     requires { IsInRange request }
-    ensures { IfOk result (λ text. text.items ≡ sample_of request.size request.seed net.now) }
+    ensures text { IfOk result (λ text. text.items ≡ sample_of request.size request.seed net.now) }
+    ensures told { IsOk result → HasToldSample (G.told_held gate.now) (G.told_freed gate.now) net.now request }
 {
     let _steps = net.steps;
     let chart = charted(alloc, net, regions_wanted(net, request))?;

@@ -1,9 +1,12 @@
-ghost use Rattle.std.specs.Prelude.{◌≡◌, ◌≤◌, IfErr, IfOk, None, Some, length, nat_lt};
+ghost use Rattle.std.specs.Prelude.{◌≡◌, ◌≤◌, IfErr, IfOk, IsOk, None, Some, length, nat_lt};
 ghost use Rattle.command_words.specs.Words.{IsInRange};
 ghost use Rattle.network_file.specs.declared.limits.TheConstants.{MOST_BYTES};
 ghost use Rattle.call_ending.specs.Refusing.{IsRefusalOf};
 ghost use Rattle.workerless_call.specs.Task.{task_of};
 ghost use Rattle.ctm_call.specs.WatchMode.{HasShotsAndReport, IsWatchText, large_shots, shown_rows, watch_refused};
+ghost use Rattle.network_file.specs.Reading.{network_of};
+ghost use Rattle.workerless_call.specs.NetworkInput.{IsNetworkWith};
+ghost use Rattle.ctm_call.specs.Telling.{HasToldRun};
 
 use call_ending::{Cause, Line, Refusal};
 use command_words::Request;
@@ -30,6 +33,7 @@ pub(crate) fn watch_text<R: Threads + Sync, G: Gate>(
     requires in_range { IsInRange request }
     requires few_bytes { length input.now ≤ MOST_BYTES }
     ensures text { IfOk result (λ text. (watch_refused (task_of request input.now) ≡ None) × IsWatchText (task_of request input.now) text.items) }
+    ensures told { IsOk result → IsNetworkWith (network_of input.now) (λ net. HasToldRun (G.told_held gate.now) (G.told_freed gate.now) net request) }
     ensures refusal { IfErr result (IsRefusalOf (watch_refused (task_of request input.now)) ⊥) }
 {
     let net = match network_in(alloc, input) {
@@ -68,7 +72,8 @@ fn shots_and_report<R: Threads + Sync, G: Gate>(
     gate: &G,
 ) -> Result<Vec<u8>, NoMemory>
     requires { IsInRange request }
-    ensures { IfOk result (λ text. HasShotsAndReport net.now request text.items) }
+    ensures text { IfOk result (λ text. HasShotsAndReport net.now request text.items) }
+    ensures told { IsOk result → HasToldRun (G.told_held gate.now) (G.told_freed gate.now) net.now request }
 {
     let _steps = net.steps;
     let every = u64::from(request.every);

@@ -56,6 +56,14 @@ impl Meeting {
 }
 
 impl Gate for Meeting {
+    ghost use Rattle.std.specs.Prelude.{⊤};
+
+    ghost told_held = { λ gate region step. ⊤ };
+
+    ghost told_freed = { λ gate region step. ⊤ };
+
+    ghost told_watched = { λ gate done. ⊤ };
+
     fn held(&self, region: u32, step: u64) {
         let (own, other) = match (region, step) {
             (0, 0) => (&self.first, &self.second),

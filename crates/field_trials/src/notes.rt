@@ -38,6 +38,14 @@ fn note(number: &AtomicU64, digit: u64) {
 }
 
 impl Gate for Notes {
+    ghost use Rattle.std.specs.Prelude.{⊤};
+
+    ghost told_held = { λ gate region step. ⊤ };
+
+    ghost told_freed = { λ gate region step. ⊤ };
+
+    ghost told_watched = { λ gate done. ⊤ };
+
     fn held(&self, region: u32, step: u64) {
         note(&self.worked, u64::from(region) + 1);
     }

@@ -44,6 +44,14 @@ pub(crate) fn wait_for(flag: &AtomicU64) -> bool {
 }
 
 impl Gate for Pause {
+    ghost use Rattle.std.specs.Prelude.{⊤};
+
+    ghost told_held = { λ gate region step. ⊤ };
+
+    ghost told_freed = { λ gate region step. ⊤ };
+
+    ghost told_watched = { λ gate done. ⊤ };
+
     fn held(&self, region: u32, step: u64) {
         self.notes.held(region, step);
         if region == self.region {

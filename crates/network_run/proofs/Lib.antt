@@ -1,3 +1,4 @@
 pub mod Crewing
 pub mod Ending
 pub mod RoundCounts
+pub mod Told

@@ -37,13 +37,13 @@ some-moved members not_none = elim (cases_lt 0 (last_moves members)) [
 
 -- what helpers have published in their turns adds up
 moves-added : (old new : List Helper) → length new ≡ length old →
-    ((k : ℕ) (d : Helper) → k < length old → (get_or new k d).member.pass.knows.moves ≡ (get_or old k d).member.pass.knows.moves + (get_or new k d).member.driven.moved) →
+    ((k : ℕ) (d : Helper) → k < length old → length (get_or new k d).member.pass.knows.log ≡ length (get_or old k d).member.pass.knows.log + (get_or new k d).member.driven.moved) →
     moves_of (members_of new) ≡ moves_of (members_of old) + last_moves (members_of new)
 moves-added [] [] long each = refl
 moves-added [] (y ∷ ys) long each = absurd (omega (arith, long))
 moves-added (x ∷ xs) [] long each = absurd (omega (arith, long))
 moves-added (x ∷ xs) (y ∷ ys) long each =
-    let moves : Member → ℕ = λ member. member.pass.knows.moves in
+    let moves : Member → ℕ = λ member. length member.pass.knows.log in
     let moved : Member → ℕ = λ member. member.driven.moved in
     omega (
       arith,

@@ -39,6 +39,8 @@ pub record HasJoined (field : FieldValue) (old new : PassValue) (before after : 
   pub share : new.knows.share + 1 ≡ old.knows.share
   pub seen : new.knows.seen ≡ old.knows.seen
   pub reach : new.knows.reach ≡ old.knows.reach
+  pub log : new.knows.log ≡ old.knows.log
+  pub nothing : member.pass.knows.log ≡ []
   pub enlisted : (most : ℕ) → old.knows.reach ≤ most → IsEnlisted field most member
 
 -- the last of the members is none any more, and a pass has its seat
@@ -49,4 +51,5 @@ pub record HasLeft (field : FieldValue) (old new : PassValue) (before after : Cr
   pub share : new.knows.share ≡ old.knows.share + member.pass.knows.share
   pub later : (r : ℕ) → slice_index old.knows.seen r ≤ slice_index new.knows.seen r
   pub reach : new.knows.reach ≡ max old.knows.reach member.pass.knows.reach
+  pub log : new.knows.log ≡ old.knows.log ++ member.pass.knows.log
   pub reached : new.knows.share ≡ field.terms.seats → IsReached field.terms new.knows

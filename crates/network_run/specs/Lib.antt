@@ -2,3 +2,4 @@ pub mod Crews
 pub mod Enlisted
 pub mod Near
 pub mod Rounds
+pub mod Telling

@@ -16,7 +16,7 @@ watcher_tries = 64
 
 -- how many steps were published through these members
 abbrev pub moves_of : List Member → ℕ
-moves_of members = sum_by (λ member. member.pass.knows.moves) members
+moves_of members = sum_by (λ member. length member.pass.knows.log) members
 
 -- and how many of them in their last round
 abbrev pub last_moves : List Member → ℕ

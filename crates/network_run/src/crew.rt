@@ -32,11 +32,12 @@ impl Model for Crew {
 }
 
 impl Crew {
-    ghost use Rattle.std.specs.Prelude.{◌≡◌, ◌≢◌, ◌+◌, ◌<◌, ◌≤◌, ℕ, [], IfOk, IsTrue, false, length, slice_index};
+    ghost use Rattle.std.specs.Prelude.{◌≡◌, ◌≢◌, ◌+◌, ◌<◌, ◌≤◌, ℕ, [], All, IfOk, IsTrue, false, length, slice_index};
     ghost use Rattle.region_cut.specs.Cuttings.{region_count};
     ghost use Rattle.region_slots.specs.FieldView.{IsPassOf};
     ghost use Rattle.network_run.specs.Crews.{HasJoined, HasLeft, IsReached, idle};
     ghost use Rattle.network_run.specs.Enlisted.{AreEnlisted};
+    ghost use Rattle.network_run.specs.Telling.{AreFrom};
 
     /// A crew of so many workers for so many regions.
     pub(crate) fn new(alloc: Global, workers: u32, regions: u32) -> Result<Crew, NoMemory>
@@ -64,7 +65,8 @@ impl Crew {
         ensures many { length self.new.members ≡ self.old.workers }
         ensures belongs { IsPassOf field.now pass.new }
         ensures seat { pass.new.knows.share ≡ 1 }
-        ensures knows { (pass.new.knows.seen ≡ pass.old.knows.seen) × (pass.new.knows.reach ≡ pass.old.knows.reach) }
+        ensures knows { (pass.new.knows.seen ≡ pass.old.knows.seen) × (pass.new.knows.reach ≡ pass.old.knows.reach) × (pass.new.knows.log ≡ pass.old.knows.log) }
+        ensures nothing { All (λ member. member.pass.knows.log ≡ []) self.new.members }
         ensures enlisted { (most : ℕ) → pass.old.knows.reach ≤ most → AreEnlisted field.now most self.new.members }
     {
         for number in 0..self.workers {
@@ -99,6 +101,7 @@ impl Crew {
         ensures belongs { IsPassOf field.now pass.new }
         ensures seats { pass.new.knows.share ≡ pass.old.knows.share + length self.old.members }
         ensures later { (r : ℕ) → slice_index pass.old.knows.seen r ≤ slice_index pass.new.knows.seen r }
+        ensures log { AreFrom pass.old.knows.log self.old.members pass.new.knows.log }
         ensures reach { (most : ℕ) → pass.old.knows.reach ≤ most → AreEnlisted field.now most self.old.members → pass.new.knows.reach ≤ most }
 
         // What the field tells the last that is united.

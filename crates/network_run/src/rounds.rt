@@ -18,12 +18,14 @@ impl Crew {
     ghost use Rattle.region_cut.specs.Cuttings.{region_count};
     ghost use Rattle.snapshot.specs.Rooms.{IsRoomFor};
     ghost use Rattle.region_slots.specs.FieldView.{IsPassOf};
+    ghost use Rattle.worker_claim.specs.Telling.{AreMembersTold};
     ghost use Rattle.worker_claim.specs.Watching.{IsWatched};
     ghost use Rattle.network_run.specs.Enlisted.{AreEnlisted, IsOver, is_some_done};
     ghost use Rattle.network_run.specs.Rounds.{AreGoing, AreRounds, last_moves, moves_of, watcher_tries};
 
     /// Has the members make turns in rounds, until one has found all regions at the goal, or none has moved one, or there
     /// were as many rounds as there are steps to take. Each round but the last has moved a region. It gives their number.
+    #[tactic(auto, using(crate::proofs::Told::members-none, crate::proofs::Told::members-more))]
     pub(crate) fn drive<R: Threads + Sync, G: Gate>(
         &mut self,
         rt: &R,
@@ -37,6 +39,7 @@ impl Crew {
         ensures same { (self.new.workers ≡ self.old.workers) × (self.new.regions ≡ self.old.regions) }
         ensures many { length self.new.members ≡ length self.old.members }
         ensures enlisted { AreEnlisted field.now goal self.new.members }
+        ensures told { AreMembersTold (G.told_held gate.now) (G.told_freed gate.now) self.old.members self.new.members }
         ensures rounds { AreRounds field.now result 1 self.old.members self.new.members }
         ensures few { result ≤ region_count field.now.terms.chart.now.cut * goal }
         ensures over { IsOver self.new.members ⊎ (result ≡ min (region_count field.now.terms.chart.now.cut * goal) (2 ^ 64 - 1)) }
@@ -66,6 +69,7 @@ impl Crew {
         ensures many { length self.new.members ≡ length self.old.members }
         ensures enlisted { AreEnlisted field.now goal self.new.members }
         ensures round { AreRounds field.now 1 1 self.old.members self.new.members }
+        ensures told { AreMembersTold (G.told_held gate.now) (G.told_freed gate.now) self.old.members self.new.members }
         ensures moves { moves_of self.new.members ≡ moves_of self.old.members + last_moves self.new.members }
     {
         crew_hints(rt, field, &mut self.helpers, goal, SWEEPS, gate);
@@ -90,6 +94,7 @@ impl Crew {
         ensures watched { IsWatched field.now watcher_tries watcher.old watcher.new room.old room.new result }
         ensures many { length self.new.members ≡ length self.old.members }
         ensures enlisted { AreEnlisted field.now goal self.new.members }
+        ensures told { AreMembersTold (G.told_held gate.now) (G.told_freed gate.now) self.old.members self.new.members }
         ensures rounds { (rounds : ℕ) × AreRounds field.now rounds 2 self.old.members self.new.members }
     {
         let shot = self.watch_round(rt, field, watcher, room, goal, gate);
@@ -119,6 +124,7 @@ impl Crew {
         ensures watched { IsWatched field.now watcher_tries watcher.old watcher.new room.old room.new result }
         ensures many { length self.new.members ≡ length self.old.members }
         ensures enlisted { AreEnlisted field.now goal self.new.members }
+        ensures told { AreMembersTold (G.told_held gate.now) (G.told_freed gate.now) self.old.members self.new.members }
         ensures round { AreRounds field.now 1 1 self.old.members self.new.members }
     {
         crew_watch_hints(

@@ -1,4 +1,4 @@
-ghost use Rattle.std.specs.Prelude.{◌≡◌, ◌+◌, ◌<◌, ◌≤◌, ℕ, IfOk, [], replicate, slice_index};
+ghost use Rattle.std.specs.Prelude.{◌≡◌, ◌+◌, ◌<◌, ◌≤◌, ℕ, IfOk, IsOk, [], replicate, slice_index};
 ghost use Rattle.region_cut.specs.Chart.{chart_of};
 ghost use Rattle.region_cut.specs.Cuttings.{region_count};
 ghost use Rattle.region_cut.specs.LawfulSteps.{AreLawful};
@@ -6,6 +6,8 @@ ghost use Rattle.region_step.specs.Standing.{AllStand};
 ghost use Rattle.region_step.specs.Start.{Fits, zero_start};
 ghost use Rattle.region_slots.specs.FieldView.{IsPassOf};
 ghost use Rattle.worker_claim.specs.Driving.{AllReach};
+ghost use Rattle.worker_claim.specs.Telling.{AreTold};
+ghost use Rattle.network_run.specs.Telling.{HasTold, HasToldFrom};
 
 use crate::crew::Crew;
 use network_file::Net;
@@ -18,7 +20,7 @@ use std::thread::Threads;
 use worker_claim::finish;
 
 /// The regions of a chart at the last step, taken there from step 0 by so many workers. Each is recorded at each step that
-/// `every` divides and at the last one, never where `every` is 0. All memory is taken before the first step, but for what
+/// `every` divides and at the last one, never where `every` is 0. The observer is told of each of its steps. All memory is taken before the first step, but for what
 /// the workers' deques may ask for and do without.
 pub fn last_regions<R: Threads + Sync, G: Gate>(
     rt: &R,
@@ -31,8 +33,9 @@ pub fn last_regions<R: Threads + Sync, G: Gate>(
 ) -> Result<Vec<Region>, NoMemory>
     requires chart { chart.now ≡ chart_of net.now chart.now.cut }
     requires workers { (1 ≤ workers) × (workers ≤ 16) }
-    ensures { IfOk result (λ regions. AllStand net.now chart.now (zero_start net.now chart.now.cut) every
+    ensures stand { IfOk result (λ regions. AllStand net.now chart.now (zero_start net.now chart.now.cut) every
         (replicate (region_count chart.now.cut) net.now.steps) regions.items) }
+    ensures told { IsOk result → HasTold (G.told_held gate.now) (G.told_freed gate.now) (region_count chart.now.cut) net.now.steps }
 {
     let goal = net.steps;
     let start = Start::zero(alloc, net, chart)?;
@@ -58,8 +61,9 @@ pub fn regions_from<R: Threads + Sync, G: Gate>(
     requires before { (r : ℕ) → r < region_count chart.now.cut → slice_index start.now.steps r ≤ goal }
     requires in_time { goal ≤ net.now.steps }
     requires workers { (1 ≤ workers) × (workers ≤ 16) }
-    ensures { IfOk result (λ regions. AllStand net.now chart.now start.now every
+    ensures stand { IfOk result (λ regions. AllStand net.now chart.now start.now every
         (replicate (region_count chart.now.cut) goal) regions.items) }
+    ensures told { IsOk result → HasToldFrom (G.told_held gate.now) (G.told_freed gate.now) (region_count chart.now.cut) start.now.steps goal }
 {
     let mut crew = Crew::new(alloc, workers, chart.regions())?;
     let (field, mut pass) = Field::open(alloc, net, chart, start, every, workers + 1)?;
@@ -88,6 +92,7 @@ pub(crate) fn take_to<R: Threads + Sync, G: Gate>(
     ensures share { pass.new.knows.share ≡ pass.old.knows.share }
     ensures crew { crew.new ≡ crew.old }
     ensures reach { pass.new.knows.reach ≤ goal }
+    ensures told { AreTold (G.told_held gate.now) (G.told_freed gate.now) pass.old.knows.log pass.new.knows.log }
     ensures done { AllReach (region_count field.now.terms.chart.now.cut) goal pass.new.knows }
 {
     crew.enlist(field, pass);

@@ -4,6 +4,7 @@ ghost use Rattle.snapshot.specs.Rooms.{IsRoomFor};
 ghost use Rattle.snapshot.specs.Snapshots.{IsSnapshot};
 ghost use Rattle.region_slots.specs.FieldView.{IsPassOf};
 ghost use Rattle.worker_claim.specs.Driving.{AllReach};
+ghost use Rattle.worker_claim.specs.Telling.{AreTold};
 
 use crate::crew::Crew;
 use region_slots::{Field, Gate, Pass, Shot};
@@ -36,6 +37,7 @@ pub(crate) fn watch_to<R: Threads + Sync, G: Gate>(
     ensures crew { crew.new ≡ crew.old }
     ensures room { IsRoomFor field.now.terms.chart.now room.new }
     ensures reach { pass.new.knows.reach ≤ goal }
+    ensures told { AreTold (G.told_held gate.now) (G.told_freed gate.now) pass.old.knows.log pass.new.knows.log }
     ensures done { AllReach (region_count field.now.terms.chart.now.cut) goal pass.new.knows }
     ensures snapshot { IsSnapshot field.now.terms.net.now field.now.terms.chart.now.cut field.now.terms.start.now room.new }
     ensures between { (r : ℕ) → r < region_count field.now.terms.chart.now.cut → (slice_index pass.old.knows.seen r ≤ slice_index room.new.steps r)

@@ -9,6 +9,8 @@ ghost use Rattle.snapshot.specs.Shots.{goal_of};
 ghost use Rattle.shot_lines.specs.Shots.{AreShots};
 ghost use Rattle.region_slots.specs.FieldView.{IsPassOf};
 ghost use Rattle.worker_claim.specs.Driving.{AllReach};
+ghost use Rattle.worker_claim.specs.Telling.{AreTold};
+ghost use Rattle.network_run.specs.Telling.{HasTold};
 
 use crate::crew::Crew;
 use crate::watch::watch_to;
@@ -51,6 +53,7 @@ pub fn watched_regions<R: Threads + Sync, G: Gate>(
     ensures shots { IfOk result (λ watched. AreShots net.now chart.now.cut shots watched.shots.items) }
     ensures stand { IfOk result (λ watched. AllStand net.now chart.now (zero_start net.now chart.now.cut) every
         (replicate (region_count chart.now.cut) net.now.steps) watched.regions.items) }
+    ensures told { IsOk result → HasTold (G.told_held gate.now) (G.told_freed gate.now) (region_count chart.now.cut) net.now.steps }
 {
     let start = Start::zero(alloc, net, chart)?;
     watched_from(rt, alloc, net, chart, &start, every, workers, shots, gate)
@@ -78,6 +81,7 @@ fn watched_from<R: Threads + Sync, G: Gate>(
     ensures shots { IfOk result (λ watched. AreShots net.now chart.now.cut shots watched.shots.items) }
     ensures stand { IfOk result (λ watched. AllStand net.now chart.now (zero_start net.now chart.now.cut) every
         (replicate (region_count chart.now.cut) net.now.steps) watched.regions.items) }
+    ensures told { IsOk result → HasTold (G.told_held gate.now) (G.told_freed gate.now) (region_count chart.now.cut) net.now.steps }
 {
     let mut crew = Crew::new(alloc, workers, chart.regions())?;
     let mut room = ShotRoom::new(alloc, net, chart)?;
@@ -111,9 +115,11 @@ fn watched_field<R: Threads + Sync, G: Gate>(
     requires nobody { crew.old.members ≡ [] }
     requires room { IsRoomFor chart.now room.old }
     requires reach { pass.knows.reach ≡ 0 }
+    requires nothing { pass.knows.log ≡ [] }
     ensures shots { IfOk result (λ watched. AreShots net.now chart.now.cut shots watched.shots.items) }
     ensures stand { IfOk result (λ watched. AllStand net.now chart.now (zero_start net.now chart.now.cut) field.entry.terms.every
         (replicate (region_count chart.now.cut) net.now.steps) watched.regions.items) }
+    ensures told { IsOk result → HasTold (G.told_held gate.now) (G.told_freed gate.now) (region_count chart.now.cut) net.now.steps }
 {
     let mut text = Vec::new(alloc);
     take_shots(
@@ -153,6 +159,7 @@ fn take_shots<R: Threads + Sync, G: Gate>(
     requires nothing { text.old.items ≡ [] }
     ensures belongs { IsOk result → IsPassOf field.now pass.new }
     ensures share { IsOk result → pass.new.knows.share ≡ pass.old.knows.share }
+    ensures told { IsOk result → AreTold (G.told_held gate.now) (G.told_freed gate.now) pass.old.knows.log pass.new.knows.log }
     ensures last { IsOk result → AllReach (region_count chart.now.cut) net.now.steps pass.new.knows }
     ensures shots { IsOk result → AreShots net.now chart.now.cut shots text.new.items }
 {

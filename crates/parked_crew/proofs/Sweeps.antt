@@ -6,11 +6,11 @@ use Rattle.std.proofs.lemmas.Bool.{cases_eq, cases_lt}
 use Rattle.std.proofs.lemmas.List.{get_or-set_other, get_or-set_same}
 use Rattle.std.proofs.lemmas.List.Sums.{sum_by-set}
 use Rattle.region_cut.specs.Cuttings.{region_count}
-use Rattle.border_rows.specs.Kinds.{found_taken, looked, raised}
+use Rattle.border_rows.specs.Kinds.{found_taken, raised}
 use Rattle.border_rows.specs.declared.view.Terms.{Terms}
 use Rattle.border_rows.specs.declared.view.View.{View}
 use Rattle.region_slots.specs.FieldView.{HasCounts}
-use Rattle.region_slots.specs.Turning.{IsBehind, IsMoved, IsWithin}
+use Rattle.region_slots.specs.Turning.{IsBehind, IsMoved, IsWithin, took_at}
 use Rattle.region_slots.specs.declared.turn.Turn.{Turn}
 use Rattle.region_slots.specs.declared.turn.Turn.TheVariants.{Behind, Ended, Held, Moved}
 use Rattle.parked_crew.specs.Sweeping.{HasSwept, counted, none, tries_at}
@@ -107,7 +107,7 @@ more-ended old view new r goal swept one before after own all p within =
 -- one turn more
 pub swept-more : (terms : Terms) (old view new : View) (goal r : ℕ) (swept : Swept) (answer : Turn) → r < region_count terms.chart.now.cut → HasCounts (region_count terms.chart.now.cut) view →
     HasSwept r goal old view swept → IsWithin view new goal → (answer ≡ Held → new ≡ found_taken view r) →
-    ((s : ℕ) → answer ≡ Ended s → (goal ≤ s) × (new ≡ looked view r s) × (slice_index new.seen r ≡ s) × (slice_index view.seen r ≤ s)) →
+    ((s : ℕ) → answer ≡ Ended s → (goal ≤ s) × (new ≡ took_at view r s) × (slice_index new.seen r ≡ s) × (slice_index view.seen r ≤ s)) →
     ((q s : ℕ) → answer ≡ Behind q s → IsBehind terms view new goal r q s) → ((s : ℕ) → answer ≡ Moved s → IsMoved terms view new goal r s) →
     HasSwept (r + 1) goal old new (counted swept answer)
 unfolding counted
@@ -120,7 +120,7 @@ swept-more terms old view new goal r swept Held there has before after held ende
       tried = more-tried old view new r goal swept before one;
       others = more-others old view new r goal swept before one;
       turns = omega (arith, before.turns);
-      moved = omega (arith, before.moved, ap (λ (v : View). v.moves) is);
+      moved = omega (arith, before.moved, ap (λ (v : View). length v.log) is);
       held = omega (arith, before.held, ap (λ (v : View). sum v.held_found) is, raised-sum view.held_found r within);
       behind = omega (arith, before.behind, ap (λ (v : View). v.short_found) is);
       ended = λ all. more-ended old view new r goal swept 0 before after (λ some. absurd (some refl)) (omega (arith, all));
@@ -134,7 +134,7 @@ swept-more terms old view new goal r swept (Ended s) there has before after held
       tried = more-tried old view new r goal swept before one;
       others = more-others old view new r goal swept before one;
       turns = omega (arith, before.turns);
-      moved = omega (arith, before.moved, ap (λ (v : View). v.moves) is.1);
+      moved = omega (arith, before.moved, ap (λ (v : View). length v.log) is.1);
       held = omega (arith, before.held, ap (λ (v : View). sum v.held_found) is.1);
       behind = omega (arith, before.behind, ap (λ (v : View). v.short_found) is.1);
       ended = λ all. more-ended old view new r goal swept 1 before after (λ some. (refl, omega (arith, is.0, is.2))) (omega (arith, all));
@@ -148,7 +148,7 @@ swept-more terms old view new goal r swept (Behind q s) there has before after h
       tried = more-tried old view new r goal swept before one;
       others = more-others old view new r goal swept before one;
       turns = omega (arith, before.turns);
-      moved = omega (arith, before.moved, is.still.moves);
+      moved = omega (arith, before.moved, ap length is.still.log);
       held = omega (arith, before.held, ap sum is.still.alike.held_found);
       behind = omega (arith, before.behind, is.one_more);
       ended = λ all. more-ended old view new r goal swept 0 before after (λ some. absurd (some refl)) (omega (arith, all));
@@ -162,7 +162,7 @@ swept-more terms old view new goal r swept (Moved s) there has before after held
       tried = more-tried old view new r goal swept before one;
       others = more-others old view new r goal swept before one;
       turns = omega (arith, before.turns);
-      moved = omega (arith, before.moved, is.moves);
+      moved = omega (arith, before.moved, ap length is.log);
       held = omega (arith, before.held, ap sum is.alike.held_found);
       behind = omega (arith, before.behind, is.found.short_found);
       ended = λ all. more-ended old view new r goal swept 0 before after (λ some. absurd (some refl)) (omega (arith, all));

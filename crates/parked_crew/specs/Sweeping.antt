@@ -1,5 +1,5 @@
 -- What comes of a sweep: one turn on each region.
-use Rattle.std.specs.Prelude.{◌≡◌, ℕ, ◌+◌, ◌<◌, ◌≤◌, slice_index}
+use Rattle.std.specs.Prelude.{◌≡◌, ℕ, ◌+◌, ◌<◌, ◌≤◌, length, slice_index}
 use Rattle.std.specs.List.{sum}
 use Rattle.border_rows.specs.declared.view.View.{View}
 use Rattle.region_slots.specs.Turning.{IsWithin}
@@ -34,7 +34,7 @@ pub record HasSwept (count goal : ℕ) (old new : View) (swept : Swept) : Type 0
   pub tried : (r : ℕ) → r < count → tries_at new r ≡ tries_at old r + 1
   pub others : (r : ℕ) → count ≤ r → tries_at new r ≡ tries_at old r
   pub turns : turns_of swept ≡ count
-  pub moved : new.moves ≡ old.moves + swept.moved
+  pub moved : length new.log ≡ length old.log + swept.moved
   pub held : sum new.held_found ≡ sum old.held_found + swept.held
   pub behind : new.short_found ≡ old.short_found + swept.behind
   pub ended : swept.ended ≡ count → HasSeenAll count goal new

@@ -2,6 +2,7 @@
 use Rattle.std.specs.Prelude.{max, slice_index, sum_by}
 use Rattle.std.specs.List.{range_with_len, sum}
 use Rattle.std.proofs.Common.{◌≡◌, ℕ, zero, suc, ◌+◌, ◌-◌, ◌<◌, ◌≤◌, inl, inr, Bool, false, List, [], ◌∷◌, ◌++◌, length, take, get_or, set, refl, sym, ap, subst, ◌∙◌, arith}
+use Rattle.std.proofs.lemmas.Bool.{cases_lt}
 use Rattle.std.proofs.lemmas.List.Sums.{sum-map, sum_by-cons}
 use mathlib.Core.Option.{some, some-injective}
 use lib.ListN.{get_elem?}
@@ -12,14 +13,17 @@ use Rattle.region_cut.specs.LawfulSteps.{AreLawful}
 use Rattle.region_step.specs.Region.{RegionValue}
 use Rattle.region_step.specs.Standing.{AllStand, Stands}
 use Rattle.region_step.proofs.Lists.{map_range_same}
-use Rattle.border_rows.specs.Standing.{FieldState, IsStanding, steps_made}
+use Rattle.border_rows.specs.Standing.{FieldState, IsStanding, steps_made, times_made}
+use Rattle.border_rows.specs.Views.{times_in}
 use Rattle.border_rows.specs.Words.{step_of, steps_of}
+use Rattle.border_rows.specs.declared.view.PublishedStep.{PublishedStep}
 use Rattle.border_rows.specs.declared.view.Terms.{Terms}
 use Rattle.border_rows.specs.declared.view.View.{View}
 use Rattle.border_rows.proofs.ClaimKinds.{whole_knowers, whole_spent, whole_spent-other}
+use Rattle.border_rows.proofs.Logs.{times_made-one, times_made-other}
 use Rattle.border_rows.proofs.LookKinds.{steps_of-at}
 use Rattle.border_rows.proofs.ViewUpdates.{Contains-elem, sum-set}
-use Rattle.region_slots.specs.Closing.{steps_since}
+use Rattle.region_slots.specs.Closing.{AreLogged, steps_since}
 
 -- an item that stands there is read there
 pub get_or-elem : {X : Type 0} (xs : List X) (i : ℕ) (x d : X) → get_elem? xs i ≡ some x → get_or xs i d ≡ x
@@ -50,17 +54,28 @@ none-sum f (x ∷ xs) none =
     let later : sum_by f xs ≡ 0 = none-sum f xs (λ k y is. none (suc k) y is) in
     omega (arith, first, later, sum_by-cons f x xs)
 
+-- what counts nothing of an empty log counts of all logs what it counts of that of the seat with all shares
+whole_logs : (terms : Terms) (s : FieldState) (id : ℕ) (view : View) (f : List PublishedStep → ℕ) → IsStanding terms s → get_elem? s.views id ≡ some view → view.share ≡ terms.seats → f [] ≡ 0 →
+    sum_by (λ v. f v.log) s.views ≡ f view.log
+whole_logs terms s id view f old is all empty =
+    let gone : View = record view { log = [] } in
+    let rest = sum-set (λ (v : View). f v.log) s.views id gone view is in
+    let none : sum_by (λ v. f v.log) (set s.views id gone) ≡ 0 = none-sum (λ v. f v.log) (set s.views id gone) (λ k v here. elim (at_set s.views id k gone v here) [
+      | inl own ↦ ap (λ (x : View). f x.log) (sym own.1) ∙ empty
+      | inr other ↦ ap f (whole_spent-other terms s id k view v old is all other.0 other.1).log ∙ empty
+    ]) in
+    omega (arith, rest, none, empty)
+
 -- the moves of the seat with all shares are those of all views
 pub whole_moves : (terms : Terms) (s : FieldState) (id : ℕ) (view : View) → IsStanding terms s → get_elem? s.views id ≡ some view → view.share ≡ terms.seats →
-    sum_by (λ v. v.moves) s.views ≡ view.moves
-whole_moves terms s id view old is all =
-    let gone : View = record view { moves = 0 } in
-    let rest = sum-set (λ (v : View). v.moves) s.views id gone view is in
-    let none : sum_by (λ v. v.moves) (set s.views id gone) ≡ 0 = none-sum (λ v. v.moves) (set s.views id gone) (λ k v here. elim (at_set s.views id k gone v here) [
-      | inl own ↦ ap (λ (x : View). x.moves) (sym own.1)
-      | inr other ↦ (whole_spent-other terms s id k view v old is all other.0 other.1).moves
-    ]) in
-    omega (arith, rest, none)
+    sum_by (λ v. length v.log) s.views ≡ length view.log
+whole_moves terms s id view old is all = whole_logs terms s id view length old is all refl
+
+-- so is what they count of each step
+whole_logged : (terms : Terms) (s : FieldState) (id r step : ℕ) (view : View) → IsStanding terms s → get_elem? s.views id ≡ some view → view.share ≡ terms.seats →
+    times_in view.log r step ≡ times_made terms.chart.now terms.start.now s.words r step
+whole_logged terms s id r step view old is all =
+    sym (whole_logs terms s id view (λ log. times_in log r step) old is all refl) ∙ old.counts.logged r step
 
 -- no region stands past its start and past the reach of the seat with all shares
 pub whole_reach : (terms : Terms) (s : FieldState) (id r : ℕ) (view : View) → IsStanding terms s → get_elem? s.views id ≡ some view → view.share ≡ terms.seats →
@@ -82,7 +97,8 @@ pub record IsClosed (terms : Terms) (view : View) (steps : List ℕ) (regions : 
   pub started : (r : ℕ) → r < region_count terms.chart.now.cut → slice_index terms.start.now.steps r ≤ slice_index steps r
   pub later : (r : ℕ) → r < region_count terms.chart.now.cut → slice_index view.seen r ≤ slice_index steps r
   pub reached : (r : ℕ) → r < region_count terms.chart.now.cut → slice_index steps r ≤ max (slice_index terms.start.now.steps r) view.reach
-  pub moves : steps_since terms.start.now (region_count terms.chart.now.cut) steps ≡ view.moves
+  pub moves : steps_since terms.start.now (region_count terms.chart.now.cut) steps ≡ length view.log
+  pub logged : AreLogged terms.start.now (region_count terms.chart.now.cut) steps view.log
 
 -- the steps since the start are those that were made
 pub since-made : (terms : Terms) (words : List ℕ) →
@@ -118,4 +134,16 @@ closing terms id view words regions all empty (s, (old, is), same, long, homes) 
       later = λ r within. omega (arith, old.counts.seen view r (Contains-elem s.views id view is) within, stood r within);
       reached = λ r within. omega (arith, whole_reach terms s id r view old is all within, stood r within);
       moves = since-made terms words ∙ ap (steps_made terms.chart.now terms.start.now) (sym same) ∙ sym old.counts.moves ∙ whole_moves terms s id view old is all;
+      logged = record {
+        each = λ r step within later there.
+            whole_logged terms s id r step view old is all ∙ times_made-one terms.chart.now terms.start.now s.words r step within later (omega (arith, stood r within, there));
+        others = λ r step other. whole_logged terms s id r step view old is all ∙ elim (cases_lt r count) [
+          | inr past ↦ times_made-other terms.chart.now terms.start.now s.words r step (inl past)
+          | inl within ↦ times_made-other terms.chart.now terms.start.now s.words r step (elim other [
+            | inl past ↦ inl past
+            | inr (inl early) ↦ inr (inl early)
+            | inr (inr late) ↦ inr (inr (omega (arith, stood r within, late)))
+          ])
+        ];
+      };
     }

@@ -8,7 +8,7 @@ use Rattle.atomic_table.specs.declared.shared.Seat.{Seat}
 use Rattle.region_cut.specs.Cuttings.{region_count}
 use Rattle.region_step.specs.Region.{RegionValue}
 use Rattle.region_step.specs.Standing.{Stands}
-use Rattle.border_rows.specs.Kinds.{found_at, found_taken, fresh, known_at, taken}
+use Rattle.border_rows.specs.Kinds.{found_at, found_taken, fresh, gathered, known_at, taken}
 use Rattle.border_rows.specs.declared.view.Hold.{Hold}
 use Rattle.border_rows.specs.declared.view.Terms.{Terms}
 use Rattle.border_rows.specs.declared.view.View.{View}
@@ -54,7 +54,7 @@ unmoved-same view = record {
   terms = refl;
   share = refl;
   splits = refl;
-  moves = refl;
+  log = refl;
   reach = refl;
   found = record { short_found = refl; last_short = refl };
   seen = record { long = refl; later = λ q. omega arith };
@@ -66,6 +66,7 @@ unmoved-same view = record {
 pub gathered-none : (terms : Terms) (me : Mine) → HasCounts (region_count terms.chart.now.cut) me.0 → HasSeenInTime terms me.0 → me.0.holds ≡ [] → me.1 ≡ [] → HasGathered terms me.0 0 me
 gathered-none terms me counts in_time holds nothing = record {
   unmoved = unmoved-same me.0;
+  moments = (refl, refl);
   counts = counts;
   in_time = in_time;
   holds = holds;
@@ -94,6 +95,7 @@ counts-tried count old view r tries tried has = record {
   seen = ap (λ (v : View). length v.seen) tried.same ∙ has.seen;
   held_found = tried.long ∙ has.held_found;
   looks = ap (λ (v : View). length v.looks) tried.same ∙ has.looks;
+  takes = ap (λ (v : View). length v.takes) tried.same ∙ has.takes;
 }
 
 unmoved-tried : (old view new : View) (r tries : ℕ) → IsUnmoved old view → HasTried view new r tries → IsUnmoved old new
@@ -101,7 +103,7 @@ unmoved-tried old view new r tries unmoved tried = record {
   terms = ap (λ (v : View). v.terms) tried.same ∙ unmoved.terms;
   share = ap (λ (v : View). v.share) tried.same ∙ unmoved.share;
   splits = ap (λ (v : View). v.splits) tried.same ∙ unmoved.splits;
-  moves = ap (λ (v : View). v.moves) tried.same ∙ unmoved.moves;
+  log = ap (λ (v : View). v.log) tried.same ∙ unmoved.log;
   reach = ap (λ (v : View). v.reach) tried.same ∙ unmoved.reach;
   found = record {
     short_found = ap (λ (v : View). v.short_found) tried.same ∙ unmoved.found.short_found;
@@ -124,6 +126,7 @@ gathered-stopped terms old new r tries me has tried =
     let seen : new.seen ≡ me.0.seen = ap (λ (v : View). v.seen) tried.same in
     record {
       unmoved = unmoved-tried old me.0 new r tries has.unmoved tried;
+      moments = (ap (λ (v : View). v.moments) tried.same ∙ has.moments.0, ap (λ (v : View). v.moment) tried.same ∙ has.moments.1);
       counts = counts-tried (region_count terms.chart.now.cut) me.0 new r tries tried has.counts;
       in_time = λ q there. omega (arith, has.in_time q there, ap (λ l. slice_index l q) seen);
       holds = ap (λ (v : View). v.holds) tried.same ∙ has.holds ∙ ap (λ l. held_to l r) (sym seen);
@@ -148,7 +151,7 @@ gathered-more terms old view r failed t me state there has tried past now stands
         terms = stopped.unmoved.terms;
         share = stopped.unmoved.share;
         splits = stopped.unmoved.splits;
-        moves = stopped.unmoved.moves;
+        log = stopped.unmoved.log;
         reach = stopped.unmoved.reach;
         found = record { short_found = stopped.unmoved.found.short_found; last_short = stopped.unmoved.found.last_short };
         seen = record {
@@ -164,10 +167,12 @@ gathered-more terms old view r failed t me state there has tried past now stands
           | inr other ↦ omega (arith, stopped.unmoved.looks q, get_or-set_other view.looks r q count 0 other)
         ];
       };
+      moments = stopped.moments;
       counts = record {
         seen = length-set view.seen r t ∙ stopped.counts.seen;
         held_found = stopped.counts.held_found;
         looks = length-set view.looks r count ∙ stopped.counts.looks;
+        takes = length-set view.takes r (slice_index view.takes r + 1) ∙ stopped.counts.takes;
       };
       in_time = looked-in-time terms view r t stopped.in_time now;
       holds = ap (λ s. known_at (fresh r) t ∷ s) (stopped.holds ∙ sym (held_to-same view.seen r t r (omega arith))) ∙ ap (λ s. known_at (fresh r) s ∷ held_to new.seen r) (sym here);
@@ -221,7 +226,7 @@ unmoved-freed old view unmoved = record {
   terms = unmoved.terms;
   share = unmoved.share;
   splits = unmoved.splits;
-  moves = unmoved.moves;
+  log = unmoved.log;
   reach = unmoved.reach;
   found = record { short_found = unmoved.found.short_found; last_short = unmoved.found.last_short };
   seen = record { long = unmoved.seen.long; later = unmoved.seen.later };
@@ -230,4 +235,18 @@ unmoved-freed old view unmoved = record {
 }
 
 pub counts-freed : (count : ℕ) (view : View) → HasCounts count view → HasCounts count (record view { holds = [] })
-counts-freed count view has = record { seen = has.seen; held_found = has.held_found; looks = has.looks }
+counts-freed count view has = record { seen = has.seen; held_found = has.held_found; looks = has.looks; takes = has.takes }
+
+-- and so they are once they were held together
+pub unmoved-shot : (old view : View) → IsUnmoved old view → IsUnmoved old (record (gathered view) { holds = [] })
+unmoved-shot old view unmoved = record {
+  terms = unmoved.terms;
+  share = unmoved.share;
+  splits = unmoved.splits;
+  log = unmoved.log;
+  reach = unmoved.reach;
+  found = record { short_found = unmoved.found.short_found; last_short = unmoved.found.last_short };
+  seen = record { long = unmoved.seen.long; later = unmoved.seen.later };
+  held_found = unmoved.held_found;
+  looks = unmoved.looks;
+}

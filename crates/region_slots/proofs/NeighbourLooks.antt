@@ -1,17 +1,18 @@
 -- A view that looks at neighbours.
 use Rattle.std.specs.Prelude.{Option, Some, max, slice_index, slice_set}
 use Rattle.std.specs.List.{Contains}
-use Rattle.std.proofs.Common.{◌≡◌, ℕ, suc, ◌+◌, ◌<◌, ◌≤◌, inl, inr, true, List, ◌∷◌, length, refl, sym, ap, subst, ◌∙◌, arith}
+use Rattle.std.proofs.Common.{◌≡◌, ℕ, suc, ◌+◌, ◌<◌, ◌≤◌, inl, inr, true, List, [], ◌∷◌, ◌++◌, length, refl, sym, ap, subst, ◌∙◌, arith}
 use Rattle.std.proofs.lemmas.Bool.{cases_eq, cases_lt}
 use Rattle.std.proofs.lemmas.List.{get_or-set_other, get_or-set_same, get_or_past, length-set}
 use Rattle.region_cut.specs.Cuttings.{region_count}
 use Rattle.region_cut.specs.Joins.{are_neighbours}
-use Rattle.border_rows.specs.Kinds.{cleared, found_at, found_short, found_taken, freed, later_of, looked, published, raised, taken, with_first}
+use Rattle.border_rows.specs.Kinds.{cleared, found_at, found_short, found_taken, freed, later_of, published, raised, taken, with_first}
 use Rattle.border_rows.specs.declared.view.Hold.{Hold}
+use Rattle.border_rows.specs.declared.view.PublishedStep.{PublishedStep}
 use Rattle.border_rows.specs.declared.view.Terms.{Terms}
 use Rattle.border_rows.specs.declared.view.View.{View}
 use Rattle.region_slots.specs.FieldView.{IsWorkingAt}
-use Rattle.region_slots.specs.Turning.{HasFallenShort, HasLooked, IsBehind, IsLater, IsMoved, IsWithin, wrote_many}
+use Rattle.region_slots.specs.Turning.{HasFallenShort, HasLooked, IsBehind, IsLater, IsMoved, IsWithin, took_at, wrote_many}
 use Rattle.region_slots.specs.declared.turn.Turn.{Turn}
 use Rattle.region_slots.specs.declared.turn.Turn.TheVariants.{Behind, Ended, Held, Moved}
 use Rattle.region_slots.proofs.Comparing.{same-hold}
@@ -38,9 +39,11 @@ seen-later seen old view q s was is past new saw = record {
 -- no neighbour is looked at yet
 pub looked-none : (view : View) (hold : Hold) → IsWorkingAt view hold → HasLooked view view hold
 looked-none view hold works = record {
-  still = record { alike = record { terms = refl; share = refl; splits = refl; held_found = refl; seen = record { long = refl; later = λ q. omega arith } }; moves = refl; reach = refl };
+  still = record { alike = record { terms = refl; share = refl; splits = refl; held_found = refl; moments = (refl, refl); seen = record { long = refl; later = λ q. omega arith } }; log = refl; reach = refl };
   found = record { short_found = refl; last_short = refl };
   looks = refl;
+  takes = refl;
+  tried = refl;
   later = refl;
   now = hold;
   works = works;
@@ -67,13 +70,16 @@ looked-more old view hold q s has past =
           share = alike.share;
           splits = alike.splits;
           held_found = alike.held_found;
+          moments = alike.moments;
           seen = seen-later view.seen old view q s alike.seen refl past (cleared view q s) refl;
         };
-        moves = has.still.moves;
+        log = has.still.log;
         reach = has.still.reach;
       };
       found = record { short_found = has.found.short_found; last_short = has.found.last_short };
       looks = has.looks;
+      takes = has.takes;
+      tried = has.tried;
       later = ap (λ l. later_of (with_first (clear_one q) l)) has.works.holds ∙ sym (ap later_of has.works.holds) ∙ has.later;
       now = clear_one q has.now;
       works = cleared-works view has.now q s has.works;
@@ -106,12 +112,15 @@ falls-short old view hold r q s has past there =
           share = alike.share;
           splits = alike.splits;
           held_found = alike.held_found;
+          moments = alike.moments;
           seen = seen-later view.seen old view q s alike.seen refl past (found_short view r q s) refl;
         };
-        moves = has.still.moves;
+        log = has.still.log;
         reach = has.still.reach;
       };
       looks = has.looks;
+      takes = has.takes;
+      tried = has.tried;
       later = has.later;
       one_more = ap (λ n. n + 1) has.found.short_found;
       last = refl;
@@ -140,15 +149,18 @@ turned-behind terms old view r q s step goal short by_one below past there besid
           share = alike.share;
           splits = alike.splits;
           held_found = alike.held_found;
+          moments = alike.moments;
           seen = record {
             long = alike.seen.long ∙ length-set old.seen r step;
             later = λ p. omega (arith, alike.seen.later p, later-set old.seen r step p past);
           };
         };
-        moves = short.still.moves;
+        log = short.still.log;
         reach = short.still.reach;
       };
       looks = short.looks;
+      takes = short.takes;
+      tried = short.tried;
       one_more = short.one_more;
       last = short.last;
       below = omega (arith, by_one, below);
@@ -170,6 +182,7 @@ turned-moved terms old view hold r step goal width has past below rise long ther
         share = alike.share;
         splits = alike.splits;
         held_found = alike.held_found;
+          moments = alike.moments;
         seen = record {
           long = length-set view.seen r (step + 1) ∙ same_long;
           later = λ p. omega (arith, alike.seen.later p, later-set old.seen r step p past, later-set view.seen r (step + 1) p rise);
@@ -177,7 +190,9 @@ turned-moved terms old view hold r step goal width has past below rise long ther
       };
       found = record { short_found = has.found.short_found; last_short = has.found.last_short };
       looks = has.looks;
-      moves = ap (λ n. n + 1) has.still.moves;
+      takes = has.takes;
+      tried = has.tried;
+      log = ap (λ (log : List PublishedStep). record { region = r; step = step + 1 } ∷ log) has.still.log;
       reach = ap (λ n. max n (step + 1)) has.still.reach;
       below = omega (arith, below);
       own = omega (arith, past);
@@ -191,14 +206,14 @@ later-raised counts r q = later-set counts r (slice_index counts r + 1) q (omega
 
 -- whatever came of a turn
 pub turned-within : (terms : Terms) (old new : View) (goal r : ℕ) (answer : Turn) → (answer ≡ Held → new ≡ found_taken old r) →
-    ((s : ℕ) → answer ≡ Ended s → (goal ≤ s) × (new ≡ looked old r s) × (slice_index new.seen r ≡ s) × (slice_index old.seen r ≤ s)) →
+    ((s : ℕ) → answer ≡ Ended s → (goal ≤ s) × (new ≡ took_at old r s) × (slice_index new.seen r ≡ s) × (slice_index old.seen r ≤ s)) →
     ((q s : ℕ) → answer ≡ Behind q s → IsBehind terms old new goal r q s) → ((s : ℕ) → answer ≡ Moved s → IsMoved terms old new goal r s) → IsWithin old new goal
 turned-within terms old new goal r Held held ended behind moved =
     let is = held refl in record {
       share = ap (λ (v : View). v.share) is;
       splits = ap (λ (v : View). v.splits) is;
       seen = record { long = ap (λ (v : View). length v.seen) is; later = λ q. omega (arith, ap (λ (v : View). slice_index v.seen q) is) };
-      moves = omega (arith, ap (λ (v : View). v.moves) is);
+      moves = omega (arith, ap (λ (v : View). length v.log) is);
       risen = omega (arith, ap (λ (v : View). v.reach) is);
       reach = omega (arith, ap (λ (v : View). v.reach) is);
       held_found = λ q. omega (arith, ap (λ (v : View). slice_index v.held_found q) is, later-raised old.held_found r q);
@@ -210,7 +225,7 @@ turned-within terms old new goal r (Ended s) held ended behind moved =
       share = ap (λ (v : View). v.share) at.1;
       splits = ap (λ (v : View). v.splits) at.1;
       seen = record { long = ap (λ (v : View). length v.seen) at.1 ∙ length-set old.seen r s; later = λ q. omega (arith, ap (λ (v : View). slice_index v.seen q) at.1, later-set old.seen r s q at.3) };
-      moves = omega (arith, ap (λ (v : View). v.moves) at.1);
+      moves = omega (arith, ap (λ (v : View). length v.log) at.1);
       risen = omega (arith, ap (λ (v : View). v.reach) at.1);
       reach = omega (arith, ap (λ (v : View). v.reach) at.1);
       held_found = λ q. omega (arith, ap (λ (v : View). slice_index v.held_found q) at.1);
@@ -222,7 +237,7 @@ turned-within terms old new goal r (Behind q s) held ended behind moved =
       share = is.still.alike.share;
       splits = is.still.alike.splits;
       seen = is.still.alike.seen;
-      moves = omega (arith, is.still.moves);
+      moves = omega (arith, ap length is.still.log);
       risen = omega (arith, is.still.reach);
       reach = omega (arith, is.still.reach);
       held_found = λ q. omega (arith, ap (λ counts. slice_index counts q) is.still.alike.held_found);
@@ -234,10 +249,19 @@ turned-within terms old new goal r (Moved s) held ended behind moved =
       share = is.alike.share;
       splits = is.alike.splits;
       seen = is.alike.seen;
-      moves = omega (arith, is.moves);
+      moves = omega (arith, ap length is.log);
       risen = omega (arith, is.reach);
       reach = omega (arith, is.reach, is.below);
       held_found = λ q. omega (arith, ap (λ counts. slice_index counts q) is.alike.held_found);
       short_found = omega (arith, is.found.short_found);
       looks = λ q. omega (arith, ap (λ counts. slice_index counts q) is.looks, later-raised old.looks r q);
     }
+
+-- whatever came of a turn, its region was tried
+pub turned-tried : (terms : Terms) (old new : View) (goal r : ℕ) (answer : Turn) → (answer ≡ Held → new ≡ found_taken old r) →
+    ((s : ℕ) → answer ≡ Ended s → (goal ≤ s) × (new ≡ took_at old r s) × (slice_index new.seen r ≡ s) × (slice_index old.seen r ≤ s)) →
+    ((q s : ℕ) → answer ≡ Behind q s → IsBehind terms old new goal r q s) → ((s : ℕ) → answer ≡ Moved s → IsMoved terms old new goal r s) → new.tried ≡ old.tried ++ r ∷ []
+turned-tried terms old new goal r Held held ended behind moved = ap (λ (v : View). v.tried) (held refl)
+turned-tried terms old new goal r (Ended s) held ended behind moved = ap (λ (v : View). v.tried) (ended s refl).1
+turned-tried terms old new goal r (Behind q s) held ended behind moved = (behind q s refl).tried
+turned-tried terms old new goal r (Moved s) held ended behind moved = (moved s refl).tried

@@ -69,5 +69,5 @@ pub laid-stands : (terms : Terms) (words : List ℕ) (regions : List RegionValue
     IsStanding terms (opening words regions (first_view terms))
 laid-stands terms words regions sound lawful laid stand seats =
     opening-stands terms words regions (first_view terms) lawful (laid-opens terms.net.now terms.chart.now terms.start.now terms.every words regions sound laid stand)
-    record { alike = refl; share = refl; seen = refl; moves = refl; reach = refl; holds = refl }
+    record { alike = refl; share = refl; seen = refl; log = refl; reach = refl; holds = refl }
     (λ none. omega (arith, none, seats))

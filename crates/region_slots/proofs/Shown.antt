@@ -1,6 +1,6 @@
 -- A room that shows all regions which stand together is a lawful snapshot.
 use Rattle.std.specs.Prelude.{slice_index}
-use Rattle.std.proofs.Common.{◌≡◌, ℕ, ◌<◌, ◌≤◌, List, [], length, refl, sym, ap, subst, ◌∙◌, arith}
+use Rattle.std.proofs.Common.{◌≡◌, ℕ, ◌+◌, ◌<◌, ◌≤◌, List, [], length, refl, sym, ap, subst, ◌∙◌, arith}
 use Rattle.std.proofs.lemmas.List.{ext_get_or}
 use Rattle.atomic_table.specs.Seated.{TableId}
 use Rattle.network_file.specs.Network.{Network}
@@ -12,6 +12,7 @@ use Rattle.snapshot.specs.Rooms.{IsRoomFor, RoomValue}
 use Rattle.snapshot.specs.Snapshots.{IsSnapshot}
 use Rattle.snapshot.proofs.ShotLaws.{books-kept, snapshot-rooms, snapshot-stand}
 use Rattle.snapshot.proofs.Showing.{shown-before, shown-row, shown-step}
+use Rattle.border_rows.specs.Kinds.{gathered}
 use Rattle.border_rows.specs.declared.view.Terms.{Terms}
 use Rattle.border_rows.specs.declared.view.View.{View}
 use Rattle.region_slots.specs.Closing.{steps_since}
@@ -53,7 +54,7 @@ shown-snapshot terms table seen room field fits shown lawful started =
 
 pub has-shot : (terms : Terms) (table : TableId) (old : View) (me : Mine) (room : RoomValue) → IsTableFor terms table → HasGathered terms old (region_count terms.chart.now.cut) me →
     AreLawful terms.net.now terms.chart.now.cut me.0.seen → ((r : ℕ) → r < region_count terms.chart.now.cut → slice_index terms.start.now.steps r ≤ slice_index me.0.seen r) →
-    IsRoomFor terms.chart.now room → AreShown terms me.0.seen 0 room → HasShot terms old (record me.0 { holds = [] }) room
+    IsRoomFor terms.chart.now room → AreShown terms me.0.seen 0 room → HasShot terms old (record (gathered me.0) { holds = [] }) room
 has-shot terms table old me room field has lawful started fits shown =
     let net : Network = terms.net.now in
     let cut : List ℕ = terms.chart.now.cut in
@@ -64,13 +65,15 @@ has-shot terms table old me room field has lawful started fits shown =
       seen = sym steps;
       later = λ r there. omega (arith, has.unmoved.seen.later r, ap (λ l. slice_index l r) steps);
       looks = has.looks;
+      moments = ap (λ n. n + 1) has.moments.0;
+      moment = sym steps;
       rooms = snapshot-rooms net cut terms.start.now room field.sound field.fits shows;
       recurrences = λ true_start. (snapshot-stand net cut terms.start.now room field.sound field.lawful true_start shows).each;
       books = λ true_start. books-kept net cut room.steps room.rows field.sound (snapshot-stand net cut terms.start.now room field.sound field.lawful true_start shows);
     }
 
 -- what the whole share knows of the steps
-pub whole-shown : (terms : Terms) (view : View) (seen steps : List ℕ) → steps ≡ seen → IsWhole terms view seen → IsWhole terms (record view { holds = [] }) steps
+pub whole-shown : (terms : Terms) (view : View) (seen steps : List ℕ) → steps ≡ seen → IsWhole terms view seen → IsWhole terms (record (gathered view) { holds = [] }) steps
 whole-shown terms view seen steps same whole = record {
   moves = ap (steps_since terms.start.now (region_count terms.chart.now.cut)) same ∙ whole.moves;
   reached = λ r there. omega (arith, whole.reached r there, ap (λ l. slice_index l r) same);

@@ -1,18 +1,19 @@
 -- A look while a seat holds all regions: they stand together at the steps that it has seen.
 use Rattle.std.specs.Prelude.{slice_index, if◌then◌else◌}
-use Rattle.std.proofs.Common.{◌≡◌, ◌<◌, ◌≤◌, ◌+◌, ℕ, [], ◌∷◌, refl, sym, ap, subst, ◌∙◌, arith}
+use Rattle.std.proofs.Common.{◌≡◌, ◌≢◌, ◌<◌, ◌≤◌, ◌+◌, ℕ, [], ◌∷◌, refl, sym, ap, subst, ◌∙◌, arith}
 use Rattle.std.proofs.lemmas.List.{ext_get_or}
 use mathlib.Core.Option.{none, some}
 use lib.ListN.{get_elem?}
 use Rattle.atomic_table.specs.Table.{Allows, keeps, step}
 use Rattle.region_cut.specs.Cuttings.{region_count}
 use Rattle.region_cut.specs.LawfulSteps.{AreLawful}
+use Rattle.border_rows.specs.Kinds.{gathered}
 use Rattle.border_rows.specs.Standing.{FieldState, IsStanding}
 use Rattle.border_rows.specs.Words.{step_of, steps_of}
 use Rattle.border_rows.specs.declared.view.Terms.{Terms}
 use Rattle.border_rows.specs.declared.view.View.{View}
+use Rattle.border_rows.proofs.ClaimKinds.{gathered-keeps}
 use Rattle.border_rows.proofs.LookKinds.{steps_of-at}
-use Rattle.border_rows.proofs.RowKinds.{read-keeps}
 use Rattle.border_rows.proofs.ViewUpdates.{Contains-elem}
 use Rattle.region_slots.specs.Plays.{Gathered, HoldsAll, Mine}
 use Rattle.region_slots.specs.Shooting.{IsWhole}
@@ -38,28 +39,29 @@ whole-steps terms s id view standing at all = record {
   reached = λ r there. omega (arith, whole_reach terms s id r view standing at all there, steps_of-at terms.chart.now s.words r there);
 }
 
-pub gathering : (terms : Terms) (slots id place : ℕ) (me : Mine) → me.0.terms ≡ terms ∷ [] →
+pub gathering : (terms : Terms) (slots id place : ℕ) (me : Mine) → me.0.terms ≡ terms ∷ [] → me.0.share ≢ 0 → HoldsAll terms me.0 →
     Allows (IsStanding terms) slots id me place (λ n. n) (Gathered (step slots place 0 0 none) me)
-gathering terms slots id place me of_field = λ s standing long at small. (
-  me.0,
+gathering terms slots id place me of_field some_share all = λ s standing long at small. (
+  gathered me.0,
   keeps,
   tt,
-  read-keeps terms s place id me.1 me.0 standing at,
+  gathered-keeps terms s place id me.1 me.0 standing at some_share,
   record {
-    same = refl;
-    lawful = λ other r region all.
+    one_more = refl;
+    all = λ other r region. subst (λ (t : Terms). HoldsAll t me.0) (sym (same-terms me.0 terms other of_field region.of_field)) all;
+    lawful = λ other r region.
         let one : other ≡ terms = same-terms me.0 terms other of_field region.of_field in
-        let seen = seen-steps terms s id me.0 standing at (subst (λ (t : Terms). HoldsAll t me.0) one all) in
+        let seen = seen-steps terms s id me.0 standing at all in
         subst (λ (t : Terms). AreLawful t.net.now t.chart.now.cut me.0.seen) (sym one) (subst (AreLawful terms.net.now terms.chart.now.cut) (sym seen) standing.steps.lawful);
-    started = λ other r region all.
+    started = λ other r region.
         let one : other ≡ terms = same-terms me.0 terms other of_field region.of_field in
         let there : r < region_count terms.chart.now.cut = rw one at region.there in
-        let seen = seen-steps terms s id me.0 standing at (subst (λ (t : Terms). HoldsAll t me.0) one all) in
+        let seen = seen-steps terms s id me.0 standing at all in
         subst (λ (t : Terms). slice_index t.start.now.steps r ≤ slice_index me.0.seen r) (sym one)
         (omega (arith, standing.steps.started r there, ap (λ l. slice_index l r) seen, steps_of-at terms.chart.now s.words r there));
-    whole = λ other r region all share.
+    whole = λ other r region share.
         let one : other ≡ terms = same-terms me.0 terms other of_field region.of_field in
-        let seen = seen-steps terms s id me.0 standing at (subst (λ (t : Terms). HoldsAll t me.0) one all) in
+        let seen = seen-steps terms s id me.0 standing at all in
         subst (λ (t : Terms). IsWhole t me.0 me.0.seen) (sym one)
         (subst (IsWhole terms me.0) (sym seen) (whole-steps terms s id me.0 standing at (share ∙ ap (λ (t : Terms). t.seats) one)));
   },

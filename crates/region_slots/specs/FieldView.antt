@@ -44,6 +44,7 @@ pub record HasCounts (count : ℕ) (view : View) : Type 0 where
   pub seen : length view.seen ≡ count
   pub held_found : length view.held_found ≡ count
   pub looks : length view.looks ≡ count
+  pub takes : length view.takes ≡ count
 
 -- what a view has seen of the regions of a field lies within its steps
 abbrev pub HasSeenInTime : Terms → View → Type 0

@@ -13,7 +13,7 @@ use Rattle.region_slots.specs.Shooting.{IsUnmoved}
 
 -- a region's claim word was found taken so many times
 pub record HasTried (old new : View) (r tries : ℕ) : Type 0 where
-  pub same : new ≡ record old { held_found = new.held_found }
+  pub same : new ≡ record old { held_found = new.held_found; tried = new.tried }
   pub long : length new.held_found ≡ length old.held_found
   pub own : slice_index new.held_found r ≡ slice_index old.held_found r + tries
   pub others : (q : ℕ) → q ≢ r → slice_index new.held_found q ≡ slice_index old.held_found q
@@ -33,6 +33,7 @@ AreCarried terms seen (suc r) carried =
 -- a seat that holds so many regions, and had this view before
 pub record HasGathered (terms : Terms) (old : View) (count : ℕ) (me : Mine) : Type 0 where
   pub unmoved : IsUnmoved old me.0
+  pub moments : (me.0.moments ≡ old.moments) × (me.0.moment ≡ old.moment)
   pub counts : HasCounts (region_count terms.chart.now.cut) me.0
   pub in_time : HasSeenInTime terms me.0
   pub holds : me.0.holds ≡ held_to me.0.seen count
@@ -44,6 +45,7 @@ pub record HasGathered (terms : Terms) (old : View) (count : ℕ) (me : Mine) : 
 -- and has found the next one taken at each of its tries
 pub record HasStopped (terms : Terms) (old : View) (r tries : ℕ) (me : Mine) : Type 0 where
   pub unmoved : IsUnmoved old me.0
+  pub moments : (me.0.moments ≡ old.moments) × (me.0.moment ≡ old.moment)
   pub counts : HasCounts (region_count terms.chart.now.cut) me.0
   pub in_time : HasSeenInTime terms me.0
   pub holds : me.0.holds ≡ held_to me.0.seen r

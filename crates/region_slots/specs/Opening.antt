@@ -9,12 +9,16 @@ first_view terms = record {
   terms = terms ∷ [];
   share = terms.seats;
   seen = terms.start.now.steps;
-  moves = 0;
+  log = [];
   reach = 0;
   splits = 0;
   held_found = map (λ s. 0) terms.start.now.steps;
   short_found = 0;
   last_short = record { region = 0; neighbour = 0; step = 0 };
   looks = map (λ s. 0) terms.start.now.steps;
+  takes = map (λ s. 0) terms.start.now.steps;
+  tried = [];
+  moments = 0;
+  moment = [];
   holds = [];
 }

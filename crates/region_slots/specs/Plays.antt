@@ -8,7 +8,7 @@ use Rattle.region_step.specs.Grid.{grid_held}
 use Rattle.region_step.specs.Region.{RegionValue}
 use Rattle.region_step.specs.Standing.{Stands}
 use Rattle.atomic_table.specs.Table.{Me, Step, rest}
-use Rattle.border_rows.specs.Kinds.{cleared, found_at, found_short, found_taken, freed, fresh, looked, published, taken, wrote}
+use Rattle.border_rows.specs.Kinds.{cleared, found_at, found_short, found_taken, freed, fresh, gathered, looked, published, taken, wrote}
 use Rattle.border_rows.specs.Places.{claim_place, row_place, step_place, width_at, widths_of}
 use Rattle.border_rows.specs.Words.{border_cell}
 use Rattle.border_rows.specs.declared.view.Hold.{Hold}
@@ -96,9 +96,11 @@ pub record Bounded (step : Step RegionValue) (old : Mine) (found : ℕ) (new : M
   pub same : new ≡ old
   pub whole : (terms : Terms) (r : ℕ) → IsRegion old.0 terms r → old.0.share ≡ terms.seats → slice_index old.0.seen r ≤ max (slice_index terms.start.now.steps r) old.0.reach
 
--- a look at any word while the seat holds all regions: they stand together at the steps that it has seen
+-- a look at any word, which only a seat that holds all regions takes: they stand together at the steps that it has seen, and
+-- this is one moment more of it
 pub record Gathered (step : Step RegionValue) (old : Mine) (found : ℕ) (new : Mine) : Type 0 where
-  pub same : new ≡ old
-  pub lawful : (terms : Terms) (r : ℕ) → IsRegion old.0 terms r → HoldsAll terms old.0 → AreLawful terms.net.now terms.chart.now.cut old.0.seen
-  pub started : (terms : Terms) (r : ℕ) → IsRegion old.0 terms r → HoldsAll terms old.0 → slice_index terms.start.now.steps r ≤ slice_index old.0.seen r
-  pub whole : (terms : Terms) (r : ℕ) → IsRegion old.0 terms r → HoldsAll terms old.0 → old.0.share ≡ terms.seats → IsWhole terms old.0 old.0.seen
+  pub one_more : new ≡ (gathered old.0, old.1)
+  pub all : (terms : Terms) (r : ℕ) → IsRegion old.0 terms r → HoldsAll terms old.0
+  pub lawful : (terms : Terms) (r : ℕ) → IsRegion old.0 terms r → AreLawful terms.net.now terms.chart.now.cut old.0.seen
+  pub started : (terms : Terms) (r : ℕ) → IsRegion old.0 terms r → slice_index terms.start.now.steps r ≤ slice_index old.0.seen r
+  pub whole : (terms : Terms) (r : ℕ) → IsRegion old.0 terms r → old.0.share ≡ terms.seats → IsWhole terms old.0 old.0.seen

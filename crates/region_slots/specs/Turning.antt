@@ -1,12 +1,12 @@
 -- What the parts of a turn leave.
-use Rattle.std.specs.Prelude.{◌≡◌, ℕ, ◌+◌, ◌<◌, ◌≤◌, Some, None, true, length, max, slice_index, slice_index_or}
+use Rattle.std.specs.Prelude.{◌≡◌, ℕ, ◌+◌, ◌<◌, ◌≤◌, [], ◌∷◌, ◌++◌, Some, None, true, length, max, slice_index, slice_index_or}
 use Rattle.std.specs.List.{Contains}
 use Rattle.region_cut.specs.Joins.{are_neighbours}
 use Rattle.region_step.specs.Grid.{grid_held}
 use Rattle.region_step.specs.Laws.{grid_state}
 use Rattle.region_step.specs.Opened.{IsIn, halo_cells}
 use Rattle.region_step.specs.Region.{RegionValue}
-use Rattle.border_rows.specs.Kinds.{later_of, raised, with_first}
+use Rattle.border_rows.specs.Kinds.{later_of, looked, raised, with_first}
 use Rattle.border_rows.specs.declared.view.Hold.{Hold}
 use Rattle.border_rows.specs.declared.view.Terms.{Terms}
 use Rattle.border_rows.specs.declared.view.View.{View}
@@ -49,18 +49,23 @@ pub record IsAlike (old new : View) : Type 0 where
   pub share : new.share ≡ old.share
   pub splits : new.splits ≡ old.splits
   pub held_found : new.held_found ≡ old.held_found
+  pub moments : (new.moments ≡ old.moments) × (new.moment ≡ old.moment)
   pub seen : IsLater old new
 
 -- nothing was published
 pub record IsStill (old new : View) : Type 0 where
   pub alike : IsAlike old new
-  pub moves : new.moves ≡ old.moves
+  pub log : new.log ≡ old.log
   pub reach : new.reach ≡ old.reach
 
 -- and no neighbour was found a step lower
 pub record HasFound (old new : View) : Type 0 where
   pub short_found : new.short_found ≡ old.short_found
   pub last_short : new.last_short ≡ old.last_short
+
+-- region r was taken, and its step t looked at
+abbrev pub took_at : View → (r t : ℕ) → View
+took_at view r t = record (looked view r t) { takes = raised view.takes r; tried = view.tried ++ r ∷ [] }
 
 -- so many words of the row of the step to come are written
 abbrev pub wrote_many : View → (n : ℕ) → View
@@ -71,6 +76,8 @@ pub record HasLooked (old new : View) (hold : Hold) : Type 0 where
   pub still : IsStill old new
   pub found : HasFound old new
   pub looks : new.looks ≡ old.looks
+  pub takes : new.takes ≡ old.takes
+  pub tried : new.tried ≡ old.tried
   pub later : later_of new.holds ≡ later_of old.holds
   pub now : Hold
   pub works : IsWorkingAt new now
@@ -82,6 +89,8 @@ pub record HasLooked (old new : View) (hold : Hold) : Type 0 where
 pub record HasFallenShort (old new : View) (r q s : ℕ) : Type 0 where
   pub still : IsStill old new
   pub looks : new.looks ≡ old.looks
+  pub takes : new.takes ≡ old.takes
+  pub tried : new.tried ≡ old.tried
   pub later : later_of new.holds ≡ later_of old.holds
   pub one_more : new.short_found ≡ old.short_found + 1
   pub last : new.last_short ≡ record { region = r; neighbour = q; step = s }
@@ -95,6 +104,8 @@ pub record IsBehind (terms : Terms) (old new : View) (goal r q s : ℕ) : Type 0
   pub beside : are_neighbours terms.net.now.connectors terms.chart.now.cut r q ≡ true
   pub still : IsStill old new
   pub looks : new.looks ≡ raised old.looks r
+  pub takes : new.takes ≡ raised old.takes r
+  pub tried : new.tried ≡ old.tried ++ r ∷ []
   pub one_more : new.short_found ≡ old.short_found + 1
   pub last : new.last_short ≡ record { region = r; neighbour = q; step = s }
   pub below : s + 1 < goal
@@ -106,19 +117,22 @@ pub record IsMoved (terms : Terms) (old new : View) (goal r s : ℕ) : Type 0 wh
   pub alike : IsAlike old new
   pub found : HasFound old new
   pub looks : new.looks ≡ raised old.looks r
-  pub moves : new.moves ≡ old.moves + 1
+  pub takes : new.takes ≡ raised old.takes r
+  pub tried : new.tried ≡ old.tried ++ r ∷ []
+  pub log : new.log ≡ record { region = r; step = s } ∷ old.log
   pub reach : new.reach ≡ max old.reach s
   pub below : s ≤ goal
   pub own : slice_index old.seen r + 1 ≤ s
   pub seen : slice_index new.seen r ≡ s
   pub around : (q : ℕ) → are_neighbours terms.net.now.connectors terms.chart.now.cut r q ≡ true → s ≤ slice_index new.seen q + 1
 
--- what every turn keeps of a pass: its share, its splits, what it has seen, and that it has published nothing past goal
+-- what every turn keeps of a pass: its share, its splits, what it has seen and published, and that it has published nothing
+-- past goal
 pub record IsWithin (old new : View) (goal : ℕ) : Type 0 where
   pub share : new.share ≡ old.share
   pub splits : new.splits ≡ old.splits
   pub seen : IsLater old new
-  pub moves : old.moves ≤ new.moves
+  pub moves : length old.log ≤ length new.log
   pub risen : old.reach ≤ new.reach
   pub reach : new.reach ≤ max old.reach goal
   pub held_found : (q : ℕ) → slice_index old.held_found q ≤ slice_index new.held_found q

@@ -13,7 +13,7 @@ impl<'a> Field<'a> {
     ghost use Rattle.region_cut.specs.Cuttings.{region_count};
     ghost use Rattle.region_cut.specs.LawfulSteps.{AreLawful};
     ghost use Rattle.region_step.specs.Standing.{AllStand};
-    ghost use Rattle.region_slots.specs.Closing.{steps_since};
+    ghost use Rattle.region_slots.specs.Closing.{AreLogged, steps_since};
     ghost use Rattle.region_slots.specs.FieldView.{IsPassOf};
 
     /// Closes the field with the pass that has all of its seats, and gives its regions. It takes no memory.
@@ -27,7 +27,8 @@ impl<'a> Field<'a> {
         ensures started { (r : ℕ) → r < region_count self.entry.terms.chart.now.cut → slice_index self.entry.terms.start.now.steps r ≤ slice_index result.steps.items r }
         ensures later { (r : ℕ) → r < region_count self.entry.terms.chart.now.cut → slice_index pass.knows.seen r ≤ slice_index result.steps.items r }
         ensures reached { (r : ℕ) → r < region_count self.entry.terms.chart.now.cut → slice_index result.steps.items r ≤ max (slice_index self.entry.terms.start.now.steps r) pass.knows.reach }
-        ensures moves { steps_since self.entry.terms.start.now (region_count self.entry.terms.chart.now.cut) result.steps.items ≡ pass.knows.moves }
+        ensures moves { steps_since self.entry.terms.start.now (region_count self.entry.terms.chart.now.cut) result.steps.items ≡ length pass.knows.log }
+        ensures logged { AreLogged self.entry.terms.start.now (region_count self.entry.terms.chart.now.cut) result.steps.items pass.knows.log }
     {
         let Field {
             net: _,

@@ -19,7 +19,7 @@ impl<'a> Field<'a> {
     ghost use Rattle.region_step.specs.Region.{RegionValue};
     ghost use Rattle.region_step.specs.Standing.{Stands};
     ghost use Rattle.snapshot.specs.Rooms.{IsRoomFor, ShowsRegion, StaysBeside};
-    ghost use Rattle.border_rows.specs.Kinds.{taken};
+    ghost use Rattle.border_rows.specs.Kinds.{gathered, taken};
     ghost use Rattle.border_rows.specs.declared.view.Hold.{Hold};
     ghost use Rattle.border_rows.specs.declared.view.View.{View as ViewValue};
     ghost use Rattle.region_slots.specs.FieldView.{HasCounts, IsSeatOf};
@@ -64,7 +64,7 @@ impl<'a> Field<'a> {
         if !self.takes_within(seat, region, tries, &mut pauses) {
             return false;
         }
-        self.learns(seat, region);
+        self.load_own_step(seat, region);
         true
     }
 
@@ -92,7 +92,7 @@ impl<'a> Field<'a> {
     {
         let mut failed = 0;
         while failed < tries {
-            if self.takes(seat, region) {
+            if self.try_claim(seat, region) {
                 return true;
             }
             failed += 1;
@@ -103,11 +103,12 @@ impl<'a> Field<'a> {
         false
     }
 
-    /// Tells that the regions, which the seat holds all, stand together at the steps that it has seen.
+    /// Tells that the regions, which the seat holds all, stand together at the steps that it has seen: one moment more of it.
     pub(crate) fn sees_together(&self, seat: &mut Seat<Region, View<'static>>)
         requires seat { IsSeatOf self.now seat.old }
         requires gathered { (old : ViewValue) × HasGathered self.now.terms old (region_count self.now.terms.chart.now.cut) seat.old.me }
-        ensures same { (seat.new.id ≡ seat.old.id) × (seat.new.table_id ≡ seat.old.table_id) × (seat.new.me ≡ seat.old.me) }
+        ensures same { (seat.new.id ≡ seat.old.id) × (seat.new.table_id ≡ seat.old.table_id) }
+        ensures moment { seat.new.me ≡ (gathered seat.old.me.0, seat.old.me.1) }
         ensures lawful { AreLawful self.now.terms.net.now self.now.terms.chart.now.cut seat.old.me.0.seen }
         ensures started { (r : ℕ) → r < region_count self.now.terms.chart.now.cut → slice_index self.now.terms.start.now.steps r ≤ slice_index seat.old.me.0.seen r }
         ensures whole { seat.old.me.0.share ≡ self.now.terms.seats → IsWhole self.now.terms seat.old.me.0 seat.old.me.0.seen }
@@ -161,7 +162,7 @@ impl<'a> Field<'a> {
         let mut left = count;
         while left > 0 {
             left -= 1;
-            self.frees(seat, left);
+            self.free(seat, left);
         }
     }
 }

@@ -50,7 +50,7 @@ impl<'a> Field<'a> {
         let halo = self.chart.halo(region);
         for j in 0..halo.len() {
             let other = halo[j];
-            let n = self.reads(seat, other.region, step, other.place);
+            let n = self.load_border_word(seat, other.region, step, other.place);
             self.puts(seat, region, j as u32, n);
         }
     }
@@ -109,7 +109,7 @@ impl<'a> Field<'a> {
         let border = self.chart.border(region);
         for j in 0..border.len() {
             let n = self.holds_now(seat, region, step, j as u32);
-            self.writes(seat, region, step, j as u32, n);
+            self.store_border_word(seat, region, step, j as u32, n);
         }
     }
 
@@ -134,7 +134,7 @@ impl<'a> Field<'a> {
         let neighbours = self.chart.neighbours(region);
         for k in 0..neighbours.len() {
             let q = neighbours[k];
-            let s = self.compares(seat, q);
+            let s = self.load_neighbour_step(seat, q);
             if s < step {
                 return Some((q, s));
             }
@@ -163,7 +163,7 @@ impl<'a> Field<'a> {
         self.tells(seat, region, step);
         self.advances(seat, region, step);
         self.fills(seat, region, step + 1);
-        self.publishes(seat, region, step + 1);
-        self.frees(seat, region);
+        self.publish_step(seat, region, step + 1);
+        self.free(seat, region);
     }
 }

@@ -21,7 +21,7 @@ impl<'a> Field<'a> {
     ghost use Rattle.region_slots.specs.FieldView.{HasSeenInTime, IsSeatOf, IsWorkingAt};
 
     /// Tries to take a region, and gives whether the seat has it now.
-    pub(crate) fn takes(&self, seat: &mut Seat<Region, View<'static>>, region: u32) -> bool
+    pub(crate) fn try_claim(&self, seat: &mut Seat<Region, View<'static>>, region: u32) -> bool
         requires seat { IsSeatOf self.now seat.old }
         requires there { region < region_count self.now.terms.chart.now.cut }
         requires others { (hold : Hold) → Contains seat.old.me.0.holds hold → hold.region ≢ region }
@@ -41,7 +41,7 @@ impl<'a> Field<'a> {
     }
 
     /// The step of the region just taken, whose state is the seat's now.
-    pub(crate) fn learns(&self, seat: &mut Seat<Region, View<'static>>, region: u32) -> u64
+    pub(crate) fn load_own_step(&self, seat: &mut Seat<Region, View<'static>>, region: u32) -> u64
         requires seat { IsSeatOf self.now seat.old }
         requires there { region < region_count self.now.terms.chart.now.cut }
         requires fresh { (later : List Hold) × (seat.old.me.0.holds ≡ fresh region ∷ later) }
@@ -57,7 +57,7 @@ impl<'a> Field<'a> {
     }
 
     /// The step of a neighbour of the region held last.
-    pub(crate) fn compares(&self, seat: &mut Seat<Region, View<'static>>, neighbour: u32) -> u64
+    pub(crate) fn load_neighbour_step(&self, seat: &mut Seat<Region, View<'static>>, neighbour: u32) -> u64
         requires seat { IsSeatOf self.now seat.old }
         requires working { (hold : Hold) × IsWorkingAt seat.old.me.0 hold
             × (are_neighbours self.now.terms.net.now.connectors self.now.terms.chart.now.cut hold.region neighbour ≡ true) }
@@ -72,7 +72,7 @@ impl<'a> Field<'a> {
     }
 
     /// What the border cell of a cleared neighbour holds at the step of the region held last.
-    pub(crate) fn reads(
+    pub(crate) fn load_border_word(
         &self,
         seat: &mut Seat<Region, View<'static>>,
         neighbour: u32,
@@ -91,7 +91,7 @@ impl<'a> Field<'a> {
     }
 
     /// Writes what border cell `j` of the region held last holds at the step to come, which is the next word of its row.
-    pub(crate) fn writes(
+    pub(crate) fn store_border_word(
         &self,
         seat: &mut Seat<Region, View<'static>>,
         region: u32,
@@ -112,7 +112,7 @@ impl<'a> Field<'a> {
     }
 
     /// Publishes the step to come of the region held last, whose row is whole.
-    pub(crate) fn publishes(&self, seat: &mut Seat<Region, View<'static>>, region: u32, step: u64)
+    pub(crate) fn publish_step(&self, seat: &mut Seat<Region, View<'static>>, region: u32, step: u64)
         requires seat { IsSeatOf self.now seat.old }
         requires working { (hold : Hold) × IsWorkingAt seat.old.me.0 hold × (hold.region ≡ region) × (hold.step + 1 ≡ step)
             × (hold.written ≡ width_at (widths_of self.now.terms.chart.now) region)
@@ -130,7 +130,7 @@ impl<'a> Field<'a> {
     }
 
     /// Gives the region held last back, with its state at the step that it has published.
-    pub(crate) fn frees(&self, seat: &mut Seat<Region, View<'static>>, region: u32)
+    pub(crate) fn free(&self, seat: &mut Seat<Region, View<'static>>, region: u32)
         requires seat { IsSeatOf self.now seat.old }
         requires there { region < region_count self.now.terms.chart.now.cut }
         requires state { (hold : Hold) × (later : List Hold) × (state : RegionValue) × (others : List (ℕ × RegionValue)) × (seat.old.me.0.holds ≡ hold ∷ later) × (hold.region ≡ region)

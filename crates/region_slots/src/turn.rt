@@ -18,26 +18,29 @@ pub enum Turn {
 }
 
 impl<'a> Field<'a> {
-    ghost use Rattle.std.specs.Prelude.{◌≡◌, ◌≢◌, ◌<◌, ◌≤◌, ℕ, [], slice_index};
+    ghost use Rattle.std.specs.Prelude.{◌≡◌, ◌≢◌, ◌+◌, ◌<◌, ◌≤◌, ℕ, [], ◌∷◌, ◌++◌, slice_index};
     ghost use Rattle.region_cut.specs.Cuttings.{region_count};
-    ghost use Rattle.border_rows.specs.Kinds.{found_taken, looked};
+    ghost use Rattle.border_rows.specs.Kinds.{found_taken};
     ghost use Rattle.region_slots.specs.FieldView.{HasSeenInTime, IsIdle, IsPassOf, IsSeatOf};
-    ghost use Rattle.region_slots.specs.Turning.{IsBehind, IsMoved, IsWithin};
+    ghost use Rattle.region_slots.specs.Turning.{IsBehind, IsMoved, IsWithin, took_at};
     ghost use Rattle.region_slots.specs.declared.turn.Turn.TheVariants.{Behind, Ended, Held, Moved};
 
     /// A turn on a region: it is taken, and where it stands below the goal and no neighbour stands a step lower it is
-    /// taken through its step. Then it is free again.
+    /// taken through its step, and the observer is told. Then it is free again.
     pub fn turn<G: Gate>(&self, pass: &mut Pass, region: u32, goal: u64, gate: &G) -> Turn
         requires belongs { IsPassOf self.now pass.old }
         requires there { region < region_count self.now.terms.chart.now.cut }
         requires in_time { goal ≤ self.now.terms.net.now.steps }
         ensures belongs { IsPassOf self.now pass.new × (pass.new.id ≡ pass.old.id) }
         ensures keeps { IsWithin pass.old.knows pass.new.knows goal }
+        ensures tried { pass.new.knows.tried ≡ pass.old.knows.tried ++ region ∷ [] }
         ensures held { result ≡ Held → pass.new.knows ≡ found_taken pass.old.knows region }
         ensures never_whole { pass.old.knows.share ≡ self.now.terms.seats → result ≢ Held }
-        ensures ended { (s : ℕ) → result ≡ Ended s → (goal ≤ s) × (pass.new.knows ≡ looked pass.old.knows region s) × (slice_index pass.new.knows.seen region ≡ s) × (slice_index pass.old.knows.seen region ≤ s) }
+        ensures ended { (s : ℕ) → result ≡ Ended s → (goal ≤ s) × (pass.new.knows ≡ took_at pass.old.knows region s) × (slice_index pass.new.knows.seen region ≡ s) × (slice_index pass.old.knows.seen region ≤ s) }
         ensures behind { (q s : ℕ) → result ≡ Behind q s → IsBehind self.now.terms pass.old.knows pass.new.knows goal region q s }
         ensures moved { (s : ℕ) → result ≡ Moved s → IsMoved self.now.terms pass.old.knows pass.new.knows goal region s }
+        ensures told_behind { (q s : ℕ) → result ≡ Behind q s → G.told_held gate.now region (s + 1) }
+        ensures told_moved { (s : ℕ) → result ≡ Moved (s + 1) → G.told_held gate.now region s × G.told_freed gate.now region (s + 1) }
     {
         self.tries(&mut pass.seat, region, goal, gate)
     }
@@ -60,21 +63,23 @@ impl<'a> Field<'a> {
         ensures seen_in_time { HasSeenInTime self.now.terms seat.new.me.0 }
         ensures held { result ≡ Held → seat.new.me.0 ≡ found_taken seat.old.me.0 region }
         ensures never_whole { seat.old.me.0.share ≡ self.now.terms.seats → result ≢ Held }
-        ensures ended { (s : ℕ) → result ≡ Ended s → (goal ≤ s) × (seat.new.me.0 ≡ looked seat.old.me.0 region s) × (slice_index seat.new.me.0.seen region ≡ s) × (slice_index seat.old.me.0.seen region ≤ s) }
+        ensures ended { (s : ℕ) → result ≡ Ended s → (goal ≤ s) × (seat.new.me.0 ≡ took_at seat.old.me.0 region s) × (slice_index seat.new.me.0.seen region ≡ s) × (slice_index seat.old.me.0.seen region ≤ s) }
         ensures behind { (q s : ℕ) → result ≡ Behind q s → IsBehind self.now.terms seat.old.me.0 seat.new.me.0 goal region q s }
         ensures moved { (s : ℕ) → result ≡ Moved s → IsMoved self.now.terms seat.old.me.0 seat.new.me.0 goal region s }
+        ensures told_behind { (q s : ℕ) → result ≡ Behind q s → G.told_held gate.now region (s + 1) }
+        ensures told_moved { (s : ℕ) → result ≡ Moved (s + 1) → G.told_held gate.now region s × G.told_freed gate.now region (s + 1) }
     {
-        if !self.takes(seat, region) {
+        if !self.try_claim(seat, region) {
             return Turn::Held;
         }
-        let step = self.learns(seat, region);
+        let step = self.load_own_step(seat, region);
         if goal <= step {
-            self.frees(seat, region);
+            self.free(seat, region);
             return Turn::Ended { step };
         }
         gate.held(region, step);
         if let Some((neighbour, s)) = self.clears(seat, region, step) {
-            self.frees(seat, region);
+            self.free(seat, region);
             return Turn::Behind { neighbour, step: s };
         }
         self.rises(seat, region, step);

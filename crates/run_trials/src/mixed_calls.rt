@@ -66,6 +66,14 @@ impl Found {
 // Whoever has brought a region half the way waits for a while until a shot was taken on the way. No region gets past a
 // neighbour that isn't there yet, so that none is at the end before.
 impl Gate for Found {
+    ghost use Rattle.std.specs.Prelude.{⊤};
+
+    ghost told_held = { λ gate region step. ⊤ };
+
+    ghost told_freed = { λ gate region step. ⊤ };
+
+    ghost told_watched = { λ gate done. ⊤ };
+
     fn held(&self, region: u32, step: u64) {}
 
     fn freed(&self, region: u32, step: u64) {

@@ -1,6 +1,7 @@
 ghost use Rattle.std.specs.Prelude.{◌≡◌, ◌<◌, ◌≤◌};
 ghost use Rattle.region_cut.specs.Cuttings.{region_count};
 ghost use Rattle.region_slots.specs.FieldView.{IsPassOf};
+ghost use Rattle.worker_claim.specs.Telling.{AreTold};
 ghost use Rattle.sweeping_crew.specs.Driving.{HasDriven};
 
 use region_slots::{Field, Gate, Pass, Pauses};
@@ -20,7 +21,8 @@ pub fn drive<G: Gate>(
     requires there { first < region_count field.now.terms.chart.now.cut }
     requires in_time { goal ≤ field.now.terms.net.now.steps }
     ensures belongs { IsPassOf field.now pass.new × (pass.new.id ≡ pass.old.id) }
-    ensures driven { HasDriven (region_count field.now.terms.chart.now.cut) goal sweeps pass.old.knows pass.new.knows result }
+    ensures driven { HasDriven (region_count field.now.terms.chart.now.cut) goal sweeps first pass.old.knows pass.new.knows result }
+    ensures told { AreTold (G.told_held gate.now) (G.told_freed gate.now) pass.old.knows.log pass.new.knows.log }
 {
     let mut pauses = Pauses::none();
     drive_pausing(field, pass, goal, sweeps, first, gate, &mut pauses)
@@ -41,7 +43,8 @@ fn drive_pausing<G: Gate>(
     requires in_time { goal ≤ field.now.terms.net.now.steps }
     requires none { pauses.old ≡ 0 }
     ensures belongs { IsPassOf field.now pass.new × (pass.new.id ≡ pass.old.id) }
-    ensures driven { HasDriven (region_count field.now.terms.chart.now.cut) goal sweeps pass.old.knows pass.new.knows result }
+    ensures driven { HasDriven (region_count field.now.terms.chart.now.cut) goal sweeps first pass.old.knows pass.new.knows result }
+    ensures told { AreTold (G.told_held gate.now) (G.told_freed gate.now) pass.old.knows.log pass.new.knows.log }
     ensures paused { pauses.new ≤ sweeps }
 {
     let _regions = field.regions();

@@ -1,7 +1,8 @@
-ghost use Rattle.std.specs.Prelude.{◌≡◌, ◌≤◌};
+ghost use Rattle.std.specs.Prelude.{◌≡◌, ◌≤◌, false, true};
 ghost use Rattle.std.specs.Thread.{IsSync};
 ghost use Rattle.region_slots.specs.FieldView.{IsPassOf};
 ghost use Rattle.snapshot.specs.Rooms.{IsRoomFor};
+ghost use Rattle.worker_claim.specs.Telling.{AreMembersTold};
 ghost use Rattle.worker_claim.specs.Watching.{IsWatched};
 ghost use Rattle.sweeping_crew.specs.Members.{AreDriven, AreMembersOf};
 
@@ -31,17 +32,19 @@ pub fn crew_watch<R: Threads + Sync, G: Gate>(
     requires in_time { goal ≤ field.now.terms.net.now.steps }
     ensures watched { IsWatched field.now tries watcher.old watcher.new room.old room.new result }
     ensures driven { AreDriven field.now goal sweeps members.old members.new }
+    ensures told { AreMembersTold (G.told_held gate.now) (G.told_freed gate.now) members.old members.new }
+    ensures told_shot { G.told_watched gate.now false × G.told_watched gate.now true }
 {
     let mut shooting = || -> Shot
         requires { IsPassOf field.now watcher.now × IsRoomFor field.now.terms.chart.now room.now × (1 ≤ tries) }
-        ensures { IsWatched field.entry.now tries watcher.entry.now watcher.exit.now room.entry.now room.exit.now result }
+        ensures { IsWatched field.entry.now tries watcher.entry.now watcher.exit.now room.entry.now room.exit.now result × G.told_watched gate.entry.now false × G.told_watched gate.entry.now true }
     {
         let (field, tries, gate) = (field, tries, gate);
         watch(field, watcher, room, tries, gate)
     };
     let mut driving = ||
         requires { IsSync R.row × AreMembersOf field.now members.now × (goal ≤ field.now.terms.net.now.steps) }
-        ensures { AreDriven field.entry.now goal sweeps members.entry.now members.exit.now }
+        ensures { AreDriven field.entry.now goal sweeps members.entry.now members.exit.now × AreMembersTold (G.told_held gate.entry.now) (G.told_freed gate.entry.now) members.entry.now members.exit.now }
     {
         let (rt, field, goal, sweeps, gate) = (rt, field, goal, sweeps, gate);
         crew(rt, field, members, goal, sweeps, gate)

@@ -59,6 +59,14 @@ fn meet(own: &AtomicU64, other: &AtomicU64, met: &AtomicU64) {
 }
 
 impl Gate for Meeting {
+    ghost use Rattle.std.specs.Prelude.{⊤};
+
+    ghost told_held = { λ gate region step. ⊤ };
+
+    ghost told_freed = { λ gate region step. ⊤ };
+
+    ghost told_watched = { λ gate done. ⊤ };
+
     fn held(&self, region: u32, step: u64) {
         if region < 4 && step < 64 {
             let noted = &self.noted[region as usize];

@@ -6,12 +6,12 @@ use Rattle.std.proofs.lemmas.Bool.{cases_eq, cases_lt}
 use Rattle.std.proofs.lemmas.List.{get_or-set_other, get_or-set_same}
 use Rattle.std.proofs.lemmas.List.Sums.{sum_by-set}
 use Rattle.region_cut.specs.Cuttings.{region_count}
-use Rattle.border_rows.specs.Kinds.{found_taken, looked, raised}
+use Rattle.border_rows.specs.Kinds.{found_taken, raised}
 use Rattle.border_rows.specs.declared.view.Terms.{Terms}
 use Rattle.border_rows.specs.declared.view.View.{View}
 use Rattle.border_rows.proofs.Keeping.{neighbours-there}
 use Rattle.region_slots.specs.FieldView.{HasCounts}
-use Rattle.region_slots.specs.Turning.{IsBehind, IsMoved, IsWithin}
+use Rattle.region_slots.specs.Turning.{IsBehind, IsMoved, IsWithin, took_at}
 use Rattle.region_slots.specs.declared.turn.Turn.{Turn}
 use Rattle.region_slots.specs.declared.turn.Turn.TheVariants.{Behind, Ended, Held, Moved}
 use Rattle.worker_claim.specs.Driving.{tries_at, tries_of}
@@ -101,7 +101,7 @@ turned-none terms view from goal = record {
 
 -- a turn on one region
 turned-at : (terms : Terms) (old new : View) (goal r : ℕ) (driven : Driven) → r < region_count terms.chart.now.cut → IsWithin old new goal → IsTried old new r → turns_of driven ≡ 1 →
-    new.moves ≡ old.moves + driven.moved → sum new.held_found ≡ sum old.held_found + driven.held → new.short_found ≡ old.short_found + driven.behind → (driven.ended ≢ 0 → goal ≤ slice_index new.seen r) →
+    length new.log ≡ length old.log + driven.moved → sum new.held_found ≡ sum old.held_found + driven.held → new.short_found ≡ old.short_found + driven.behind → (driven.ended ≢ 0 → goal ≤ slice_index new.seen r) →
     (driven.behind ≢ 0 → IsShort terms old new goal r) → (old.share ≡ terms.seats → driven.held ≡ 0) → (driven.moved ≢ 0 → (slice_index old.seen r < goal) × (slice_index old.seen r < slice_index new.seen r)) → Came terms old new goal r driven →
     HasTurned terms old new r (r + 1) goal driven
 turned-at terms old new goal r driven there keeps tried one moved held behind ended short never risen came = record {
@@ -127,7 +127,7 @@ turned-at terms old new goal r driven there keeps tried one moved held behind en
 
 pub turned-one : (terms : Terms) (old new : View) (goal r : ℕ) (answer : Turn) → r < region_count terms.chart.now.cut → HasCounts (region_count terms.chart.now.cut) old → IsWithin old new goal →
     (answer ≡ Held → new ≡ found_taken old r) → (old.share ≡ terms.seats → answer ≢ Held) →
-    ((s : ℕ) → answer ≡ Ended s → (goal ≤ s) × (new ≡ looked old r s) × (slice_index new.seen r ≡ s) × (slice_index old.seen r ≤ s)) →
+    ((s : ℕ) → answer ≡ Ended s → (goal ≤ s) × (new ≡ took_at old r s) × (slice_index new.seen r ≡ s) × (slice_index old.seen r ≤ s)) →
     ((q s : ℕ) → answer ≡ Behind q s → IsBehind terms old new goal r q s) → ((s : ℕ) → answer ≡ Moved s → IsMoved terms old new goal r s) →
     HasTurned terms old new r (r + 1) goal (counted none answer)
 unfolding counted
@@ -136,14 +136,14 @@ turned-one terms old new goal r Held there has keeps held never ended behind mov
     let found : new.held_found ≡ raised old.held_found r = ap (λ (v : View). v.held_found) is in
     let within : r < length old.held_found = omega (arith, there, has.held_found) in
     turned-at terms old new goal r (counted none Held) there keeps (tried-held old new r found (ap (λ (v : View). v.looks) is) within) refl
-    (omega (arith, ap (λ (v : View). v.moves) is)) (ap sum found ∙ raised-sum old.held_found r within) (omega (arith, ap (λ (v : View). v.short_found) is))
+    (omega (arith, ap (λ (v : View). length v.log) is)) (ap sum found ∙ raised-sum old.held_found r within) (omega (arith, ap (λ (v : View). v.short_found) is))
     (λ some. absurd (some refl)) (λ some. absurd (some refl)) (λ whole. absurd (never whole refl)) (λ some. absurd (some refl)) (inr (inl (λ none. absurd (omega (arith, none)))))
 turned-one terms old new goal r (Ended s) there has keeps held never ended behind moved =
     let is = ended s refl in
     let within : r < length old.looks = omega (arith, there, has.looks) in
     let reached : goal ≤ slice_index new.seen r = omega (arith, is.0, is.2) in
     turned-at terms old new goal r (counted none (Ended s)) there keeps (tried-looked old new r (ap (λ (v : View). v.held_found) is.1) (ap (λ (v : View). v.looks) is.1) within) refl
-    (omega (arith, ap (λ (v : View). v.moves) is.1)) (omega (arith, ap (λ (v : View). sum v.held_found) is.1)) (omega (arith, ap (λ (v : View). v.short_found) is.1))
+    (omega (arith, ap (λ (v : View). length v.log) is.1)) (omega (arith, ap (λ (v : View). sum v.held_found) is.1)) (omega (arith, ap (λ (v : View). v.short_found) is.1))
     (λ some. reached) (λ some. absurd (some refl)) (λ whole. refl) (λ some. absurd (some refl)) (inl reached)
 turned-one terms old new goal r (Behind q s) there has keeps held never ended behind moved =
     let is = behind q s refl in
@@ -157,14 +157,14 @@ turned-one terms old new goal r (Behind q s) there has keeps held never ended be
       other = is.other;
     } in
     turned-at terms old new goal r (counted none (Behind q s)) there keeps (tried-looked old new r is.still.alike.held_found is.looks within) refl
-    (omega (arith, is.still.moves)) (omega (arith, ap sum is.still.alike.held_found)) is.one_more
+    (omega (arith, ap length is.still.log)) (omega (arith, ap sum is.still.alike.held_found)) is.one_more
     (λ some. absurd (some refl)) (λ some. short) (λ whole. refl) (λ some. absurd (some refl))
     (inr (inr ((λ none. absurd (omega (arith, none))), short)))
 turned-one terms old new goal r (Moved s) there has keeps held never ended behind moved =
     let is = moved s refl in
     let within : r < length old.looks = omega (arith, there, has.looks) in
     turned-at terms old new goal r (counted none (Moved s)) there keeps (tried-looked old new r is.alike.held_found is.looks within) refl
-    is.moves (omega (arith, ap sum is.alike.held_found)) (omega (arith, is.found.short_found))
+    (omega (arith, ap length is.log)) (omega (arith, ap sum is.alike.held_found)) (omega (arith, is.found.short_found))
     (λ some. absurd (some refl)) (λ some. absurd (some refl)) (λ whole. refl) (λ some. (omega (arith, is.own, is.below), omega (arith, is.own, is.seen))) (inr (inl (λ none. absurd (omega (arith, none)))))
 
 -- the counts of two turns or more are added up

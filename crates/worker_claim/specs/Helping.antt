@@ -24,7 +24,7 @@ AreHelpersOf field helpers = (k : ℕ) (d : Helper) → k < length helpers → I
 pub record HasHelped (count goal budget : ℕ) (old new : View) (driven : Driven) : Type 0 where
   pub keeps : IsWithin old new goal
   pub tried : tries_of new ≡ tries_of old + turns_of driven
-  pub moved : new.moves ≡ old.moves + driven.moved
+  pub moved : length new.log ≡ length old.log + driven.moved
   pub held : sum new.held_found ≡ sum old.held_found + driven.held
   pub behind : new.short_found ≡ old.short_found + driven.behind
   pub ended : driven.ended ≢ 0 → (r : ℕ) × (r < count) × (goal ≤ slice_index new.seen r)

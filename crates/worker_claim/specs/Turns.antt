@@ -1,5 +1,5 @@
 -- What comes of one turn on each region of a range.
-use Rattle.std.specs.Prelude.{◌≡◌, ◌≢◌, ◌⊎◌, ℕ, ◌+◌, ◌<◌, ◌≤◌, IsTrue, false, slice_index}
+use Rattle.std.specs.Prelude.{◌≡◌, ◌≢◌, ◌⊎◌, ℕ, ◌+◌, ◌<◌, ◌≤◌, IsTrue, false, length, slice_index}
 use Rattle.std.specs.List.{sum}
 use Rattle.region_cut.specs.Cuttings.{region_count}
 use Rattle.border_rows.specs.declared.view.Terms.{Terms}
@@ -48,7 +48,7 @@ pub record IsShort (terms : Terms) (old new : View) (goal r : ℕ) : Type 0 wher
 pub record IsCounted (terms : Terms) (old new : View) (goal : ℕ) (driven : Driven) : Type 0 where
   pub keeps : IsWithin old new goal
   pub tried : tries_of new ≡ tries_of old + turns_of driven
-  pub moved : new.moves ≡ old.moves + driven.moved
+  pub moved : length new.log ≡ length old.log + driven.moved
   pub held : sum new.held_found ≡ sum old.held_found + driven.held
   pub behind : new.short_found ≡ old.short_found + driven.behind
   pub ended : driven.ended ≢ 0 → (r : ℕ) × (r < region_count terms.chart.now.cut) × (goal ≤ slice_index new.seen r)

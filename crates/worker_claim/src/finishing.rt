@@ -3,6 +3,7 @@ ghost use Rattle.region_cut.specs.Cuttings.{region_count};
 ghost use Rattle.region_slots.specs.FieldView.{IsPassOf};
 ghost use Rattle.region_slots.specs.Turning.{IsWithin};
 ghost use Rattle.worker_claim.specs.Driving.{AllReach};
+ghost use Rattle.worker_claim.specs.Telling.{AreTold};
 
 use crate::one_sweep::sweep;
 use region_slots::{Field, Gate, Pass};
@@ -15,6 +16,7 @@ pub fn finish<G: Gate>(field: &Field, pass: &mut Pass, goal: u64, gate: &G)
     requires in_time { goal ≤ field.now.terms.net.now.steps }
     ensures belongs { IsPassOf field.now pass.new × (pass.new.id ≡ pass.old.id) }
     ensures keeps { IsWithin pass.old.knows pass.new.knows goal }
+    ensures told { AreTold (G.told_held gate.now) (G.told_freed gate.now) pass.old.knows.log pass.new.knows.log }
     ensures done { AllReach (region_count field.now.terms.chart.now.cut) goal pass.new.knows }
 {
     let mut all = false;

@@ -1,8 +1,9 @@
-ghost use Rattle.std.specs.Prelude.{◌≡◌, ◌≤◌};
+ghost use Rattle.std.specs.Prelude.{◌≡◌, ◌≤◌, false, true};
 ghost use Rattle.std.specs.Thread.{IsSync};
 ghost use Rattle.region_slots.specs.FieldView.{IsPassOf};
 ghost use Rattle.snapshot.specs.Rooms.{IsRoomFor};
 ghost use Rattle.worker_claim.specs.Helping.{AreHelped, AreHelpersOf};
+ghost use Rattle.worker_claim.specs.Telling.{AreHelpersTold};
 ghost use Rattle.worker_claim.specs.Watching.{IsWatched};
 
 use crate::helper::Helper;
@@ -32,17 +33,19 @@ pub fn crew_watch_hints<R: Threads + Sync, G: Gate>(
     requires in_time { goal ≤ field.now.terms.net.now.steps }
     ensures watched { IsWatched field.now tries watcher.old watcher.new room.old room.new result }
     ensures helped { AreHelped field.now goal sweeps helpers.old helpers.new }
+    ensures told { AreHelpersTold (G.told_held gate.now) (G.told_freed gate.now) helpers.old helpers.new }
+    ensures told_shot { G.told_watched gate.now false × G.told_watched gate.now true }
 {
     let mut shooting = || -> Shot
         requires { IsPassOf field.now watcher.now × IsRoomFor field.now.terms.chart.now room.now × (1 ≤ tries) }
-        ensures { IsWatched field.entry.now tries watcher.entry.now watcher.exit.now room.entry.now room.exit.now result }
+        ensures { IsWatched field.entry.now tries watcher.entry.now watcher.exit.now room.entry.now room.exit.now result × G.told_watched gate.entry.now false × G.told_watched gate.entry.now true }
     {
         let (field, tries, gate) = (field, tries, gate);
         watch(field, watcher, room, tries, gate)
     };
     let mut helping = ||
         requires { IsSync R.row × AreHelpersOf field.now helpers.now × (goal ≤ field.now.terms.net.now.steps) }
-        ensures { AreHelped field.entry.now goal sweeps helpers.entry.now helpers.exit.now }
+        ensures { AreHelped field.entry.now goal sweeps helpers.entry.now helpers.exit.now × AreHelpersTold (G.told_held gate.entry.now) (G.told_freed gate.entry.now) helpers.entry.now helpers.exit.now }
     {
         let (rt, field, goal, sweeps, gate) = (rt, field, goal, sweeps, gate);
         crew_hints(rt, field, helpers, goal, sweeps, gate)

@@ -18,6 +18,7 @@ impl Helper {
     ghost use Rattle.std.specs.Prelude.{◌≡◌, ◌<◌, ◌≤◌, IsTrue};
     ghost use Rattle.region_cut.specs.Cuttings.{region_count};
     ghost use Rattle.worker_claim.specs.Helping.{IsHelped, IsHelperOf, IsKept};
+    ghost use Rattle.worker_claim.specs.Telling.{AreTold};
     ghost use Rattle.worker_claim.specs.Turns.{HasWorked, turns_of};
 
     /// Makes as many turns as so many sweeps have, or fewer where all turns of a whole sweep find their region at the goal
@@ -25,7 +26,8 @@ impl Helper {
     pub(crate) fn help<G: Gate>(&mut self, field: &Field, goal: u64, sweeps: u32, gate: &G)
         requires helper { IsHelperOf field.now self.old }
         requires in_time { goal ≤ field.now.terms.net.now.steps }
-        ensures { IsHelped field.now goal sweeps self.old self.new }
+        ensures helped { IsHelped field.now goal sweeps self.old self.new }
+        ensures told { AreTold (G.told_held gate.now) (G.told_freed gate.now) self.old.member.pass.knows.log self.new.member.pass.knows.log }
     {
         let budget = u64::from(sweeps) * u64::from(field.regions());
         let mut pauses = Pauses::none();
@@ -47,6 +49,7 @@ impl Helper {
         requires none { pauses.old ≡ 0 }
         ensures kept { IsKept field.now self.old self.new }
         ensures worked { HasWorked field.now.terms self.old.member.pass.knows self.new.member.pass.knows goal budget result }
+        ensures told { AreTold (G.told_held gate.now) (G.told_freed gate.now) self.old.member.pass.knows.log self.new.member.pass.knows.log }
         ensures stops { turns_of result < budget → IsTrue result.all }
         ensures paused { pauses.new ≤ turns_of result }
     {
@@ -79,6 +82,7 @@ impl Helper {
         requires some { 1 ≤ left }
         ensures kept { IsKept field.now self.old self.new }
         ensures worked { HasWorked field.now.terms self.old.member.pass.knows self.new.member.pass.knows goal left result }
+        ensures told { AreTold (G.told_held gate.now) (G.told_freed gate.now) self.old.member.pass.knows.log self.new.member.pass.knows.log }
         ensures some { 1 ≤ turns_of result }
     {
         if waits && self.nest.has_refused() {
@@ -97,6 +101,7 @@ impl Helper {
         requires in_time { goal ≤ field.now.terms.net.now.steps }
         ensures kept { IsKept field.now self.old self.new }
         ensures worked { HasWorked field.now.terms self.old.member.pass.knows self.new.member.pass.knows goal 1 result }
+        ensures told { AreTold (G.told_held gate.now) (G.told_freed gate.now) self.old.member.pass.knows.log self.new.member.pass.knows.log }
         ensures one { turns_of result ≡ 1 }
     {
         let _regions = field.regions();
@@ -114,6 +119,7 @@ impl Helper {
         requires some { 1 ≤ left }
         ensures kept { IsKept field.now self.old self.new }
         ensures worked { HasWorked field.now.terms self.old.member.pass.knows self.new.member.pass.knows goal left result }
+        ensures told { AreTold (G.told_held gate.now) (G.told_freed gate.now) self.old.member.pass.knows.log self.new.member.pass.knows.log }
         ensures some { 1 ≤ turns_of result }
     {
         self.nest.push_refused();

@@ -1,5 +1,6 @@
 ghost use Rattle.std.specs.Prelude.{◌≡◌, ◌≤◌};
 ghost use Rattle.worker_claim.specs.Helping.{AreHelped, AreHelpersOf, IsHelped, IsHelperOf};
+ghost use Rattle.worker_claim.specs.Telling.{AreHelpersTold, AreTold};
 
 use crate::helper::Helper;
 use region_slots::{Field, Gate};
@@ -19,11 +20,12 @@ pub fn crew_hints<R: Threads + Sync, G: Gate>(
     requires helpers { AreHelpersOf field.now helpers.old }
     requires in_time { goal ≤ field.now.terms.net.now.steps }
     ensures helped { AreHelped field.now goal sweeps helpers.old helpers.new }
+    ensures told { AreHelpersTold (G.told_held gate.now) (G.told_freed gate.now) helpers.old helpers.new }
 {
     let threads = helpers.len().max(1);
     let work = move |_k: usize, helper: &mut Helper|
         requires { IsHelperOf field.now helper.old × (goal ≤ field.now.terms.net.now.steps) }
-        ensures { IsHelped field.entry.now goal sweeps helper.old helper.new }
+        ensures { IsHelped field.entry.now goal sweeps helper.old helper.new × AreTold (G.told_held gate.entry.now) (G.told_freed gate.entry.now) helper.old.member.pass.knows.log helper.new.member.pass.knows.log }
     { helper.help(field, goal, sweeps, gate) };
     for_each_mut(rt, helpers, threads, &work);
 }

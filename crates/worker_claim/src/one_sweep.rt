@@ -1,7 +1,9 @@
-ghost use Rattle.std.specs.Prelude.{◌≡◌, ◌+◌, ◌<◌, ◌≤◌, false};
+ghost use Rattle.std.specs.Prelude.{◌≡◌, ◌↔◌, ◌+◌, ◌-◌, ◌<◌, ◌≤◌, ◌++◌, IsTrue, false};
+ghost use Rattle.std.specs.List.{range_with_len};
 ghost use Rattle.region_cut.specs.Cuttings.{region_count};
 ghost use Rattle.region_slots.specs.FieldView.{IsPassOf};
-ghost use Rattle.worker_claim.specs.Driving.{HasSwept, steps_left};
+ghost use Rattle.worker_claim.specs.Driving.{HasSwept, round_from, steps_left};
+ghost use Rattle.worker_claim.specs.Telling.{AreTold};
 ghost use Rattle.worker_claim.specs.Turns.{HasTurned, IsCounted};
 
 use crate::driven::Driven;
@@ -15,6 +17,9 @@ pub fn sweep<G: Gate>(field: &Field, pass: &mut Pass, goal: u64, first: u32, gat
     ensures belongs { IsPassOf field.now pass.new × (pass.new.id ≡ pass.old.id) }
     ensures swept { HasSwept (region_count field.now.terms.chart.now.cut) goal 1 pass.old.knows pass.new.knows result }
     ensures counted { IsCounted field.now.terms pass.old.knows pass.new.knows goal result }
+    ensures order { pass.new.knows.tried ≡ pass.old.knows.tried ++ round_from (region_count field.now.terms.chart.now.cut) first }
+    ensures all { IsTrue result.all ↔ (result.ended ≡ region_count field.now.terms.chart.now.cut) }
+    ensures told { AreTold (G.told_held gate.now) (G.told_freed gate.now) pass.old.knows.log pass.new.knows.log }
     ensures nearer { pass.old.knows.share ≡ field.now.terms.seats → result.all ≡ false →
         steps_left (region_count field.now.terms.chart.now.cut) goal pass.new.knows < steps_left (region_count field.now.terms.chart.now.cut) goal pass.old.knows }
 {
@@ -46,6 +51,8 @@ pub(crate) fn turns<G: Gate>(
     requires in_time { goal ≤ field.now.terms.net.now.steps }
     ensures belongs { IsPassOf field.now pass.new × (pass.new.id ≡ pass.old.id) }
     ensures turned { HasTurned field.now.terms pass.old.knows pass.new.knows from to goal result }
+    ensures order { pass.new.knows.tried ≡ pass.old.knows.tried ++ range_with_len from (to - from) }
+    ensures told { AreTold (G.told_held gate.now) (G.told_freed gate.now) pass.old.knows.log pass.new.knows.log }
     ensures going { result.all ≡ false }
 {
     let mut driven = Driven::none();

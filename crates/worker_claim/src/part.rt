@@ -1,6 +1,7 @@
 ghost use Rattle.std.specs.Prelude.{◌≡◌, ◌<◌, ◌≤◌};
 ghost use Rattle.region_cut.specs.Cuttings.{region_count};
 ghost use Rattle.region_slots.specs.FieldView.{IsPassOf};
+ghost use Rattle.worker_claim.specs.Telling.{AreTold};
 ghost use Rattle.worker_claim.specs.Turns.{HasWorked, turns_of};
 
 use crate::driven::Driven;
@@ -22,6 +23,7 @@ pub(crate) fn sweep_within<G: Gate>(
     requires some { 1 ≤ left }
     ensures belongs { IsPassOf field.now pass.new × (pass.new.id ≡ pass.old.id) }
     ensures worked { HasWorked field.now.terms pass.old.knows pass.new.knows goal left result }
+    ensures told { AreTold (G.told_held gate.now) (G.told_freed gate.now) pass.old.knows.log pass.new.knows.log }
     ensures some { 1 ≤ turns_of result }
 {
     if left < u64::from(field.regions()) {
@@ -45,6 +47,7 @@ fn part<G: Gate>(
     requires fewer { many < region_count field.now.terms.chart.now.cut }
     ensures belongs { IsPassOf field.now pass.new × (pass.new.id ≡ pass.old.id) }
     ensures worked { HasWorked field.now.terms pass.old.knows pass.new.knows goal many result }
+    ensures told { AreTold (G.told_held gate.now) (G.told_freed gate.now) pass.old.knows.log pass.new.knows.log }
     ensures many { turns_of result ≡ many }
 {
     let later = many.min(field.regions() - first);

@@ -1,4 +1,4 @@
-ghost use Rattle.std.specs.Prelude.{◌≡◌, ◌≤◌};
+ghost use Rattle.std.specs.Prelude.{◌≡◌, ◌≤◌, false, true};
 ghost use Rattle.region_slots.specs.FieldView.{IsPassOf};
 ghost use Rattle.snapshot.specs.Rooms.{IsRoomFor};
 ghost use Rattle.worker_claim.specs.Watching.{IsWatched};
@@ -17,7 +17,8 @@ pub fn watch<G: Gate>(
     requires watcher { IsPassOf field.now watcher.old }
     requires room { IsRoomFor field.now.terms.chart.now room.old }
     requires tries { 1 ≤ tries }
-    ensures { IsWatched field.now tries watcher.old watcher.new room.old room.new result }
+    ensures watched { IsWatched field.now tries watcher.old watcher.new room.old room.new result }
+    ensures told { G.told_watched gate.now false × G.told_watched gate.now true }
 {
     gate.watched(false);
     let shot = field.shot(watcher, room, tries);

@@ -17,7 +17,7 @@ returns-clause-part g c = record {
   at = record {
     fits = c.in_ok-start.ensures.fits;
     started = λ r within. omega (arith, start-below c.in_ok-start.start c.in_ok-chart.chart.cut (step_of c.args.last) c.args.goal c.in_ok-start.ensures.steps c.requires.later r within);
-    stand = c.in_ok-regions.ensures;
+    stand = c.in_ok-regions.ensures.stand;
   };
   from = record {
     true_start = c.in_ok-start.ensures.true_start;

@@ -1,4 +1,6 @@
-use Rattle.std.proofs.Common.{◌≤◌, arith}
+use Rattle.std.proofs.Common.{◌≤◌, ℕ, subst, arith}
+use Rattle.network_run.specs.Telling.{AreFrom}
+use Rattle.network_run.proofs.Told.{told-taken}
 use Rattle.network_run.proofs.run.take_to.Goals as goal
 
 pub drive-requires-clause-enlisted : goal.drive-requires-clause-enlisted
@@ -11,3 +13,12 @@ pub returns-clause-reach : goal.returns-clause-reach
 returns-clause-reach g c =
     let low : c.enlist.new.pass.knows.reach ≤ c.args.goal = omega (arith, c.enlist.ensures.knows.1, c.requires.reach) in
     omega (arith, c.finish.ensures.keeps.reach, c.dismiss.ensures.reach c.args.goal low c.drive.ensures.enlisted)
+
+pub returns-clause-told : goal.returns-clause-told
+returns-clause-told g c =
+    let held : ℕ → ℕ → Type 0 = g.G.Gate.told_held c.args.gate.now in
+    let freed : ℕ → ℕ → Type 0 = g.G.Gate.told_freed c.args.gate.now in
+    let from : AreFrom c.args.pass.now.knows.log c.drive.new.self.members c.dismiss.new.pass.knows.log =
+    subst (λ own. AreFrom own c.drive.new.self.members c.dismiss.new.pass.knows.log) c.enlist.ensures.knows.2 c.dismiss.ensures.log in
+    told-taken held freed c.args.pass.now.knows.log c.dismiss.new.pass.knows.log c.finish.new.pass.knows.log c.enlist.new.self.members c.drive.new.self.members c.drive.ensures.many
+    c.enlist.ensures.nothing c.drive.ensures.told from c.finish.ensures.told

@@ -1,8 +1,11 @@
 use Rattle.std.specs.Prelude.{slice_index}
-use Rattle.std.proofs.Common.{◌≡◌, ◌≢◌, ◌≤◌, ℕ, refl, ap, arith}
+use Rattle.std.proofs.Common.{◌≡◌, ◌≢◌, ◌≤◌, ℕ, refl, sym, ap, subst, ◌∙◌, arith}
 use Rattle.region_slots.specs.Shooting.{HasShot}
 use Rattle.region_slots.specs.declared.shot.Shot.{Shot}
 use Rattle.region_slots.specs.declared.shot.Shot.TheVariants.{Busy, Taken}
+use Rattle.worker_claim.specs.Telling.{AreTold}
+use Rattle.network_run.specs.Telling.{AreFrom}
+use Rattle.network_run.proofs.Told.{told-taken}
 use Rattle.network_run.proofs.watch.watch_to.Goals as goal
 
 pub returns-in_default-clause-reach : goal.returns-in_default-clause-reach
@@ -42,3 +45,23 @@ returns-in-Busy-clause-between g c = λ r there.
       omega (arith, ap (λ l. slice_index l r) c.enlist.ensures.knows.0, shot.unmoved.seen.later r, c.dismiss.ensures.later r, c.finish.ensures.keeps.seen.later r, taken.later r there),
       omega (arith, whole.reached r there, last.unmoved.reach, c.finish.ensures.keeps.reach, reach),
     )
+
+pub returns-in_default-clause-told : goal.returns-in_default-clause-told
+returns-in_default-clause-told g c =
+    let shot = c.drive_watched-shot.ensures.watched.shot in
+    let from : AreFrom c.args.pass.now.knows.log c.drive_watched-shot.new.self.members c.dismiss.new.pass.knows.log =
+    subst (λ own. AreFrom own c.drive_watched-shot.new.self.members c.dismiss.new.pass.knows.log) (shot.unmoved.log ∙ c.enlist.ensures.knows.2) c.dismiss.ensures.log in
+    told-taken (g.G.Gate.told_held c.args.gate.now) (g.G.Gate.told_freed c.args.gate.now) c.args.pass.now.knows.log c.dismiss.new.pass.knows.log c.finish.new.pass.knows.log
+    c.enlist.new.self.members c.drive_watched-shot.new.self.members c.drive_watched-shot.ensures.many c.enlist.ensures.nothing c.drive_watched-shot.ensures.told from c.finish.ensures.told
+
+pub returns-in-Busy-clause-told : goal.returns-in-Busy-clause-told
+returns-in-Busy-clause-told g c =
+    let held : ℕ → ℕ → Type 0 = g.G.Gate.told_held c.args.gate.now in
+    let freed : ℕ → ℕ → Type 0 = g.G.Gate.told_freed c.args.gate.now in
+    let shot = c.drive_watched-shot.ensures.watched.shot in
+    let from : AreFrom c.args.pass.now.knows.log c.drive_watched-shot.new.self.members c.dismiss.new.pass.knows.log =
+    subst (λ own. AreFrom own c.drive_watched-shot.new.self.members c.dismiss.new.pass.knows.log) (shot.unmoved.log ∙ c.enlist.ensures.knows.2) c.dismiss.ensures.log in
+    let finished : AreTold held freed c.args.pass.now.knows.log c.finish.new.pass.knows.log =
+    told-taken held freed c.args.pass.now.knows.log c.dismiss.new.pass.knows.log c.finish.new.pass.knows.log
+    c.enlist.new.self.members c.drive_watched-shot.new.self.members c.drive_watched-shot.ensures.many c.enlist.ensures.nothing c.drive_watched-shot.ensures.told from c.finish.ensures.told in
+    subst (λ log. AreTold held freed c.args.pass.now.knows.log log) (sym c.shot.ensures.shot.unmoved.log) finished

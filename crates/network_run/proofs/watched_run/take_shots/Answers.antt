@@ -11,6 +11,7 @@ use Rattle.snapshot.specs.Shots.{IsShotBetween, goal_of, rows_at}
 use Rattle.snapshot.specs.Snapshots.{IsSnapshot}
 use Rattle.snapshot.proofs.ShotLaws.{shot-between, shown-rows}
 use Rattle.shot_lines.proofs.ManyShots.{AreFirstShots, shots-more}
+use Rattle.worker_claim.proofs.Telling.{told-more}
 use Rattle.network_run.proofs.watched_run.take_shots.Goals as goal
 
 pub loop-i-preserved : goal.loop-i-preserved
@@ -43,4 +44,5 @@ loop-i-preserved g c =
       omega (arith, came.reach, goal),
       (λ r there. omega (arith, came.done r (omega (arith, there, count)), goal)),
       subst (AreFirstShots net cut c.args.shots (i + 1)) (sym text) (shots-more net cut c.args.shots i c.loop-i.text.items room.steps inv.6 shot),
+      told-more (g.G.Gate.told_held c.args.gate.now) (g.G.Gate.told_freed c.args.gate.now) c.args.pass.now.knows.log c.loop-i.pass.knows.log c.watch_to.new.pass.knows.log inv.7 came.told,
     )

@@ -1,10 +1,14 @@
 use Rattle.std.proofs.Common.{◌+◌, refl, sym, subst, ◌∙◌, arith}
+use Rattle.std.proofs.lemmas.List.{append-nil}
 use Rattle.std.proofs.lemmas.Nat.{row_fits}
 use Rattle.region_cut.specs.Cuttings.{region_count}
 use Rattle.worker_claim.specs.Driving.{HasSwept}
+use Rattle.sweeping_crew.specs.Driving.{IsLast}
 use Rattle.worker_claim.specs.Turns.{added}
 use Rattle.worker_claim.specs.declared.driven.Driven.{Driven}
-use Rattle.sweeping_crew.proofs.Sweeps.{swept-more}
+use Rattle.sweeping_crew.proofs.Rounds.{rounds-more}
+use Rattle.sweeping_crew.proofs.Sweeps.{swept-more, swept-none}
+use Rattle.worker_claim.proofs.Telling.{told-more, told-none}
 use Rattle.sweeping_crew.proofs.driving.drive_pausing.Goals as goal
 
 pub then-driven-requires : goal.then-driven-requires
@@ -23,4 +27,24 @@ loop-made-preserved g c =
           (swept-more _ _ _ _ _ _ one other (added one other) record { moved = refl; held = refl; behind = refl; ended = refl } c.if-not-driven.true refl c.loop-made.invariant.3
           c.sweep-swept.ensures.swept),
       omega (arith, c.pause_where.ensures, c.loop-made.invariant.4),
+      rounds-more c.args.pass.now.knows.tried c.loop-made.pass.knows.tried c.sweep-swept.new.pass.knows.tried (region_count c.args.field.now.terms.chart.now.cut) c.args.first c.loop-made.made
+          c.loop-made.invariant.5 c.sweep-swept.ensures.order,
+      λ some.
+          subst (λ (d : Driven). IsLast (region_count c.args.field.now.terms.chart.now.cut) c.args.goal c.sweep-swept.new.pass.knows d.all) (sym c.then-driven.ensures)
+          record { before = c.loop-made.pass.knows; driven = other; swept = c.sweep-swept.ensures.swept; same = refl; all = c.sweep-swept.ensures.all },
+      told-more (g.G.Gate.told_held c.args.gate.now) (g.G.Gate.told_freed c.args.gate.now) c.args.pass.now.knows.log c.loop-made.pass.knows.log c.sweep-swept.new.pass.knows.log
+          c.loop-made.invariant.7 c.sweep-swept.ensures.told,
     )
+
+pub loop-made-init : goal.loop-made-init
+loop-made-init g c = (
+  omega arith,
+  c.requires.belongs,
+  refl,
+  subst (λ (d : Driven). HasSwept (region_count c.args.field.now.terms.chart.now.cut) c.args.goal 0 c.args.pass.now.knows c.args.pass.now.knows d) (sym c.none-driven.ensures)
+      (swept-none c.args.pass.now.knows (region_count c.args.field.now.terms.chart.now.cut) c.args.goal),
+  omega (arith, c.requires.none),
+  sym (append-nil c.args.pass.now.knows.tried),
+  λ some. absurd (some refl),
+  told-none (g.G.Gate.told_held c.args.gate.now) (g.G.Gate.told_freed c.args.gate.now) c.args.pass.now.knows.log,
+)

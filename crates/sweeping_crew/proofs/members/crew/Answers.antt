@@ -1,16 +1,25 @@
 use Rattle.std.specs.Prelude.{slice_index_or}
-use Rattle.std.proofs.Common.{subst, rules}
+use Rattle.std.proofs.Common.{ℕ, subst, rules}
+use Rattle.worker_claim.specs.Telling.{AreTold}
 use Rattle.sweeping_crew.specs.Members.{IsDriven}
 use Rattle.worker_claim.specs.declared.member.Member.{Member}
 use Rattle.sweeping_crew.proofs.members.crew.Goals as goal
 
 pub returns : goal.returns
-returns g c = record {
-  driven = record {
-    one_each = search rules;
-    each = λ k d within.
-        let at = (c.for_each_mut.ensures k d within).1 in
-        subst (λ (m : Member). IsDriven c.args.field.now c.args.goal c.args.sweeps m (slice_index_or c.for_each_mut.new.s k d)) at.argument_is
-        (subst (λ (m : Member). IsDriven c.args.field.now c.args.goal c.args.sweeps at.argument.now m) at.left at.call);
-  };
-}
+returns g c =
+    let held : ℕ → ℕ → Type 0 = g.G.Gate.told_held c.args.gate.now in
+    let freed : ℕ → ℕ → Type 0 = g.G.Gate.told_freed c.args.gate.now in record {
+      driven = record {
+        one_each = search rules;
+        each = λ k d within.
+            let at = (c.for_each_mut.ensures k d within).1 in
+            subst (λ (m : Member). IsDriven c.args.field.now c.args.goal c.args.sweeps m (slice_index_or c.for_each_mut.new.s k d)) at.argument_is
+            (subst (λ (m : Member). IsDriven c.args.field.now c.args.goal c.args.sweeps at.argument.now m) at.left at.call.0);
+      };
+      told = record {
+        each = λ k d within.
+            let at = (c.for_each_mut.ensures k d within).1 in
+            subst (λ (m : Member). AreTold held freed m.pass.knows.log (slice_index_or c.for_each_mut.new.s k d).pass.knows.log) at.argument_is
+            (subst (λ (m : Member). AreTold held freed at.argument.now.pass.knows.log m.pass.knows.log) at.left at.call.1);
+      };
+    }

@@ -2,6 +2,7 @@ use Rattle.std.proofs.Common.{sym, subst, arith}
 use Rattle.worker_claim.specs.Turns.{HasWorked, added}
 use Rattle.worker_claim.specs.declared.driven.Driven.{Driven}
 use Rattle.worker_claim.proofs.Helped.{counted-then, worked-going}
+use Rattle.worker_claim.proofs.Telling.{told-more}
 use Rattle.worker_claim.proofs.part.part.Goals as goal
 
 pub returns-clause-worked : goal.returns-clause-worked
@@ -11,3 +12,8 @@ returns-clause-worked g c =
     subst (λ (d : Driven). HasWorked c.args.field.now.terms c.args.pass.now.knows c.turns-other.new.pass.knows c.args.goal c.args.many d) (sym c.then.ensures)
     (worked-going _ _ _ _ _ (added one other) (counted-then _ _ _ _ _ one other c.turns-one.ensures.turned.counted c.turns-other.ensures.turned.counted)
     (omega (arith, c.turns-one.ensures.turned.turns, c.turns-other.ensures.turned.turns)) c.turns-other.ensures.going)
+
+pub returns-clause-told : goal.returns-clause-told
+returns-clause-told g c =
+    told-more (g.G.Gate.told_held c.args.gate.now) (g.G.Gate.told_freed c.args.gate.now) c.args.pass.now.knows.log c.turns-one.new.pass.knows.log c.turns-other.new.pass.knows.log
+    c.turns-one.ensures.told c.turns-other.ensures.told

@@ -1,9 +1,11 @@
+use Rattle.std.specs.List.{Contains}
 use Rattle.std.proofs.Common.{◌≡◌, ◌∷◌, ◌++◌, ℕ, [], length, sym, ap, subst, ◌∙◌, arith}
 use Rattle.std.proofs.lemmas.List.{length-append}
 use Rattle.worker_claim.specs.declared.member.Member.{Member}
 use Rattle.network_run.specs.Crews.{CrewValue, HasLeft}
 use Rattle.network_run.specs.Enlisted.{AreEnlisted, IsEnlisted}
 use Rattle.network_run.proofs.Crewing.{All-fewer, All-last}
+use Rattle.network_run.proofs.Told.{among-more, from-more}
 use Rattle.network_run.proofs.crew.Crew.dismiss.Goals as goal
 
 pub dismiss_one-requires-clause-enlisted : goal.dismiss_one-requires-clause-enlisted
@@ -18,6 +20,7 @@ loop-preserved c =
     let member : Member = left.member in
     let split : c.loop.self.members ≡ now.members ++ member ∷ [] = ap (λ (crew : CrewValue). crew.members) left.members in
     let was : (most : ℕ) → AreEnlisted field most c.args.self.now.members → AreEnlisted field most (now.members ++ member ∷ []) = λ most all. subst (AreEnlisted field most) split (inv.4 most all) in
+    let among : (m : Member) → Contains (now.members ++ member ∷ []) m → Contains c.args.self.now.members m = λ m has. inv.8 m (subst (λ list. Contains list m) (sym split) has) in
     let one : (most : ℕ) → AreEnlisted field most c.args.self.now.members → IsEnlisted field most member = λ most all. All-last (IsEnlisted field most) now.members member (was most all) in (
       sym (ap (λ (crew : CrewValue). crew.workers) left.members) ∙ inv.0,
       sym (ap (λ (crew : CrewValue). crew.regions) left.members) ∙ inv.1,
@@ -27,4 +30,6 @@ loop-preserved c =
       (λ r. omega (arith, inv.5 r, left.later r)),
       (λ most low all. omega (arith, inv.6 most low all, left.reach, (one most all).reach)),
       (λ some share. left.reached share),
+      among-more c.args.self.now.members now.members member among,
+      from-more c.args.pass.now.knows.log c.args.self.now.members now.members member c.loop.pass.knows.log c.dismiss_one.new.pass.knows.log among inv.9 left.log,
     )

@@ -45,5 +45,6 @@ returns-clause-left c =
       share = ap (λ v. v.share) knows;
       later = λ r. omega (arith, united-later c.args.pass.now.knows helper.member.pass.knows r, ap (λ v. slice_index v.seen r) knows);
       reach = ap (λ v. v.reach) knows;
+      log = ap (λ v. v.log) knows;
       reached = c.unite.ensures.whole;
     }

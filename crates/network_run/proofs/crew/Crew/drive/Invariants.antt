@@ -1,4 +1,5 @@
 use Rattle.std.proofs.Common.{◌≡◌, length}
+use Rattle.worker_claim.specs.Telling.{AreMembersTold}
 use Rattle.network_run.specs.Enlisted.{AreEnlisted}
 use Rattle.network_run.specs.Rounds.{AreRounds}
 use Rattle.network_run.proofs.crew.Crew.drive.Given as goal
@@ -6,4 +7,5 @@ use Rattle.network_run.proofs.crew.Crew.drive.Given as goal
 -- each round so far has moved a region
 abbrev pub invariant-loop-round : goal.invariant-loop-round
 invariant-loop-round g l = (l.self.workers ≡ l.initial.self.workers) × (l.self.regions ≡ l.initial.self.regions) × (length l.self.members ≡ length l.initial.self.members) ×
-    AreEnlisted l.field l.goal l.self.members × AreRounds l.field l.round 0 l.initial.self.members l.self.members
+    AreEnlisted l.field l.goal l.self.members × AreRounds l.field l.round 0 l.initial.self.members l.self.members ×
+    AreMembersTold (g.G.Gate.told_held l.gate) (g.G.Gate.told_freed l.gate) l.initial.self.members l.self.members

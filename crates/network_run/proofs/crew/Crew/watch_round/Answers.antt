@@ -1,11 +1,13 @@
-use Rattle.std.proofs.Common.{◌≡◌, List, length, sym, ap, subst, ◌∙◌}
+use Rattle.std.proofs.Common.{◌≡◌, ℕ, List, length, sym, ap, subst, ◌∙◌}
 use Rattle.std.proofs.lemmas.List.{with_items_is}
 use Rattle.worker_claim.specs.Helping.{AreHelped, AreHelpersOf}
+use Rattle.worker_claim.specs.Telling.{AreHelpersTold}
 use Rattle.worker_claim.specs.declared.helper.Helper.{Helper}
 use Rattle.network_run.specs.Crews.{CrewValue}
 use Rattle.network_run.specs.Enlisted.{AreEnlisted}
 use Rattle.network_run.proofs.Crewing.{enlisted-helped, helpers-of}
 use Rattle.network_run.proofs.RoundCounts.{round-helped}
+use Rattle.network_run.proofs.Told.{helpers-told}
 use Rattle.network_run.proofs.crew.Crew.watch_round.Goals as goal
 
 pub crew_watch_hints-requires-clause-helpers : goal.crew_watch_hints-requires-clause-helpers
@@ -32,3 +34,14 @@ returns-clause-round g c =
     let helped : AreHelped field c.args.goal 4096 old new = subst (λ (hs : List Helper). AreHelped field c.args.goal 4096 hs new) c.deref_mut.ensures.value c.crew_watch_hints.ensures.helped in
     let long : length new ≡ c.self.inside.helpers.len = c.crew_watch_hints.ensures.helped.one_each ∙ c.deref_mut.ensures.len in
     rw (with_items_is c.self.inside.helpers new long, sym (ap (λ (crew : CrewValue). crew.members) c.self.view_is)) (round-helped field c.args.goal old new helped)
+
+pub returns-clause-told : goal.returns-clause-told
+returns-clause-told g c =
+    let held : ℕ → ℕ → Type 0 = g.G.Gate.told_held c.args.gate.now in
+    let freed : ℕ → ℕ → Type 0 = g.G.Gate.told_freed c.args.gate.now in
+    let old : List Helper = c.self.inside.helpers.items in
+    let new : List Helper = c.crew_watch_hints.new.helpers in
+    let told : AreHelpersTold held freed old new = subst (λ (hs : List Helper). AreHelpersTold held freed hs new) c.deref_mut.ensures.value c.crew_watch_hints.ensures.told in
+    let same : length new ≡ length old = c.crew_watch_hints.ensures.helped.one_each ∙ ap length c.deref_mut.ensures.value in
+    let long : length new ≡ c.self.inside.helpers.len = c.crew_watch_hints.ensures.helped.one_each ∙ c.deref_mut.ensures.len in
+    rw (with_items_is c.self.inside.helpers new long, sym (ap (λ (crew : CrewValue). crew.members) c.self.view_is)) (helpers-told held freed old new same told)

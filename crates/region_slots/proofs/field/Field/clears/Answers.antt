@@ -19,8 +19,8 @@ use Rattle.region_slots.proofs.NeighbourLooks.{cleared-more, cleared-own, falls-
 use Rattle.region_slots.proofs.Telling.{listed-near, near-listed}
 use Rattle.region_slots.proofs.field.Field.clears.Goals as goal
 
-pub compares-s-requires-clause-seat : goal.compares-s-requires-clause-seat
-compares-s-requires-clause-seat c =
+pub load_neighbour_step-s-requires-clause-seat : goal.load_neighbour_step-s-requires-clause-seat
+load_neighbour_step-s-requires-clause-seat c =
     let has = c.loop-k.invariant.3 c.requires.at.hold c.requires.at.works in
     record {
       table = c.loop-k.invariant.1 ∙ c.requires.seat.table;
@@ -28,8 +28,8 @@ compares-s-requires-clause-seat c =
       share = λ none. c.requires.seat.share (sym has.still.alike.share ∙ none);
     }
 
-pub compares-s-requires-clause-working : goal.compares-s-requires-clause-working
-compares-s-requires-clause-working c =
+pub load_neighbour_step-s-requires-clause-working : goal.load_neighbour_step-s-requires-clause-working
+load_neighbour_step-s-requires-clause-working c =
     let terms : Terms = c.args.self.now.terms in
     let chart : c.self.inside.chart.now ≡ terms.chart.now = sym c.self.invariant.1 ∙ ap (λ field. field.terms.chart.now) c.self.view_is in
     let field : IsTableFor terms c.args.self.now.table = subst (λ (f : FieldValue). IsTableFor f.terms f.table) c.self.view_is c.self.invariant.3 in
@@ -44,8 +44,8 @@ compares-s-requires-clause-working c =
 pub returns-then-s-step-clause-same : goal.returns-then-s-step-clause-same
 returns-then-s-step-clause-same c =
     let has = c.loop-k.invariant.3 c.requires.at.hold c.requires.at.works in
-    let told = c.compares-s.ensures.short has.now has.works (omega (arith, c.if-s-step.true, has.step, c.requires.at.step)) in
-    (c.compares-s.ensures.same.0 ∙ c.loop-k.invariant.0, c.compares-s.ensures.same.1 ∙ c.loop-k.invariant.1, ap (λ m. m.1) told.0 ∙ c.loop-k.invariant.2)
+    let told = c.load_neighbour_step-s.ensures.short has.now has.works (omega (arith, c.if-s-step.true, has.step, c.requires.at.step)) in
+    (c.load_neighbour_step-s.ensures.same.0 ∙ c.loop-k.invariant.0, c.load_neighbour_step-s.ensures.same.1 ∙ c.loop-k.invariant.1, ap (λ m. m.1) told.0 ∙ c.loop-k.invariant.2)
 
 pub returns-then-s-step-clause-short : goal.returns-then-s-step-clause-short
 returns-then-s-step-clause-short c = λ p t is.
@@ -58,12 +58,12 @@ returns-then-s-step-clause-short c = λ p t is.
     let q : ℕ = get_or c.neighbours-neighbours.result.now c.loop-k.k 0 in
     let listed : Contains (list_at terms.chart.now.neighbours c.args.region) q = subst (λ l. Contains l q) list (Contains-get_or c.neighbours-neighbours.result.now c.loop-k.k 0 c.loop-k-test.true) in
     let near : are_neighbours terms.net.now.connectors terms.chart.now.cut c.args.region q ≡ true = listed-near terms c.args.self.now.table c.args.region q field c.requires.there listed in
-    let s : ℕ = c.compares-s.result in
-    let told = c.compares-s.ensures.short has.now has.works (omega (arith, c.if-s-step.true, has.step, at.step)) in
-    let view : c.compares-s.new.seat.me.0 ≡ found_short c.loop-k.seat.me.0 c.args.region q s =
+    let s : ℕ = c.load_neighbour_step-s.result in
+    let told = c.load_neighbour_step-s.ensures.short has.now has.works (omega (arith, c.if-s-step.true, has.step, at.step)) in
+    let view : c.load_neighbour_step-s.new.seat.me.0 ≡ found_short c.loop-k.seat.me.0 c.args.region q s =
     ap (λ m. m.0) told.0 ∙ ap (λ r. found_short c.loop-k.seat.me.0 r q s) (has.region ∙ at.region) in
     let short : HasFallenShort c.args.seat.now.me.0 (found_short c.loop-k.seat.me.0 c.args.region q s) c.args.region q s =
-    falls-short c.args.seat.now.me.0 c.loop-k.seat.me.0 at.hold c.args.region q s has c.compares-s.ensures.later (omega (arith, (neighbours-there terms.net.now terms.chart.now c.args.region q near).1, has.still.alike.seen.long, c.requires.long)) in
+    falls-short c.args.seat.now.me.0 c.loop-k.seat.me.0 at.hold c.args.region q s has c.load_neighbour_step-s.ensures.later (omega (arith, (neighbours-there terms.net.now terms.chart.now c.args.region q near).1, has.still.alike.seen.long, c.requires.long)) in
     let there : IsAt (found_short c.loop-k.seat.me.0 c.args.region q s) c.args.region c.args.step =
     record {
       hold = has.now;
@@ -74,8 +74,8 @@ returns-then-s-step-clause-short c = λ p t is.
     let one : q ≡ p = (pair-same q s p t is).0 in
     let two : s ≡ t = (pair-same q s p t is).1 in
     let beside : ℕ → Type 0 = λ n. are_neighbours terms.net.now.connectors terms.chart.now.cut c.args.region n ≡ true in
-    subst (λ n. HasFallenShort c.args.seat.now.me.0 c.compares-s.new.seat.me.0 c.args.region p n × (n + 1 ≡ c.args.step) × IsAt c.compares-s.new.seat.me.0 c.args.region c.args.step × beside p) two
-    (subst (λ n. HasFallenShort c.args.seat.now.me.0 c.compares-s.new.seat.me.0 c.args.region n s × (s + 1 ≡ c.args.step) × IsAt c.compares-s.new.seat.me.0 c.args.region c.args.step × beside n) one
+    subst (λ n. HasFallenShort c.args.seat.now.me.0 c.load_neighbour_step-s.new.seat.me.0 c.args.region p n × (n + 1 ≡ c.args.step) × IsAt c.load_neighbour_step-s.new.seat.me.0 c.args.region c.args.step × beside p) two
+    (subst (λ n. HasFallenShort c.args.seat.now.me.0 c.load_neighbour_step-s.new.seat.me.0 c.args.region n s × (s + 1 ≡ c.args.step) × IsAt c.load_neighbour_step-s.new.seat.me.0 c.args.region c.args.step × beside n) one
     (subst (λ (v : View). HasFallenShort c.args.seat.now.me.0 v c.args.region q s × (s + 1 ≡ c.args.step) × IsAt v c.args.region c.args.step × beside q) (sym view)
     (short, omega (arith, told.1, has.step, at.step), there, near)))
 
@@ -90,16 +90,16 @@ loop-k-preserved c =
     let q : ℕ = get_or c.neighbours-neighbours.result.now c.loop-k.k 0 in
     let listed : Contains (list_at terms.chart.now.neighbours c.args.region) q = subst (λ l. Contains l q) list (Contains-get_or c.neighbours-neighbours.result.now c.loop-k.k 0 c.loop-k-test.true) in
     let near : are_neighbours terms.net.now.connectors terms.chart.now.cut c.args.region q ≡ true = listed-near terms c.args.self.now.table c.args.region q field c.requires.there listed in
-    let s : ℕ = c.compares-s.result in
+    let s : ℕ = c.load_neighbour_step-s.result in
     let past : c.args.step ≤ s = omega (arith, c.if-s-step.false) in
-    let told = c.compares-s.ensures.near has.now has.works (omega (arith, past, has.step, at.step)) in
-    let view : c.compares-s.new.seat.me.0 ≡ cleared c.loop-k.seat.me.0 q s = ap (λ m. m.0) told in
+    let told = c.load_neighbour_step-s.ensures.near has.now has.works (omega (arith, past, has.step, at.step)) in
+    let view : c.load_neighbour_step-s.new.seat.me.0 ≡ cleared c.loop-k.seat.me.0 q s = ap (λ m. m.0) told in
     let there : q < region_count terms.chart.now.cut = (neighbours-there terms.net.now terms.chart.now c.args.region q near).1 in
     let own : slice_index (slice_set c.loop-k.seat.me.0.seen q s) q ≡ s = get_or-set_same c.loop-k.seat.me.0.seen q s 0 (omega (arith, there, has.still.alike.seen.long, c.requires.long)) in (
-      c.compares-s.ensures.same.0 ∙ c.loop-k.invariant.0,
-      c.compares-s.ensures.same.1 ∙ c.loop-k.invariant.1,
+      c.load_neighbour_step-s.ensures.same.0 ∙ c.loop-k.invariant.0,
+      c.load_neighbour_step-s.ensures.same.1 ∙ c.loop-k.invariant.1,
       ap (λ m. m.1) told ∙ c.loop-k.invariant.2,
-      (λ hold works. subst (λ (v : View). HasLooked c.args.seat.now.me.0 v hold) (sym view) (looked-more c.args.seat.now.me.0 c.loop-k.seat.me.0 hold q s (c.loop-k.invariant.3 hold works) c.compares-s.ensures.later)),
+      (λ hold works. subst (λ (v : View). HasLooked c.args.seat.now.me.0 v hold) (sym view) (looked-more c.args.seat.now.me.0 c.loop-k.seat.me.0 hold q s (c.loop-k.invariant.3 hold works) c.load_neighbour_step-s.ensures.later)),
       (λ hold i works before.
           let now_works : IsWorkingAt (cleared c.loop-k.seat.me.0 q s) hold = subst (λ (v : View). IsWorkingAt v hold) view works in
           elim (cases_lt i c.loop-k.k) [
@@ -110,7 +110,7 @@ loop-k-preserved c =
           ]),
       (λ i before. subst (λ (v : View). c.args.step ≤ slice_index v.seen (slice_index c.neighbours-neighbours.result.now i)) (sym view)
           (elim (cases_lt i c.loop-k.k) [
-            | inl lower ↦ omega (arith, c.loop-k.invariant.5 i lower, later-set c.loop-k.seat.me.0.seen q s (slice_index c.neighbours-neighbours.result.now i) c.compares-s.ensures.later)
+            | inl lower ↦ omega (arith, c.loop-k.invariant.5 i lower, later-set c.loop-k.seat.me.0.seen q s (slice_index c.neighbours-neighbours.result.now i) c.load_neighbour_step-s.ensures.later)
             | inr other ↦
                 let same : i ≡ c.loop-k.k = omega (arith, before, other) in
                 subst (λ j. c.args.step ≤ slice_index (slice_set c.loop-k.seat.me.0.seen q s) (slice_index c.neighbours-neighbours.result.now j)) (sym same) (omega (arith, own, past))

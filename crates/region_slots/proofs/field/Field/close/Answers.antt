@@ -94,3 +94,6 @@ returns-clause-reached c = (closed c).reached
 
 pub returns-clause-moves : goal.returns-clause-moves
 returns-clause-moves c = (closed c).moves
+
+pub returns-clause-logged : goal.returns-clause-logged
+returns-clause-logged c = (closed c).logged

@@ -37,8 +37,8 @@ overflow_cast-j-in-loop-j c =
     let few = words-fit terms.chart.now field.chart record { net = terms.net.now; sound = field.sound; charted = field.charted } in
     omega (arith, c.loop-j-test.true, ap length list, width_at-widths_of terms.chart.now c.args.region, few, base-le-words (widths_of terms.chart.now) c.args.region (within-widths terms.chart.now c.args.region field.chart c.requires.there))
 
-pub writes-requires-clause-working : goal.writes-requires-clause-working
-writes-requires-clause-working c =
+pub store_border_word-requires-clause-working : goal.store_border_word-requires-clause-working
+store_border_word-requires-clause-working c =
     let at = c.requires.at.1 in
     let view : c.holds_now-n.new.seat.me.0 ≡ wrote_many c.args.seat.now.me.0 c.loop-j.j = ap (λ m. m.0) (c.holds_now-n.ensures.same.2 ∙ c.loop-j.invariant.2) in (
       written_to c.loop-j.j at.hold,

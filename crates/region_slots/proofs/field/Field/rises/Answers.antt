@@ -11,8 +11,8 @@ use Rattle.region_slots.specs.Turning.{wrote_many}
 use Rattle.region_slots.proofs.RowFilling.{written_to, wrote_many-works}
 use Rattle.region_slots.proofs.field.Field.rises.Goals as goal
 
-pub publishes-requires-clause-working : goal.publishes-requires-clause-working
-publishes-requires-clause-working c =
+pub publish_step-requires-clause-working : goal.publish_step-requires-clause-working
+publish_step-requires-clause-working c =
     let width : ℕ = width_at (widths_of c.args.self.now.terms.chart.now) c.args.region in
     let at = c.requires.at in
     let view : c.fills.new.seat.me.0 ≡ wrote_many c.args.seat.now.me.0 width =
@@ -25,8 +25,8 @@ publishes-requires-clause-working c =
       (λ q near. c.requires.cleared.all at.hold q at.works near),
     )
 
-pub frees-requires-clause-state : goal.frees-requires-clause-state
-frees-requires-clause-state c =
+pub free-requires-clause-state : goal.free-requires-clause-state
+free-requires-clause-state c =
     let width : ℕ = width_at (widths_of c.args.self.now.terms.chart.now) c.args.region in
     let at = c.requires.at in
     let view : c.fills.new.seat.me.0 ≡ wrote_many c.args.seat.now.me.0 width =
@@ -39,10 +39,10 @@ frees-requires-clause-state c =
       at.works.later,
       advanced.0,
       rest c.tells.new.seat.me.1,
-      ap (λ m. m.0.holds) c.publishes.ensures.risen ∙ ap (λ (v : View). (published v r (c.args.step + 1)).holds) view ∙ ap (λ holds. with_first done (with_first (written_to width) holds)) at.works.holds,
+      ap (λ m. m.0.holds) c.publish_step.ensures.risen ∙ ap (λ (v : View). (published v r (c.args.step + 1)).holds) view ∙ ap (λ holds. with_first done (with_first (written_to width) holds)) at.works.holds,
       at.region,
       at.works.known,
-      ap (λ m. m.1) c.publishes.ensures.risen ∙ ap (λ m. m.1) c.fills.ensures.written ∙ ap (λ m. m.1) advanced.1,
+      ap (λ m. m.1) c.publish_step.ensures.risen ∙ ap (λ m. m.1) c.fills.ensures.written ∙ ap (λ m. m.1) advanced.1,
       subst (λ n. Stands terms.net.now terms.chart.now terms.start.now terms.every r (n + 1) advanced.0) (sym at.step) advanced.2,
     )
 
@@ -51,7 +51,7 @@ returns-clause-later c =
     let width : ℕ = width_at (widths_of c.args.self.now.terms.chart.now) c.args.region in
     let view : c.fills.new.seat.me.0 ≡ wrote_many c.args.seat.now.me.0 width =
     ap (λ m. m.0) c.fills.ensures.written ∙ ap (λ (v : View). wrote_many v width) (ap (λ m. m.0) c.advances.ensures.advanced.1 ∙ ap (λ m. m.0) c.tells.ensures.told.1) in
-    subst (λ (v : View). slice_index v.seen c.args.region ≤ c.args.step + 1) view c.publishes.ensures.later
+    subst (λ (v : View). slice_index v.seen c.args.region ≤ c.args.step + 1) view c.publish_step.ensures.later
 
 pub returns-clause-in_time : goal.returns-clause-in_time
-returns-clause-in_time c = subst (HasSeenInTime c.args.self.now.terms) (sym (ap (λ m. m.0) c.frees.ensures.given)) c.frees.ensures.in_time
+returns-clause-in_time c = subst (HasSeenInTime c.args.self.now.terms) (sym (ap (λ m. m.0) c.free.ensures.given)) c.free.ensures.in_time

@@ -1,6 +1,7 @@
 use Rattle.std.specs.Prelude.{slice_index}
 use Rattle.std.proofs.Common.{◌≡◌, ℕ, [], Option, None, Some, refl, sym, ap, subst, ◌∙◌, arith}
 use Rattle.region_cut.specs.Cuttings.{region_count}
+use Rattle.border_rows.specs.Kinds.{gathered}
 use Rattle.border_rows.specs.declared.view.Terms.{Terms}
 use Rattle.border_rows.specs.declared.view.View.{View}
 use Rattle.region_slots.specs.FieldView.{FieldValue, HasCounts, IsIdle, IsTableFor}
@@ -9,7 +10,7 @@ use Rattle.region_slots.specs.Plays.{Mine}
 use Rattle.region_slots.specs.Shooting.{HasShot, IsBusy, IsUnmoved, IsWhole}
 use Rattle.region_slots.specs.declared.shot.Shot.TheVariants.{Busy}
 use Rattle.region_slots.proofs.Copying.{AreShown, IsShown}
-use Rattle.region_slots.proofs.Gathering.{counts-freed, seat-kept, unmoved-freed}
+use Rattle.region_slots.proofs.Gathering.{counts-freed, seat-kept, unmoved-freed, unmoved-shot}
 use Rattle.region_slots.proofs.Shown.{has-shot, shown-steps, whole-shown}
 use Rattle.region_slots.proofs.field.Field.shoots.Goals as goal
 
@@ -58,6 +59,7 @@ returns-in-Some-clause-shot c =
     let busy : IsBusy terms old (record c.gathers.new.seat.me.0 { holds = [] }) r c.args.tries = record {
       there = c.gathers.ensures.there r c.in-Some.is;
       held_found = stopped.held_found;
+      moments = stopped.moments;
     } in
     record {
       room = c.requires.room;
@@ -78,14 +80,14 @@ returns-clause-shot c =
     let me : Mine = c.gathers.new.seat.me in
     let has : HasGathered terms old (region_count terms.chart.now.cut) me = c.gathers.ensures.all c.in_default.is in
     let together = c.sees_together.ensures in
-    let same : c.shows.new.seat.me ≡ me = c.shows.ensures.same.2 ∙ together.same.2 in
-    let view : c.gives_back-2.new.seat.me.0 ≡ record me.0 { holds = [] } = ap (λ m. m.0) c.gives_back-2.ensures.given ∙ ap (λ (m : Mine). record m.0 { holds = [] }) same in
-    let seen : c.sees_together.new.seat.me.0.seen ≡ me.0.seen = ap (λ (m : Mine). m.0.seen) together.same.2 in
+    let same : c.shows.new.seat.me ≡ (gathered me.0, me.1) = c.shows.ensures.same.2 ∙ together.moment in
+    let view : c.gives_back-2.new.seat.me.0 ≡ record (gathered me.0) { holds = [] } = ap (λ m. m.0) c.gives_back-2.ensures.given ∙ ap (λ (m : Mine). record m.0 { holds = [] }) same in
+    let seen : c.sees_together.new.seat.me.0.seen ≡ me.0.seen = ap (λ (m : Mine). m.0.seen) together.moment in
     let shown : AreShown terms me.0.seen 0 c.shows.new.room = λ r low there. subst (λ l. IsShown terms l c.shows.new.room r) seen (c.shows.ensures.shown r there) in
-    let shot : HasShot terms old (record me.0 { holds = [] }) c.shows.new.room = has-shot terms c.args.self.now.table old me c.shows.new.room field has together.lawful together.started c.shows.ensures.room shown in
+    let shot : HasShot terms old (record (gathered me.0) { holds = [] }) c.shows.new.room = has-shot terms c.args.self.now.table old me c.shows.new.room field has together.lawful together.started c.shows.ensures.room shown in
     record {
       room = c.shows.ensures.room;
-      unmoved = subst (IsUnmoved old) (sym view) (unmoved-freed old me.0 has.unmoved);
+      unmoved = subst (IsUnmoved old) (sym view) (unmoved-shot old me.0 has.unmoved);
       tried = λ q. omega (arith, c.gathers.ensures.tried q, ap (λ (v : View). slice_index v.held_found q) view);
       taken = λ is. subst (λ v. HasShot terms old v c.shows.new.room) (sym view) shot;
       busy = λ q is. absurd cc;

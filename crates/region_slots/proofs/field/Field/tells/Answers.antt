@@ -29,9 +29,9 @@ loop-j-init c = (
   (c.requires.slot.0, ap (λ l. (c.args.seat.now.me.0, l)) c.requires.slot.1, told-none c.args.self.now.terms c.args.region c.args.step c.requires.slot.0 c.requires.slot.2),
 )
 
-pub reads-n-requires-clause-inside : goal.reads-n-requires-clause-inside
+pub load_border_word-n-requires-clause-inside : goal.load_border_word-n-requires-clause-inside
 unfolding blank
-reads-n-requires-clause-inside c =
+load_border_word-n-requires-clause-inside c =
     let terms : Terms = c.args.self.now.terms in
     let net : c.self.inside.net.now ≡ terms.net.now = sym c.self.invariant.0 ∙ ap (λ field. field.terms.net.now) c.self.view_is in
     let chart : c.self.inside.chart.now ≡ terms.chart.now = sym c.self.invariant.1 ∙ ap (λ field. field.terms.chart.now) c.self.view_is in
@@ -42,9 +42,9 @@ reads-n-requires-clause-inside c =
     let beside = halo-beside terms c.args.self.now.table c.args.region other field c.requires.there listed in
     beside.1
 
-pub reads-n-requires-clause-working : goal.reads-n-requires-clause-working
+pub load_border_word-n-requires-clause-working : goal.load_border_word-n-requires-clause-working
 unfolding blank
-reads-n-requires-clause-working c =
+load_border_word-n-requires-clause-working c =
     let terms : Terms = c.args.self.now.terms in
     let net : c.self.inside.net.now ≡ terms.net.now = sym c.self.invariant.0 ∙ ap (λ field. field.terms.net.now) c.self.view_is in
     let chart : c.self.inside.chart.now ≡ terms.chart.now = sym c.self.invariant.1 ∙ ap (λ field. field.terms.chart.now) c.self.view_is in
@@ -83,17 +83,17 @@ loop-j-preserved c =
     let within : c.loop-j.j < length (halo_cells terms.chart.now c.args.region) = omega (arith, c.loop-j-test.true, ap length list, length-map (list_at terms.chart.now.halo c.args.region) (λ halo. halo.cell)) in
     let cell : other.cell ≡ slice_index (halo_cells terms.chart.now c.args.region) c.loop-j.j =
     sym (get_or-map (λ halo. halo.cell) c.halo-halo.result.now c.loop-j.j blank 0 c.loop-j-test.true) ∙ ap (λ l. slice_index (map (λ halo. halo.cell) l) c.loop-j.j) list in
-    let before : c.reads-n.new.seat.me ≡ (c.args.seat.now.me.0, (c.args.region, c.loop-j.invariant.2.0) ∷ rest c.args.seat.now.me.1) = c.reads-n.ensures.same.2 ∙ c.loop-j.invariant.2.1 in
+    let before : c.load_border_word-n.new.seat.me ≡ (c.args.seat.now.me.0, (c.args.region, c.loop-j.invariant.2.0) ∷ rest c.args.seat.now.me.1) = c.load_border_word-n.ensures.same.2 ∙ c.loop-j.invariant.2.1 in
     let put = c.puts.ensures.put in
-    let is : c.loop-j.invariant.2.0 ≡ put.0 = same-slot c.reads-n.new.seat.me.1 (rest c.args.seat.now.me.1) (rest c.reads-n.new.seat.me.1) c.args.region c.loop-j.invariant.2.0 put.0 (ap (λ m. m.1) before) put.2 in
+    let is : c.loop-j.invariant.2.0 ≡ put.0 = same-slot c.load_border_word-n.new.seat.me.1 (rest c.args.seat.now.me.1) (rest c.load_border_word-n.new.seat.me.1) c.args.region c.loop-j.invariant.2.0 put.0 (ap (λ m. m.1) before) put.2 in
     let told : IsTold terms c.args.region c.args.step c.loop-j.j put.0 = subst (IsTold terms c.args.region c.args.step c.loop-j.j) is c.loop-j.invariant.2.2 in
-    let held : c.reads-n.result ≡ field_held terms c.args.step (slice_index (halo_cells terms.chart.now c.args.region) c.loop-j.j) =
-    c.reads-n.ensures.held ∙ ap (field_held terms c.args.step) (beside.2 ∙ cell) in (
-      c.puts.ensures.same.0 ∙ c.reads-n.ensures.same.0 ∙ c.loop-j.invariant.0,
-      c.puts.ensures.same.1 ∙ c.reads-n.ensures.same.1 ∙ c.loop-j.invariant.1,
+    let held : c.load_border_word-n.result ≡ field_held terms c.args.step (slice_index (halo_cells terms.chart.now c.args.region) c.loop-j.j) =
+    c.load_border_word-n.ensures.held ∙ ap (field_held terms c.args.step) (beside.2 ∙ cell) in (
+      c.puts.ensures.same.0 ∙ c.load_border_word-n.ensures.same.0 ∙ c.loop-j.invariant.0,
+      c.puts.ensures.same.1 ∙ c.load_border_word-n.ensures.same.1 ∙ c.loop-j.invariant.1,
       (
         put.1,
         put.3 ∙ ap (λ m. (m.0, (c.args.region, put.1) ∷ rest m.1)) before,
-        told-more terms c.args.region c.args.step c.loop-j.j c.reads-n.result put.0 put.1 told within held put.4 (put.5 told.opened),
+        told-more terms c.args.region c.args.step c.loop-j.j c.load_border_word-n.result put.0 put.1 told within held put.4 (put.5 told.opened),
       ),
     )

@@ -4,7 +4,7 @@ use Rattle.border_rows.specs.declared.view.Terms.{Terms}
 use Rattle.border_rows.proofs.ClaimKinds.{within-widths}
 use Rattle.border_rows.proofs.RowKinds.{AllCleared}
 use Rattle.region_slots.proofs.Writing.{publishing}
-use Rattle.region_slots.proofs.field.Field.publishes.Goals as goal
+use Rattle.region_slots.proofs.field.Field.publish_step.Goals as goal
 
 pub step-word-requires : goal.step-word-requires
 step-word-requires c =

@@ -1,7 +1,7 @@
 use Rattle.std.proofs.Common.{◌≡◌, ◌<◌, arith, ap, sym, ◌∙◌}
 use Rattle.border_rows.specs.Places.{claim_place, widths_of, words_of}
 use Rattle.region_slots.proofs.Claiming.{claiming}
-use Rattle.region_slots.proofs.field.Field.takes.Goals as goal
+use Rattle.region_slots.proofs.field.Field.try_claim.Goals as goal
 
 pub compare_exchange-found-requires : goal.compare_exchange-found-requires
 compare_exchange-found-requires c =

@@ -6,7 +6,7 @@ use Rattle.border_rows.specs.declared.view.Terms.{Terms}
 use Rattle.border_rows.proofs.ClaimKinds.{within-widths}
 use Rattle.border_rows.proofs.Keeping.{neighbours-there}
 use Rattle.region_slots.proofs.Comparing.{comparing, working-beside}
-use Rattle.region_slots.proofs.field.Field.compares.Goals as goal
+use Rattle.region_slots.proofs.field.Field.load_neighbour_step.Goals as goal
 
 pub step-word-requires : goal.step-word-requires
 step-word-requires c =

@@ -1,7 +1,7 @@
 use Rattle.std.proofs.Common.{◌≡◌, ◌<◌, arith, ap, sym, ◌∙◌}
 use Rattle.border_rows.specs.Places.{claim_place, widths_of, words_of}
 use Rattle.region_slots.proofs.Looking.{freeing}
-use Rattle.region_slots.proofs.field.Field.frees.Goals as goal
+use Rattle.region_slots.proofs.field.Field.free.Goals as goal
 
 pub store-requires : goal.store-requires
 store-requires c =

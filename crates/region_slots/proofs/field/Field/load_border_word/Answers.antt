@@ -1,7 +1,7 @@
 use Rattle.std.proofs.Common.{◌≡◌, ◌<◌, ◌%◌, arith, ap, sym, ◌∙◌}
 use Rattle.border_rows.specs.Places.{row_place, widths_of, words_of}
 use Rattle.region_slots.proofs.Reading.{reading}
-use Rattle.region_slots.proofs.field.Field.reads.Goals as goal
+use Rattle.region_slots.proofs.field.Field.load_border_word.Goals as goal
 
 pub load-requires : goal.load-requires
 load-requires c =

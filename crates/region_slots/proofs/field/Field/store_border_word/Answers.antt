@@ -3,7 +3,7 @@ use Rattle.border_rows.specs.Places.{row_place, widths_of, words_of}
 use Rattle.border_rows.specs.declared.view.Terms.{Terms}
 use Rattle.border_rows.proofs.RowKinds.{AllCleared}
 use Rattle.region_slots.proofs.Writing.{writing}
-use Rattle.region_slots.proofs.field.Field.writes.Goals as goal
+use Rattle.region_slots.proofs.field.Field.store_border_word.Goals as goal
 
 pub store-requires : goal.store-requires
 store-requires c =

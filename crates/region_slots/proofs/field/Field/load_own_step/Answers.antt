@@ -6,7 +6,7 @@ use Rattle.border_rows.specs.Kinds.{found_at}
 use Rattle.border_rows.specs.declared.view.Terms.{Terms}
 use Rattle.border_rows.specs.Places.{step_place, widths_of, words_of}
 use Rattle.region_slots.proofs.Looking.{learning}
-use Rattle.region_slots.proofs.field.Field.learns.Goals as goal
+use Rattle.region_slots.proofs.field.Field.load_own_step.Goals as goal
 
 pub load-requires : goal.load-requires
 load-requires c =
