@@ -77,11 +77,13 @@ times-Contains (entry ∷ log) r s some =
     let later : times_in log r s ≡ times_in (entry ∷ log) r s → Contains (entry ∷ log) (record { region = r; step = s }) = λ same.
     let has = times-Contains log r s (omega (arith, some, same)) in (suc has.0, omega (arith, has.1), has.2) in
     elim (cases_eq entry.region r) [
-      | inr other ↦ later (sym (count ∙ ap (λ b. (if b && (entry.step == s) then 1 else 0) + times_in log r s) (ne_eqb entry.region r other)))
+      | inr other ↦
+          let none : ◌≡◌ {A = ℕ} (if (entry.region == r) && (entry.step == s) then 1 else 0) 0 = rw (ne_eqb entry.region r other) refl in
+          later (omega (arith, count, none))
       | inl own ↦ elim (cases_eq entry.step s) [
         | inr other ↦
-            later (sym (count ∙ ap (λ b. (if (entry.region == r) && b then 1 else 0) + times_in log r s) (ne_eqb entry.step s other) ∙
-            ap (λ b. (if b then 1 else 0) + times_in log r s) (and-false (entry.region == r))))
+            let none : ◌≡◌ {A = ℕ} (if (entry.region == r) && (entry.step == s) then 1 else 0) 0 = rw (ne_eqb entry.step s other, and-false (entry.region == r)) refl in
+            later (omega (arith, count, none))
         | inl also ↦ (0, omega arith, ap (λ n. record { region = n; step = entry.step }) own ∙ ap (λ n. record { region = r; step = n }) also)
       ]
     ]
