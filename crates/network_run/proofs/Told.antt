@@ -4,9 +4,9 @@ use Rattle.std.specs.List.{Contains}
 use Rattle.std.proofs.Common.{◌≡◌, ℕ, suc, ◌+◌, ◌-◌, ◌<◌, ◌≤◌, inl, inr, List, [], ◌∷◌, ◌++◌, length, get_or, refl, sym, ap, subst, ◌∙◌, arith}
 use Rattle.std.proofs.lemmas.Bool.{cases_eq, eq-eqb, ne_eqb}
 use Rattle.std.proofs.lemmas.List.{get_or-map, length-map}
+use Rattle.std.proofs.lemmas.List.Sums.{sum_by-cons}
 use Rattle.std.proofs.lemmas.List.Elements.{Contains-append_cases, Contains-append_left, Contains-append_right}
 use Rattle.std.proofs.Math.Bool.{and-false}
-use Rattle.signal_plan.proofs.Sums.{count_by-cons}
 use Rattle.region_step.specs.Start.{StartLists}
 use Rattle.border_rows.specs.Views.{times_in}
 use Rattle.border_rows.specs.declared.view.PublishedStep.{PublishedStep}
@@ -19,13 +19,13 @@ use Rattle.network_run.specs.Telling.{AreFrom, HasTold, HasToldFrom}
 use Rattle.network_run.proofs.Crewing.{members_of}
 
 -- members that have made no turn
-pub members-none : (held freed : ℕ → ℕ → Type 0) (members : List Member) → AreMembersTold held freed members members
-members-none held freed members = record { each = λ k d within. told-none held freed (slice_index_or members k d).pass.knows.log }
+pub members_none : (held freed : ℕ → ℕ → Type 0) (members : List Member) → AreMembersTold held freed members members
+members_none held freed members = record { each = λ k d within. told-none held freed (slice_index_or members k d).pass.knows.log }
 
 -- some turns, and then others
-pub members-more : (held freed : ℕ → ℕ → Type 0) (old between new : List Member) → length between ≡ length old → AreMembersTold held freed old between → AreMembersTold held freed between new →
+pub members_more : (held freed : ℕ → ℕ → Type 0) (old between new : List Member) → length between ≡ length old → AreMembersTold held freed old between → AreMembersTold held freed between new →
     AreMembersTold held freed old new
-members-more held freed old between new long before after = record {
+members_more held freed old between new long before after = record {
   each = λ k d within.
       told-more held freed (slice_index_or old k d).pass.knows.log (slice_index_or between k d).pass.knows.log (slice_index_or new k d).pass.knows.log (before.each k d within)
       (after.each k d (omega (arith, within, long)));
@@ -73,15 +73,17 @@ told-taken held freed own between last before after long nothing told from finis
 times-Contains : (log : List PublishedStep) (r s : ℕ) → 1 ≤ times_in log r s → Contains log (record { region = r; step = s })
 times-Contains [] r s some = absurd (omega (arith, some))
 times-Contains (entry ∷ log) r s some =
-    let count = count_by-cons (λ (e : PublishedStep). (e.region == r) && (e.step == s)) entry log in
+    let count = sum_by-cons (λ (e : PublishedStep). if (e.region == r) && (e.step == s) then 1 else 0) entry log in
     let later : times_in log r s ≡ times_in (entry ∷ log) r s → Contains (entry ∷ log) (record { region = r; step = s }) = λ same.
     let has = times-Contains log r s (omega (arith, some, same)) in (suc has.0, omega (arith, has.1), has.2) in
     elim (cases_eq entry.region r) [
-      | inr other ↦ later (sym (count ∙ ap (λ b. (if b && (entry.step == s) then 1 else 0) + times_in log r s) (ne_eqb entry.region r other)))
+      | inr other ↦
+          let none : ◌≡◌ {A = ℕ} (if (entry.region == r) && (entry.step == s) then 1 else 0) 0 = rw (ne_eqb entry.region r other) refl in
+          later (omega (arith, count, none))
       | inl own ↦ elim (cases_eq entry.step s) [
         | inr other ↦
-            later (sym (count ∙ ap (λ b. (if (entry.region == r) && b then 1 else 0) + times_in log r s) (ne_eqb entry.step s other) ∙
-            ap (λ b. (if b then 1 else 0) + times_in log r s) (and-false (entry.region == r))))
+            let none : ◌≡◌ {A = ℕ} (if (entry.region == r) && (entry.step == s) then 1 else 0) 0 = rw (ne_eqb entry.step s other, and-false (entry.region == r)) refl in
+            later (omega (arith, count, none))
         | inl also ↦ (0, omega arith, ap (λ n. record { region = n; step = entry.step }) own ∙ ap (λ n. record { region = r; step = n }) also)
       ]
     ]

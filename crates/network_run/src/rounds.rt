@@ -25,7 +25,7 @@ impl Crew {
 
     /// Has the members make turns in rounds, until one has found all regions at the goal, or none has moved one, or there
     /// were as many rounds as there are steps to take. Each round but the last has moved a region. It gives their number.
-    #[tactic(auto, using(crate::proofs::Told::members-none, crate::proofs::Told::members-more))]
+    #[tactic(auto, using(crate::proofs::Told::members_none, crate::proofs::Told::members_more))]
     pub(crate) fn drive<R: Threads + Sync, G: Gate>(
         &mut self,
         rt: &R,

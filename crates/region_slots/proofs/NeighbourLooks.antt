@@ -182,7 +182,7 @@ turned-moved terms old view hold r step goal width has past below rise long ther
         share = alike.share;
         splits = alike.splits;
         held_found = alike.held_found;
-          moments = alike.moments;
+        moments = alike.moments;
         seen = record {
           long = length-set view.seen r (step + 1) ∙ same_long;
           later = λ p. omega (arith, alike.seen.later p, later-set old.seen r step p past, later-set view.seen r (step + 1) p rise);

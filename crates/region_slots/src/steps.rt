@@ -57,7 +57,11 @@ impl<'a> Field<'a> {
     }
 
     /// The step of a neighbour of the region held last.
-    pub(crate) fn load_neighbour_step(&self, seat: &mut Seat<Region, View<'static>>, neighbour: u32) -> u64
+    pub(crate) fn load_neighbour_step(
+        &self,
+        seat: &mut Seat<Region, View<'static>>,
+        neighbour: u32,
+    ) -> u64
         requires seat { IsSeatOf self.now seat.old }
         requires working { (hold : Hold) × IsWorkingAt seat.old.me.0 hold
             × (are_neighbours self.now.terms.net.now.connectors self.now.terms.chart.now.cut hold.region neighbour ≡ true) }
@@ -112,7 +116,12 @@ impl<'a> Field<'a> {
     }
 
     /// Publishes the step to come of the region held last, whose row is whole.
-    pub(crate) fn publish_step(&self, seat: &mut Seat<Region, View<'static>>, region: u32, step: u64)
+    pub(crate) fn publish_step(
+        &self,
+        seat: &mut Seat<Region, View<'static>>,
+        region: u32,
+        step: u64,
+    )
         requires seat { IsSeatOf self.now seat.old }
         requires working { (hold : Hold) × IsWorkingAt seat.old.me.0 hold × (hold.region ≡ region) × (hold.step + 1 ≡ step)
             × (hold.written ≡ width_at (widths_of self.now.terms.chart.now) region)

@@ -5,6 +5,8 @@ use Rattle.worker_claim.specs.declared.member.Member.{Member}
 use Rattle.network_run.specs.Crews.{CrewValue, HasLeft}
 use Rattle.network_run.specs.Enlisted.{AreEnlisted, IsEnlisted}
 use Rattle.network_run.proofs.Crewing.{All-fewer, All-last}
+use Rattle.region_slots.specs.FieldView.{PassValue}
+use Rattle.network_run.specs.Telling.{AreFrom}
 use Rattle.network_run.proofs.Told.{among-more, from-more}
 use Rattle.network_run.proofs.crew.Crew.dismiss.Goals as goal
 
@@ -33,3 +35,7 @@ loop-preserved c =
       among-more c.args.self.now.members now.members member among,
       from-more c.args.pass.now.knows.log c.args.self.now.members now.members member c.loop.pass.knows.log c.dismiss_one.new.pass.knows.log among inv.9 left.log,
     )
+
+pub returns-clause-log : goal.returns-clause-log
+returns-clause-log c =
+    subst (λ (pass : PassValue). AreFrom c.args.pass.now.knows.log c.args.self.now.members pass.knows.log) (sym (c.dismiss_one.ensures.none c.loop-test.false).2) c.loop.invariant.9

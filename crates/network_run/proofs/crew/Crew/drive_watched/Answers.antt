@@ -1,6 +1,6 @@
 use Rattle.std.proofs.Common.{◌+◌, arith}
 use Rattle.network_run.proofs.RoundCounts.{rounds-moved, rounds-then}
-use Rattle.network_run.proofs.Told.{members-more}
+use Rattle.network_run.proofs.Told.{members_more}
 use Rattle.network_run.proofs.crew.Crew.drive_watched.Goals as goal
 
 pub returns-then-not-is_done-clause-rounds : goal.returns-then-not-is_done-clause-rounds
@@ -16,5 +16,5 @@ returns-else-not-is_done-clause-rounds g c =
 
 pub returns-then-not-is_done-clause-told : goal.returns-then-not-is_done-clause-told
 returns-then-not-is_done-clause-told g c =
-    members-more (g.G.Gate.told_held c.args.gate.now) (g.G.Gate.told_freed c.args.gate.now) c.args.self.now.members c.watch_round-shot.new.self.members c.drive.new.self.members
+    members_more (g.G.Gate.told_held c.args.gate.now) (g.G.Gate.told_freed c.args.gate.now) c.args.self.now.members c.watch_round-shot.new.self.members c.drive.new.self.members
     c.watch_round-shot.ensures.many c.watch_round-shot.ensures.told c.drive.ensures.told
