@@ -50,7 +50,7 @@ pub struct View<'a> {
     pub share: u64,
     /// For each region a step that its word has reached.
     pub seen: [u64; 0],
-    /// The steps that were published through it, the last one first.
+    /// The steps that were published through it: its own, the last one first, and behind them those of seats that it joined.
     pub log: [PublishedStep; 0],
     /// No step published through it lies past this one.
     pub reach: u64,
@@ -70,7 +70,7 @@ pub struct View<'a> {
     pub tried: [u64; 0],
     /// At how many moments it held all regions.
     pub moments: u64,
-    /// The steps of all regions at the last such moment.
+    /// The steps of all regions at the last such moment of its own.
     pub moment: [u64; 0],
     /// The regions that it holds.
     pub holds: [Hold; 0],

@@ -5,7 +5,8 @@
 //!   output. `call_ending` writes the text that `answer` finds, or the line that says why there is none.
 //! - `answer` has the words read and the input brought by `workerless_call`, and has the mode find the text: `run_mode`,
 //!   `watch_mode`, `sample_mode`, `save_mode`, `resume_mode` and `recut_mode` here, each with its definition of the same name
-//!   in specs/, and the modes without workers there. The tables by mode are `text_of`, and those of specs/Answer.antt.
+//!   in specs/, and the modes without workers there. The tables by mode are `text_of`, and those of specs/Answer.antt and
+//!   of specs/Telling.antt, which says what the observer was told.
 //! - `recutting` has [`recut_report`], the report of a run in parts, each in a cutting of its own.
 #![tactic(auto)]
 

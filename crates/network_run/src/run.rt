@@ -20,8 +20,8 @@ use std::thread::Threads;
 use worker_claim::finish;
 
 /// The regions of a chart at the last step, taken there from step 0 by so many workers. Each is recorded at each step that
-/// `every` divides and at the last one, never where `every` is 0. The observer is told of each of its steps. All memory is taken before the first step, but for what
-/// the workers' deques may ask for and do without.
+/// `every` divides and at the last one, never where `every` is 0. The observer is told of each of its steps. All memory is
+/// taken before the first step, but for what the workers' deques may ask for and do without.
 pub fn last_regions<R: Threads + Sync, G: Gate>(
     rt: &R,
     alloc: Global,

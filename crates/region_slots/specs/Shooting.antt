@@ -27,8 +27,8 @@ pub record IsUnmoved (old new : View) : Type 0 where
   pub looks : (q : ℕ) → slice_index old.looks q ≤ slice_index new.looks q
 
 -- the room shows a lawful snapshot, whose steps were all looked at in this call and are what the pass has seen now, no less
--- than before. The pass held all regions together, at these steps, at one moment more. No road holds more than its room. From a true start the row of each cell is that of the plain recurrences at
--- the step of its region, and the books balance.
+-- than before. The pass held all regions together, at these steps, at one moment more. No road holds more than its room.
+-- From a true start the row of each cell is that of the plain recurrences at the step of its region, and the books balance.
 pub record HasShot (terms : Terms) (old new : View) (room : RoomValue) : Type 0 where
   pub snapshot : IsSnapshot terms.net.now terms.chart.now.cut terms.start.now room
   pub seen : new.seen ≡ room.steps

@@ -126,8 +126,8 @@ pub record IsMoved (terms : Terms) (old new : View) (goal r s : ℕ) : Type 0 wh
   pub seen : slice_index new.seen r ≡ s
   pub around : (q : ℕ) → are_neighbours terms.net.now.connectors terms.chart.now.cut r q ≡ true → s ≤ slice_index new.seen q + 1
 
--- what every turn keeps of a pass: its share, its splits, what it has seen and published, and that it has published nothing
--- past goal
+-- what every turn keeps of a pass: its share, its splits, what it has seen, how many steps it has published, and that it has
+-- published nothing past goal
 pub record IsWithin (old new : View) (goal : ℕ) : Type 0 where
   pub share : new.share ≡ old.share
   pub splits : new.splits ≡ old.splits

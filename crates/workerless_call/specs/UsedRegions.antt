@@ -12,6 +12,6 @@ abbrev pub wanted_by : Option ℕ → (chosen : ℕ) → ℕ
 wanted_by (Some regions) chosen = regions
 wanted_by None chosen = chosen
 
--- how many a request has a network of so many cells cut into, where it has so many cells
+-- how many a request wants for a network of so many cells
 abbrev pub regions_wanted : (cells : ℕ) → Request → ℕ
 regions_wanted cells request = wanted_by request.regions (chosen_regions cells request.workers)

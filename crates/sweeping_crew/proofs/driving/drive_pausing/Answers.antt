@@ -30,8 +30,18 @@ loop-made-preserved g c =
       rounds-more c.args.pass.now.knows.tried c.loop-made.pass.knows.tried c.sweep-swept.new.pass.knows.tried (region_count c.args.field.now.terms.chart.now.cut) c.args.first c.loop-made.made
           c.loop-made.invariant.5 c.sweep-swept.ensures.order,
       λ some.
-          subst (λ (d : Driven). IsLast (region_count c.args.field.now.terms.chart.now.cut) c.args.goal c.sweep-swept.new.pass.knows d.all) (sym c.then-driven.ensures)
-          record { before = c.loop-made.pass.knows; driven = other; swept = c.sweep-swept.ensures.swept; same = refl; all = c.sweep-swept.ensures.all },
+          subst (λ (d : Driven). IsLast (region_count c.args.field.now.terms.chart.now.cut) c.args.goal (c.loop-made.made + 1) c.args.pass.now.knows c.sweep-swept.new.pass.knows d.all) (sym c.then-driven.ensures)
+          record {
+            sweeps = c.loop-made.made;
+            one_less = refl;
+            before = c.loop-made.pass.knows;
+            earlier = one;
+            since = c.loop-made.invariant.3;
+            driven = other;
+            swept = c.sweep-swept.ensures.swept;
+            same = refl;
+            all = c.sweep-swept.ensures.all;
+          },
       told-more (g.G.Gate.told_held c.args.gate.now) (g.G.Gate.told_freed c.args.gate.now) c.args.pass.now.knows.log c.loop-made.pass.knows.log c.sweep-swept.new.pass.knows.log
           c.loop-made.invariant.7 c.sweep-swept.ensures.told,
     )
