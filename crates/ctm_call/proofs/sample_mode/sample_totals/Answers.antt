@@ -1,8 +1,8 @@
 use Rattle.std.proofs.Common.{◌≡◌, ◌++◌, List, ℕ, refl, ap, subst, sym, ◌∙◌}
-use Rattle.std.specs.Prelude.{replicate}
+use Rattle.std.specs.Prelude.{length, min, replicate}
 use Rattle.network_file.specs.Network.{Network}
 use Rattle.flow_model.specs.State.{state_at}
-use Rattle.region_cut.specs.Cuttings.{region_count}
+use Rattle.region_cut.specs.Cuttings.{even_cutting, region_count}
 use Rattle.region_step.specs.Standing.{AllStand}
 use Rattle.region_step.specs.Start.{zero_start}
 use Rattle.delay_report.specs.Report.{total_line}
@@ -30,6 +30,7 @@ pub returns-clause-told : goal.returns-clause-told
 returns-clause-told g c = λ done. record {
   cut = c.in_ok-chart.chart.cut;
   own = c.in_ok-chart.ensures.own;
-  even = c.in_ok-chart.ensures.even;
+  even = λ none. c.in_ok-chart.ensures.even none ∙
+      ap (λ (n : ℕ). even_cutting (length c.args.net.now.cells) (min n (length c.args.net.now.cells))) c.regions_wanted.ensures.wanted;
   told = c.in_ok-regions.ensures.told refl;
 }
