@@ -20,10 +20,10 @@ Amounts = tuple[int, int, int, int]  # what a cell holds and what came, went and
 
 @dataclass(frozen=True)
 class Runner:
-    """Calls the program for a network of a name: in regions, by so many workers."""
+    """Calls the program for a network of a name: in so many regions, or as `auto` chooses, by so many workers."""
 
     name: str
-    regions: str = "1"
+    regions: int | str = 1
     workers: int = 1
     news: News | None = None
 
@@ -33,7 +33,7 @@ class Runner:
 
     def moment(self, network: bytes, step: int) -> Moment:
         """The moment of a network at a step from 1 on, at which all regions stand."""
-        words = ("save", "--until", str(step), "--regions", self.regions, "--workers", str(self.workers))
+        words = ("save", "--until", str(step), "--regions", str(self.regions), "--workers", str(self.workers))
         saved = moment_of(self._ask(words, with_steps(network, step)), self.name)
         return saved.of(network)
 
