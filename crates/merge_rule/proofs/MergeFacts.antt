@@ -111,6 +111,19 @@ merge_of-IsMerge s1 s2 r p1 p2 some =
           record { some = some; first = rw first refl; second = rw second refl }
     ]
 
+same_pair : (x y : ℕ × ℕ) → x.0 ≡ y.0 → x.1 ≡ y.1 → x ≡ y
+same_pair x y first second = λ i. (first i, second i)
+
+-- both flows in one form, whether there is room for all or not
+pub in_one_form : {first second : ℕ} (s1 s2 r p1 p2 : ℕ) → 1 ≤ p1 + p2
+    → first ≡ min s1 (max (first_share r p1 p2) (r - s2)) → second ≡ min s2 (r - first) → (first, second) ≡ merge_of s1 s2 r p1 p2
+in_one_form {first} {second} s1 s2 r p1 p2 some is_first is_second =
+    let merge = merge_of-IsMerge s1 s2 r p1 p2 some in
+    let within = first_share-le r p1 p2 some in
+    same_pair (first, second) (merge_of s1 s2 r p1 p2)
+    (elim (IsMerge-cases merge) [ inl room ↦ omega arith | inr short ↦ omega arith ])
+    (elim (IsMerge-cases merge) [ inl room ↦ omega arith | inr short ↦ omega arith ])
+
 -- the same laws, for callers that cite the definition
 pub merge_of-first_sends : (s1 s2 r p1 p2 : ℕ) → 1 ≤ p1 + p2 → (merge_of s1 s2 r p1 p2).0 ≤ s1
 merge_of-first_sends s1 s2 r p1 p2 some = IsMerge-first_sends (merge_of-IsMerge s1 s2 r p1 p2 some)
@@ -203,9 +216,6 @@ pub IsMerge-exchanged_second : {s1 s2 r p1 p2 : ℕ} {flows : ℕ × ℕ} → Is
 IsMerge-exchanged_second {s1} {s2} {r} {p1} {p2} {flows} merge =
     let both = shares_near r p1 p2 merge.some in
     elim (IsMerge-both merge) [ inl room ↦ (omega arith, omega arith) | inr short ↦ (omega arith, omega arith) ]
-
-same_pair : (x y : ℕ × ℕ) → x.0 ≡ y.0 → x.1 ≡ y.1 → x ≡ y
-same_pair x y first second = λ i. (first i, second i)
 
 unrounded_from_same : {s1 s2 r p1 p2 : ℕ} {flows : ℕ × ℕ} → IsMerge s1 s2 r p1 p2 flows → flows ≡ exchanged_merge_of s1 s2 r p1 p2 → IsUnrounded s1 s2 r p1 p2
 unrounded_from_same {s1} {s2} {r} {p1} {p2} {flows} merge same =

@@ -1,4 +1,4 @@
-ghost use Rattle.std.specs.Prelude.{◌≡◌, ℕ, ◌+◌, ◌-◌, ◌<◌, ◌≤◌, ◌↔◌, max, min, pos};
+ghost use Rattle.std.specs.Prelude.{◌≡◌, ℕ, ◌+◌, ◌-◌, ◌<◌, ◌≤◌, ◌↔◌, pos};
 ghost use Rattle.merge_rule.specs.Merge.{first_flow, first_share, second_flow, merge_of};
 ghost use Rattle.merge_rule.specs.Exchange.{exchanged_merge_of, IsUnrounded};
 
@@ -28,9 +28,6 @@ pub fn merge_flow(s1: u64, s2: u64, r: u64, p1: u32, p2: u32) -> (u64, u64)
         (other.1 ≤ result.1) × (result.1 ≤ other.1 + 1) }
     ensures exchanged_same { (result ≡ exchanged_merge_of s1 s2 r p1 p2) ↔ IsUnrounded s1 s2 r p1 p2 }
 {
-    if r as u128 >= s1 as u128 + s2 as u128 {
-        return (s1, s2);
-    }
     let share = share_floor(r, p1 as u64, p1 as u64 + p2 as u64);
     merge_by_share(s1, s2, r, share)
 }
@@ -41,20 +38,8 @@ pub fn merge_by_share(s1: u64, s2: u64, r: u64, share: u64) -> (u64, u64)
     ensures flows { (p1 p2 : ℕ) → 1 ≤ p1 + p2 → share ≡ first_share r p1 p2 → result ≡ merge_of s1 s2 r p1 p2 }
     ensures receives { result.0 + result.1 ≤ r }
 {
-    if r as u128 >= s1 as u128 + s2 as u128 {
-        (s1, s2)
-    } else {
-        (
-            shared_flow(s1, s2, r, share),
-            shared_flow(s2, s1, r, r - share),
-        )
-    }
-}
-
-// What one sender sends where there is no room for all: the middle of what it has, of its share, and of what the other leaves,
-// which is as good as 0 where it is less.
-fn shared_flow(sent: u64, other: u64, r: u64, share: u64) -> u64
-    ensures { result ≡ max (r - other) (min sent share) }
-{
-    sent.min(share).max(r.saturating_sub(other))
+    // The middle of what the first sender has, of its share, and of what the other leaves, which is as good as 0 where it is
+    // less; all that it has where there is room for all. The other has the rest of the room.
+    let first = s1.min(share.max(r.saturating_sub(s2)));
+    (first, s2.min(r - first))
 }

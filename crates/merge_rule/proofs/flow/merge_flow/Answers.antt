@@ -1,6 +1,6 @@
 use Rattle.std.proofs.Common.{◌≡◌, ℕ, ◌+◌, ◌*◌, ◌/◌, sym, ap, ◌∙◌, arith, mul_comm, subst}
 use Rattle.merge_rule.specs.Merge.{first_share}
-use Rattle.merge_rule.proofs.MergeFacts.{first_share-le, first_flow-room, second_flow-room, merge_of-IsMerge, IsMerge, IsMerge-is, IsMerge-first_sends, IsMerge-second_sends, IsMerge-receives, IsMerge-none_is_lost, IsMerge-exchanged_first, IsMerge-exchanged_second, IsMerge-exchanged_same}
+use Rattle.merge_rule.proofs.MergeFacts.{first_share-le, merge_of-IsMerge, IsMerge, IsMerge-is, IsMerge-first_sends, IsMerge-second_sends, IsMerge-receives, IsMerge-all_go, IsMerge-none_is_lost, IsMerge-exchanged_first, IsMerge-exchanged_second, IsMerge-exchanged_same}
 use Rattle.merge_rule.proofs.flow.merge_flow.Goals as goal
 
 -- the share that the code takes is that of the rule
@@ -9,35 +9,6 @@ share_is r p1 p2 share e = e ∙ ap (λ n. n / (p1 + p2)) (mul_comm r p1)
 
 pub merge_by_share-requires : goal.merge_by_share-requires
 merge_by_share-requires c = omega (arith, share_is c.args.r c.args.p1 c.args.p2 _ c.share_floor-share.ensures, first_share-le c.args.r c.args.p1 c.args.p2 c.requires)
-
--- ---- where there is room for all
-
-merged_in_room : (c : goal.Then-r-s1) → IsMerge c.args.s1 c.args.s2 c.args.r c.args.p1 c.args.p2 (c.args.s1, c.args.s2)
-merged_in_room c = record {
-  some = c.requires;
-  first = sym (first_flow-room c.args.s1 c.args.s2 c.args.r c.args.p1 c.args.p2 c.if-r-s1.true);
-  second = sym (second_flow-room c.args.s1 c.args.s2 c.args.r c.args.p1 c.args.p2 c.if-r-s1.true);
-}
-
-pub returns-then-r-s1-clause-first_rule : goal.returns-then-r-s1-clause-first_rule
-returns-then-r-s1-clause-first_rule c = (merged_in_room c).first
-
-pub returns-then-r-s1-clause-second_rule : goal.returns-then-r-s1-clause-second_rule
-returns-then-r-s1-clause-second_rule c = (merged_in_room c).second
-
-pub returns-then-r-s1-clause-flows : goal.returns-then-r-s1-clause-flows
-returns-then-r-s1-clause-flows c = IsMerge-is (merged_in_room c)
-
-pub returns-then-r-s1-clause-exchanged_first : goal.returns-then-r-s1-clause-exchanged_first
-returns-then-r-s1-clause-exchanged_first c = IsMerge-exchanged_first (merged_in_room c)
-
-pub returns-then-r-s1-clause-exchanged_second : goal.returns-then-r-s1-clause-exchanged_second
-returns-then-r-s1-clause-exchanged_second c = IsMerge-exchanged_second (merged_in_room c)
-
-pub returns-then-r-s1-clause-exchanged_same : goal.returns-then-r-s1-clause-exchanged_same
-returns-then-r-s1-clause-exchanged_same c = IsMerge-exchanged_same (merged_in_room c)
-
--- ---- where the room is shared
 
 merged : (c : goal.After-merge_by_share) → IsMerge c.args.s1 c.args.s2 c.args.r c.args.p1 c.args.p2 c.merge_by_share.result
 merged c =
@@ -62,6 +33,9 @@ returns-clause-second_sends c = IsMerge-second_sends (merged c)
 
 pub returns-clause-receives : goal.returns-clause-receives
 returns-clause-receives c = IsMerge-receives (merged c)
+
+pub returns-clause-all_go : goal.returns-clause-all_go
+returns-clause-all_go c = IsMerge-all_go (merged c)
 
 pub returns-clause-none_is_lost : goal.returns-clause-none_is_lost
 returns-clause-none_is_lost c = IsMerge-none_is_lost (merged c)
