@@ -1,7 +1,6 @@
 -- What links carry at most, once one more connector is joined.
 use Rattle.std.specs.Prelude.{All, Bool, not, ◌||◌, map, slice_index, if◌then◌else◌}
 use Rattle.std.specs.List.{filter, list_any, range_with_len}
-use Rattle.std.specs.List.Sorted.{IsStrictlyIncreasing}
 use Rattle.std.proofs.Common.{◌≡◌, ◌≢◌, ℕ, ◌+◌, ◌<◌, ◌≤◌, inl, inr, true, false, List, [], ◌∷◌, ◌++◌, length, get_or, take, refl, sym, ap, ◌∙◌, arith}
 use Rattle.std.proofs.lemmas.Bool.{cases_Bool}
 use Rattle.std.proofs.lemmas.List.{append-nil, map-append, take_more}
@@ -14,12 +13,11 @@ use Rattle.network_file.specs.declared.connector.Connector.TheVariants.{Link}
 use Rattle.region_body.specs.Places.{place_at}
 use Rattle.region_body.specs.declared.place.Place.{Place}
 use Rattle.region_cut.proofs.Anys.{finds}
-use Rattle.region_cut.proofs.Increasing.{position_is}
 use Rattle.region_cut.proofs.Ranges.{range-Contains}
 use Rattle.courses.specs.Links.{most_between}
 use Rattle.region_body.specs.Followed.{AreFollowed, IsThere}
 use Rattle.region_body.specs.declared.followed.FollowedLink.{FollowedLink}
-use Rattle.region_body.specs.Chains.{is_chained, is_joined, is_link, most_out, odd_ones}
+use Rattle.region_body.specs.Chains.{AreDistinct, is_chained, is_joined, is_link, most_out, odd_ones}
 use Rattle.region_body.specs.Joining.{Extends, IsAt}
 use Rattle.region_body.specs.Carrying.{IsTie}
 use Rattle.region_body.specs.declared.tie.Tie.{Tie}
@@ -48,9 +46,9 @@ or_false true = refl
 or_false false = refl
 
 -- a link joins one place alone
-one-place : (cells : List ℕ) (p q : ℕ) (connector : Connector) → IsStrictlyIncreasing cells → is_link cells p connector ≡ true → q ≢ p →
+one-place : (cells : List ℕ) (p q : ℕ) (connector : Connector) → AreDistinct cells → is_link cells p connector ≡ true → q ≢ p →
     is_link cells q connector ≡ false
-one-place cells p q connector rising linked other = elim (cases_Bool (is_link cells q connector)) [
+one-place cells p q connector distinct linked other = elim (cases_Bool (is_link cells q connector)) [
   | inl too ↦
       let here = link-is cells p connector linked in
       let there = link-is cells q connector too in
@@ -58,9 +56,7 @@ one-place cells p q connector rising linked other = elim (cases_Bool (is_link ce
       let inside = there.within in
       let both : Link (slice_index cells p) (slice_index cells (p + 1)) ≡ Link (slice_index cells q) (slice_index cells (q + 1)) = sym here.is ∙ there.is in
       let same : slice_index cells p ≡ slice_index cells q = cc in
-      let place : q ≡ p =
-      sym (position_is cells q (slice_index cells q) rising (omega arith) refl) ∙ position_is cells p (slice_index cells q) rising (omega arith) same in
-      absurd (other place)
+      absurd (other (distinct q p (omega arith) (omega arith) (sym same)))
   | inr apart ↦ apart
 ]
 
@@ -75,17 +71,17 @@ unfolding most_out
 most-same net cells first later q s same = ap (λ b. if b then most_between net.plan (slice_index cells q) (slice_index cells (q + 1)) s else 0) same
 
 -- one that is chained
-pub extends-more : (net : Network) (cells connectors : List ℕ) (j p : ℕ) (links : List FollowedLink) → j < length connectors → IsStrictlyIncreasing cells →
+pub extends-more : (net : Network) (cells connectors : List ℕ) (j p : ℕ) (links : List FollowedLink) → j < length connectors → AreDistinct cells →
     is_link cells p (connector_at net.connectors (get_or connectors j 0)) ≡ true →
     All (λ link. is_joined net cells (take j connectors) link.place ≡ true) links →
     Extends net.plan cells p links (most_out net cells (take j connectors)) (most_out net cells (take (j + 1) connectors))
-extends-more net cells connectors j p links within rising linked joined =
+extends-more net cells connectors j p links within distinct linked joined =
     let connector : Connector = connector_at net.connectors (get_or connectors j 0) in
     record {
       here = λ s. most-by net cells (take (j + 1) connectors) p s true
           (joined-more net cells connectors j p within ∙ ap (λ b. is_joined net cells (take j connectors) p || b) linked ∙ or_true (is_joined net cells (take j connectors) p));
       others = λ q s other. most-same net cells (take j connectors) (take (j + 1) connectors) q s
-          (joined-more net cells connectors j q within ∙ ap (λ b. is_joined net cells (take j connectors) q || b) (one-place cells p q connector rising linked other)
+          (joined-more net cells connectors j q within ∙ ap (λ b. is_joined net cells (take j connectors) q || b) (one-place cells p q connector distinct linked other)
           ∙ or_false (is_joined net cells (take j connectors) q));
       linked = λ k d inside s.
           let q : ℕ = (get_or links k d).place in
@@ -176,12 +172,12 @@ joined-none net t cells halo connectors places none = record {
 
 -- a chained connector more
 pub joined-chained : (net : Network) (t : ℕ) (cells halo connectors : List ℕ) (first places after : List Place) (links later : List FollowedLink) (ties : List Tie)
-    (j p : ℕ) → j < length connectors → IsStrictlyIncreasing cells → is_link cells p (connector_at net.connectors (get_or connectors j 0)) ≡ true →
+    (j p : ℕ) → j < length connectors → AreDistinct cells → is_link cells p (connector_at net.connectors (get_or connectors j 0)) ≡ true →
     AreJoined net t cells halo (take j connectors) first places links ties → All (IsThere (length cells) t) later → IsAt p links later →
     ((q : ℕ) → place_at after q ≡ record (place_at places q) { most = (place_at after q).most }) →
     ((most next : ℕ → ℕ → ℕ) → AreFollowed most places links t → Extends net.plan cells p links most next → AreFollowed next after later t) →
     AreJoined net t cells halo (take (j + 1) connectors) first after later ties
-joined-chained net t cells halo connectors first places after links later ties j p within rising linked has there at only follows =
+joined-chained net t cells halo connectors first places after links later ties j p within distinct linked has there at only follows =
     let connector : Connector = connector_at net.connectors (get_or connectors j 0) in
     let at_link = link-is cells p connector linked in
     let inside = at_link.within in
@@ -194,7 +190,7 @@ joined-chained net t cells halo connectors first places after links later ties j
           (λ k d lt. joined-more net cells connectors j (get_or links k d).place within ∙ ap (λ b. b || is_link cells (get_or links k d).place connector) (has.joined k d lt))
           (joined-more net cells connectors j p within ∙ ap (λ b. is_joined net cells (take j connectors) p || b) linked ∙ or_true (is_joined net cells (take j connectors) p));
       followed = follows (most_out net cells (take j connectors)) (most_out net cells (take (j + 1) connectors)) has.followed
-          (extends-more net cells connectors j p links within rising linked has.joined);
+          (extends-more net cells connectors j p links within distinct linked has.joined);
       numbers = has.numbers ∙ sym (odd-more net cells connectors j true within chained ∙ append-nil (odd_ones net cells (take j connectors)));
       tied = has.tied;
       come = has.come;

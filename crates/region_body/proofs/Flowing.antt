@@ -1,7 +1,6 @@
 -- What leaves a cell and what enters it in a step, by the link between places and by the other connectors.
 use Rattle.std.specs.Prelude.{Bool, not, ◌⊎◌, eqb, slice_index, if◌then◌else◌}
 use Rattle.std.specs.List.{Contains, filter, list_any, range_with_len, sum_by}
-use Rattle.std.specs.List.Sorted.{IsStrictlyIncreasing}
 use Rattle.std.proofs.Common.{◌≡◌, ℕ, zero, suc, ◌+◌, ◌<◌, inl, inr, true, false, List, [], ◌∷◌, length, get_or, refl, sym, ap, ◌∙◌, subst, add-one, arith}
 use Rattle.std.proofs.lemmas.Bool.{cases_Bool, eq-eqb, eqb-true}
 use Rattle.std.proofs.lemmas.List.Elements.{Contains-get_or}
@@ -25,10 +24,9 @@ use Rattle.region_body.specs.Space.{HasSpace, IsSpaceOf}
 use Rattle.region_body.specs.declared.place.Place.{Place}
 use Rattle.courses.specs.Links.{most_between}
 use Rattle.region_cut.proofs.Anys.{found, finds, not_false}
-use Rattle.region_cut.proofs.Increasing.{position_is}
 use Rattle.region_cut.proofs.Ranges.{Contains-filter_range, filter_range-Contains, range-Contains}
 use Rattle.region_body.specs.Moves.{in_by, out_by}
-use Rattle.region_body.specs.Chains.{AreAround, is_chained, is_joined, is_link, most_out, odd_ones}
+use Rattle.region_body.specs.Chains.{AreAround, AreDistinct, is_chained, is_joined, is_link, most_out, odd_ones}
 use Rattle.region_body.proofs.Links.{IsLinkAt, carried-link, carried-none, entering-link, leaving-link, link-is}
 use Rattle.region_body.proofs.Shares.{in_range, sum-all, sum-none}
 
@@ -90,9 +88,9 @@ joined-by net cells connectors p k around there touched linked =
     finds (λ m. is_link cells p (connector_at net.connectors m)) connectors k listed linked
 
 -- a chained connector out of the p-th cell joins it to the next
-chained-out : (cells : List ℕ) (p : ℕ) (connector : Connector) → IsStrictlyIncreasing cells → p < length cells → is_chained cells connector ≡ true →
+chained-out : (cells : List ℕ) (p : ℕ) (connector : Connector) → AreDistinct cells → p < length cells → is_chained cells connector ≡ true →
     leads_out_of (slice_index cells p) connector ≡ true → is_link cells p connector ≡ true
-chained-out cells p connector rising within chained out =
+chained-out cells p connector distinct within chained out =
     let some = found (λ q. is_link cells q connector) (range_with_len 0 (length cells)) chained in
     let q : ℕ = some.0 in
     let at = link-is cells q connector some.2 in
@@ -100,13 +98,13 @@ chained-out cells p connector rising within chained out =
     let out_here : leads_out_of (slice_index cells p) (Link (slice_index cells q) (slice_index cells (q + 1))) ≡ true =
     subst (λ c. leads_out_of (slice_index cells p) c ≡ true) at.is out in
     let same : slice_index cells p ≡ slice_index cells q = one_of (slice_index cells p) (slice_index cells q) out_here in
-    let place : q ≡ p = sym (position_is cells q (slice_index cells q) rising (omega arith) refl) ∙ position_is cells p (slice_index cells q) rising within same in
+    let place : q ≡ p = distinct q p (omega arith) within (sym same) in
     subst (λ m. is_link cells m connector ≡ true) place some.2
 
 -- and into the p-th cell it joins the one before to it
-chained-into : (cells : List ℕ) (p : ℕ) (connector : Connector) → IsStrictlyIncreasing cells → p < length cells → is_chained cells connector ≡ true →
+chained-into : (cells : List ℕ) (p : ℕ) (connector : Connector) → AreDistinct cells → p < length cells → is_chained cells connector ≡ true →
     leads_into (slice_index cells p) connector ≡ true → (q : ℕ) × (q + 1 ≡ p) × (is_link cells q connector ≡ true)
-chained-into cells p connector rising within chained into =
+chained-into cells p connector distinct within chained into =
     let some = found (λ q. is_link cells q connector) (range_with_len 0 (length cells)) chained in
     let q : ℕ = some.0 in
     let at = link-is cells q connector some.2 in
@@ -114,8 +112,7 @@ chained-into cells p connector rising within chained into =
     let into_here : leads_into (slice_index cells p) (Link (slice_index cells q) (slice_index cells (q + 1))) ≡ true =
     subst (λ c. leads_into (slice_index cells p) c ≡ true) at.is into in
     let same : slice_index cells p ≡ slice_index cells (q + 1) = one_of (slice_index cells p) (slice_index cells (q + 1)) into_here in
-    let place : q + 1 ≡ p =
-    sym (position_is cells (q + 1) (slice_index cells (q + 1)) rising (omega arith) refl) ∙ position_is cells p (slice_index cells (q + 1)) rising within same in
+    let place : q + 1 ≡ p = distinct (q + 1) p (omega arith) within (sym same) in
     (q, place, some.2)
 
 -- where nothing joins a cell to the next, its place's link carries nothing
@@ -199,7 +196,7 @@ out-total net t n cells connectors places p sound around has within = elim (case
               elim (cases_Bool (is_chained cells (connector_at net.connectors k))) [
                 | inr other ↦ other
                 | inl chained ↦
-                    let linked = chained-out cells p (connector_at net.connectors k) around.rising within chained out in
+                    let linked = chained-out cells p (connector_at net.connectors k) around.distinct within chained out in
                     let joined = joined-by net cells connectors p k around below touched linked in cc
               ],
             )
@@ -244,7 +241,7 @@ none-before net t n cells connectors p around within no_gate none =
             elim (cases_Bool (is_chained cells (connector_at net.connectors k))) [
               | inr other ↦ other
               | inl chained ↦
-                  let linked = chained-into cells p (connector_at net.connectors k) around.rising within chained into in
+                  let linked = chained-into cells p (connector_at net.connectors k) around.distinct within chained into in
                   let joined = joined-by net cells connectors linked.0 k around below touched linked.2 in
                   let apart = none linked.0 linked.1 in cc
             ],

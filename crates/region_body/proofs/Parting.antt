@@ -13,7 +13,6 @@ use Rattle.flow_model.specs.declared.carried.Flow.{Flow}
 use Rattle.region_body.specs.Places.{place_at}
 use Rattle.region_body.specs.declared.place.Place.{Place}
 use Rattle.signal_plan.proofs.Sums.{sum_by-same}
-use Rattle.region_cut.proofs.Increasing.{position_is}
 use Rattle.region_cut.specs.ConnectorCells.{three_cells}
 use Rattle.region_body.specs.Following.{rule_of}
 use Rattle.region_body.specs.declared.rule.Rule.{Rule}
@@ -34,7 +33,7 @@ part-at net ties cells halo i p parts spot apart within spotted = elim spotted [
         rw (own, here) refl
     | inr other ↦
         let away : (slice_index cells p == i) ≡ false = ne_eqb (slice_index cells p) i (λ equal.
-        other (sym (position_is cells p (slice_index cells spot) apart.rising within (equal ∙ sym is)) ∙ position_is cells spot (slice_index cells spot) apart.rising there refl)) in
+        other (apart.distinct p spot within there (equal ∙ sym is))) in
         let there_not : (spot == p) ≡ false = ne_eqb spot p (λ equal. other (sym equal)) in
         rw (away, there_not) refl
   ]

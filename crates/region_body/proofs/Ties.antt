@@ -85,7 +85,7 @@ tie-followed net cells halo t old new tie carried = record {
 pub tied-followed : (net : Network) (cells halo : List ℕ) (t : ℕ) (old new : List Tie) → AreTied net cells halo old → AreTiesFollowed t old new →
     AreTied net cells halo new
 tied-followed net cells halo t old new tied carried = record {
-  rising = tied.rising;
+  distinct = tied.distinct;
   apart = tied.apart;
   tied = λ k d within.
       let inside : k < length old = omega (arith, carried.long) in

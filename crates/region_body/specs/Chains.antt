@@ -1,7 +1,6 @@
 -- Which of a region's connectors are links from one of its cells to the next, and which are not.
 use Rattle.std.specs.Prelude.{◌≡◌, ℕ, ◌+◌, ◌<◌, Bool, true, false, not, ◌==◌, ◌&&◌, All, List, nat_lt, length, slice_index, if◌then◌else◌}
 use Rattle.std.specs.List.{Contains, filter, list_any, range_with_len}
-use Rattle.std.specs.List.Sorted.{IsStrictlyIncreasing}
 use Rattle.network_file.specs.Connectors.{connector_at, touches}
 use Rattle.network_file.specs.Network.{Network}
 use Rattle.network_file.specs.declared.connector.Connector.{Connector}
@@ -41,9 +40,13 @@ unfoldable pub most_out : Network → (cells connectors : List ℕ) → (p t : �
 most_out net cells connectors p t =
     if is_joined net cells connectors p then most_between net.plan (slice_index cells p) (slice_index cells (p + 1)) t else 0
 
--- cells in rising order, and the connectors that touch them, maybe with others
+-- no cell stands at two places
+abbrev pub AreDistinct : (cells : List ℕ) → Type 0
+AreDistinct cells = (p q : ℕ) → p < length cells → q < length cells → slice_index cells p ≡ slice_index cells q → p ≡ q
+
+-- cells, each of which stands at one place, and the connectors that touch them, maybe with others
 pub record AreAround (net : Network) (cells connectors : List ℕ) : Type 0 where
-  pub rising : IsStrictlyIncreasing cells
+  pub distinct : AreDistinct cells
   pub there : All (λ i. i < length net.cells) cells
   pub touched : ℕ → Bool
   pub numbers : connectors ≡ filter touched (range_with_len 0 (length net.connectors))

@@ -1,5 +1,5 @@
 -- A place is joined to the next.
-use Rattle.std.specs.Prelude.{◌≡◌, ◌≢◌, ◌<◌, ◌⊎◌, ℕ, ◌+◌, Bool, true, All, List, slice_index}
+use Rattle.std.specs.Prelude.{◌≡◌, ◌≢◌, ◌<◌, ◌⊎◌, ℕ, ◌+◌, Bool, true, All, List, length, slice_index}
 use Rattle.std.specs.List.{Contains}
 use Rattle.network_file.specs.declared.connector.Connector.{Connector}
 use Rattle.region_cut.specs.ConnectorCells.{three_cells}
@@ -16,6 +16,15 @@ pub record Extends (plan : PlanRecords) (cells : List ℕ) (p : ℕ) (links : Li
 -- all links that are new are those of place p
 pub record IsAt (p : ℕ) (old new : List FollowedLink) : Type 0 where
   pub each : (test : ℕ → Bool) → All (λ link. test link.place ≡ true) old → test p ≡ true → All (λ link. test link.place ≡ true) new
+
+-- the cell stands at this place
+pub record IsPlacedAt (cells : List ℕ) (i p : ℕ) : Type 0 where
+  pub within : p < length cells
+  pub is : slice_index cells p ≡ i
+
+-- or at none
+abbrev pub IsNoneOf : (cells : List ℕ) → (i : ℕ) → Type 0
+IsNoneOf cells i = (p : ℕ) → IsPlacedAt cells i p → ⊥
 
 -- the cell is one of these or of the halo
 abbrev pub IsKnown : (cells halo : List ℕ) → (i : ℕ) → Type 0

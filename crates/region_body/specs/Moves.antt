@@ -1,13 +1,13 @@
 -- What single connectors take from cells and bring to them, and what a step of a region stands on.
 use Rattle.std.specs.Prelude.{◌≡◌, ◌≢◌, ◌==◌, ℕ, ◌<◌, All, List, Option, None, length, slice_index, slice_index_or, unwrap_or, if◌then◌else◌}
 use Rattle.std.specs.List.{sum_by}
-use Rattle.std.specs.List.Sorted.{IsStrictlyIncreasing}
 use Rattle.signal_plan.specs.Demand.{demand_at}
 use Rattle.signal_plan.specs.Records.{PlanRecords}
 use Rattle.network_file.specs.Connectors.{connector_at}
 use Rattle.network_file.specs.Network.{IsNetwork, Network}
 use Rattle.flow_model.specs.Bounds.{IsHeldInBounds}
 use Rattle.flow_model.specs.Flows.{entering, flow_of, leaving}
+use Rattle.region_body.specs.Chains.{AreDistinct}
 use Rattle.region_body.specs.Places.{place_at}
 use Rattle.region_body.specs.declared.place.Place.{Place}
 use Rattle.region_body.specs.Carrying.{IsTie}
@@ -32,7 +32,7 @@ pub record IsSeen (n : ℕ → ℕ) (cells halo : List ℕ) (places : List Place
 
 -- ties of a region's connectors: no cell of its halo is its own
 pub record AreTied (net : Network) (cells halo : List ℕ) (ties : List Tie) : Type 0 where
-  pub rising : IsStrictlyIncreasing cells
+  pub distinct : AreDistinct cells
   pub apart : (p j : ℕ) → p < length cells → j < length halo → slice_index cells p ≢ slice_index halo j
   pub tied : All (IsTie net cells halo) ties
 

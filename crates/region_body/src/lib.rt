@@ -23,6 +23,7 @@ mod limits;
 mod movement;
 mod opening;
 mod origin;
+mod own_place;
 mod passing;
 mod pause;
 mod place;

@@ -3,19 +3,20 @@ ghost use Rattle.region_body.specs.Places.{moved, with_entered, with_left};
 
 use crate::space::Space;
 
-/// What a step touches of a cell.
+/// What a step touches of a cell. No two of the sums that it raises lie side by side, since they would be raised together
+/// then, as one pair, which takes more instructions.
 #[derive(Clone, Copy)]
 pub(crate) struct Place {
     /// What the cell holds.
     pub(crate) n: u64,
-    /// All that has gone out of it.
-    pub(crate) gone: u64,
-    /// The sum of what it held, over the steps, modulo 2^64: parts times steps.
-    pub(crate) held: u64,
     /// The most that the link to the next place carries now; 0 where no link joins them.
     pub(crate) most: u64,
+    /// All that has gone out of it.
+    pub(crate) gone: u64,
     /// Its room.
     pub(crate) space: Space,
+    /// The sum of what it held, over the steps, modulo 2^64: parts times steps.
+    pub(crate) held: u64,
 }
 
 impl Place {

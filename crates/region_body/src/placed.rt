@@ -1,4 +1,6 @@
 ghost use Rattle.std.specs.Prelude.{◌≡◌, ◌+◌, ◌<◌, ◌≤◌, ◌^◌, ℕ, false, All, IfOk, IsTrue, length, map, slice_index};
+ghost use Rattle.std.specs.List.Sorted.{IsStrictlyIncreasing};
+ghost use Rattle.chain_order.specs.Order.{IsOrder};
 ghost use Rattle.flow_model.specs.Bounds.{IsRowInBounds};
 ghost use Rattle.flow_model.specs.State.{occupancy, row_at, rows_after};
 ghost use Rattle.region_body.specs.Places.{place_at};
@@ -32,7 +34,7 @@ use std::alloc::Global;
 use std::fmt;
 use std::marker::Model;
 
-/// The rows of some cells of a network at a step, kept as places side by side in the order of the cells.
+/// The rows of some cells of a network at a step, kept as places side by side.
 #[derive(Drop)]
 pub struct PlacedRows {
     places: Vec<Place>,
@@ -79,7 +81,7 @@ impl fmt::Debug for PlacedRows {
 }
 
 impl PlacedRows {
-    /// These cells with their rows at step `t` and what they held earlier, joined by these connectors. Of all rows and
+    /// These cells, placed in their order, with their rows at step `t` and what they held earlier, joined by these connectors. Of all rows and
     /// earlier occupancies those of these cells are used. All memory that a step needs is taken here.
     pub fn new(
         alloc: Global,
@@ -90,29 +92,23 @@ impl PlacedRows {
         earlier: &[u64],
     ) -> Result<PlacedRows, NoMemory>
         requires in_time { t ≤ net.now.steps }
-        requires cells { AreCells net.now region.now.cells.now region.now.halo.now region.now.connectors.now }
-        requires rows { All (λ i. i < length rows.now) region.now.cells.now }
-        requires earlier { All (λ i. i < length earlier.now) region.now.cells.now }
-        requires bounds { All (λ i. IsRowInBounds net.now t i (row_at rows.now i)) region.now.cells.now }
-        ensures placed { IfOk result (λ placed. ArePlaced net.now region.now.cells.now region.now.halo.now region.now.connectors.now t placed) }
-        ensures rows { IfOk result (λ placed. rows_of placed.origins placed.places ≡ map (row_at rows.now) region.now.cells.now) }
-        ensures before { IfOk result (λ placed. placed.before ≡ map (slice_index earlier.now) region.now.cells.now) }
+        requires increasing { IsStrictlyIncreasing region.now.cells.now }
+        requires order { IsOrder region.now.cells.now region.now.order.now }
+        requires cells { AreCells net.now region.now.order.now.placed region.now.halo.now region.now.connectors.now }
+        requires rows { All (λ i. i < length rows.now) region.now.order.now.placed }
+        requires earlier { All (λ i. i < length earlier.now) region.now.order.now.placed }
+        requires bounds { All (λ i. IsRowInBounds net.now t i (row_at rows.now i)) region.now.order.now.placed }
+        ensures placed { IfOk result (λ placed. ArePlaced net.now region.now.order.now.placed region.now.halo.now region.now.connectors.now t placed) }
+        ensures rows { IfOk result (λ placed. rows_of placed.origins placed.places ≡ map (row_at rows.now) region.now.order.now.placed) }
+        ensures before { IfOk result (λ placed. placed.before ≡ map (slice_index earlier.now) region.now.order.now.placed) }
     {
         let _steps = net.steps;
-        let cells = region.cells;
+        let cells = region.order.placed();
         let origins = origins_of(alloc, net, cells)?;
         let mut places = places_of(alloc, net, t, cells, rows)?;
         let before = earlier_of(alloc, earlier, cells)?;
         let gates = gates_of(alloc, net, cells)?;
-        let joints = join_places(
-            alloc,
-            net,
-            t,
-            cells,
-            region.halo,
-            region.connectors,
-            &mut places,
-        )?;
+        let joints = join_places(alloc, net, t, region, &mut places)?;
         let seen = nothing_put(alloc, region.halo.len())?;
         Ok(PlacedRows {
             places,

@@ -1,4 +1,4 @@
-ghost use Rattle.std.specs.Prelude.{◌≡◌, ◌≤◌, ◌<◌, ◌+◌, ◌*◌, ◌/◌};
+ghost use Rattle.std.specs.Prelude.{◌≡◌, ◌≤◌, ◌<◌, ◌+◌, ◌*◌, ◌/◌, ◌^◌};
 ghost use Rattle.merge_rule.specs.Merge.{first_share};
 ghost use Rattle.region_body.specs.Weights.{AreBoth};
 
@@ -77,10 +77,20 @@ impl WeightPair {
         ensures within { result * (self.0 + self.1) ≤ amount }
     {
         if amount < 1 << 53 {
-            let wide = u128::from(amount + 1) * u128::from(self.factor);
-            return (wide >> 64) as u64;
+            return self.whole_by_factor(amount);
         }
         amount / u64::from(self.first + self.second)
+    }
+
+    // The same of an amount for which the factor will do.
+    #[inline(always)]
+    fn whole_by_factor(self, amount: u64) -> u64
+        requires little { amount < 2 ^ 53 }
+        ensures quotient { result ≡ amount / (self.0 + self.1) }
+        ensures within { result * (self.0 + self.1) ≤ amount }
+    {
+        let wide = u128::from(amount + 1) * u128::from(self.factor);
+        (wide >> 64) as u64
     }
 
     /// The share of the first in an amount, rounded down.
@@ -90,9 +100,9 @@ impl WeightPair {
         ensures within { result ≤ amount }
     {
         let first = u64::from(self.first);
-        match amount.checked_mul(first) {
-            Some(product) => self.whole(product),
-            None => share_floor(amount, first, first + u64::from(self.second)),
+        if amount < 1 << 43 {
+            return self.whole_by_factor(amount * first);
         }
+        share_floor(amount, first, first + u64::from(self.second))
     }
 }

@@ -1,6 +1,7 @@
 pub mod Lists
 pub mod Places
 pub mod Ground
+pub mod Ordered
 pub mod RegionCells
 pub mod Grids
 pub mod GridStates

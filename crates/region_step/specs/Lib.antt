@@ -3,6 +3,7 @@ pub mod Region
 pub mod Start
 pub mod Fitting
 pub mod Grid
+pub mod Ordered
 pub mod Layout
 pub mod Opening
 pub mod Apart

@@ -5,6 +5,7 @@ mod bounds;
 mod first_regions;
 mod note;
 mod opening;
+mod ordered_rows;
 mod placing;
 mod recording;
 mod region;

@@ -11,10 +11,10 @@ next cells up down None none = next-none cells up down none
 next cells up down (Some p) has = next-link cells up down p has
 
 pub returns-in-Link : goal.returns-in-Link
-returns-in-Link c = rw c.in-Link.is (next c.args.cells.now c.in-Link.up c.in-Link.down c.next_place.result c.next_place.ensures)
+returns-in-Link c = rw c.in-Link.is (next c.args.region.now.order.now.placed c.in-Link.up c.in-Link.down c.next_place.result c.next_place.ensures)
 
 pub returns-in-Merge : goal.returns-in-Merge
-returns-in-Merge c = rw c.in-Merge.is (not_chained c.args.cells.now (Merge c.in-Merge.up1 c.in-Merge.up2 c.in-Merge.down c.in-Merge.p1 c.in-Merge.p2) (λ p. refl))
+returns-in-Merge c = rw c.in-Merge.is (not_chained c.args.region.now.order.now.placed (Merge c.in-Merge.up1 c.in-Merge.up2 c.in-Merge.down c.in-Merge.p1 c.in-Merge.p2) (λ p. refl))
 
 pub returns-in-Diverge : goal.returns-in-Diverge
-returns-in-Diverge c = rw c.in-Diverge.is (not_chained c.args.cells.now (Diverge c.in-Diverge.up c.in-Diverge.down1 c.in-Diverge.down2 c.in-Diverge.b1 c.in-Diverge.b2) (λ p. refl))
+returns-in-Diverge c = rw c.in-Diverge.is (not_chained c.args.region.now.order.now.placed (Diverge c.in-Diverge.up c.in-Diverge.down1 c.in-Diverge.down2 c.in-Diverge.b1 c.in-Diverge.b2) (λ p. refl))

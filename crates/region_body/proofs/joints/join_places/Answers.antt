@@ -11,15 +11,15 @@ use Rattle.region_body.proofs.joints.join_places.Goals as goal
 pub loop-k-init : goal.loop-k-init
 loop-k-init c =
     rw (c.new-links.ensures.items, c.new-ties.ensures.items)
-    (joined-none c.args.net.now c.args.t c.args.cells.now c.args.halo.now c.args.connectors.now c.args.places.now c.requires.apart)
+    (joined-none c.args.net.now c.args.t c.args.region.now.order.now.placed c.args.region.now.halo.now c.args.region.now.connectors.now c.args.places.now c.requires.apart)
 
 pub loop-k-preserved : goal.loop-k-preserved
 loop-k-preserved c =
     let net = c.args.net.now in
     let t : ℕ = c.args.t in
-    let cells = c.args.cells.now in
-    let halo = c.args.halo.now in
-    let connectors = c.args.connectors.now in
+    let cells = c.args.region.now.order.now.placed in
+    let halo = c.args.region.now.halo.now in
+    let connectors = c.args.region.now.connectors.now in
     let j : ℕ = c.loop-k.k-index in
     let k : ℕ = get_or connectors j 0 in
     let within : j < length connectors = c.loop-k-test.true in
@@ -35,7 +35,7 @@ loop-k-preserved c =
           subst (λ n. All (IsThere n t) w.join_next.new.links.items) same done.links in
           rw (w.places-is, w.links-is, w.ties-is)
           (joined-chained net t cells halo connectors c.args.places.now c.loop-k.places w.join_next.new.places c.loop-k.links.items w.join_next.new.links.items
-          c.loop-k.ties.items j w.in-Some.p within c.requires.increasing linked c.loop-k.invariant there done.at w.join_next.ensures.only_most done.followed)
+          c.loop-k.ties.items j w.in-Some.p within c.requires.distinct linked c.loop-k.invariant there done.at w.join_next.ensures.only_most (rw c.placed-placed.ensures at done.followed))
       | in-None+in_ok-tied-in-None+in_ok-push-in-None w ↦
           let odd : is_chained cells (connector_at net.connectors k) ≡ false = rw read w.in-None.ensures in
           rw (w.places-is, w.links-is, w.ties-is, w.in_ok-push-in-None.ensures.items)

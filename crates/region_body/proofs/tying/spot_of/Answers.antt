@@ -1,27 +1,19 @@
-use Rattle.std.specs.Prelude.{Ok, Err, slice_index}
-use Rattle.std.proofs.Common.{◌≡◌, ◌<◌, ℕ, length, inl, inr, arith}
-use Rattle.std.proofs.lemmas.List.Sorted.{searched}
-use Rattle.region_cut.proofs.HaloPlaces.{not_past}
-use Rattle.region_cut.proofs.Increasing.{rising}
+use Rattle.std.specs.Prelude.{slice_index}
+use Rattle.std.specs.List.{Contains}
+use Rattle.std.proofs.Common.{◌≡◌, ◌+◌, ◌<◌, ℕ, length, inr, ap, arith}
 use Rattle.region_cut.proofs.Membership.{place-in}
-use Rattle.region_body.proofs.Known.{listed, other_known}
+use Rattle.region_body.proofs.Known.{elsewhere, listed}
 use Rattle.region_body.proofs.tying.spot_of.Goals as goal
-
-pub returns-in-Ok : goal.returns-in-Ok
-returns-in-Ok c = inl (searched c.args.cells.now c.args.cell (Ok c.in-Ok.own) c.in-Ok.ensures.position (rising c.args.cells.now c.requires.increasing))
 
 pub place-requires-clause-listed : goal.place-requires-clause-listed
 place-requires-clause-listed c =
-    let past = searched c.args.cells.now c.args.cell (Err c.in-Err.field-0) c.in-Err.ensures.position (rising c.args.cells.now c.requires.increasing) in
-    listed c.args.halo.now c.args.cell
-    (other_known c.args.cells.now c.args.halo.now c.args.cell c.requires.known
-    (not_past c.args.cells.now c.in-Err.field-0 c.args.cell past.1 past.2))
+    listed c.args.region.now.halo.now c.args.cell
+    (elsewhere c.args.region.now.order.now.placed c.args.region.now.halo.now c.args.cell c.requires.known c.in-None.ensures)
 
-pub returns-in-Err : goal.returns-in-Err
-returns-in-Err c =
-    let past = searched c.args.cells.now c.args.cell (Err c.in-Err.field-0) c.in-Err.ensures.position (rising c.args.cells.now c.requires.increasing) in
-    let has = other_known c.args.cells.now c.args.halo.now c.args.cell c.requires.known
-    (not_past c.args.cells.now c.in-Err.field-0 c.args.cell past.1 past.2) in
-    let there : (c.place.result < length c.args.halo.now) × (slice_index c.args.halo.now c.place.result ≡ c.args.cell) =
-    rw c.place.ensures (place-in c.args.halo.now c.args.cell c.requires.halo_increasing has) in
-    inr (c.place.result, omega arith, there.0, there.1)
+pub returns-in-None : goal.returns-in-None
+returns-in-None c =
+    let halo = c.args.region.now.halo.now in
+    let has = elsewhere c.args.region.now.order.now.placed halo c.args.cell c.requires.known c.in-None.ensures in
+    let there : (c.place.result < length halo) × (slice_index halo c.place.result ≡ c.args.cell) =
+    rw c.place.ensures (place-in halo c.args.cell c.requires.halo_increasing has) in
+    inr (c.place.result, ap (λ cells. length cells + c.place.result) c.placed.ensures, there.0, there.1)

@@ -14,7 +14,7 @@ pub invariant_of-result : goal.invariant_of-result
 invariant_of-result c =
     let net = c.args.net.now in
     let t : ℕ = c.args.t in
-    let cells = c.args.region.now.cells.now in
+    let cells = c.args.region.now.order.now.placed in
     let halo = c.args.region.now.halo.now in
     let connectors = c.args.region.now.connectors.now in
     let rows = c.args.rows.now in
@@ -32,22 +32,22 @@ invariant_of-result c =
       in_time = c.requires.in_time;
       there = c.requires.cells.around.there;
       bounds = c.requires.bounds;
-      origin_each = c.in_ok-origins.ensures.one_each;
-      first_each = c.in_ok-places.ensures.one_each;
+      origin_each = (rw c.placed-cells.ensures at c.in_ok-origins.ensures.one_each);
+      first_each = (rw c.placed-cells.ensures at c.in_ok-places.ensures.one_each);
       after_each = after_long;
-      origin = c.in_ok-origins.ensures.each;
-      first_is = c.in_ok-places.ensures.each;
+      origin = (rw c.placed-cells.ensures at c.in_ok-origins.ensures.each);
+      first_is = (rw c.placed-cells.ensures at c.in_ok-places.ensures.each);
       only_most = only_most;
     } in
     let before_long : length c.in_ok-before.before.items ≡ length cells =
-    ap length c.in_ok-before.ensures ∙ length-map cells (slice_index c.args.earlier.now) in
+    ap length (rw c.placed-cells.ensures at c.in_ok-before.ensures) ∙ length-map cells (slice_index c.args.earlier.now) in
     rw (after_is, waited-none after) (opened-settled net t cells rows origins first after c.in_ok-before.before.items opened before_long)
 
 pub returns-clause-placed : goal.returns-clause-placed
 returns-clause-placed c =
     let net = c.args.net.now in
     let t : ℕ = c.args.t in
-    let cells = c.args.region.now.cells.now in
+    let cells = c.args.region.now.order.now.placed in
     let halo = c.args.region.now.halo.now in
     let connectors = c.args.region.now.connectors.now in
     let rows = c.args.rows.now in
@@ -65,20 +65,20 @@ returns-clause-placed c =
       in_time = c.requires.in_time;
       there = c.requires.cells.around.there;
       bounds = c.requires.bounds;
-      origin_each = c.in_ok-origins.ensures.one_each;
-      first_each = c.in_ok-places.ensures.one_each;
+      origin_each = (rw c.placed-cells.ensures at c.in_ok-origins.ensures.one_each);
+      first_each = (rw c.placed-cells.ensures at c.in_ok-places.ensures.one_each);
       after_each = after_long;
-      origin = c.in_ok-origins.ensures.each;
-      first_is = c.in_ok-places.ensures.each;
+      origin = (rw c.placed-cells.ensures at c.in_ok-origins.ensures.each);
+      first_is = (rw c.placed-cells.ensures at c.in_ok-places.ensures.each);
       only_most = only_most;
     } in
     let before_long : length c.in_ok-before.before.items ≡ length cells =
-    ap length c.in_ok-before.ensures ∙ length-map cells (slice_index c.args.earlier.now) in
+    ap length (rw c.placed-cells.ensures at c.in_ok-before.ensures) ∙ length-map cells (slice_index c.args.earlier.now) in
     rw (after_is, waited-none after) (record {
       around = c.requires.cells.around;
       known = c.requires.cells.known;
       tied = record {
-        rising = c.requires.cells.around.rising;
+        distinct = c.requires.cells.around.distinct;
         apart = c.requires.cells.apart;
         tied = c.in_ok-joints.ensures.tied;
       };
@@ -92,8 +92,8 @@ returns-clause-placed c =
           (opened.first_is p within).space;
       come = c.in_ok-joints.ensures.come;
       unchanged = λ k d within. omega arith;
-      gates = c.in_ok-gates.ensures.places;
-      demands = λ k d within. let is = c.in_ok-gates.ensures.demands k d within in record { demand = is.demand; step = omega (arith, is.step) };
+      gates = (rw c.placed-cells.ensures at c.in_ok-gates.ensures.places);
+      demands = λ k d within. let is = (rw c.placed-cells.ensures at c.in_ok-gates.ensures.demands) k d within in record { demand = is.demand; step = omega (arith, is.step) };
       links = subst (λ n. All (IsThere n t) c.in_ok-joints.joints.links.items) (sym (after_long ∙ opened.first_each)) c.in_ok-joints.ensures.links;
       followed = c.in_ok-joints.ensures.followed;
       pause = record { idle = λ s none. absurd (omega (arith, none)); owed = omega arith; kept = λ some. absurd (omega (arith, some)) };
@@ -104,7 +104,7 @@ pub returns-clause-rows : goal.returns-clause-rows
 returns-clause-rows c =
     let net = c.args.net.now in
     let t : ℕ = c.args.t in
-    let cells = c.args.region.now.cells.now in
+    let cells = c.args.region.now.order.now.placed in
     let halo = c.args.region.now.halo.now in
     let connectors = c.args.region.now.connectors.now in
     let rows = c.args.rows.now in
@@ -122,13 +122,13 @@ returns-clause-rows c =
       in_time = c.requires.in_time;
       there = c.requires.cells.around.there;
       bounds = c.requires.bounds;
-      origin_each = c.in_ok-origins.ensures.one_each;
-      first_each = c.in_ok-places.ensures.one_each;
+      origin_each = (rw c.placed-cells.ensures at c.in_ok-origins.ensures.one_each);
+      first_each = (rw c.placed-cells.ensures at c.in_ok-places.ensures.one_each);
       after_each = after_long;
-      origin = c.in_ok-origins.ensures.each;
-      first_is = c.in_ok-places.ensures.each;
+      origin = (rw c.placed-cells.ensures at c.in_ok-origins.ensures.each);
+      first_is = (rw c.placed-cells.ensures at c.in_ok-places.ensures.each);
       only_most = only_most;
     } in
     let before_long : length c.in_ok-before.before.items ≡ length cells =
-    ap length c.in_ok-before.ensures ∙ length-map cells (slice_index c.args.earlier.now) in
+    ap length (rw c.placed-cells.ensures at c.in_ok-before.ensures) ∙ length-map cells (slice_index c.args.earlier.now) in
     rw (after_is, waited-none after) (opened-rows net t cells rows origins first after opened)
