@@ -379,11 +379,11 @@ places-awake net cells t old mid new gates put is kept =
     rw is (λ placed can. placed (advance-awake net cells t old gates put kept can))
 
 -- with another pause the cells are placed as before
-pub placed-paused : (net : Network) (cells halo connectors : List ℕ) (t : ℕ) (placed : PlacedCells) (pause : Pause) (put : List (Option ℕ)) →
-    ArePlaced net cells halo connectors t placed → pause.owed ≡ 0 → length put ≡ length halo →
-    ((s : ℕ) → s < pause.until → AreIdle placed.places placed.links placed.ties put pause.until) →
-    ArePlaced net cells halo connectors t (record placed { pause = pause; seen = put })
-placed-paused net cells halo connectors t placed pause put has none put_each idle = record {
+pub placed-paused : (net : Network) (cells halo connectors : List ℕ) (t : ℕ) (placed : PlacedCells) (pause : Pause) (seen : List (Option ℕ)) →
+    ArePlaced net cells halo connectors t placed → pause.owed ≡ 0 → length seen ≡ length halo →
+    ((s : ℕ) → s < pause.until → AreIdle placed.places placed.links placed.ties seen pause.until) →
+    ArePlaced net cells halo connectors t (record placed { pause = pause; seen = seen })
+placed-paused net cells halo connectors t placed pause seen has none seen_each idle = record {
   around = has.around;
   known = has.known;
   tied = has.tied;
@@ -400,7 +400,7 @@ placed-paused net cells halo connectors t placed pause put has none put_each idl
   links = has.links;
   followed = has.followed;
   pause = record { idle = idle; owed = omega (arith, none); kept = λ some. absurd (omega (arith, none, some)) };
-  seen_each = put_each;
+  seen_each = seen_each;
 }
 
 -- the spots of a tie are there

@@ -21,8 +21,9 @@ pub(crate) fn carry_all(t: u64, ties: &[Tie], held: &Held, places: &mut [Place])
         (sum_by (brought t (held_before held.now.own.now held.now.put.now) p) ties.now)
         (sum_by (taken t (held_before held.now.own.now held.now.put.now) p) ties.now) }
 {
+    let held = *held;
     for tie in ties {
-        carry(t, tie, held, places);
+        carry(t, tie, &held, places);
     }
 }
 

@@ -10,6 +10,10 @@ pub(crate) fn moving(places: &[Place], from: usize) -> Option<usize>
     requires sound { AreSound places.now }
     ensures { MatchOption result (MoveNothing places.now) (MovesAt places.now) }
 {
+    // Mostly what moved in the step before moves again.
+    if from < places.len() && flow_from(places, from) != 0 {
+        return Some(from);
+    }
     let from = from.min(places.len());
     match moving_in(places, from, places.len()) {
         Some(p) => Some(p),

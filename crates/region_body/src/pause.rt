@@ -109,3 +109,13 @@ pub(crate) fn hold_the_same(seen: &[Option<u64>], put: &[Option<u64>]) -> bool
     }
     true
 }
+
+/// Notes what was put for the halo, where a pause lasts by it.
+pub(crate) fn note_seen(lasts: bool, seen: &mut [Option<u64>], put: &[Option<u64>])
+    requires one_each { length seen.old ≡ length put.now }
+    ensures same { IsTrue lasts → seen.new ≡ put.now }
+{
+    if lasts {
+        seen.copy_from_slice(put);
+    }
+}

@@ -21,7 +21,7 @@ use crate::held::Held;
 use crate::joints::join_places;
 use crate::opening::{earlier_of, gates_of, nothing_put, origins_of, places_of};
 use crate::origin::Origin;
-use crate::pause::{Pause, hold_the_same};
+use crate::pause::{Pause, hold_the_same, note_seen};
 use crate::place::Place;
 use crate::sweep::sweep;
 use crate::tie::Tie;
@@ -272,18 +272,19 @@ impl PlacedRows {
         bring_demands(t, &mut self.gates, &mut self.places);
     }
 
-    // Looks for how long nothing moves among them, as long as this is put for their halo.
+    // Looks for how long nothing moves among them, as long as what is put for their halo stays.
     fn look(&mut self, put: &[Option<u64>])
         requires none_owed { self.old.pause.owed ≡ 0 }
         requires seen { length self.old.seen ≡ length put.now }
         requires there { All (λ link. link.place < length self.old.places) self.old.links }
         requires spots { All (λ tie. (m : ℕ) → m < 3 → IsThere self.old.places put.now (spot_at tie m)) self.old.ties }
-        ensures only_pause { self.new ≡ record self.old { pause = self.new.pause; seen = put.now } }
+        ensures only_pause { self.new ≡ record self.old { pause = self.new.pause; seen = self.new.seen } }
+        ensures one_each { length self.new.seen ≡ length put.now }
         ensures none_owed { self.new.pause.owed ≡ 0 }
         ensures idle { (s : ℕ) → s < self.new.pause.until →
-            AreIdle self.old.places self.old.links self.old.ties put.now self.new.pause.until }
+            AreIdle self.old.places self.old.links self.old.ties self.new.seen self.new.pause.until }
     {
         self.pause = Pause::of(self.pause.mover, &self.places, &self.links, &self.ties, put);
-        self.seen.copy_from_slice(put);
+        note_seen(self.pause.until > 0, &mut self.seen, put);
     }
 }

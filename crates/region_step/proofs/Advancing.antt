@@ -12,11 +12,8 @@ use Rattle.flow_model.specs.declared.row.Row.{Row}
 use Rattle.flow_model.proofs.States.{next_row-in_bounds}
 use Rattle.region_cut.specs.Chart.{ChartLists, chart_of, list_at}
 use Rattle.region_cut.specs.Cuttings.{region_count}
-use Rattle.region_body.specs.Places.{place_at}
-use Rattle.region_body.specs.Moves.{IsSeen}
-use Rattle.region_body.specs.Placed.{ArePlacesInBounds, ArePlaced, CanAdvance, PlacedCells}
-use Rattle.region_body.specs.Rows.{rows_of}
-use Rattle.region_body.proofs.Whole.{length-rows_after, row_at-rows_after, row_at-rows_of}
+use Rattle.region_body.proofs.Whole.{length-rows_after, row_at-rows_after}
+use Rattle.region_step.specs.Ordered.{AreOrdered, CanStep, OrderedCells, before_in, rows_in}
 use Rattle.region_step.specs.Advance.{HasHaloPut, HasRowsInBounds, advanced, known, next_rows_of}
 use Rattle.region_step.specs.Opened.{IsIn, halo_cells}
 use Rattle.region_step.specs.Recording.{is_recorded, note_of, notes_of, recorded_after}
@@ -27,106 +24,74 @@ use Rattle.region_step.proofs.Places.{known-halo, known-own}
 use Rattle.region_step.proofs.Room.{recorded_after-next}
 
 -- what its step stands on, by what was read from it
-
-bounds_of : (net : Network) (chart : ChartLists) (region : RegionValue) → IsIn net chart region → HasRowsInBounds net chart region.state → HasHaloPut net chart region.state →
-    ArePlacesInBounds net (list_at chart.cells region.state.number) (halo_cells chart region.state.number) region.state.step region.layout.placed region.state.put
-bounds_of net chart region inside bounds halo =
+can_advance : (net : Network) (chart : ChartLists) (region : RegionValue) → IsNetwork net → IsIn net chart region → HasRowsInBounds net chart region.state → HasHaloPut net chart region.state →
+    CanStep net (list_at chart.cells region.state.number) region.state.step region.layout.ordered region.state.put
+can_advance net chart region sound inside bounds halo =
     let cells : List ℕ = list_at chart.cells region.state.number in
+    let around : List ℕ = halo_cells chart region.state.number in
+    let apart = (ground net chart.cut chart region.state.number sound inside.charted inside.one_of.there).apart in
     record {
-      own = λ p within. subst (λ rows. IsRowInBounds net region.state.step (slice_index cells p) (row_at rows p)) inside.row_each (bounds.each p within);
+      halo = around;
+      connectors = list_at chart.connectors region.state.number;
+      n = known cells around region.state.rows region.state.put;
+      laid = inside.ordered;
+      bounds = λ p within. subst (λ rows. IsRowInBounds net region.state.step (slice_index cells p) (row_at rows p)) inside.row_each (bounds.each p within);
+      seen = λ p within. known-own cells around region.state.rows region.state.put p apart within ∙ ap (λ rows. occupancy rows p) inside.row_each;
       put_each = inside.one_of.put ∙ sym (length-map (list_at chart.halo region.state.number) (λ halo. halo.cell));
-      around = λ j within.
+      put_bounds = λ j within.
           let told = halo.each j within in
           let put : unwrap_or (slice_index_or region.state.put j None) 0 ≡ told.0 = ap (λ n. unwrap_or n 0) told.1 in
           rw put told.2;
+      put_seen = λ j within. known-halo cells around region.state.rows region.state.put j apart within;
     }
-
-seen_of : (net : Network) (chart : ChartLists) (region : RegionValue) → IsNetwork net → IsIn net chart region →
-    IsSeen (known (list_at chart.cells region.state.number) (halo_cells chart region.state.number) region.state.rows region.state.put)
-    (list_at chart.cells region.state.number) (halo_cells chart region.state.number) region.layout.placed.places region.state.put
-seen_of net chart region sound inside =
-    let cells : List ℕ = list_at chart.cells region.state.number in
-    let around : List ℕ = halo_cells chart region.state.number in
-    let placed : PlacedCells = region.layout.placed in
-    let apart = (ground net chart.cut chart region.state.number sound inside.charted inside.one_of.there).apart in
-    record {
-      own = λ p within.
-          known-own cells around region.state.rows region.state.put p apart within ∙ ap (λ rows. occupancy rows p) inside.row_each ∙
-          ap (λ row. row.n) (row_at-rows_of placed.origins placed.places p (omega (arith, inside.placed.origin_each, within)));
-      around = λ j within. known-halo cells around region.state.rows region.state.put j apart within;
-    }
-
-can_advance : (net : Network) (chart : ChartLists) (region : RegionValue) → IsNetwork net → IsIn net chart region → HasRowsInBounds net chart region.state → HasHaloPut net chart region.state →
-    CanAdvance net (list_at chart.cells region.state.number) region.state.step region.layout.placed region.state.put
-can_advance net chart region sound inside bounds halo = record {
-  halo = halo_cells chart region.state.number;
-  connectors = list_at chart.connectors region.state.number;
-  n = known (list_at chart.cells region.state.number) (halo_cells chart region.state.number) region.state.rows region.state.put;
-  laid = inside.placed;
-  bounds = bounds_of net chart region inside bounds halo;
-  seen = seen_of net chart region sound inside;
-}
 
 -- the same of a region as it was read, and of lists that were read from it
 pub can_advance-read : (net : Network) (chart : ChartLists) (read region : RegionValue) (cells : List ℕ) (put : List (Option ℕ)) → read ≡ region →
     IsNetwork net → IsIn net chart region → HasRowsInBounds net chart region.state → HasHaloPut net chart region.state →
-    cells ≡ list_at chart.cells read.state.number → put ≡ read.state.put → CanAdvance net cells read.state.step read.layout.placed put
+    cells ≡ list_at chart.cells read.state.number → put ≡ read.state.put → CanStep net cells read.state.step read.layout.ordered put
 can_advance-read net chart read region cells put is sound inside bounds halo own told =
     rw (own, told, is) (can_advance net chart region sound inside bounds halo)
 
 -- the cells of a region after its step: their rows, and what they held before
-pub record HasStepped (net : Network) (chart : ChartLists) (region : RegionValue) (new : PlacedCells) : Type 0 where
-  pub placed : ArePlaced net (list_at chart.cells region.state.number) (halo_cells chart region.state.number) (list_at chart.connectors region.state.number) (region.state.step + 1) new
-  pub rows : rows_of new.origins new.places ≡ next_rows_of net chart region.state
-  pub before : new.before ≡ map (λ row. row.n) region.state.rows
+pub record HasStepped (net : Network) (chart : ChartLists) (region : RegionValue) (new : OrderedCells) : Type 0 where
+  pub ordered : AreOrdered net (list_at chart.cells region.state.number) (halo_cells chart region.state.number) (list_at chart.connectors region.state.number) (region.state.step + 1) new
+  pub rows : rows_in new ≡ next_rows_of net chart region.state
+  pub before : before_in new ≡ map (λ row. row.n) region.state.rows
 
 next-is : (net : Network) (chart : ChartLists) (region : RegionValue) → IsIn net chart region →
     rows_after net region.state.step (known (list_at chart.cells region.state.number) (halo_cells chart region.state.number) region.state.rows region.state.put)
-    (list_at chart.cells region.state.number) (rows_of region.layout.placed.origins region.layout.placed.places) ≡ next_rows_of net chart region.state
+    (list_at chart.cells region.state.number) (rows_in region.layout.ordered) ≡ next_rows_of net chart region.state
 next-is net chart region inside = rw (← inside.row_each) refl
 
-before-is : (net : Network) (chart : ChartLists) (region : RegionValue) (before : List ℕ) → IsIn net chart region → length before ≡ length (list_at chart.cells region.state.number) →
-    ((p : ℕ) → p < length (list_at chart.cells region.state.number) → slice_index before p ≡ (place_at region.layout.placed.places p).n) →
-    before ≡ map (λ row. row.n) region.state.rows
-before-is net chart region before inside long each =
-    let placed : PlacedCells = region.layout.placed in
-    ext_get_or 0 before (map (λ row. row.n) region.state.rows) (long ∙ sym (length-map region.state.rows (λ row. row.n) ∙ inside.one_of.rows))
-    (λ p lt.
-    let within : p < length (list_at chart.cells region.state.number) = omega (arith, lt, long) in
-    each p within ∙
-    sym (get_or-map (λ row. row.n) region.state.rows p empty_row 0 (omega (arith, within, inside.one_of.rows)) ∙ ap (λ rows. occupancy rows p) inside.row_each ∙
-    ap (λ row. row.n) (row_at-rows_of placed.origins placed.places p (omega (arith, inside.placed.origin_each, within)))))
+-- the step of its cells says so
+abbrev SaysRows : (net : Network) (t : ℕ) (cells : List ℕ) (ordered : OrderedCells) (put : List (Option ℕ)) (new : OrderedCells) → Type 0
+SaysRows net t cells ordered put new =
+    (can : CanStep net cells t ordered put) → rows_in new ≡ rows_after net t can.n cells (rows_in ordered)
 
--- the step of places says so
-abbrev SaysRows : (net : Network) (t : ℕ) (cells : List ℕ) (placed : PlacedCells) (put : List (Option ℕ)) (new : PlacedCells) → Type 0
-SaysRows net t cells placed put new =
-    (can : CanAdvance net cells t placed put) → rows_of new.origins new.places ≡ rows_after net t can.n cells (rows_of placed.origins placed.places)
+abbrev SaysOrdered : (net : Network) (t : ℕ) (cells : List ℕ) (ordered : OrderedCells) (put : List (Option ℕ)) (new : OrderedCells) → Type 0
+SaysOrdered net t cells ordered put new = (can : CanStep net cells t ordered put) → AreOrdered net cells can.halo can.connectors (t + 1) new
 
-abbrev SaysPlaced : (net : Network) (t : ℕ) (cells : List ℕ) (placed : PlacedCells) (put : List (Option ℕ)) (new : PlacedCells) → Type 0
-SaysPlaced net t cells placed put new = (can : CanAdvance net cells t placed put) → ArePlaced net cells can.halo can.connectors (t + 1) new
+abbrev SaysBefore : (net : Network) (t : ℕ) (cells : List ℕ) (ordered : OrderedCells) (put : List (Option ℕ)) (new : OrderedCells) → Type 0
+SaysBefore net t cells ordered put new = (can : CanStep net cells t ordered put) → before_in new ≡ map (λ row. row.n) (rows_in ordered)
 
-abbrev SaysBefore : (cells : List ℕ) (placed new : PlacedCells) → Type 0
-SaysBefore cells placed new = (p : ℕ) → p < length cells → slice_index new.before p ≡ (place_at placed.places p).n
-
-stepped : (net : Network) (chart : ChartLists) (region : RegionValue) (new : PlacedCells) →
+stepped : (net : Network) (chart : ChartLists) (region : RegionValue) (new : OrderedCells) →
     IsNetwork net → IsIn net chart region → HasRowsInBounds net chart region.state → HasHaloPut net chart region.state →
-    SaysRows net region.state.step (list_at chart.cells region.state.number) region.layout.placed region.state.put new →
-    SaysPlaced net region.state.step (list_at chart.cells region.state.number) region.layout.placed region.state.put new →
-    SaysBefore (list_at chart.cells region.state.number) region.layout.placed new → HasStepped net chart region new
+    SaysRows net region.state.step (list_at chart.cells region.state.number) region.layout.ordered region.state.put new →
+    SaysOrdered net region.state.step (list_at chart.cells region.state.number) region.layout.ordered region.state.put new →
+    SaysBefore net region.state.step (list_at chart.cells region.state.number) region.layout.ordered region.state.put new → HasStepped net chart region new
 unfolding can_advance
-stepped net chart region new sound inside bounds halo rows placed before =
+stepped net chart region new sound inside bounds halo rows ordered before =
     let can = can_advance net chart region sound inside bounds halo in
-    let laid = placed can in
     record {
-      placed = laid;
+      ordered = ordered can;
       rows = rows can ∙ next-is net chart region inside;
-      before = before-is net chart region new.before inside laid.before_each before;
+      before = before can ∙ ap (map (λ row. row.n)) (sym inside.row_each);
     }
 
-pub stepped-read : (net : Network) (chart : ChartLists) (read region : RegionValue) (cells : List ℕ) (put : List (Option ℕ)) (new : PlacedCells) → read ≡ region →
+pub stepped-read : (net : Network) (chart : ChartLists) (read region : RegionValue) (cells : List ℕ) (put : List (Option ℕ)) (new : OrderedCells) → read ≡ region →
     IsNetwork net → IsIn net chart region → HasRowsInBounds net chart region.state → HasHaloPut net chart region.state →
     cells ≡ list_at chart.cells read.state.number → put ≡ read.state.put →
-    SaysRows net read.state.step cells read.layout.placed put new → SaysPlaced net read.state.step cells read.layout.placed put new → SaysBefore cells read.layout.placed new →
+    SaysRows net read.state.step cells read.layout.ordered put new → SaysOrdered net read.state.step cells read.layout.ordered put new → SaysBefore net read.state.step cells read.layout.ordered put new →
     HasStepped net chart region new
 stepped-read net chart read region cells put new is sound inside bounds halo own told =
     rw (own, told, is) (stepped net chart region new sound inside bounds halo)
@@ -162,8 +127,8 @@ noted-room cells trail later room false rows long fits =
 
 -- a region with the same borders, its cells placed a step on, and no less room, that has come a step on
 pub advanced-inside : (net : Network) (chart : ChartLists) (old new : RegionValue) → IsIn net chart old → old.state.step < net.steps → new.state ≡ advanced net chart old.state →
-    ArePlaced net (list_at chart.cells old.state.number) (halo_cells chart old.state.number) (list_at chart.connectors old.state.number) (old.state.step + 1) new.layout.placed →
-    new.state.rows ≡ rows_of new.layout.placed.origins new.layout.placed.places → new.layout.border ≡ old.layout.border → old.layout.room ≤ new.layout.room → IsIn net chart new
+    AreOrdered net (list_at chart.cells old.state.number) (halo_cells chart old.state.number) (list_at chart.connectors old.state.number) (old.state.step + 1) new.layout.ordered →
+    new.state.rows ≡ rows_in new.layout.ordered → new.layout.border ≡ old.layout.border → old.layout.room ≤ new.layout.room → IsIn net chart new
 unfolding advanced
 advanced-inside net chart old new inside before is placed row_each border room =
     let r : ℕ = old.state.number in
@@ -183,7 +148,7 @@ advanced-inside net chart old new inside before is placed row_each border room =
         border = inside.one_of.border;
       });
       in_time = rw is (omega (arith, before));
-      placed = rw is placed;
+      ordered = rw is placed;
       row_each = row_each;
       room = rw is (omega (
         arith,

@@ -13,7 +13,7 @@ use Rattle.region_cut.specs.Joins.{touches_region}
 use Rattle.region_step.specs.Opened.{halo_cells}
 use Rattle.region_step.specs.Start.{Fits, StartLists}
 use Rattle.region_step.proofs.Ground.{ground}
-use Rattle.region_step.proofs.Places.{own-not_halo}
+use Rattle.region_step.proofs.Places.{one_place, own-not_halo}
 
 -- the lists of a region in the chart
 pub are_cells : (net : Network) (cut : List ℕ) (chart : ChartLists) (r : ℕ) → IsNetwork net → chart ≡ chart_of net cut → r < region_count cut →
@@ -22,7 +22,7 @@ are_cells net cut chart r sound is within =
     let here = ground net cut chart r sound is within in
     record {
       around = record {
-        rising = here.apart.rising;
+        distinct = λ p q within inside same. one_place (list_at chart.cells r) p q here.apart.rising within inside same;
         there = λ k d inside. (here.own (get_or (list_at chart.cells r) k d) (Contains-get_or (list_at chart.cells r) k d inside)).0;
         touched = λ k. touches_region cut r (connector_at net.connectors k);
         numbers = here.numbers;

@@ -3,8 +3,7 @@ use Rattle.std.specs.Prelude.{◌≡◌, ℕ, ◌+◌, ◌*◌, ◌<◌, ◌≤�
 use Rattle.network_file.specs.Network.{Network}
 use Rattle.region_cut.specs.Chart.{ChartLists, chart_of, list_at}
 use Rattle.region_cut.specs.Cuttings.{region_count}
-use Rattle.region_body.specs.Placed.{ArePlaced}
-use Rattle.region_body.specs.Rows.{rows_of}
+use Rattle.region_step.specs.Ordered.{AreOrdered, rows_in}
 use Rattle.region_step.specs.Opening.{ArePlaces}
 use Rattle.region_step.specs.Recording.{recorded_after}
 use Rattle.region_step.specs.Region.{RegionValue}
@@ -28,9 +27,9 @@ pub record IsIn (net : Network) (chart : ChartLists) (region : RegionValue) : Ty
   pub one_of : IsOf chart region
   pub in_time : region.state.step ≤ net.steps
   -- its cells stand as places at its step, and these have its rows
-  pub placed : ArePlaced net (list_at chart.cells region.state.number) (halo_cells chart region.state.number)
-      (list_at chart.connectors region.state.number) region.state.step region.layout.placed
-  pub row_each : region.state.rows ≡ rows_of region.layout.placed.origins region.layout.placed.places
+  pub ordered : AreOrdered net (list_at chart.cells region.state.number) (halo_cells chart region.state.number)
+      (list_at chart.connectors region.state.number) region.state.step region.layout.ordered
+  pub row_each : region.state.rows ≡ rows_in region.layout.ordered
   -- there is room for all notes to come
   pub room : length region.state.trail +
       length (list_at chart.cells region.state.number) * recorded_after net.steps region.state.every region.state.step ≤ region.layout.room

@@ -1,24 +1,19 @@
-ghost use Rattle.std.specs.Prelude.{◌≡◌, ◌+◌, ◌<◌, ◌≤◌, ◌^◌, All, IfOk, length, map, slice_index};
-ghost use Rattle.std.specs.List.Sorted.{IsStrictlyIncreasing};
-ghost use Rattle.flow_model.specs.Bounds.{IsRowInBounds};
+ghost use Rattle.std.specs.Prelude.{◌≡◌, ◌+◌, ◌<◌, length, map, slice_index};
 ghost use Rattle.flow_model.specs.State.{occupancy, row_at, rows_after};
-ghost use Rattle.region_body.specs.Placed.{AreCells};
 ghost use Rattle.region_step.specs.Ordered.{AreOrdered, CanStep, before_in, rows_in};
 
 use chain_order::Order;
 use flow_model::Row;
 use network_file::Net;
-use no_memory::NoMemory;
-use region_body::{Cells, PlacedRows};
-use std::alloc::Global;
+use region_body::PlacedRows;
 use std::marker::Model;
 
 /// The rows of some cells at a step, in the order of the cells. Their places stand in another order, in which the cells of a
 /// chain of links lie side by side.
 #[derive(Debug, Drop)]
 pub(crate) struct OrderedRows {
-    rows: PlacedRows,
-    order: Order,
+    pub(crate) rows: PlacedRows,
+    pub(crate) order: Order,
 }
 
 impl Model for OrderedRows {
@@ -33,54 +28,11 @@ impl Model for OrderedRows {
 }
 
 impl OrderedRows {
-    /// These cells with their rows at step `t` and what they held earlier, joined by these connectors. Of all rows and
-    /// earlier occupancies those of these cells are used. All memory that a step needs is taken here.
-    pub(crate) fn new(
-        alloc: Global,
-        net: &Net,
-        t: u64,
-        cells: &[u32],
-        halo: &[u32],
-        connectors: &[u32],
-        rows: &[Row],
-        earlier: &[u64],
-    ) -> Result<OrderedRows, NoMemory>
-        requires in_time { t ≤ net.now.steps }
-        requires increasing { IsStrictlyIncreasing cells.now }
-        requires cells { AreCells net.now cells.now halo.now connectors.now }
-        requires rows { All (λ i. i < length rows.now) cells.now }
-        requires earlier { All (λ i. i < length earlier.now) cells.now }
-        requires bounds { All (λ i. IsRowInBounds net.now t i (row_at rows.now i)) cells.now }
-        ensures ordered { IfOk result (λ ordered. AreOrdered net.now cells.now halo.now connectors.now t ordered) }
-        ensures rows { IfOk result (λ ordered. rows_in ordered ≡ map (row_at rows.now) cells.now) }
-        ensures before { IfOk result (λ ordered. before_in ordered ≡ map (slice_index earlier.now) cells.now) }
-    {
-        let _steps = net.steps;
-        let order = Order::of(alloc, net, cells, connectors)?;
-        let region = Cells {
-            cells,
-            order: &order,
-            halo,
-            connectors,
-        };
-        let rows = PlacedRows::new(alloc, net, t, &region, rows, earlier)?;
-        Ok(OrderedRows { rows, order })
-    }
-
     /// How many cells there are.
     pub(crate) fn count(&self) -> usize
         ensures { result ≡ length self.now.order.places }
     {
         self.order.places().len()
-    }
-
-    /// The place of the `i`-th cell.
-    pub(crate) fn place(&self, i: u32) -> u32
-        requires { i < length self.now.order.places }
-        ensures place { result ≡ slice_index self.now.order.places i }
-        ensures there { result < length self.now.placed.origins }
-    {
-        self.order.places()[i as usize]
     }
 
     /// The row of the `i`-th cell.
@@ -97,15 +49,6 @@ impl OrderedRows {
         ensures { result ≡ occupancy (rows_in self.now) i }
     {
         self.rows.held(self.place(i))
-    }
-
-    /// What the cell at a place holds.
-    pub(crate) fn held_at(&self, place: u32) -> u64
-        requires { place < length self.now.placed.origins }
-        ensures { (m : ℕ) → m < length self.now.order.places → place ≡ slice_index self.now.order.places m →
-            result ≡ occupancy (rows_in self.now) m }
-    {
-        self.rows.held(place)
     }
 
     /// All that has gone out of the `i`-th cell since step 0.
@@ -137,5 +80,14 @@ impl OrderedRows {
     {
         let _steps = net.steps;
         self.rows.step(net, t, self.order.placed(), put);
+    }
+
+    // The place of the `i`-th cell.
+    fn place(&self, i: u32) -> u32
+        requires { i < length self.now.order.places }
+        ensures place { result ≡ slice_index self.now.order.places i }
+        ensures there { result < length self.now.placed.origins }
+    {
+        self.order.places()[i as usize]
     }
 }

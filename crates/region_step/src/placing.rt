@@ -1,14 +1,15 @@
 ghost use Rattle.std.specs.Prelude.{◌≡◌, ◌<◌, IfOk, map, slice_index};
 ghost use Rattle.flow_model.specs.State.{row_at};
-ghost use Rattle.region_body.specs.Placed.{ArePlaced};
-ghost use Rattle.region_body.specs.Rows.{rows_of};
 ghost use Rattle.region_cut.specs.Chart.{chart_of, list_at};
 ghost use Rattle.region_cut.specs.Cuttings.{region_count};
 ghost use Rattle.region_step.specs.Opened.{halo_cells};
+ghost use Rattle.region_step.specs.Ordered.{AreOrdered, before_in, rows_in};
 ghost use Rattle.region_step.specs.Start.{Fits};
 
 use crate::opening::halo_cells;
+use crate::ordered_rows::OrderedRows;
 use crate::start::Start;
+use chain_order::Order;
 use network_file::Net;
 use no_memory::NoMemory;
 use region_body::{Cells, PlacedRows};
@@ -22,22 +23,25 @@ pub(crate) fn place_cells(
     chart: &Chart,
     start: &Start,
     r: u32,
-) -> Result<PlacedRows, NoMemory>
+) -> Result<OrderedRows, NoMemory>
     requires chart { chart.now ≡ chart_of net.now chart.now.cut }
     requires fits { Fits net.now chart.now.cut start.now }
     requires there { r < region_count chart.now.cut }
-    ensures placed { IfOk result (λ placed. ArePlaced net.now (list_at chart.now.cells r) (halo_cells chart.now r)
-        (list_at chart.now.connectors r) (slice_index start.now.steps r) placed) }
-    ensures rows { IfOk result (λ placed. rows_of placed.origins placed.places ≡ map (row_at start.now.rows) (list_at chart.now.cells r)) }
-    ensures before { IfOk result (λ placed. placed.before ≡ map (slice_index start.now.earlier) (list_at chart.now.cells r)) }
+    ensures ordered { IfOk result (λ ordered. AreOrdered net.now (list_at chart.now.cells r) (halo_cells chart.now r)
+        (list_at chart.now.connectors r) (slice_index start.now.steps r) ordered) }
+    ensures rows { IfOk result (λ ordered. rows_in ordered ≡ map (row_at start.now.rows) (list_at chart.now.cells r)) }
+    ensures before { IfOk result (λ ordered. before_in ordered ≡ map (slice_index start.now.earlier) (list_at chart.now.cells r)) }
 {
     let _cells = &net.cells;
+    let order = Order::of(alloc, net, chart.cells(r), chart.connectors(r))?;
     let halo = halo_cells(alloc, chart.halo(r))?;
     let region = Cells {
         cells: chart.cells(r),
+        order: &order,
         halo: &halo,
         connectors: chart.connectors(r),
     };
     let step = start.steps[r as usize];
-    PlacedRows::new(alloc, net, step, &region, &start.rows, &start.earlier)
+    let rows = PlacedRows::new(alloc, net, step, &region, &start.rows, &start.earlier)?;
+    Ok(OrderedRows { rows, order })
 }

@@ -1,11 +1,11 @@
 ghost use Rattle.std.specs.Prelude.{◌≡◌, ◌+◌, ◌*◌, ◌<◌, ◌≤◌, ◌^◌, ◌++◌, [], IfOk, IsTrue, if◌then◌else◌, length, vec_capacity};
 ghost use Rattle.signal_plan.specs.declared.bounds.TheConstants.{MOST_STEPS};
-ghost use Rattle.region_body.specs.Rows.{rows_of};
+ghost use Rattle.region_step.specs.Ordered.{rows_in};
 ghost use Rattle.region_step.specs.Recording.{is_recorded, notes_of, recorded_after};
 
 use crate::note::Note;
+use crate::ordered_rows::OrderedRows;
 use no_memory::NoMemory;
-use region_body::PlacedRows;
 use std::alloc::Global;
 
 /// Whether step `t` of so many is recorded: `every` divides it, or it is the last one. Where `every` is 0 none is.
@@ -18,16 +18,16 @@ pub fn is_recorded(steps: u64, every: u64, t: u64) -> bool
 /// The trail of cells as they stand at their first step, with room for all notes to come.
 pub(crate) fn first_notes(
     alloc: Global,
-    cells: &PlacedRows,
+    cells: &OrderedRows,
     steps: u64,
     every: u64,
     step: u64,
 ) -> Result<Vec<Note>, NoMemory>
-    requires few { length cells.now.origins < 2 ^ 32 }
+    requires few { length cells.now.order.places < 2 ^ 32 }
     requires few_steps { steps ≤ MOST_STEPS }
     requires in_time { step ≤ steps }
-    ensures notes { IfOk result (λ trail. trail.items ≡ (if is_recorded steps every step then notes_of (rows_of cells.now.origins cells.now.places) else [])) }
-    ensures room { IfOk result (λ trail. length trail.items + length cells.now.origins * recorded_after steps every step ≤ vec_capacity trail) }
+    ensures notes { IfOk result (λ trail. trail.items ≡ (if is_recorded steps every step then notes_of (rows_in cells.now) else [])) }
+    ensures room { IfOk result (λ trail. length trail.items + length cells.now.order.places * recorded_after steps every step ≤ vec_capacity trail) }
 {
     let mut trail = Vec::with_capacity(alloc, room_for(cells.count(), steps, every, step))?;
     note_step(&mut trail, cells, is_recorded(steps, every, step));
@@ -49,10 +49,10 @@ fn room_for(cells: usize, steps: u64, every: u64, from: u64) -> usize
 }
 
 /// Appends what is noted of these cells where their step is recorded. There is room for it.
-pub(crate) fn note_step(trail: &mut Vec<Note>, cells: &PlacedRows, recorded: bool)
-    requires few { length cells.now.origins < 2 ^ 32 }
-    requires room { IsTrue recorded → length trail.old.items + length cells.now.origins ≤ vec_capacity trail.old }
-    ensures notes { trail.new.items ≡ trail.old.items ++ (if recorded then notes_of (rows_of cells.now.origins cells.now.places) else []) }
+pub(crate) fn note_step(trail: &mut Vec<Note>, cells: &OrderedRows, recorded: bool)
+    requires few { length cells.now.order.places < 2 ^ 32 }
+    requires room { IsTrue recorded → length trail.old.items + length cells.now.order.places ≤ vec_capacity trail.old }
+    ensures notes { trail.new.items ≡ trail.old.items ++ (if recorded then notes_of (rows_in cells.now) else []) }
     ensures room { vec_capacity trail.old ≤ vec_capacity trail.new }
 {
     if recorded {
@@ -61,10 +61,10 @@ pub(crate) fn note_step(trail: &mut Vec<Note>, cells: &PlacedRows, recorded: boo
 }
 
 // Appends what is noted of these cells.
-fn note_rows(trail: &mut Vec<Note>, cells: &PlacedRows)
-    requires few { length cells.now.origins < 2 ^ 32 }
-    requires room { length trail.old.items + length cells.now.origins ≤ vec_capacity trail.old }
-    ensures notes { trail.new.items ≡ trail.old.items ++ notes_of (rows_of cells.now.origins cells.now.places) }
+fn note_rows(trail: &mut Vec<Note>, cells: &OrderedRows)
+    requires few { length cells.now.order.places < 2 ^ 32 }
+    requires room { length trail.old.items + length cells.now.order.places ≤ vec_capacity trail.old }
+    ensures notes { trail.new.items ≡ trail.old.items ++ notes_of (rows_in cells.now) }
     ensures room { vec_capacity trail.old ≤ vec_capacity trail.new }
 {
     for i in 0..cells.count() as u32 {

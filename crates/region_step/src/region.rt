@@ -7,13 +7,14 @@ ghost use Rattle.region_cut.specs.LawfulSteps.{AreLawful};
 
 use crate::note::Note;
 use crate::opening::border_places;
+use crate::ordered_rows::OrderedRows;
 use crate::placing::place_cells;
 use crate::recording::{first_notes, is_recorded, note_step};
 use crate::start::Start;
 use flow_model::Row;
 use network_file::Net;
 use no_memory::NoMemory;
-use region_body::{PlacedRows, nothing_put};
+use region_body::nothing_put;
 use region_cut::Chart;
 use std::alloc::Global;
 use std::marker::Model;
@@ -28,7 +29,7 @@ pub struct Region {
     started: u64,
     every: u64,
     step: u64,
-    cells: PlacedRows,
+    cells: OrderedRows,
     // The place of each border cell among its cells.
     border: Vec<u32>,
     put: Vec<Option<u64>>,
@@ -37,7 +38,7 @@ pub struct Region {
 
 impl Model for Region {
     ghost use Rattle.std.specs.Prelude.{vec_capacity};
-    ghost use Rattle.region_body.specs.Rows.{rows_of};
+    ghost use Rattle.region_step.specs.Ordered.{before_in, rows_in};
     ghost use Rattle.region_step.specs.Region.{RegionValue};
 
     ghost Value = { RegionValue };
@@ -48,12 +49,12 @@ impl Model for Region {
         started = region.started;
         every = region.every;
         step = region.step;
-        rows = rows_of region.cells.origins region.cells.places;
-        before = region.cells.before;
+        rows = rows_in region.cells;
+        before = before_in region.cells;
         trail = region.trail.items;
         put = region.put.items;
       };
-      layout = record { placed = region.cells; border = region.border.items; room = vec_capacity region.trail };
+      layout = record { ordered = region.cells; border = region.border.items; room = vec_capacity region.trail };
     } };
 }
 

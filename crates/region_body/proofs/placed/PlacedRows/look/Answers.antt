@@ -1,5 +1,8 @@
-use Rattle.std.specs.Prelude.{map}
-use Rattle.std.proofs.Common.{◌≡◌, ap, ◌∙◌}
+use Rattle.std.specs.Prelude.{map, nat_lt}
+use Rattle.std.proofs.Common.{◌≡◌, ◌<◌, ℕ, true, length, ap, subst, sym, ◌∙◌, arith}
+use Rattle.std.proofs.lemmas.Bool.Decides.{nat_tests}
+use Rattle.std.proofs.lemmas.List.{with_items_is}
+use Rattle.region_body.specs.Pausing.{AreIdle}
 use Rattle.region_body.specs.Waiting.{waited}
 use Rattle.region_body.proofs.Stays.{sound-settled, unowed, waited-none}
 use Rattle.region_body.proofs.placed.PlacedRows.look.Goals.{After-deref-3}
@@ -30,6 +33,12 @@ pub of-self-inside-requires-clause-spots : goal.of-self-inside-requires-clause-s
 of-self-inside-requires-clause-spots c = rw (places-are c, ties-are c) c.requires.spots
 
 pub returns-clause-idle : goal.returns-clause-idle
-returns-clause-idle c =
+returns-clause-idle c = λ s before.
     let e : After-deref-3 = (goal.at.returns-clause-idle c).After-deref-3 in
-    rw (places-are e, links-are e, ties-are e) at c.of-self-inside.ensures.idle
+    let until : ℕ = c.of-self-inside.result.until in
+    let lasts : nat_lt 0 until ≡ true = grind (arith, nat_tests, before) in
+    let same : c.note_seen.new.seen ≡ c.args.put.now = c.note_seen.ensures.same lasts in
+    let long : length c.note_seen.new.seen ≡ c.self.inside.seen.len = c.note_seen.auto.seen ∙ c.deref_mut.ensures.len in
+    subst (λ seen. AreIdle c.args.self.now.places c.args.self.now.links c.args.self.now.ties seen until)
+    (sym (with_items_is c.self.inside.seen c.note_seen.new.seen long ∙ same))
+    ((rw (places-are e, links-are e, ties-are e) at c.of-self-inside.ensures.idle) s before)

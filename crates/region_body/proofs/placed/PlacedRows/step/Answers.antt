@@ -72,5 +72,5 @@ returns-else-waits_through-clause-rows c = λ can.
 pub returns-else-waits_through-clause-placed : goal.returns-else-waits_through-clause-placed
 returns-else-waits_through-clause-placed c = λ can.
     subst (ArePlaced c.args.net.now c.args.cells.now can.halo can.connectors (c.args.t + 1)) (sym c.look.ensures.only_pause)
-    (placed-paused c.args.net.now c.args.cells.now can.halo can.connectors (c.args.t + 1) c.take_step.new.self c.look.new.self.pause c.args.put.now
-    (placed (goal.at.returns-else-waits_through-clause-placed c).After-look-arg-1 can) c.look.ensures.none_owed can.bounds.put_each c.look.ensures.idle)
+    (placed-paused c.args.net.now c.args.cells.now can.halo can.connectors (c.args.t + 1) c.take_step.new.self c.look.new.self.pause c.look.new.self.seen
+    (placed (goal.at.returns-else-waits_through-clause-placed c).After-look-arg-1 can) c.look.ensures.none_owed (c.look.ensures.one_each ∙ can.bounds.put_each) c.look.ensures.idle)

@@ -19,10 +19,10 @@ step-requires-clause-can c =
 pub note_step-requires : goal.note_step-requires
 note_step-requires c =
     let done = stepped-read c.args.net.now c.args.chart.now _ c.args.self.now _ _ c.step.new.self c.self.view_is (subst IsNetwork c.net.view_is c.net.invariant)
-    c.requires.opened c.requires.in_bounds c.requires.halo c.cells-cells.ensures.list c.deref.ensures.value c.step.ensures.rows c.step.ensures.placed c.step.ensures.before in
+    c.requires.opened c.requires.in_bounds c.requires.halo c.cells-cells.ensures.list c.deref.ensures.value c.step.ensures.rows c.step.ensures.ordered c.step.ensures.before in
     let sound = subst IsNetwork c.net.view_is c.net.invariant in
     let here = ground c.args.net.now c.args.chart.now.cut c.args.chart.now c.args.self.now.state.number sound c.requires.opened.charted c.requires.opened.one_of.there in
-    let long = done.placed.origin_each in
+    let long = done.ordered.order.place_each in
     let steps : c.net.inside.steps ≡ c.args.net.now.steps = ap (λ net. net.steps) c.net.view_is in
     record {
       few = omega (arith, long, here.few);
@@ -40,7 +40,7 @@ note_step-requires c =
 pub returns-clause-state : goal.returns-clause-state
 returns-clause-state c =
     let done = stepped-read c.args.net.now c.args.chart.now _ c.args.self.now _ _ c.step.new.self c.self.view_is (subst IsNetwork c.net.view_is c.net.invariant)
-    c.requires.opened c.requires.in_bounds c.requires.halo c.cells-cells.ensures.list c.deref.ensures.value c.step.ensures.rows c.step.ensures.placed c.step.ensures.before in
+    c.requires.opened c.requires.in_bounds c.requires.halo c.cells-cells.ensures.list c.deref.ensures.value c.step.ensures.rows c.step.ensures.ordered c.step.ensures.before in
     let old : RegionState = c.args.self.now.state in
     let steps : c.net.inside.steps ≡ c.args.net.now.steps = ap (λ net. net.steps) c.net.view_is in
     let recorded : c.is_recorded-recorded.result ≡ is_recorded c.args.net.now.steps old.every (old.step + 1) =
@@ -58,9 +58,9 @@ returns-clause-state c =
 pub returns-clause-opened : goal.returns-clause-opened
 returns-clause-opened c =
     let done = stepped-read c.args.net.now c.args.chart.now _ c.args.self.now _ _ c.step.new.self c.self.view_is (subst IsNetwork c.net.view_is c.net.invariant)
-    c.requires.opened c.requires.in_bounds c.requires.halo c.cells-cells.ensures.list c.deref.ensures.value c.step.ensures.rows c.step.ensures.placed c.step.ensures.before in
+    c.requires.opened c.requires.in_bounds c.requires.halo c.cells-cells.ensures.list c.deref.ensures.value c.step.ensures.rows c.step.ensures.ordered c.step.ensures.before in
     advanced-inside c.args.net.now c.args.chart.now c.args.self.now _ c.requires.opened c.requires.in_time (returns-clause-state c)
-    done.placed refl (ap (λ region. region.layout.border) c.self.view_is)
+    done.ordered refl (ap (λ region. region.layout.border) c.self.view_is)
     (rw (ap (λ region. region.layout.room) c.self.view_is) at c.note_step.ensures.room)
 
 pub returns-clause-bounds : goal.returns-clause-bounds

@@ -1,7 +1,7 @@
 use Rattle.std.specs.Prelude.{slice_index}
 use Rattle.std.proofs.Common.{◌≡◌, ℕ, List, length, get_or, arith, ap, sym, ◌∙◌}
 use Rattle.std.proofs.lemmas.List.{get_or_default}
-use Rattle.region_body.proofs.Whole.{length-rows_of}
+use Rattle.region_step.proofs.Ordered.{length-rows_in}
 use Rattle.flow_model.specs.State.{occupancy}
 use Rattle.region_cut.specs.Chart.{list_at}
 use Rattle.region_step.proofs.Places.{one_place}
@@ -30,4 +30,4 @@ held-requires c =
     c.index.ensures ∙ ap (λ region. get_or region.layout.border c.args.j c.index.result.now) c.self.view_is ∙
     get_or_default c.args.self.now.layout.border c.args.j c.index.result.now 0 (omega (arith, c.requires.of.border.one_each, c.requires.there)) in
     let rows = ap (λ region. length region.state.rows) c.self.view_is in
-    omega (arith, place.0, length-rows_of cells.origins cells.places, rows, c.requires.of.rows, read)
+    omega (arith, place.0, length-rows_in cells, rows, c.requires.of.rows, read)

@@ -4,7 +4,7 @@ use Rattle.std.proofs.lemmas.List.{get_or_default, length-map, length-replicate}
 use Rattle.network_file.specs.Network.{IsNetwork}
 use Rattle.flow_model.specs.State.{row_at}
 use Rattle.flow_model.specs.declared.row.Row.{Row}
-use Rattle.region_body.specs.Rows.{rows_of}
+use Rattle.region_step.specs.Ordered.{rows_in}
 use Rattle.region_cut.specs.Chart.{list_at}
 use Rattle.region_step.specs.Recording.{is_recorded, notes_of}
 use Rattle.region_step.proofs.Ground.{ground}
@@ -28,7 +28,7 @@ border_places-requires-clause-few c =
 pub first_notes-requires-clause-few : goal.first_notes-requires-clause-few
 first_notes-requires-clause-few c =
     let here = ground c.args.net.now c.args.chart.now.cut c.args.chart.now c.args.r (subst IsNetwork c.net.view_is c.net.invariant) c.requires.chart c.requires.there in
-    omega (arith, c.in_ok-cells.ensures.placed.origin_each, here.few)
+    omega (arith, c.in_ok-cells.ensures.ordered.order.place_each, here.few)
 
 step-is : (c : goal.In_ok-trail) → c.index-step.result.now ≡ slice_index c.args.start.now.steps c.args.r
 step-is c =
@@ -39,10 +39,10 @@ put-is : (c : goal.In_ok-trail) → c.in_ok-put.put.items ≡ replicate (length 
 put-is c = c.in_ok-put.ensures ∙ ap (λ n. replicate n None) (ap length c.halo.ensures.list)
 
 notes-are : (c : goal.In_ok-trail) → c.in_ok-trail.trail.items ≡
-    (if is_recorded c.args.net.now.steps c.args.every (slice_index c.args.start.now.steps c.args.r) then notes_of (rows_of c.in_ok-cells.cells.origins c.in_ok-cells.cells.places) else [])
+    (if is_recorded c.args.net.now.steps c.args.every (slice_index c.args.start.now.steps c.args.r) then notes_of (rows_in c.in_ok-cells.cells) else [])
 notes-are c =
     let steps : c.net.inside.steps ≡ c.args.net.now.steps = ap (λ net. net.steps) c.net.view_is in
-    let rows : List Row = rows_of c.in_ok-cells.cells.origins c.in_ok-cells.cells.places in
+    let rows : List Row = rows_in c.in_ok-cells.cells in
     c.in_ok-trail.ensures.notes ∙
     ap (λ n. if is_recorded n c.args.every c.index-step.result.now then notes_of rows else []) steps ∙
     ap (λ s. if is_recorded c.args.net.now.steps c.args.every s then notes_of rows else []) (step-is c)
@@ -51,7 +51,7 @@ pub returns-clause-opened : goal.returns-clause-opened
 returns-clause-opened c =
     let cells : List ℕ = list_at c.args.chart.now.cells c.args.r in
     let steps : c.net.inside.steps ≡ c.args.net.now.steps = ap (λ net. net.steps) c.net.view_is in
-    let laid = c.in_ok-cells.ensures.placed in
+    let laid = c.in_ok-cells.ensures.ordered in
     let step_within : c.index-step.result.now ≤ c.args.net.now.steps = omega (arith, step-is c, c.requires.fits.in_time c.args.r 0 (omega (arith, c.requires.fits.one_each, c.requires.there))) in
     record {
       charted = c.requires.chart;
@@ -63,9 +63,9 @@ returns-clause-opened c =
         border = rw (c.cells.ensures.list, c.border.ensures.list) at c.in_ok-border.ensures;
       };
       in_time = step_within;
-      placed = rw (step-is c) laid;
+      ordered = rw (step-is c) laid;
       row_each = refl;
-      room = rw (steps, laid.origin_each) at c.in_ok-trail.ensures.room;
+      room = rw (steps, laid.order.place_each) at c.in_ok-trail.ensures.room;
     }
 
 pub returns-clause-state : goal.returns-clause-state
