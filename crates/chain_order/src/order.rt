@@ -1,0 +1,82 @@
+ghost use Rattle.std.specs.Prelude.{◌≡◌, ◌<◌, ◌^◌, All, IfOk, length, map, slice_index};
+ghost use Rattle.chain_order.specs.Order.{IsOrder};
+
+use crate::chains::Chains;
+use crate::inverse::are_inverse;
+use crate::walk::Walk;
+use network_file::Net;
+use no_memory::NoMemory;
+use std::alloc::Global;
+use std::marker::Model;
+
+/// Cells in an order in which the cells of each chain of links lie side by side, and the place of each.
+#[derive(Debug, Drop)]
+pub struct Order {
+    placed: Vec<u32>,
+    places: Vec<u32>,
+}
+
+impl Model for Order {
+    ghost use Rattle.chain_order.specs.Order.{OrderLists};
+
+    ghost Value = { OrderLists };
+
+    ghost view = { λ order. record { placed = order.placed.items; places = order.places.items } };
+}
+
+impl Order {
+    /// The order of these cells by the links among these connectors: chains in the order of their first cells, and
+    /// then rings. Where each link leads to the cell behind, it is the order that was given. Cells in rising order
+    /// are found the fastest.
+    pub fn of(
+        alloc: Global,
+        net: &Net,
+        cells: &[u32],
+        connectors: &[u32],
+    ) -> Result<Order, NoMemory>
+        requires there { All (λ k. k < length net.now.connectors) connectors.now }
+        requires few { length cells.now < 2 ^ 32 }
+        ensures { IfOk result (IsOrder cells.now) }
+    {
+        let chains = Chains::of(alloc, net, cells, connectors)?;
+        let Walk { placed, places, .. } = Walk::along(alloc, &chains)?;
+        if are_inverse(cells.len(), &placed, &places) {
+            let placed = cells_at(alloc, cells, &placed)?;
+            Ok(Order { placed, places })
+        } else {
+            as_given(alloc, cells)
+        }
+    }
+
+    /// The cells one after the other.
+    pub fn placed(&self) -> &[u32]
+        ensures { result.now ≡ self.now.placed }
+    {
+        &self.placed
+    }
+
+    /// The place of each cell, in the order that was given.
+    pub fn places(&self) -> &[u32]
+        ensures { result.now ≡ self.now.places }
+    {
+        &self.places
+    }
+}
+
+// The cells at these indices.
+fn cells_at(alloc: Global, cells: &[u32], indices: &[u32]) -> Result<Vec<u32>, NoMemory>
+    requires { All (λ m. m < length cells.now) indices.now }
+    ensures { IfOk result (λ found. found.items ≡ map (slice_index cells.now) indices.now) }
+{
+    Ok(indices.iter().map(|m| cells[*m as usize]).collect(alloc)?)
+}
+
+// The order that was given.
+fn as_given(alloc: Global, cells: &[u32]) -> Result<Order, NoMemory>
+    requires { length cells.now < 2 ^ 32 }
+    ensures { IfOk result (IsOrder cells.now) }
+{
+    let placed = cells.iter().copied().collect(alloc)?;
+    let places = (0..cells.len() as u32).collect(alloc)?;
+    Ok(Order { placed, places })
+}
