@@ -64,17 +64,18 @@ impl Chains {
 
     // A link between two cells, where both are among these.
     fn join_cells(&mut self, cells: &[u32], up: u32, down: u32)
-        requires { length cells.now ≡ self.old }
+        requires one_each { length cells.now ≡ self.old }
+        requires few { length cells.now < 2 ^ 32 }
         ensures { self.new ≡ self.old }
     {
         let [first, ..] = cells else {
             return;
         };
-        let Some(from) = index_of(cells, up, up.saturating_sub(*first) as usize) else {
+        let Some(from) = index_of(cells, up, up.saturating_sub(*first)) else {
             return;
         };
         if let Some(to) = index_of(cells, down, from + 1) {
-            self.join(from as u32, to as u32);
+            self.join(from, to);
         }
     }
 
@@ -101,11 +102,15 @@ impl Chains {
 }
 
 // The index of a cell, where it is among cells in rising order; looked for first at the index that it mostly has.
-fn index_of(cells: &[u32], cell: u32, guess: usize) -> Option<usize>
+fn index_of(cells: &[u32], cell: u32, guess: u32) -> Option<u32>
+    requires { length cells.now < 2 ^ 32 }
     ensures { IfSome result (λ m. m < length cells.now) }
 {
-    if guess < cells.len() && cells[guess] == cell {
+    if (guess as usize) < cells.len() && cells[guess as usize] == cell {
         return Some(guess);
     }
-    cells.binary_search(&cell).ok()
+    match cells.binary_search(&cell) {
+        Ok(m) => Some(m as u32),
+        Err(_) => None,
+    }
 }

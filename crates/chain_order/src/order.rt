@@ -1,4 +1,5 @@
 ghost use Rattle.std.specs.Prelude.{◌≡◌, ◌<◌, ◌^◌, All, IfOk, length, map, slice_index};
+ghost use Rattle.std.specs.List.{range_with_len};
 ghost use Rattle.chain_order.specs.Order.{IsOrder};
 
 use crate::chains::Chains;
@@ -76,7 +77,21 @@ fn as_given(alloc: Global, cells: &[u32]) -> Result<Order, NoMemory>
     requires { length cells.now < 2 ^ 32 }
     ensures { IfOk result (IsOrder cells.now) }
 {
-    let placed = cells.iter().copied().collect(alloc)?;
-    let places = (0..cells.len() as u32).collect(alloc)?;
+    let placed = copied(alloc, cells)?;
+    let places = numbers(alloc, cells.len() as u32)?;
     Ok(Order { placed, places })
+}
+
+// A list once more.
+fn copied(alloc: Global, list: &[u32]) -> Result<Vec<u32>, NoMemory>
+    ensures { IfOk result (λ copy. copy.items ≡ list.now) }
+{
+    Ok(list.iter().copied().collect(alloc)?)
+}
+
+// So many numbers from 0 on.
+fn numbers(alloc: Global, count: u32) -> Result<Vec<u32>, NoMemory>
+    ensures { IfOk result (λ numbers. numbers.items ≡ range_with_len 0 count) }
+{
+    Ok((0..count).collect(alloc)?)
 }

@@ -17,16 +17,9 @@ pub(crate) struct Walk {
 impl Walk {
     /// The walk along all chains, each from its first cell on, and then along the rings.
     pub(crate) fn along(alloc: Global, chains: &Chains) -> Result<Walk, NoMemory> {
-        let cells = chains.cells();
-        let mut walk = Walk::begun(alloc, cells)?;
-        for first in 0..cells {
-            if !chains.is_led_to(first) {
-                walk.follow(chains, first);
-            }
-        }
-        for first in 0..cells {
-            walk.follow(chains, first);
-        }
+        let mut walk = Walk::begun(alloc, chains.cells())?;
+        walk.follow_chains(chains);
+        walk.follow_rings(chains);
         Ok(walk)
     }
 
@@ -41,6 +34,28 @@ impl Walk {
             places,
             count: 0,
         })
+    }
+
+    // Goes along the chains, each from the cell on to which no link leads.
+    fn follow_chains(&mut self, chains: &Chains)
+        requires { length self.old.placed.items ≡ chains.now }
+        ensures { length self.new.placed.items ≡ chains.now }
+    {
+        for first in 0..chains.cells() {
+            if !chains.is_led_to(first) {
+                self.follow(chains, first);
+            }
+        }
+    }
+
+    // Goes along what is left, which are rings.
+    fn follow_rings(&mut self, chains: &Chains)
+        requires { length self.old.placed.items ≡ chains.now }
+        ensures { length self.new.placed.items ≡ chains.now }
+    {
+        for first in 0..chains.cells() {
+            self.follow(chains, first);
+        }
     }
 
     // Places a cell and those to which links lead from it, up to one that is placed.
