@@ -1,5 +1,4 @@
-ghost use Rattle.std.specs.Prelude.{◌≡◌, ◌<◌, ◌^◌, All, IfOk, length, map, slice_index};
-ghost use Rattle.std.specs.List.{range_with_len};
+ghost use Rattle.std.specs.Prelude.{◌≡◌, ◌<◌, ◌^◌, ℕ, All, IfOk, length, map, slice_index};
 ghost use Rattle.chain_order.specs.Order.{IsOrder};
 
 use crate::chains::Chains;
@@ -91,7 +90,12 @@ fn copied(alloc: Global, list: &[u32]) -> Result<Vec<u32>, NoMemory>
 
 // So many numbers from 0 on.
 fn numbers(alloc: Global, count: u32) -> Result<Vec<u32>, NoMemory>
-    ensures { IfOk result (λ numbers. numbers.items ≡ range_with_len 0 count) }
+    ensures long { IfOk result (λ numbers. length numbers.items ≡ count) }
+    ensures own { IfOk result (λ numbers. (m : ℕ) → m < count → slice_index numbers.items m ≡ m) }
 {
-    Ok((0..count).collect(alloc)?)
+    let mut numbers = Vec::with_capacity(alloc, count as usize)?;
+    for m in 0..count {
+        numbers.push(m)?;
+    }
+    Ok(numbers)
 }
