@@ -29,7 +29,7 @@ fn are_placed(
 }
 
 #[test]
-fn cells_of_a_chain_lie_side_by_side(rt: HostRuntime) -> Result<(), Fail> {
+fn cells_of_chains_lie_side_by_side_and_rings_behind_them(rt: HostRuntime) -> Result<(), Fail> {
     let text = ROADS.replace(rt.alloc(), "; ", "\n")?;
     assert!(rt; text.len() <= MOST_BYTES);
     let net = Net::read(rt.alloc(), text.as_bytes())?;
