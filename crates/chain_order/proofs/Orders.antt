@@ -1,16 +1,11 @@
 -- Orders of cells: by two lists of indices that lead to each other, and as they were given.
 use Rattle.std.specs.Prelude.{map, slice_index}
-use Rattle.std.specs.List.{All}
 use Rattle.std.proofs.Common.{◌≡◌, ℕ, ◌<◌, List, length, ap, arith, refl, ◌∙◌}
 use Rattle.std.proofs.lemmas.List.{get_or-map, length-map}
-use Rattle.std.proofs.lemmas.List.Elements.{All-from_get_or}
 use Rattle.chain_order.specs.Inverse.{LeadsBack}
 use Rattle.chain_order.specs.Order.{IsOrder}
 
--- indices that lead back are those of cells
-pub there-each : (n : ℕ) (placed places : List ℕ) → length places ≡ n → LeadsBack placed places → All (λ m. m < n) placed
-there-each n placed places long there = All-from_get_or (λ m. m < n) placed 0 (λ p within. omega (arith, (there p within).0, long))
-
+-- cells laid by indices that lead to their places, and back
 pub order-of_inverse : (cells placed places laid : List ℕ) → laid ≡ map (slice_index cells) placed
     → length placed ≡ length cells → length places ≡ length cells → LeadsBack placed places → LeadsBack places placed
     → IsOrder cells (record { placed = laid; places = places })

@@ -43,8 +43,29 @@ impl Chains {
         Ok(chains)
     }
 
-    /// So many cells without links.
-    pub(crate) fn apart(alloc: Global, cells: u32) -> Result<Chains, NoMemory>
+    /// How many cells there are.
+    pub(crate) fn cells(&self) -> u32
+        ensures { result ≡ self.now }
+    {
+        self.next.len() as u32
+    }
+
+    /// The cell to which a link leads from a cell.
+    pub(crate) fn next(&self, cell: u32) -> u32
+        requires { cell < self.now }
+    {
+        self.next[cell as usize]
+    }
+
+    /// Whether a link leads to a cell.
+    pub(crate) fn is_led_to(&self, cell: u32) -> bool
+        requires { cell < self.now }
+    {
+        self.is_led_to[cell as usize]
+    }
+
+    // So many cells without links.
+    fn apart(alloc: Global, cells: u32) -> Result<Chains, NoMemory>
         ensures { IfOk result (λ chains. chains ≡ cells) }
     {
         let next = vec![in alloc; cells; cells as usize]?;
@@ -52,8 +73,8 @@ impl Chains {
         Ok(Chains { next, is_led_to })
     }
 
-    /// A link from one cell to another.
-    pub(crate) fn join(&mut self, from: u32, to: u32)
+    // A link from one cell to another.
+    fn join(&mut self, from: u32, to: u32)
         requires from { from < self.old }
         requires to { to < self.old }
         ensures { self.new ≡ self.old }
@@ -77,27 +98,6 @@ impl Chains {
         if let Some(to) = index_of(cells, down, from + 1) {
             self.join(from, to);
         }
-    }
-
-    /// How many cells there are.
-    pub(crate) fn cells(&self) -> u32
-        ensures { result ≡ self.now }
-    {
-        self.next.len() as u32
-    }
-
-    /// The cell to which a link leads from a cell.
-    pub(crate) fn next(&self, cell: u32) -> u32
-        requires { cell < self.now }
-    {
-        self.next[cell as usize]
-    }
-
-    /// Whether a link leads to a cell.
-    pub(crate) fn is_led_to(&self, cell: u32) -> bool
-        requires { cell < self.now }
-    {
-        self.is_led_to[cell as usize]
     }
 }
 

@@ -1,7 +1,8 @@
 //! Finds an order of the cells of a region in which the cells of each chain of links lie side by side.
 //!
-//! A walk along the links gives it (`chains.rt`, `walk.rt`). That each cell stands in it once is found out by a
-//! look at it (`inverse.rt`), and where that fails the order that was given is taken.
+//! A walk along the links finds it, of which no more is proved than that it stays in bounds (`chains.rt`, `walk.rt`).
+//! A check at run time then finds that each cell stands in it once (`inverse.rt`); where one didn't, the order that
+//! was given would be taken.
 #![tactic(auto)]
 
 mod chains;

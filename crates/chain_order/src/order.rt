@@ -26,8 +26,8 @@ impl Model for Order {
 
 impl Order {
     /// The order of these cells by the links among these connectors: chains in the order of their first cells, and
-    /// then rings. Where each link leads to the cell behind, it is the order that was given. Cells in rising order
-    /// are found the fastest.
+    /// then rings. Where each link leads to the cell behind, it is the order that was given. Links of cells that
+    /// don't stand in rising order may be missed.
     pub fn of(
         alloc: Global,
         net: &Net,
