@@ -33,13 +33,15 @@ pub(crate) fn place_cells(
     ensures before { IfOk result (λ ordered. before_in ordered ≡ map (slice_index start.now.earlier) (list_at chart.now.cells r)) }
 {
     let _cells = &net.cells;
-    let order = Order::of(alloc, net, chart.cells(r), chart.connectors(r))?;
+    let cells = chart.cells(r);
+    let connectors = chart.connectors(r);
+    let order = Order::of(alloc, net, cells, connectors)?;
     let halo = halo_cells(alloc, chart.halo(r))?;
     let region = Cells {
-        cells: chart.cells(r),
+        cells,
         order: &order,
         halo: &halo,
-        connectors: chart.connectors(r),
+        connectors,
     };
     let step = start.steps[r as usize];
     let rows = PlacedRows::new(alloc, net, step, &region, &start.rows, &start.earlier)?;
