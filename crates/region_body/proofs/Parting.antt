@@ -1,7 +1,7 @@
 -- What one connector takes from places and brings to them.
-use Rattle.std.specs.Prelude.{All, ◌==◌, Option, slice_index, if◌then◌else◌}
+use Rattle.std.specs.Prelude.{◌==◌, Option, slice_index, if◌then◌else◌}
 use Rattle.std.specs.List.{sum_by}
-use Rattle.std.proofs.Common.{◌≡◌, ℕ, zero, suc, ◌<◌, ◌≤◌, ◌+◌, inl, inr, true, false, List, [], ◌∷◌, length, refl, sym, ap, subst, ◌∙◌, arith}
+use Rattle.std.proofs.Common.{◌≡◌, ℕ, zero, suc, ◌<◌, ◌≤◌, inl, inr, true, false, List, [], ◌∷◌, length, refl, sym, ap, ◌∙◌, arith}
 use Rattle.std.proofs.lemmas.Bool.{cases_eq, eq-eqb, ne_eqb}
 use Rattle.network_file.specs.Connectors.{cells_of, connector_at}
 use Rattle.network_file.specs.Network.{Network}
@@ -15,8 +15,6 @@ use Rattle.region_body.specs.declared.place.Place.{Place}
 use Rattle.signal_plan.proofs.Sums.{sum_by-same}
 use Rattle.region_cut.specs.ConnectorCells.{three_cells}
 use Rattle.region_body.specs.Following.{rule_of}
-use Rattle.region_body.specs.declared.rule.Rule.{Rule}
-use Rattle.region_body.specs.declared.rule.Rule.TheVariants.{Linking, Merging, Diverging}
 use Rattle.region_body.specs.Carrying.{AreSpotsOf, CanCarry, IsSpotOf, IsThere, IsTie, at_spot, brought, brought_by, carried_of, held_in, spot_at, taken, taken_by, three_held}
 use Rattle.region_body.proofs.Spots.{held-halo, held-own}
 use Rattle.region_body.specs.Moves.{AreTied, ArePartsOf, IsScene, IsSeen, in_by, out_by}

@@ -1,9 +1,9 @@
 -- What a connector takes from a place and brings to it, by each rule.
-use Rattle.std.proofs.Common.{◌≡◌, ℕ, ◌+◌, List, [], ◌∷◌, refl, sym, ap, ◌∙◌}
+use Rattle.std.proofs.Common.{◌≡◌, ℕ, ◌+◌, [], ◌∷◌, refl, sym, ap, ◌∙◌}
 use Rattle.region_body.specs.Flows.{ConnectorValues, flow_at}
 use Rattle.region_body.specs.declared.rule.Rule.TheVariants.{Linking, Merging, Diverging}
 use Rattle.flow_model.specs.declared.carried.Flow.{Flow}
-use Rattle.region_body.specs.Carrying.{at_spot, brought, brought_by, carried_of, spot_at, taken, taken_by, three_held}
+use Rattle.region_body.specs.Carrying.{at_spot, brought, brought_by, carried_of, spot_at, taken, taken_by}
 use Rattle.region_body.specs.declared.tie.Tie.{Tie}
 
 -- of a link the third cell isn't asked

@@ -1,11 +1,9 @@
 -- What the cell at a spot holds.
-use Rattle.std.specs.Prelude.{None, Option, nat_lt, slice_index, slice_index_or, unwrap_or}
-use Rattle.std.proofs.Common.{◌≡◌, ℕ, ◌+◌, ◌-◌, ◌<◌, ◌≤◌, List, length, if◌then◌else◌, refl, sym, ap, ◌∙◌, inl, inr, arith}
+use Rattle.std.specs.Prelude.{None, Option, nat_lt, slice_index_or, unwrap_or}
+use Rattle.std.proofs.Common.{◌≡◌, ℕ, ◌+◌, ◌-◌, ◌<◌, ◌≤◌, List, if◌then◌else◌, sym, ap, ◌∙◌, inl, inr, arith}
 use Rattle.std.proofs.lemmas.Bool.{cases_lt}
 use Rattle.std.proofs.lemmas.Bool.Decides.{nat_tests}
-use Rattle.region_body.specs.Carrying.{held_at, held_before, held_in}
-use Rattle.region_body.specs.Places.{place_at}
-use Rattle.region_body.specs.declared.place.Place.{Place}
+use Rattle.region_body.specs.Carrying.{held_at}
 
 chosen-own : (spot count a b : ℕ) → spot < count → (if nat_lt spot count then a else b) ≡ a
 chosen-own spot count a b within = grind (arith, nat_tests)

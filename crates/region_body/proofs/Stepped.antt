@@ -1,13 +1,13 @@
 -- A step of places, one part after the other: the links between neighbours, the other connectors, the demands.
 use Rattle.std.specs.Prelude.{Option, slice_index, sum_by}
-use Rattle.std.proofs.Common.{◌≡◌, ℕ, ◌+◌, ◌-◌, ◌%◌, ◌^◌, ◌<◌, ◌≤◌, List, get_or, length, refl, sym, ap, ◌∙◌, subst, arith}
+use Rattle.std.proofs.Common.{◌≡◌, ℕ, ◌+◌, ◌-◌, ◌^◌, ◌<◌, ◌≤◌, List, get_or, length, refl, ap, ◌∙◌, arith}
 use Rattle.network_file.specs.Network.{IsNetwork, Network}
 use Rattle.region_body.specs.Places.{link_in, link_out, moved, place_at, swept, with_entered}
 use Rattle.region_body.specs.declared.place.Place.{Place}
 use Rattle.region_body.specs.declared.followed.FollowedLink.{FollowedLink}
 use Rattle.region_body.specs.Carrying.{AreTiesFollowed, CanCarry, CanPass, brought, held_before, passed, taken}
 use Rattle.region_body.specs.Gates.{demand_into}
-use Rattle.region_body.specs.Moves.{ArePartsOf, IsScene, IsSeen}
+use Rattle.region_body.specs.Moves.{IsScene, IsSeen}
 use Rattle.region_body.specs.Placed.{ArePlaced, ArePlacesInBounds, PlacedCells}
 use Rattle.region_body.specs.declared.tie.Tie.{Tie}
 use Rattle.region_body.proofs.Parting.{can_carry, parts-are}

@@ -15,12 +15,7 @@ use region_cut::{place, three_cells};
 use std::alloc::Global;
 
 /// The tie of connector `k`, at step 0.
-pub(crate) fn tied(
-    alloc: Global,
-    net: &Net,
-    k: u32,
-    region: &Cells,
-) -> Result<Tie, NoMemory>
+pub(crate) fn tied(alloc: Global, net: &Net, k: u32, region: &Cells) -> Result<Tie, NoMemory>
     requires there { k < length net.now.connectors }
     requires known { AreKnown region.now.order.now.placed region.now.halo.now (connector_at net.now.connectors k) }
     requires increasing { IsStrictlyIncreasing region.now.cells.now }
@@ -51,11 +46,7 @@ fn spots_of(net: &Net, k: u32, region: &Cells) -> [usize; 3]
     ensures { AreSpotsOf region.now.order.now.placed region.now.halo.now (connector_at net.now.connectors k) result }
 {
     let [a, b, c] = three_cells(net.connectors[k as usize]);
-    [
-        spot_of(a, region),
-        spot_of(b, region),
-        spot_of(c, region),
-    ]
+    [spot_of(a, region), spot_of(b, region), spot_of(c, region)]
 }
 
 // The spot of a cell, among the region's own or in its halo.

@@ -1,22 +1,20 @@
 -- Cells in an order of their own: the same cells, each at its place.
-use Rattle.std.specs.Prelude.{All, Option, None, map, slice_index, slice_index_or, unwrap_or}
+use Rattle.std.specs.Prelude.{All, Option, map, slice_index}
 use Rattle.std.specs.List.{Contains}
 use Rattle.std.proofs.Common.{◌≡◌, ℕ, ◌<◌, ◌+◌, inl, inr, List, length, get_or, refl, sym, ap, subst, ◌∙◌, arith}
 use Rattle.std.proofs.lemmas.List.{ext_get_or, get_or-map, get_or_default, length-map}
-use Rattle.std.proofs.lemmas.List.Elements.{Contains-get_or}
-use Rattle.network_file.specs.Connectors.{connector_at}
 use Rattle.network_file.specs.Network.{Network}
 use Rattle.flow_model.specs.Bounds.{IsRowInBounds}
 use Rattle.flow_model.specs.Rows.{empty_row, next_row}
-use Rattle.flow_model.specs.State.{occupancy, row_at, rows_after}
+use Rattle.flow_model.specs.State.{row_at, rows_after}
 use Rattle.flow_model.specs.declared.row.Row.{Row}
 use Rattle.chain_order.specs.Order.{IsOrder, OrderLists}
 use Rattle.region_body.specs.Chains.{AreDistinct}
-use Rattle.region_body.specs.Joining.{AreKnown, IsKnown}
+use Rattle.region_body.specs.Joining.{IsKnown}
 use Rattle.region_body.specs.Places.{place_at}
 use Rattle.region_body.specs.Placed.{AreCells, ArePlaced, CanAdvance, PlacedCells}
 use Rattle.region_body.specs.Rows.{rows_of}
-use Rattle.region_body.proofs.Whole.{length-rows_after, length-rows_of, row_at-rows_after, row_at-rows_of}
+use Rattle.region_body.proofs.Whole.{length-rows_after, row_at-rows_after, row_at-rows_of}
 use Rattle.region_step.specs.Ordered.{AreOrdered, CanStep, OrderedCells, before_in, rows_in}
 
 -- the cell at a place is one of them, and each of them has a place

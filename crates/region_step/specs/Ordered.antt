@@ -14,6 +14,11 @@ pub record OrderedCells : Type 0 where
   -- and their order
   pub order : OrderLists
 
+-- each cell's place has its row and what was held there a step before
+abbrev pub HavePlaces : OrderedCells → Type 0
+HavePlaces cells = (m : ℕ) → m < length cells.order.places →
+    (slice_index cells.order.places m < length cells.placed.origins) × (slice_index cells.order.places m < length cells.placed.before)
+
 -- a row for each cell, in the order of the cells
 abbrev pub rows_in : OrderedCells → List Row
 rows_in cells = map (row_at (rows_of cells.placed.origins cells.placed.places)) cells.order.places

@@ -17,14 +17,13 @@ pub(crate) struct OrderedRows {
 }
 
 impl Model for OrderedRows {
-    ghost use Rattle.std.specs.Prelude.{ℕ, ◌<◌, length, slice_index};
-    ghost use Rattle.region_step.specs.Ordered.{OrderedCells};
+    ghost use Rattle.region_step.specs.Ordered.{HavePlaces, OrderedCells};
 
     ghost Value = { OrderedCells };
 
     ghost view = { λ cells. record { placed = cells.rows; order = cells.order } };
 
-    ghost invariant = { λ cells. (m : ℕ) → m < length cells.order.places → slice_index cells.order.places m < length cells.rows.origins };
+    ghost invariant = { λ cells. HavePlaces (record { placed = cells.rows; order = cells.order }) };
 }
 
 impl OrderedRows {
@@ -87,6 +86,7 @@ impl OrderedRows {
         requires { i < length self.now.order.places }
         ensures place { result ≡ slice_index self.now.order.places i }
         ensures there { result < length self.now.placed.origins }
+        ensures held { result < length self.now.placed.before }
     {
         self.order.places()[i as usize]
     }

@@ -1,9 +1,6 @@
-use Rattle.std.proofs.Common.{◌≡◌, ◌<◌, ◌≤◌, ◌+◌, ℕ, [], ◌∷◌, length, sym, ap, ◌∙◌, arith}
-use Rattle.region_body.specs.Flows.{flow_at}
-use Rattle.flow_model.specs.declared.carried.Flow.{Flow}
+use Rattle.std.proofs.Common.{◌≡◌, ◌+◌, ℕ, ap, ◌∙◌, arith}
 use Rattle.region_body.specs.Places.{place_at, with_entered, with_left}
-use Rattle.region_body.specs.declared.place.Place.{Place}
-use Rattle.region_body.specs.Carrying.{CanPass, at_spot, brought, carried_of, held_before, passed, spot_at, taken}
+use Rattle.region_body.specs.Carrying.{at_spot, brought, held_before, spot_at, taken}
 use Rattle.region_body.proofs.MovedPlaces.{can-bring, can-take, entered-twice}
 use Rattle.region_body.proofs.Ruled.{diverge-moves}
 use Rattle.region_body.proofs.carry.diverge.Goals.{After-flow-flow}

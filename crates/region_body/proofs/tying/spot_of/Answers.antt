@@ -1,6 +1,5 @@
 use Rattle.std.specs.Prelude.{slice_index}
-use Rattle.std.specs.List.{Contains}
-use Rattle.std.proofs.Common.{◌≡◌, ◌+◌, ◌<◌, ℕ, length, inr, ap, arith}
+use Rattle.std.proofs.Common.{◌≡◌, ◌+◌, ◌<◌, length, inr, ap}
 use Rattle.region_cut.proofs.Membership.{place-in}
 use Rattle.region_body.proofs.Known.{elsewhere, listed}
 use Rattle.region_body.proofs.tying.spot_of.Goals as goal

@@ -1,12 +1,10 @@
-use Rattle.std.specs.Prelude.{All, map, slice_index}
-use Rattle.std.proofs.Common.{◌≡◌, ℕ, ◌<◌, List, length, get_or, arith, ap, subst, sym, ◌∙◌}
+use Rattle.std.specs.Prelude.{map, slice_index}
+use Rattle.std.proofs.Common.{◌≡◌, ◌<◌, length, get_or, arith, ap, subst, ◌∙◌}
 use Rattle.std.proofs.lemmas.List.{get_or_default}
 use Rattle.network_file.specs.Network.{IsNetwork}
 use Rattle.flow_model.specs.Bounds.{IsRowInBounds}
 use Rattle.flow_model.specs.Rows.{empty_row}
 use Rattle.flow_model.specs.State.{row_at}
-use Rattle.flow_model.specs.declared.row.Row.{Row}
-use Rattle.chain_order.specs.Order.{IsOrder}
 use Rattle.region_cut.specs.Chart.{list_at}
 use Rattle.region_step.proofs.Ground.{cells-within, ground}
 use Rattle.region_step.proofs.Ordered.{All-placed, cells-placed, in_order}

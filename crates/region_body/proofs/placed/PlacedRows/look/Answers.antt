@@ -1,5 +1,5 @@
 use Rattle.std.specs.Prelude.{map, nat_lt}
-use Rattle.std.proofs.Common.{◌≡◌, ◌<◌, ℕ, true, length, ap, subst, sym, ◌∙◌, arith}
+use Rattle.std.proofs.Common.{◌≡◌, ℕ, true, length, ap, subst, sym, ◌∙◌, arith}
 use Rattle.std.proofs.lemmas.Bool.Decides.{nat_tests}
 use Rattle.std.proofs.lemmas.List.{with_items_is}
 use Rattle.region_body.specs.Pausing.{AreIdle}

@@ -1,4 +1,4 @@
-use Rattle.std.proofs.Common.{◌≡◌, ap, arith}
+use Rattle.std.proofs.Common.{arith}
 use Rattle.region_step.proofs.Ordered.{before-read, can-read, ordered-read, rows-read}
 use Rattle.region_step.proofs.ordered_rows.OrderedRows.step.Goals as goal
 
@@ -22,4 +22,4 @@ pub invariant_of-self : goal.invariant_of-self
 invariant_of-self c = λ m within.
     let done = returns-clause-ordered c c.requires.can in
     let there = done.order.there m (omega (arith, done.order.place_each, within)) in
-    omega (arith, there, done.order.long, done.placed.origin_each)
+    (omega (arith, there, done.order.long, done.placed.origin_each), omega (arith, there, done.order.long, done.placed.before_each))

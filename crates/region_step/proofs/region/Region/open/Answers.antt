@@ -20,6 +20,11 @@ border_places-requires-clause-inside c =
     let here = ground c.args.net.now c.args.chart.now.cut c.args.chart.now c.args.r (subst IsNetwork c.net.view_is c.net.invariant) c.requires.chart c.requires.there in
     rw (c.cells.ensures.list, c.border.ensures.list) here.inside
 
+pub border_places-requires-clause-increasing : goal.border_places-requires-clause-increasing
+border_places-requires-clause-increasing c =
+    let here = ground c.args.net.now c.args.chart.now.cut c.args.chart.now c.args.r (subst IsNetwork c.net.view_is c.net.invariant) c.requires.chart c.requires.there in
+    rw c.cells.ensures.list here.apart.rising
+
 pub border_places-requires-clause-few : goal.border_places-requires-clause-few
 border_places-requires-clause-few c =
     let here = ground c.args.net.now c.args.chart.now.cut c.args.chart.now c.args.r (subst IsNetwork c.net.view_is c.net.invariant) c.requires.chart c.requires.there in
