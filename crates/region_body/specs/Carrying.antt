@@ -1,5 +1,5 @@
 -- What the connectors that aren't chained carry in a step.
-use Rattle.std.specs.Prelude.{◌≡◌, ◌==◌, ℕ, ◌+◌, ◌-◌, ◌^◌, ◌<◌, ◌≤◌, ◌⊎◌, List, [], ◌∷◌, Option, None, length, nat_lt, slice_index, slice_index_or, unwrap_or, if◌then◌else◌}
+use Rattle.std.specs.Prelude.{◌≡◌, ◌==◌, ℕ, ◌+◌, ◌-◌, ◌^◌, ◌<◌, ◌≤◌, ◌⊎◌, List, [], ◌∷◌, Option, None, length, nat_lt, slice_index, slice_index_or, sum_by, unwrap_or, if◌then◌else◌}
 use Rattle.network_file.specs.Connectors.{connector_at}
 use Rattle.network_file.specs.Network.{Network}
 use Rattle.network_file.specs.declared.connector.Connector.{Connector}
@@ -111,3 +111,23 @@ pub record CanPass (place : Place) (enters leaves : ℕ) : Type 0 where
   pub held : leaves ≤ place.n
   pub gone : place.gone + leaves < 2 ^ 64
   pub fits : place.n + enters < 2 ^ 64
+
+-- so can each place what this tie takes from it and brings to it in step t, by what the cells held before
+abbrev pub CanTiePass : (t : ℕ) → (before : List ℕ) → (put : List (Option ℕ)) → Tie → List Place → Type 0
+CanTiePass t before put tie places =
+    (p : ℕ) → p < length places → CanPass (place_at places p) (brought t (held_before before put) p tie) (taken t (held_before before put) p tie)
+
+-- and it has
+abbrev pub HasTiePassed : (t : ℕ) → (before : List ℕ) → (put : List (Option ℕ)) → Tie → (old new : List Place) → Type 0
+HasTiePassed t before put tie old new =
+    (p : ℕ) → p < length old → place_at new p ≡ passed (place_at old p) (brought t (held_before before put) p tie) (taken t (held_before before put) p tie)
+
+-- the same of what all these ties take and bring
+abbrev pub CanTiesPass : (t : ℕ) → (before : List ℕ) → (put : List (Option ℕ)) → List Tie → List Place → Type 0
+CanTiesPass t before put ties places =
+    (p : ℕ) → p < length places → CanPass (place_at places p) (sum_by (brought t (held_before before put) p) ties) (sum_by (taken t (held_before before put) p) ties)
+
+abbrev pub HaveTiesPassed : (t : ℕ) → (before : List ℕ) → (put : List (Option ℕ)) → List Tie → (old new : List Place) → Type 0
+HaveTiesPassed t before put ties old new =
+    (p : ℕ) → p < length old →
+    place_at new p ≡ passed (place_at old p) (sum_by (brought t (held_before before put) p) ties) (sum_by (taken t (held_before before put) p) ties)

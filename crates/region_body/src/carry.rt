@@ -1,7 +1,6 @@
-ghost use Rattle.std.specs.Prelude.{◌≡◌, ◌<◌, ◌≤◌, ℕ, All, length, sum_by};
+ghost use Rattle.std.specs.Prelude.{◌≡◌, ◌≤◌, All, length};
 ghost use Rattle.region_body.specs.declared.rule.Rule.TheVariants.{Diverging, Linking, Merging};
-ghost use Rattle.region_body.specs.Places.{place_at};
-ghost use Rattle.region_body.specs.Carrying.{CanCarry, CanPass, brought, held_before, passed, taken};
+ghost use Rattle.region_body.specs.Carrying.{CanCarry, CanTiePass, CanTiesPass, HasTiePassed, HaveTiesPassed};
 
 use crate::held::Held;
 use crate::passing::{bring, take};
@@ -14,12 +13,8 @@ use crate::tie::Tie;
 pub(crate) fn carry_all(t: u64, ties: &[Tie], held: &Held, places: &mut [Place])
     requires each { All (λ tie. CanCarry t tie places.old held.now.put.now) ties.now }
     requires one_each { length held.now.own.now ≡ length places.old }
-    requires can { (p : ℕ) → p < length places.old → CanPass (place_at places.old p)
-        (sum_by (brought t (held_before held.now.own.now held.now.put.now) p) ties.now)
-        (sum_by (taken t (held_before held.now.own.now held.now.put.now) p) ties.now) }
-    ensures { (p : ℕ) → p < length places.old → place_at places.new p ≡ passed (place_at places.old p)
-        (sum_by (brought t (held_before held.now.own.now held.now.put.now) p) ties.now)
-        (sum_by (taken t (held_before held.now.own.now held.now.put.now) p) ties.now) }
+    requires can { CanTiesPass t held.now.own.now held.now.put.now ties.now places.old }
+    ensures { HaveTiesPassed t held.now.own.now held.now.put.now ties.now places.old places.new }
 {
     let held = *held;
     for tie in ties {
@@ -32,12 +27,8 @@ pub(crate) fn carry_all(t: u64, ties: &[Tie], held: &Held, places: &mut [Place])
 fn carry(t: u64, tie: &Tie, held: &Held, places: &mut [Place])
     requires tie { CanCarry t tie.now places.old held.now.put.now }
     requires one_each { length held.now.own.now ≡ length places.old }
-    requires can { (p : ℕ) → p < length places.old → CanPass (place_at places.old p)
-        (brought t (held_before held.now.own.now held.now.put.now) p tie.now)
-        (taken t (held_before held.now.own.now held.now.put.now) p tie.now) }
-    ensures { (p : ℕ) → p < length places.old → place_at places.new p ≡ passed (place_at places.old p)
-        (brought t (held_before held.now.own.now held.now.put.now) p tie.now)
-        (taken t (held_before held.now.own.now held.now.put.now) p tie.now) }
+    requires can { CanTiePass t held.now.own.now held.now.put.now tie.now places.old }
+    ensures { HasTiePassed t held.now.own.now held.now.put.now tie.now places.old places.new }
 {
     match tie.course.rule() {
         Rule::Linking => link(t, tie, held, places),
@@ -52,12 +43,8 @@ fn link(t: u64, tie: &Tie, held: &Held, places: &mut [Place])
     requires rule { tie.now.course.rule ≡ Linking }
     requires tie { CanCarry t tie.now places.old held.now.put.now }
     requires one_each { length held.now.own.now ≡ length places.old }
-    requires can { (p : ℕ) → p < length places.old → CanPass (place_at places.old p)
-        (brought t (held_before held.now.own.now held.now.put.now) p tie.now)
-        (taken t (held_before held.now.own.now held.now.put.now) p tie.now) }
-    ensures { (p : ℕ) → p < length places.old → place_at places.new p ≡ passed (place_at places.old p)
-        (brought t (held_before held.now.own.now held.now.put.now) p tie.now)
-        (taken t (held_before held.now.own.now held.now.put.now) p tie.now) }
+    requires can { CanTiePass t held.now.own.now held.now.put.now tie.now places.old }
+    ensures { HasTiePassed t held.now.own.now held.now.put.now tie.now places.old places.new }
 {
     let [a, b, _] = tie.cells;
     let flow = tie.course.flow([held.at(a), held.at(b), 0]);
@@ -71,12 +58,8 @@ fn merge(t: u64, tie: &Tie, held: &Held, places: &mut [Place])
     requires rule { tie.now.course.rule ≡ Merging }
     requires tie { CanCarry t tie.now places.old held.now.put.now }
     requires one_each { length held.now.own.now ≡ length places.old }
-    requires can { (p : ℕ) → p < length places.old → CanPass (place_at places.old p)
-        (brought t (held_before held.now.own.now held.now.put.now) p tie.now)
-        (taken t (held_before held.now.own.now held.now.put.now) p tie.now) }
-    ensures { (p : ℕ) → p < length places.old → place_at places.new p ≡ passed (place_at places.old p)
-        (brought t (held_before held.now.own.now held.now.put.now) p tie.now)
-        (taken t (held_before held.now.own.now held.now.put.now) p tie.now) }
+    requires can { CanTiePass t held.now.own.now held.now.put.now tie.now places.old }
+    ensures { HasTiePassed t held.now.own.now held.now.put.now tie.now places.old places.new }
 {
     let [a, b, c] = tie.cells;
     let flow = tie.course.flow([held.at(a), held.at(b), held.at(c)]);
@@ -91,12 +74,8 @@ fn diverge(t: u64, tie: &Tie, held: &Held, places: &mut [Place])
     requires rule { tie.now.course.rule ≡ Diverging }
     requires tie { CanCarry t tie.now places.old held.now.put.now }
     requires one_each { length held.now.own.now ≡ length places.old }
-    requires can { (p : ℕ) → p < length places.old → CanPass (place_at places.old p)
-        (brought t (held_before held.now.own.now held.now.put.now) p tie.now)
-        (taken t (held_before held.now.own.now held.now.put.now) p tie.now) }
-    ensures { (p : ℕ) → p < length places.old → place_at places.new p ≡ passed (place_at places.old p)
-        (brought t (held_before held.now.own.now held.now.put.now) p tie.now)
-        (taken t (held_before held.now.own.now held.now.put.now) p tie.now) }
+    requires can { CanTiePass t held.now.own.now held.now.put.now tie.now places.old }
+    ensures { HasTiePassed t held.now.own.now held.now.put.now tie.now places.old places.new }
 {
     let [a, b, c] = tie.cells;
     let flow = tie.course.flow([held.at(a), held.at(b), held.at(c)]);
