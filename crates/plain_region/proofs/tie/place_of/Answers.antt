@@ -1,10 +1,17 @@
-use Rattle.std.specs.Prelude.{Ok, Err}
+use Rattle.std.specs.Prelude.{Ok, Err, ◌==◌}
+use Rattle.std.specs.List.{Contains, list_any}
+use Rattle.std.proofs.Common.{◌≡◌, ℕ, inl, inr, true, List}
 use Rattle.std.proofs.lemmas.List.Sorted.{searched}
 use Rattle.region_cut.proofs.HaloPlaces.{not_past}
 use Rattle.region_cut.proofs.Increasing.{rising}
 use Rattle.region_cut.proofs.Membership.{place-in}
-use Rattle.region_body.proofs.Known.{listed, other_known}
+use Rattle.region_body.specs.Joining.{IsKnown}
+use Rattle.region_body.proofs.Known.{listed}
 use Rattle.plain_region.proofs.tie.place_of.Goals as goal
+
+-- one that is none of its own is one of its halo
+other_known : (cells halo : List ℕ) (i : ℕ) → IsKnown cells halo i → (list_any (λ j. j == i) cells ≡ true → ⊥) → Contains halo i
+other_known cells halo i known none = elim known [ inl own ↦ absurd (none (listed cells i own)) | inr other ↦ other ]
 
 pub returns-in-Ok : goal.returns-in-Ok
 returns-in-Ok c = searched c.args.cells.now c.args.cell (Ok c.in-Ok.own) c.in-Ok.ensures.position (rising c.args.cells.now c.requires.increasing)
