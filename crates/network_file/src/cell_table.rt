@@ -126,8 +126,8 @@ impl CellTable {
         total
     }
 
-    /// With one more cell, whose name no cell has yet.
-    pub(crate) fn with(self, cell: Cell) -> Result<CellTable, NoMemory>
+    /// With one more cell of the file, whose name no cell has yet.
+    pub(crate) fn with(self, cell: Cell, bytes: &[u8]) -> Result<CellTable, NoMemory>
         requires room { length self < MOST_RECORDS }
         requires fresh { cell_named self cell.name ≡ None }
         ensures { IfOk result (λ more. more ≡ self ++ cell ∷ []) }
@@ -136,6 +136,7 @@ impl CellTable {
         let CellParts { cells, index } = &mut *parts;
         index.add(cells, &cell)?;
         cells.push(cell)?;
+        index.spread(cells, bytes)?;
         Ok(CellTable { parts, near })
     }
 

@@ -47,12 +47,13 @@ fn read_all(
         return Err(NetRefusal::at(1, Code::NoHeader));
     };
     let draft = NetDraft::of_file(alloc, bytes, format)?;
-    read_later(alloc, draft, reader, row)
+    read_later(alloc, bytes, draft, reader, row)
 }
 
 /// Takes the records behind the header into a draft without records, one after the other.
 fn read_later(
     alloc: Global,
+    bytes: &[u8],
     draft: NetDraft,
     reader: &mut Reader<&[u8]>,
     row: &mut ByteRecord,
@@ -65,7 +66,7 @@ fn read_later(
     let mut draft = draft;
     let mut place = 2;
     while next_record(reader, row)? {
-        draft = match take_record(alloc, draft, row) {
+        draft = match take_record(bytes, draft, row) {
             Ok(more) => more,
             Err(refusal) => return Err(NetRefusal::of_record(place, refusal)),
         };

@@ -22,23 +22,22 @@ use record_fields::{
     weights, whole_within,
 };
 use signal_plan::{Demand, Limit, MOST_RATIO, MOST_STEPS, Signal, Turn};
-use std::alloc::Global;
 
-/// The draft with one more record.
+/// The draft with one more record of the file.
 pub(crate) fn take_record(
-    alloc: Global,
+    bytes: &[u8],
     draft: NetDraft,
     row: &ByteRecord,
 ) -> Result<NetDraft, RecordRefusal>
     ensures { Answers result (take_record draft (fields_of row.now)) }
 {
-    let entry = read_record(alloc, &draft, row)?;
-    Ok(draft.add(entry)?)
+    let entry = read_record(&draft, row)?;
+    Ok(draft.add(entry, bytes)?)
 }
 
 /// What a record says, if the draft can take it.
 #[tactic(auto, unfolding(crate::specs::Taking::take_record))]
-fn read_record(alloc: Global, draft: &NetDraft, row: &ByteRecord) -> Result<Entry, RecordRefusal>
+fn read_record(draft: &NetDraft, row: &ByteRecord) -> Result<Entry, RecordRefusal>
     ensures answer { AnswersBy result (with_entry draft.now) (take_record draft.now (fields_of row.now)) }
     ensures fits { IfOk result (FitsEntry draft.now) }
 {
@@ -53,9 +52,9 @@ fn read_record(alloc: Global, draft: &NetDraft, row: &ByteRecord) -> Result<Entr
     }
     match kind {
         RecordKind::Steps => read_steps(draft, row),
-        RecordKind::Road => read_road(alloc, draft, row),
-        RecordKind::Gate => read_gate(alloc, draft, row),
-        RecordKind::Exit => read_exit(alloc, draft, row),
+        RecordKind::Road => read_road(draft, row),
+        RecordKind::Gate => read_gate(draft, row),
+        RecordKind::Exit => read_exit(draft, row),
         RecordKind::Link => read_link(draft, row),
         RecordKind::Merge => read_merge(draft, row),
         RecordKind::Diverge => read_diverge(draft, row),
@@ -80,12 +79,12 @@ fn read_steps(draft: &NetDraft, row: &ByteRecord) -> Result<Entry, RecordRefusal
 }
 
 #[tactic(auto, unfolding(crate::specs::Taking::take_road))]
-fn read_road(alloc: Global, draft: &NetDraft, row: &ByteRecord) -> Result<Entry, RecordRefusal>
+fn read_road(draft: &NetDraft, row: &ByteRecord) -> Result<Entry, RecordRefusal>
     requires { length draft.now.cells < most_records draft.now.format }
     ensures answer { AnswersBy result (with_entry draft.now) (take_road draft.now (fields_of row.now)) }
     ensures fits { IfOk result (FitsEntry draft.now) }
 {
-    let name = new_name(alloc, &draft.cells, field(row, 1))?;
+    let name = new_name(&draft.cells, field(row, 1))?;
     let room = amount_within(MOST_ROOM, field(row, 2))?;
     let capacity = amount_within(MOST_CAPACITY, field(row, 3))?;
     let (num, den) = ratio(MOST_RATIO, field(row, 4), field(row, 5))?;
@@ -102,12 +101,12 @@ fn read_road(alloc: Global, draft: &NetDraft, row: &ByteRecord) -> Result<Entry,
 }
 
 #[tactic(auto, unfolding(crate::specs::Taking::take_gate))]
-fn read_gate(alloc: Global, draft: &NetDraft, row: &ByteRecord) -> Result<Entry, RecordRefusal>
+fn read_gate(draft: &NetDraft, row: &ByteRecord) -> Result<Entry, RecordRefusal>
     requires { length draft.now.cells < most_records draft.now.format }
     ensures answer { AnswersBy result (with_entry draft.now) (take_gate draft.now (fields_of row.now)) }
     ensures fits { IfOk result (FitsEntry draft.now) }
 {
-    let name = new_name(alloc, &draft.cells, field(row, 1))?;
+    let name = new_name(&draft.cells, field(row, 1))?;
     let capacity = amount_within(MOST_CAPACITY, field(row, 2))?;
     let first = amount_within(MOST_PARTS, field(row, 3))?;
     let cell = Cell::without_room(name, Kind::Gate, first);
@@ -115,12 +114,12 @@ fn read_gate(alloc: Global, draft: &NetDraft, row: &ByteRecord) -> Result<Entry,
 }
 
 #[tactic(auto, unfolding(crate::specs::Taking::take_exit))]
-fn read_exit(alloc: Global, draft: &NetDraft, row: &ByteRecord) -> Result<Entry, RecordRefusal>
+fn read_exit(draft: &NetDraft, row: &ByteRecord) -> Result<Entry, RecordRefusal>
     requires { length draft.now.cells < most_records draft.now.format }
     ensures answer { AnswersBy result (with_entry draft.now) (take_exit draft.now (fields_of row.now)) }
     ensures fits { IfOk result (FitsEntry draft.now) }
 {
-    let name = new_name(alloc, &draft.cells, field(row, 1))?;
+    let name = new_name(&draft.cells, field(row, 1))?;
     let capacity = amount_within(MOST_CAPACITY, field(row, 2))?;
     let cell = Cell::without_room(name, Kind::Exit, 0);
     Ok(Entry::Cell(cell, capacity))
