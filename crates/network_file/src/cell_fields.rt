@@ -21,7 +21,7 @@ pub(crate) fn new_name(cells: &CellTable, text: &[u8]) -> Result<Name, Code>
     if !Name::is_spelled(text) {
         return Err(Code::BadName);
     }
-    if cells.find(text).is_some() {
+    if cells.find_in_bucket(text).is_some() {
         return Err(Code::Repeated);
     }
     Ok(Name::new(text))

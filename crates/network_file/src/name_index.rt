@@ -92,6 +92,16 @@ impl NameIndex {
         if self.has_own_seed || !self.has_long_chain() {
             return Ok(());
         }
+        self.spread_by_digest(cells, bytes)
+    }
+
+    // Hardly a file comes here, so it is kept apart from what each cell takes.
+    #[cold]
+    #[inline(never)]
+    fn spread_by_digest(&mut self, cells: &[Cell], bytes: &[u8]) -> Result<(), NoMemory>
+        requires { IsIndexOf self.old cells.now }
+        ensures { OnOk result (IsIndexOf self.new cells.now) }
+    {
         let alloc = *self.ends.allocator();
         *self = NameIndex::of_cells(alloc, self.buckets.by_digest(bytes), cells)?;
         Ok(())
