@@ -1,5 +1,5 @@
 -- How the fields of a record of a text without quotes are found, a byte at a time.
-use Rattle.std.proofs.Common.{ℕ, ◌≡◌, ◌<◌, ◌≤◌, ◌+◌, ◌-◌, Bool, true, false, List, [], ◌∷◌, ◌++◌, None, Some, ◌∙◌, ap, refl, sym, length, arith, take, drop, inl, inr}
+use Rattle.std.proofs.Common.{ℕ, zero, suc, subst, ◌≡◌, ◌<◌, ◌≤◌, ◌+◌, ◌-◌, Bool, true, false, List, [], ◌∷◌, ◌++◌, None, Some, ◌∙◌, ap, refl, sym, length, arith, take, drop, inl, inr}
 use Rattle.std.specs.Prelude.{◌==◌, slice_index}
 use Rattle.std.proofs.lemmas.Bool.Decides.{nat_tests}
 use Rattle.std.proofs.lemmas.List.{at_drop_all, at_drop_more}
@@ -16,6 +16,10 @@ abbrev pub Reads : (text : List ℕ) (start : ℕ) (ends : List ℕ) (i : ℕ) �
 Reads text start ends i = next_record config st.InField [] [] (drop start text)
     ≡ next_record config st.InField (parts_from start ends text) (take (i - next_start start ends) (drop (next_start start ends) text)) (drop i text)
 
+pub reads-start : (text : List ℕ) (start : ℕ) → Reads text start [] start
+unfolding next_start parts_from
+reads-start text start = let none : start - start ≡ 0 = omega arith in rw none refl
+
 pub reads-inside : (text : List ℕ) (start : ℕ) (ends : List ℕ) (i : ℕ) → Reads text start ends i → next_start start ends ≤ i → i < length text
     → (slice_index text i ≡ 44 → ⊥) → ends_line (slice_index text i) ≡ false → Reads text start ends (i + 1)
 reads-inside text start ends i same low high comma line =
@@ -30,6 +34,19 @@ reads-inside text start ends i same low high comma line =
 -- a byte above a comma is neither a comma nor the end of a line
 pub high-inside : (c : ℕ) → 44 < c → (c ≡ 44 → ⊥) × (ends_line c ≡ false)
 high-inside c high = (λ e. omega (arith, high, e), grind (arith, nat_tests))
+
+-- the same, of bytes above a comma one after the other
+reads-run : (text : List ℕ) (start : ℕ) (ends : List ℕ) (n i j : ℕ) → j ≡ i + n → Reads text start ends i → next_start start ends ≤ i → j ≤ length text
+    → ((k : ℕ) → i ≤ k → k < j → 44 < slice_index text k) → Reads text start ends j
+reads-run text start ends zero i j more same low far high = let here : i ≡ j = omega (arith, more) in subst (λ k. Reads text start ends k) here same
+reads-run text start ends (suc n) i j more same low far high =
+    let (other, inside) = high-inside (slice_index text i) (high i (omega arith) (omega (arith, more))) in
+    reads-run text start ends n (i + 1) j (omega (arith, more)) (reads-inside text start ends i same low (omega (arith, more, far)) other inside) (omega (arith, low)) far
+    (λ k a b. high k (omega (arith, a)) b)
+
+pub reads-high : (text : List ℕ) (start : ℕ) (ends : List ℕ) (i j : ℕ) → i ≤ j → Reads text start ends i → next_start start ends ≤ i → j ≤ length text
+    → ((k : ℕ) → i ≤ k → k < j → 44 < slice_index text k) → Reads text start ends j
+reads-high text start ends i j before same low far high = reads-run text start ends (j - i) i j (omega (arith, before)) same low far high
 
 pub reads-comma : (text : List ℕ) (start : ℕ) (ends : List ℕ) (i : ℕ) → IsPlain text → Reads text start ends i → i < length text
     → slice_index text i ≡ 44 → Reads text start (ends ++ i ∷ []) (i + 1)

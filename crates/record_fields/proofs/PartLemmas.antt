@@ -10,6 +10,10 @@ unfolding parts_from next_start
 parts_from-push start [] text end = refl
 parts_from-push start (first ∷ ends) text end = ap (λ rest. take (first - start) (drop start text) ∷ rest) (parts_from-push (first + 1) ends text end)
 
+pub next_start-none : (start : ℕ) → next_start start [] ≡ start
+unfolding next_start
+next_start-none start = refl
+
 pub next_start-push : (start : ℕ) (ends : List ℕ) (end : ℕ) → next_start start (ends ++ end ∷ []) ≡ end + 1
 unfolding next_start
 next_start-push start [] end = refl

@@ -1,4 +1,6 @@
-ghost use Rattle.std.specs.Prelude.{◌≡◌, ◌-◌, ◌<◌, ◌≤◌, [], IfOk, drop, length, take};
+ghost use Rattle.std.specs.Prelude.{◌≡◌, ◌+◌, ◌-◌, ◌<◌, ◌≤◌, ℕ, [], IfOk, drop, length, nat_lt, not, slice_index, take};
+ghost use Rattle.std.specs.List.{prefix_len};
+ghost use Rattle.std.specs.Simd.Lanes.{chunk};
 ghost use Rattle.record_fields.specs.Fields.{field};
 ghost use Rattle.record_fields.specs.Parts.{IsRising, begins, parts_from};
 ghost use Rattle.record_fields.specs.PlainText.{GivesRecord, IsPlain, ends_line};
@@ -6,6 +8,7 @@ ghost use Rattle.record_fields.specs.PlainText.{GivesRecord, IsPlain, ends_line}
 use no_memory::NoMemory;
 use std::alloc::Global;
 use std::marker::Model;
+use std::simd::prelude::*;
 
 /// The fields of a record, as parts of a text without quotes.
 #[derive(Drop)]
@@ -85,20 +88,43 @@ fn cut(text: &[u8], start: usize, ends: &mut Vec<usize>) -> Result<usize, NoMemo
     ensures rising { IsRising start ends.new.items (length text.now) }
     ensures record { IfOk result (λ next. GivesRecord text.now start (parts_from start ends.new.items text.now) next) }
 {
-    for i in start..text.len() {
-        let byte = text[i];
-        // Most bytes are greater, and told apart at once.
-        if byte <= b',' {
-            if byte == b',' {
-                ends.push(i)?;
-            } else if ends_line(byte) {
-                ends.push(i)?;
-                return Ok(i + 1);
-            }
+    let mut at = past_high(text, start);
+    while at < text.len() {
+        let byte = text[at];
+        if byte == b',' {
+            ends.push(at)?;
+        } else if ends_line(byte) {
+            ends.push(at)?;
+            return Ok(at + 1);
         }
+        at = past_high(text, at + 1);
     }
     ends.push(text.len())?;
     Ok(text.len())
+}
+
+// Passes bytes greater than a comma, which end no field, up to 16 of them.
+fn past_high(text: &[u8], from: usize) -> usize
+    requires { from ≤ length text.now }
+    ensures low { from ≤ result }
+    ensures within { result ≤ length text.now }
+    ensures passed { (i : ℕ) → from ≤ i → i < result → 44 < slice_index text.now i }
+{
+    if text.len() - from < 16 {
+        return from;
+    }
+    from + high_run(text, from) as usize
+}
+
+// How many of the next 16 bytes come before the first that is at most a comma.
+fn high_run(text: &[u8], from: usize) -> u32
+    requires { from + 16 ≤ length text.now }
+    ensures { result ≡ prefix_len (λ byte. not (nat_lt byte 45)) (chunk from 16 text.now) }
+{
+    let low = u8x16::from_slice(&text[from..])
+        .simd_lt(u8x16::splat(b'-'))
+        .to_bitmask();
+    if low == 0 { 16 } else { low.trailing_zeros() }
 }
 
 // Whether a byte is a line feed or a carriage return.

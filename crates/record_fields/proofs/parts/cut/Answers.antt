@@ -1,60 +1,69 @@
-use Rattle.std.proofs.Common.{◌≡◌, ◌-◌, ◌∙◌, arith, length, refl, sym}
-use Rattle.record_fields.specs.Parts.{IsRising, next_start, parts_from}
-use Rattle.record_fields.proofs.CutLemmas.{gives-last, gives-line, high-inside, reads-comma, reads-inside}
-use Rattle.record_fields.proofs.PartLemmas.{IsRising-push, next_start-push}
+use Rattle.std.proofs.Common.{◌+◌, ◌∷◌, ◌++◌, ◌∙◌, [], arith, length, sym}
+use Rattle.record_fields.specs.Parts.{IsRising}
+use Rattle.record_fields.proofs.CutLemmas.{Reads, gives-last, gives-line, reads-comma, reads-high, reads-inside, reads-start}
+use Rattle.record_fields.proofs.PartLemmas.{IsRising-push, next_start-none, next_start-push}
 use Rattle.record_fields.proofs.parts.cut.Goals as goal
-use Rattle.record_fields.proofs.parts.cut.Goals.{then-byte-le44+then-byte-eq44+in_ok-push, then-byte-le44+else-byte-eq44+else-ends_line, else-byte-le44}
+use Rattle.record_fields.proofs.parts.cut.Goals.{then-byte-eq44+in_ok-push, else-byte-eq44+else-ends_line}
 
-pub loop-i-init : goal.loop-i-init
-unfolding IsRising next_start parts_from
-loop-i-init c =
-    let none : c.args.start - c.args.start ≡ 0 = omega arith in
-    rw (c.requires.none, none) (record { begun = omega arith; rising = tt; same = refl })
+pub loop-at-init : goal.loop-at-init
+unfolding IsRising
+loop-at-init c =
+    let text = c.args.text.now in
+    let start = c.args.start in
+    let passed = c.past_high-at.ensures in
+    rw c.requires.none (record {
+      within = passed.within;
+      begun = rw (next_start-none start) passed.low;
+      rising = tt;
+      same = reads-high text start [] start c.past_high-at.result passed.low (reads-start text start) (rw (next_start-none start) (omega arith)) passed.within passed.passed;
+    })
 
 pub returns-then-ends_line-clause-rising : goal.returns-then-ends_line-clause-rising
 returns-then-ends_line-clause-rising c =
     rw c.in_ok-push-2.ensures.items
-    (IsRising-push c.args.start c.loop-i.ends.items c.loop-i.i (length c.args.text.now) c.loop-i.invariant.rising c.loop-i.invariant.begun (omega arith))
+    (IsRising-push c.args.start c.loop-at.ends.items c.loop-at.at (length c.args.text.now) c.loop-at.invariant.rising c.loop-at.invariant.begun c.loop-at.invariant.within)
 
 pub returns-then-ends_line-clause-record : goal.returns-then-ends_line-clause-record
 returns-then-ends_line-clause-record c =
     rw c.in_ok-push-2.ensures.items
-    (gives-line c.args.text.now c.args.start c.loop-i.ends.items c.loop-i.i c.loop-i.invariant.same (omega arith) (sym c.ends_line.ensures ∙ c.if-ends_line.true))
+    (gives-line c.args.text.now c.args.start c.loop-at.ends.items c.loop-at.at c.loop-at.invariant.same c.loop-at-test.true (sym c.ends_line.ensures ∙ c.if-ends_line.true))
 
-pub loop-i-preserved : goal.loop-i-preserved
-loop-i-preserved c =
+pub loop-at-preserved : goal.loop-at-preserved
+loop-at-preserved c =
     let text = c.args.text.now in
     let start = c.args.start in
-    let ends = c.loop-i.ends.items in
-    let i = c.loop-i.i in
-    elim c.if-byte-le44.branch [
-      | then-byte-le44+then-byte-eq44+in_ok-push w ↦
+    let ends = c.loop-at.ends.items in
+    let at = c.loop-at.at in
+    let next = c.past_high-at-in-loop-at.result in
+    let invariant = c.loop-at.invariant in
+    let passed = c.past_high-at-in-loop-at.ensures in
+    elim c.if-byte-eq44.branch [
+      | then-byte-eq44+in_ok-push w ↦
+          let before : Reads text start (ends ++ at ∷ []) (at + 1) = reads-comma text start ends at c.requires.plain invariant.same c.loop-at-test.true w.if-byte-eq44.true in
           rw (w.ends-is, w.in_ok-push.ensures.items) (record {
-            begun = rw (next_start-push start ends i) (omega arith);
-            rising = IsRising-push start ends i (length text) c.loop-i.invariant.rising c.loop-i.invariant.begun (omega arith);
-            same = reads-comma text start ends i c.requires.plain c.loop-i.invariant.same (omega arith) w.if-byte-eq44.true;
+            within = passed.within;
+            begun = rw (next_start-push start ends at) passed.low;
+            rising = IsRising-push start ends at (length text) invariant.rising invariant.begun invariant.within;
+            same = reads-high text start (ends ++ at ∷ []) (at + 1) next passed.low before (rw (next_start-push start ends at) (omega arith)) passed.within passed.passed;
           })
-      | then-byte-le44+else-byte-eq44+else-ends_line w ↦
+      | else-byte-eq44+else-ends_line w ↦
+          let before : Reads text start ends (at + 1) =
+          reads-inside text start ends at invariant.same invariant.begun c.loop-at-test.true w.if-byte-eq44.false (sym w.ends_line.ensures ∙ w.if-ends_line.false) in
           rw w.ends-is (record {
-            begun = omega (arith, c.loop-i.invariant.begun);
-            rising = c.loop-i.invariant.rising;
-            same = reads-inside text start ends i c.loop-i.invariant.same c.loop-i.invariant.begun (omega arith) w.if-byte-eq44.false (sym w.ends_line.ensures ∙ w.if-ends_line.false);
-          })
-      | else-byte-le44 w ↦
-          rw w.ends-is (record {
-            begun = omega (arith, c.loop-i.invariant.begun);
-            rising = c.loop-i.invariant.rising;
-            same =
-                let (other, inside) = high-inside _ w.if-byte-le44.false in
-                reads-inside text start ends i c.loop-i.invariant.same c.loop-i.invariant.begun (omega arith) other inside;
+            within = passed.within;
+            begun = omega (arith, invariant.begun, passed.low);
+            rising = invariant.rising;
+            same = reads-high text start ends (at + 1) next passed.low before (omega (arith, invariant.begun)) passed.within passed.passed;
           })
     ]
 
 pub returns-clause-rising : goal.returns-clause-rising
 returns-clause-rising c =
+    let size = length c.args.text.now in
     rw c.in_ok-push-3.ensures.items
-    (IsRising-push c.args.start c.loop-i.ends.items (length c.args.text.now) (length c.args.text.now) c.loop-i.invariant.rising (omega (arith, c.loop-i.invariant.begun)) (omega arith))
+    (IsRising-push c.args.start c.loop-at.ends.items size size c.loop-at.invariant.rising (omega (arith, c.loop-at.invariant.begun, c.loop-at.invariant.within)) (omega arith))
 
 pub returns-clause-record : goal.returns-clause-record
 returns-clause-record c =
-    rw c.in_ok-push-3.ensures.items (gives-last c.args.text.now c.args.start c.loop-i.ends.items c.loop-i.i c.loop-i.invariant.same (omega arith))
+    rw c.in_ok-push-3.ensures.items
+    (gives-last c.args.text.now c.args.start c.loop-at.ends.items c.loop-at.at c.loop-at.invariant.same (omega (arith, c.loop-at.invariant.within, c.loop-at-test.false)))
