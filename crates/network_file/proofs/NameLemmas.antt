@@ -1,11 +1,11 @@
 -- Where a chain of an index leads, and what one more cell adds to it.
-use Rattle.std.proofs.Common.{ℕ, ◌≡◌, ◌≢◌, ◌<◌, ◌≤◌, ◌+◌, ◌-◌, ◌∙◌, Bool, true, false, List, [], ◌∷◌, ◌++◌, None, Some, ap, arith, eqb, get_or, length, map, refl, set, sym, subst}
+use Rattle.std.proofs.Common.{ℕ, ◌≡◌, ◌≢◌, ◌<◌, ◌≤◌, ◌+◌, ◌-◌, ◌∙◌, Bool, true, false, List, [], ◌∷◌, ◌++◌, None, Some, ap, arith, eqb, get_or, length, map, refl, set, sym, subst, take}
 use Rattle.std.specs.Prelude.{bytes_eq, nat_lt, slice_index}
 use borrow.Author.Tests.{ltb-true}
 use Rattle.std.specs.Cmp.Lexicographic.{bytes_decides}
 use Rattle.std.specs.List.{position_or_len}
 use Rattle.std.proofs.Math.Seq.{get_or-append_seam}
-use Rattle.std.proofs.lemmas.List.{get_or-map, length-map, map-append, get_or-set_other, get_or-set_same, get_or_append_left}
+use Rattle.std.proofs.lemmas.List.{get_or-map, get_or-take, length-map, length-take-le, map-append, take-map, get_or-set_other, get_or-set_same, get_or_append_left}
 use Rattle.std.proofs.lemmas.List.Sums.{position_or_len_is}
 use Rattle.std.proofs.lemmas.Bool.{eqb-false, eqb-true, ltb-false}
 use Rattle.std.proofs.lemmas.Bool.Decides.{nat_tests}
@@ -142,3 +142,27 @@ apart-more cells cell fresh apart i h = by (nat_lt i (length cells)) refl
     by false e =
         let last : i ≡ length cells = omega (arith, ltb-false i (length cells) e) in
         rw (last, name_at-last cells cell, ← cell_named-push cells cell fresh cell.name, (bytes_decides cell.name cell.name).1 refl) refl
+
+-- where each cell is found under its name, names of different cells differ
+names-differ : (cells : List Cell) (k i : ℕ) → k < i → cell_named cells (name_at cells k) ≡ Some k → cell_named cells (name_at cells i) ≡ Some i
+    → bytes_eq (name_at cells k) (name_at cells i) ≡ false
+names-differ cells k i before one other = by (bytes_eq (name_at cells k) (name_at cells i)) refl
+  where
+    by : (t : Bool) → bytes_eq (name_at cells k) (name_at cells i) ≡ t → t ≡ false
+    by true e =
+        let same : name_at cells k ≡ name_at cells i = (bytes_decides (name_at cells k) (name_at cells i)).0 e in
+        let found : Some k ≡ Some i = sym one ∙ ap (cell_named cells) same ∙ other in
+        grind (arith, found, before)
+    by false e = refl
+
+-- taken in turn, each cell has a name that none before it has
+pub fresh-in_turn : (cells : List Cell) (i : ℕ) → i < length cells
+    → ((k : ℕ) → k < length cells → cell_named cells (name_at cells k) ≡ Some k)
+    → cell_named (take i cells) (name_at cells i) ≡ None
+fresh-in_turn cells i within apart = cell_named-none (take i cells) (name_at cells i) other
+  where
+    other : (k : ℕ) → k < length (take i cells) → bytes_eq (name_at (take i cells) k) (name_at cells i) ≡ false
+    other k h =
+        let before : k < i = omega (arith, h, length-take-le i cells (omega arith)) in
+        rw (← take-map (λ c. c.name) i cells, get_or-take i (map (λ c. c.name) cells) k [] before)
+        (names-differ cells k i before (apart k (omega arith)) (apart i within))

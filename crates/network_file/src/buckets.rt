@@ -16,19 +16,27 @@ pub(crate) struct Buckets {
 }
 
 impl Buckets {
-    /// The buckets for the names of a file, about as many as it may have cells.
+    /// The buckets for the names of a file, about as many as it may have cells, by a seed that all files share.
     pub(crate) fn of_file(bytes: &[u8]) -> Buckets
         requires { length bytes.now ≤ MOST_BYTES }
     {
-        // Another seed for each file: who looks for names that fall into one bucket changes it by writing them.
+        let count = (bytes.len() / BYTES_PER_BUCKET).next_power_of_two();
+        Buckets {
+            seed: FoldHasher::default(),
+            last: (count - 1) as u32,
+        }
+    }
+
+    /// As many buckets, by a seed of this file's own: who looks for names that fall into one bucket changes it by
+    /// writing them.
+    pub(crate) fn by_digest(&self, bytes: &[u8]) -> Buckets {
         let mut digest = DefaultHasher::new();
         digest.write(bytes);
         let mut seed = FoldHasher::default();
         seed.write_u64(digest.finish());
-        let count = (bytes.len() / BYTES_PER_BUCKET).next_power_of_two();
         Buckets {
             seed,
-            last: (count - 1) as u32,
+            last: self.last,
         }
     }
 

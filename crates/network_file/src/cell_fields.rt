@@ -2,7 +2,6 @@ ghost use Rattle.std.specs.Prelude.{◌≡◌, ◌<◌, ◌≢◌, None, IfOk, t
 ghost use Rattle.std.specs.Option.{ForSome};
 ghost use Rattle.std.specs.List.{list_any};
 ghost use Rattle.signal_plan.specs.Green.{is_signalled};
-ghost use Rattle.record_fields.specs.Answers.{Answers};
 ghost use Rattle.record_fields.specs.Regions.{region_in};
 ghost use Rattle.network_file.specs.Cells.{cell_named, is_exit_at, is_gate_at};
 ghost use Rattle.network_file.specs.CellFields.{demand_gate, downstream, known_cell, new_name, region_cell, signal_cell, turn_cell, upstream};
@@ -10,23 +9,22 @@ ghost use Rattle.network_file.specs.Connectors.{diverges_from, leads_into, leads
 
 use crate::cell_table::CellTable;
 use crate::connector_table::ConnectorTable;
-use record_fields::{Code, Name, RecordRefusal, RegionTable};
+use record_fields::{Code, Name, RegionTable};
 use signal_plan::Plan;
-use std::alloc::Global;
 
 /// A name that no cell has yet.
 #[tactic(auto, unfolding(crate::specs::CellFields::new_name))]
-pub(crate) fn new_name(alloc: Global, cells: &CellTable, text: &[u8]) -> Result<Name, RecordRefusal>
-    ensures value { Answers result (new_name cells.now text.now) }
+pub(crate) fn new_name(cells: &CellTable, text: &[u8]) -> Result<Name, Code>
+    ensures value { result ≡ new_name cells.now text.now }
     ensures fresh { IfOk result (λ name. cell_named cells.now name ≡ None) }
 {
     if !Name::is_spelled(text) {
-        return Err(RecordRefusal::Fault(Code::BadName));
+        return Err(Code::BadName);
     }
-    if cells.find(text).is_some() {
-        return Err(RecordRefusal::Fault(Code::Repeated));
+    if cells.find_in_bucket(text).is_some() {
+        return Err(Code::Repeated);
     }
-    Ok(Name::new(alloc, text)?)
+    Ok(Name::new(text))
 }
 
 /// The cell of a name.

@@ -68,8 +68,15 @@ impl CellTable {
     {
         match self.find_near(name) {
             Some(cell) => Some(cell),
-            None => self.parts.index.find(&self.parts.cells, name),
+            None => self.find_in_bucket(name),
         }
+    }
+
+    /// The same, where the name isn't expected to be that of a cell nearby.
+    pub(crate) fn find_in_bucket(&self, name: &[u8]) -> Option<u32>
+        ensures { result ≡ cell_named self.now name.now }
+    {
+        self.parts.index.find(&self.parts.cells, name)
     }
 
     // The number of the cell of this name, where it is the near one or the one behind it.
@@ -126,8 +133,8 @@ impl CellTable {
         total
     }
 
-    /// With one more cell, whose name no cell has yet.
-    pub(crate) fn with(self, cell: Cell) -> Result<CellTable, NoMemory>
+    /// With one more cell of the file, whose name no cell has yet.
+    pub(crate) fn with(self, cell: Cell, bytes: &[u8]) -> Result<CellTable, NoMemory>
         requires room { length self < MOST_RECORDS }
         requires fresh { cell_named self cell.name ≡ None }
         ensures { IfOk result (λ more. more ≡ self ++ cell ∷ []) }
@@ -136,6 +143,7 @@ impl CellTable {
         let CellParts { cells, index } = &mut *parts;
         index.add(cells, &cell)?;
         cells.push(cell)?;
+        index.spread(cells, bytes)?;
         Ok(CellTable { parts, near })
     }
 
@@ -153,7 +161,15 @@ fn has_name(cells: &[Cell], cell: u32, name: &[u8]) -> bool
     ensures named { result ≡ true → name_at cells.now cell ≡ name.now }
 {
     match cells.get(cell as usize) {
-        Some(cell) => cell.name.bytes() == name,
+        Some(cell) => is_named(cell, name),
         None => false,
     }
+}
+
+// Whether a cell has this name. Names of neighbouring cells mostly differ in the last byte, so that is looked at first.
+fn is_named(cell: &Cell, name: &[u8]) -> bool
+    ensures { result ≡ true → cell.now.name ≡ name.now }
+{
+    let own = cell.name.bytes();
+    own.last() == name.last() && own == name
 }

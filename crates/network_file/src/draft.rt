@@ -72,14 +72,14 @@ impl NetDraft {
         }
     }
 
-    /// With what a record says.
-    pub(crate) fn add(self, entry: Entry) -> Result<NetDraft, NoMemory>
+    /// With what a record of the file says.
+    pub(crate) fn add(self, entry: Entry, bytes: &[u8]) -> Result<NetDraft, NoMemory>
         requires { FitsEntry self entry }
         ensures { IfOk result (λ more. more ≡ with_entry self entry) }
     {
         match entry {
             Entry::Steps(steps) => Ok(self.with_steps(steps)),
-            Entry::Cell(cell, capacity) => self.add_cell(cell, capacity),
+            Entry::Cell(cell, capacity) => self.add_cell(cell, capacity, bytes),
             Entry::Connector(connector) => self
                 .near(connector.last_cell())
                 .add_connector(connector),
@@ -102,13 +102,13 @@ impl NetDraft {
     }
 
     /// With one more cell, of this capacity.
-    fn add_cell(self, cell: Cell, capacity: u64) -> Result<NetDraft, NoMemory>
+    fn add_cell(self, cell: Cell, capacity: u64, bytes: &[u8]) -> Result<NetDraft, NoMemory>
         requires { FitsCell self cell capacity }
         ensures { IfOk result (λ more. more ≡ add_cell self cell capacity) }
     {
         let mut plan = self.plan;
         plan.put_cell(capacity)?;
-        let cells = self.cells.with(cell)?;
+        let cells = self.cells.with(cell, bytes)?;
         Ok(NetDraft {
             cells,
             plan,

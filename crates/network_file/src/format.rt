@@ -1,22 +1,20 @@
 ghost use Rattle.std.specs.Prelude.{◌≡◌, ◌⊎◌, ◌≤◌, IfSome};
-ghost use Rattle.csv.specs.Records.{fields_of};
 ghost use Rattle.network_file.specs.Formats.{format_of, most_records};
 
 use crate::limits::MOST_RECORDS_OF_FORMAT_1;
-use csv::ByteRecord;
-use record_fields::field;
+use record_fields::Row;
 use signal_plan::MOST_RECORDS;
 
 /// The format that a header names.
 #[tactic(auto, unfolding(crate::specs::Formats::format_of))]
-pub(crate) fn format_of(header: &ByteRecord) -> Option<u32>
-    ensures value { result ≡ format_of (fields_of header.now) }
+pub(crate) fn format_of(header: &Row) -> Option<u32>
+    ensures value { result ≡ format_of header.now }
     ensures known { IfSome result (λ format. (format ≡ 1) ⊎ (format ≡ 2)) }
 {
-    if header.len() != 2 || field(header, 0) != b"ctm".as_slice() {
+    if header.len() != 2 || header.field(0) != b"ctm".as_slice() {
         return None;
     }
-    match field(header, 1) {
+    match header.field(1) {
         b"1" => Some(1),
         b"2" => Some(2),
         _ => None,

@@ -1,6 +1,7 @@
-ghost use Rattle.std.specs.Prelude.{◌≡◌, ◌≤◌, Ok, Some, IfErr, IfOk, length};
+ghost use Rattle.std.specs.Prelude.{◌≡◌, ◌≤◌, Ok, IfErr, IfOk, length};
 ghost use Rattle.record_fields.specs.Answers.{Answers, IsFaultOf};
-ghost use Rattle.record_fields.specs.FileRecords.{IsReading, file_records_of, records_left};
+ghost use Rattle.record_fields.specs.FileRecords.{file_records_of};
+ghost use Rattle.record_fields.specs.RecordsLeft.{IsReadable, left_of};
 ghost use Rattle.network_file.specs.Reading.{cutting_of_draft, network_in_all, network_of, read_records};
 ghost use Rattle.network_file.specs.Refused.{IsRefusal};
 
@@ -11,9 +12,8 @@ use crate::format::format_of;
 use crate::limits::MOST_BYTES;
 use crate::net::Net;
 use crate::records::take_record;
-use csv::{ByteRecord, Reader};
 use fixed_flow::MOST_PARTS;
-use record_fields::{Code, RecordRefusal, next_record, open_records};
+use record_fields::{Code, RecordRefusal, Records, Row};
 use std::alloc::Global;
 
 /// Reads a file: its header, and then the later records one after the other.
@@ -22,50 +22,51 @@ pub(crate) fn read_file(alloc: Global, bytes: &[u8]) -> Result<Net, NetRefusal>
     ensures network { IfOk result (λ net. network_of bytes.now ≡ Ok net) }
     ensures refusal { IfErr result (λ refusal. IsRefusal refusal (network_of bytes.now)) }
 {
-    let mut reader = open_records(alloc, bytes);
-    let mut row = ByteRecord::new(alloc);
-    read_all(alloc, bytes, &mut reader, &mut row)
+    let mut records = Records::of_file(alloc, bytes);
+    let mut row = Row::new(alloc);
+    read_all(alloc, bytes, &mut records, &mut row)
 }
 
-/// The network of a file by a reader that has all its records left.
-fn read_all(
+/// The network of a file of which all records are left to read.
+fn read_all<'a>(
     alloc: Global,
     bytes: &[u8],
-    reader: &mut Reader<&[u8]>,
-    row: &mut ByteRecord,
+    records: &mut Records<'a>,
+    row: &mut Row<'a>,
 ) -> Result<Net, NetRefusal>
     requires few { length bytes.now ≤ MOST_BYTES }
-    requires reading { IsReading (λ s. Some s.now) reader.old }
-    requires left { records_left (λ s. Some s.now) reader.old ≡ file_records_of bytes.now }
+    requires reading { IsReadable records.old }
+    requires left { left_of records.old ≡ file_records_of bytes.now }
     ensures network { IfOk result (λ net. network_of bytes.now ≡ Ok net) }
     ensures refusal { IfErr result (λ refusal. IsRefusal refusal (network_of bytes.now)) }
 {
-    if !next_record(reader, row)? {
+    if !records.next(row)? {
         return Err(NetRefusal::at(1, Code::NoHeader));
     }
     let Some(format) = format_of(row) else {
         return Err(NetRefusal::at(1, Code::NoHeader));
     };
     let draft = NetDraft::of_file(alloc, bytes, format)?;
-    read_later(alloc, draft, reader, row)
+    read_later(alloc, bytes, draft, records, row)
 }
 
 /// Takes the records behind the header into a draft without records, one after the other.
-fn read_later(
+fn read_later<'a>(
     alloc: Global,
+    bytes: &[u8],
     draft: NetDraft,
-    reader: &mut Reader<&[u8]>,
-    row: &mut ByteRecord,
+    records: &mut Records<'a>,
+    row: &mut Row<'a>,
 ) -> Result<Net, NetRefusal>
-    requires reading { IsReading (λ s. Some s.now) reader.old }
-    requires few { length (records_left (λ s. Some s.now) reader.old) ≤ MOST_BYTES }
-    ensures network { IfOk result (λ net. read_records 2 draft (records_left (λ s. Some s.now) reader.old) ≡ Ok net) }
-    ensures refusal { IfErr result (λ refusal. IsRefusal refusal (read_records 2 draft (records_left (λ s. Some s.now) reader.old))) }
+    requires reading { IsReadable records.old }
+    requires few { length (left_of records.old) ≤ MOST_BYTES }
+    ensures network { IfOk result (λ net. read_records 2 draft (left_of records.old) ≡ Ok net) }
+    ensures refusal { IfErr result (λ refusal. IsRefusal refusal (read_records 2 draft (left_of records.old))) }
 {
     let mut draft = draft;
     let mut place = 2;
-    while next_record(reader, row)? {
-        draft = match take_record(alloc, draft, row) {
+    while records.next(row)? {
+        draft = match take_record(bytes, draft, row) {
             Ok(more) => more,
             Err(refusal) => return Err(NetRefusal::of_record(place, refusal)),
         };

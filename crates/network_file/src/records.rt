@@ -1,5 +1,4 @@
 ghost use Rattle.std.specs.Prelude.{◌≡◌, ◌<◌, IfOk, length};
-ghost use Rattle.csv.specs.Records.{fields_of};
 ghost use Rattle.signal_plan.specs.Counts.{demand_count, limit_count, turn_count};
 ghost use Rattle.record_fields.specs.Answers.{Answers, AnswersBy};
 ghost use Rattle.network_file.specs.Fitting.{FitsEntry, with_entry};
@@ -15,34 +14,33 @@ use crate::draft::NetDraft;
 use crate::entry::Entry;
 use crate::format::most_records;
 use crate::limits::{MOST_CAPACITY, MOST_REGIONS, MOST_ROOM};
-use csv::ByteRecord;
 use fixed_flow::MOST_PARTS;
 use record_fields::{
-    Code, RecordKind, RecordRefusal, RegionRecord, amount_within, field, range_within, ratio,
+    Code, RecordKind, RecordRefusal, RegionRecord, Row, amount_within, range_within, ratio,
     weights, whole_within,
 };
 use signal_plan::{Demand, Limit, MOST_RATIO, MOST_STEPS, Signal, Turn};
-use std::alloc::Global;
 
-/// The draft with one more record.
+/// The draft with one more record of the file.
+#[inline(always)]
 pub(crate) fn take_record(
-    alloc: Global,
+    bytes: &[u8],
     draft: NetDraft,
-    row: &ByteRecord,
+    row: &Row,
 ) -> Result<NetDraft, RecordRefusal>
-    ensures { Answers result (take_record draft (fields_of row.now)) }
+    ensures { Answers result (take_record draft row.now) }
 {
-    let entry = read_record(alloc, &draft, row)?;
-    Ok(draft.add(entry)?)
+    let entry = read_record(&draft, row)?;
+    Ok(draft.add(entry, bytes)?)
 }
 
 /// What a record says, if the draft can take it.
 #[tactic(auto, unfolding(crate::specs::Taking::take_record))]
-fn read_record(alloc: Global, draft: &NetDraft, row: &ByteRecord) -> Result<Entry, RecordRefusal>
-    ensures answer { AnswersBy result (with_entry draft.now) (take_record draft.now (fields_of row.now)) }
+fn read_record(draft: &NetDraft, row: &Row) -> Result<Entry, RecordRefusal>
+    ensures answer { AnswersBy result (with_entry draft.now) (take_record draft.now row.now) }
     ensures fits { IfOk result (FitsEntry draft.now) }
 {
-    let Some(kind) = RecordKind::named(draft.format, field(row, 0)) else {
+    let Some(kind) = RecordKind::named(draft.format, row.field(0)) else {
         return Err(RecordRefusal::Fault(Code::BadKind));
     };
     if row.len() != kind.field_count() {
@@ -53,9 +51,9 @@ fn read_record(alloc: Global, draft: &NetDraft, row: &ByteRecord) -> Result<Entr
     }
     match kind {
         RecordKind::Steps => read_steps(draft, row),
-        RecordKind::Road => read_road(alloc, draft, row),
-        RecordKind::Gate => read_gate(alloc, draft, row),
-        RecordKind::Exit => read_exit(alloc, draft, row),
+        RecordKind::Road => read_road(draft, row),
+        RecordKind::Gate => read_gate(draft, row),
+        RecordKind::Exit => read_exit(draft, row),
         RecordKind::Link => read_link(draft, row),
         RecordKind::Merge => read_merge(draft, row),
         RecordKind::Diverge => read_diverge(draft, row),
@@ -68,28 +66,28 @@ fn read_record(alloc: Global, draft: &NetDraft, row: &ByteRecord) -> Result<Entr
 }
 
 #[tactic(auto, unfolding(crate::specs::Taking::take_steps))]
-fn read_steps(draft: &NetDraft, row: &ByteRecord) -> Result<Entry, RecordRefusal>
-    ensures answer { AnswersBy result (with_entry draft.now) (take_steps draft.now (fields_of row.now)) }
+fn read_steps(draft: &NetDraft, row: &Row) -> Result<Entry, RecordRefusal>
+    ensures answer { AnswersBy result (with_entry draft.now) (take_steps draft.now row.now) }
     ensures fits { IfOk result (FitsEntry draft.now) }
 {
     if draft.steps.is_some() {
         return Err(RecordRefusal::Fault(Code::Repeated));
     }
-    let steps = whole_within(1, MOST_STEPS, field(row, 1))?;
+    let steps = whole_within(1, MOST_STEPS, row.field(1))?;
     Ok(Entry::Steps(steps))
 }
 
 #[tactic(auto, unfolding(crate::specs::Taking::take_road))]
-fn read_road(alloc: Global, draft: &NetDraft, row: &ByteRecord) -> Result<Entry, RecordRefusal>
+fn read_road(draft: &NetDraft, row: &Row) -> Result<Entry, RecordRefusal>
     requires { length draft.now.cells < most_records draft.now.format }
-    ensures answer { AnswersBy result (with_entry draft.now) (take_road draft.now (fields_of row.now)) }
+    ensures answer { AnswersBy result (with_entry draft.now) (take_road draft.now row.now) }
     ensures fits { IfOk result (FitsEntry draft.now) }
 {
-    let name = new_name(alloc, &draft.cells, field(row, 1))?;
-    let room = amount_within(MOST_ROOM, field(row, 2))?;
-    let capacity = amount_within(MOST_CAPACITY, field(row, 3))?;
-    let (num, den) = ratio(MOST_RATIO, field(row, 4), field(row, 5))?;
-    let first = amount_within(room, field(row, 6))?;
+    let name = new_name(&draft.cells, row.field(1))?;
+    let room = amount_within(MOST_ROOM, row.field(2))?;
+    let capacity = amount_within(MOST_CAPACITY, row.field(3))?;
+    let (num, den) = ratio(MOST_RATIO, row.field(4), row.field(5))?;
+    let first = amount_within(room, row.field(6))?;
     let cell = Cell {
         name,
         kind: Kind::Road,
@@ -102,51 +100,51 @@ fn read_road(alloc: Global, draft: &NetDraft, row: &ByteRecord) -> Result<Entry,
 }
 
 #[tactic(auto, unfolding(crate::specs::Taking::take_gate))]
-fn read_gate(alloc: Global, draft: &NetDraft, row: &ByteRecord) -> Result<Entry, RecordRefusal>
+fn read_gate(draft: &NetDraft, row: &Row) -> Result<Entry, RecordRefusal>
     requires { length draft.now.cells < most_records draft.now.format }
-    ensures answer { AnswersBy result (with_entry draft.now) (take_gate draft.now (fields_of row.now)) }
+    ensures answer { AnswersBy result (with_entry draft.now) (take_gate draft.now row.now) }
     ensures fits { IfOk result (FitsEntry draft.now) }
 {
-    let name = new_name(alloc, &draft.cells, field(row, 1))?;
-    let capacity = amount_within(MOST_CAPACITY, field(row, 2))?;
-    let first = amount_within(MOST_PARTS, field(row, 3))?;
+    let name = new_name(&draft.cells, row.field(1))?;
+    let capacity = amount_within(MOST_CAPACITY, row.field(2))?;
+    let first = amount_within(MOST_PARTS, row.field(3))?;
     let cell = Cell::without_room(name, Kind::Gate, first);
     Ok(Entry::Cell(cell, capacity))
 }
 
 #[tactic(auto, unfolding(crate::specs::Taking::take_exit))]
-fn read_exit(alloc: Global, draft: &NetDraft, row: &ByteRecord) -> Result<Entry, RecordRefusal>
+fn read_exit(draft: &NetDraft, row: &Row) -> Result<Entry, RecordRefusal>
     requires { length draft.now.cells < most_records draft.now.format }
-    ensures answer { AnswersBy result (with_entry draft.now) (take_exit draft.now (fields_of row.now)) }
+    ensures answer { AnswersBy result (with_entry draft.now) (take_exit draft.now row.now) }
     ensures fits { IfOk result (FitsEntry draft.now) }
 {
-    let name = new_name(alloc, &draft.cells, field(row, 1))?;
-    let capacity = amount_within(MOST_CAPACITY, field(row, 2))?;
+    let name = new_name(&draft.cells, row.field(1))?;
+    let capacity = amount_within(MOST_CAPACITY, row.field(2))?;
     let cell = Cell::without_room(name, Kind::Exit, 0);
     Ok(Entry::Cell(cell, capacity))
 }
 
 #[tactic(auto, unfolding(crate::specs::Taking::take_link))]
-fn read_link(draft: &NetDraft, row: &ByteRecord) -> Result<Entry, RecordRefusal>
+fn read_link(draft: &NetDraft, row: &Row) -> Result<Entry, RecordRefusal>
     requires { length draft.now.connectors < most_records draft.now.format }
-    ensures answer { AnswersBy result (with_entry draft.now) (take_link draft.now (fields_of row.now)) }
+    ensures answer { AnswersBy result (with_entry draft.now) (take_link draft.now row.now) }
     ensures fits { IfOk result (FitsEntry draft.now) }
 {
-    let up = upstream(&draft.cells, &draft.connectors, None, field(row, 1))?;
-    let down = downstream(&draft.cells, &draft.connectors, None, field(row, 2))?;
+    let up = upstream(&draft.cells, &draft.connectors, None, row.field(1))?;
+    let down = downstream(&draft.cells, &draft.connectors, None, row.field(2))?;
     Ok(Entry::Connector(Connector::Link { up, down }))
 }
 
 #[tactic(auto, unfolding(crate::specs::Taking::take_merge))]
-fn read_merge(draft: &NetDraft, row: &ByteRecord) -> Result<Entry, RecordRefusal>
+fn read_merge(draft: &NetDraft, row: &Row) -> Result<Entry, RecordRefusal>
     requires { length draft.now.connectors < most_records draft.now.format }
-    ensures answer { AnswersBy result (with_entry draft.now) (take_merge draft.now (fields_of row.now)) }
+    ensures answer { AnswersBy result (with_entry draft.now) (take_merge draft.now row.now) }
     ensures fits { IfOk result (FitsEntry draft.now) }
 {
-    let up1 = upstream(&draft.cells, &draft.connectors, None, field(row, 1))?;
-    let up2 = upstream(&draft.cells, &draft.connectors, Some(up1), field(row, 2))?;
-    let down = downstream(&draft.cells, &draft.connectors, None, field(row, 3))?;
-    let (p1, p2) = weights(MOST_RATIO, field(row, 4), field(row, 5))?;
+    let up1 = upstream(&draft.cells, &draft.connectors, None, row.field(1))?;
+    let up2 = upstream(&draft.cells, &draft.connectors, Some(up1), row.field(2))?;
+    let down = downstream(&draft.cells, &draft.connectors, None, row.field(3))?;
+    let (p1, p2) = weights(MOST_RATIO, row.field(4), row.field(5))?;
     Ok(Entry::Connector(Connector::Merge {
         up1,
         up2,
@@ -157,15 +155,15 @@ fn read_merge(draft: &NetDraft, row: &ByteRecord) -> Result<Entry, RecordRefusal
 }
 
 #[tactic(auto, unfolding(crate::specs::Taking::take_diverge))]
-fn read_diverge(draft: &NetDraft, row: &ByteRecord) -> Result<Entry, RecordRefusal>
+fn read_diverge(draft: &NetDraft, row: &Row) -> Result<Entry, RecordRefusal>
     requires { length draft.now.connectors < most_records draft.now.format }
-    ensures answer { AnswersBy result (with_entry draft.now) (take_diverge draft.now (fields_of row.now)) }
+    ensures answer { AnswersBy result (with_entry draft.now) (take_diverge draft.now row.now) }
     ensures fits { IfOk result (FitsEntry draft.now) }
 {
-    let up = upstream(&draft.cells, &draft.connectors, None, field(row, 1))?;
-    let down1 = downstream(&draft.cells, &draft.connectors, None, field(row, 2))?;
-    let down2 = downstream(&draft.cells, &draft.connectors, Some(down1), field(row, 3))?;
-    let (b1, b2) = weights(MOST_RATIO, field(row, 4), field(row, 5))?;
+    let up = upstream(&draft.cells, &draft.connectors, None, row.field(1))?;
+    let down1 = downstream(&draft.cells, &draft.connectors, None, row.field(2))?;
+    let down2 = downstream(&draft.cells, &draft.connectors, Some(down1), row.field(3))?;
+    let (b1, b2) = weights(MOST_RATIO, row.field(4), row.field(5))?;
     Ok(Entry::Connector(Connector::Diverge {
         up,
         down1,
@@ -176,14 +174,14 @@ fn read_diverge(draft: &NetDraft, row: &ByteRecord) -> Result<Entry, RecordRefus
 }
 
 #[tactic(auto, unfolding(crate::specs::Taking::take_signal))]
-fn read_signal(draft: &NetDraft, row: &ByteRecord) -> Result<Entry, RecordRefusal>
-    ensures answer { AnswersBy result (with_entry draft.now) (take_signal draft.now (fields_of row.now)) }
+fn read_signal(draft: &NetDraft, row: &Row) -> Result<Entry, RecordRefusal>
+    ensures answer { AnswersBy result (with_entry draft.now) (take_signal draft.now row.now) }
     ensures fits { IfOk result (FitsEntry draft.now) }
 {
-    let cell = signal_cell(&draft.cells, &*draft.plan, field(row, 1))?;
-    let cycle = whole_within(1, MOST_STEPS, field(row, 2))?;
-    let offset = whole_within(0, cycle - 1, field(row, 3))?;
-    let (from, to) = range_within(cycle, field(row, 4), field(row, 5))?;
+    let cell = signal_cell(&draft.cells, &*draft.plan, row.field(1))?;
+    let cycle = whole_within(1, MOST_STEPS, row.field(2))?;
+    let offset = whole_within(0, cycle - 1, row.field(3))?;
+    let (from, to) = range_within(cycle, row.field(4), row.field(5))?;
     Ok(Entry::Signal(Signal {
         cell,
         cycle,
@@ -194,14 +192,14 @@ fn read_signal(draft: &NetDraft, row: &ByteRecord) -> Result<Entry, RecordRefusa
 }
 
 #[tactic(auto, unfolding(crate::specs::Taking::take_limit))]
-fn read_limit(draft: &NetDraft, row: &ByteRecord) -> Result<Entry, RecordRefusal>
+fn read_limit(draft: &NetDraft, row: &Row) -> Result<Entry, RecordRefusal>
     requires { limit_count draft.now.plan < most_records draft.now.format }
-    ensures answer { AnswersBy result (with_entry draft.now) (take_limit draft.now (fields_of row.now)) }
+    ensures answer { AnswersBy result (with_entry draft.now) (take_limit draft.now row.now) }
     ensures fits { IfOk result (FitsEntry draft.now) }
 {
-    let cell = known_cell(&draft.cells, field(row, 1))?;
-    let (from, to) = range_within(MOST_STEPS, field(row, 2), field(row, 3))?;
-    let capacity = amount_within(MOST_CAPACITY, field(row, 4))?;
+    let cell = known_cell(&draft.cells, row.field(1))?;
+    let (from, to) = range_within(MOST_STEPS, row.field(2), row.field(3))?;
+    let capacity = amount_within(MOST_CAPACITY, row.field(4))?;
     Ok(Entry::Limit(Limit {
         cell,
         from,
@@ -211,14 +209,14 @@ fn read_limit(draft: &NetDraft, row: &ByteRecord) -> Result<Entry, RecordRefusal
 }
 
 #[tactic(auto, unfolding(crate::specs::Taking::take_demand))]
-fn read_demand(draft: &NetDraft, row: &ByteRecord) -> Result<Entry, RecordRefusal>
+fn read_demand(draft: &NetDraft, row: &Row) -> Result<Entry, RecordRefusal>
     requires { demand_count draft.now.plan < most_records draft.now.format }
-    ensures answer { AnswersBy result (with_entry draft.now) (take_demand draft.now (fields_of row.now)) }
+    ensures answer { AnswersBy result (with_entry draft.now) (take_demand draft.now row.now) }
     ensures fits { IfOk result (FitsEntry draft.now) }
 {
-    let cell = demand_gate(&draft.cells, field(row, 1))?;
-    let (from, to) = range_within(MOST_STEPS, field(row, 2), field(row, 3))?;
-    let amount = amount_within(MOST_PARTS, field(row, 4))?;
+    let cell = demand_gate(&draft.cells, row.field(1))?;
+    let (from, to) = range_within(MOST_STEPS, row.field(2), row.field(3))?;
+    let amount = amount_within(MOST_PARTS, row.field(4))?;
     Ok(Entry::Demand(Demand {
         cell,
         from,
@@ -228,15 +226,15 @@ fn read_demand(draft: &NetDraft, row: &ByteRecord) -> Result<Entry, RecordRefusa
 }
 
 #[tactic(auto, unfolding(crate::specs::Taking::take_turn))]
-fn read_turn(draft: &NetDraft, row: &ByteRecord) -> Result<Entry, RecordRefusal>
+fn read_turn(draft: &NetDraft, row: &Row) -> Result<Entry, RecordRefusal>
     requires room { turn_count draft.now.plan < most_records draft.now.format }
     requires second_format { draft.now.format ≡ 2 }
-    ensures answer { AnswersBy result (with_entry draft.now) (take_turn draft.now (fields_of row.now)) }
+    ensures answer { AnswersBy result (with_entry draft.now) (take_turn draft.now row.now) }
     ensures fits { IfOk result (FitsEntry draft.now) }
 {
-    let cell = turn_cell(&draft.cells, &draft.connectors, field(row, 1))?;
-    let (from, to) = range_within(MOST_STEPS, field(row, 2), field(row, 3))?;
-    let (b1, b2) = weights(MOST_RATIO, field(row, 4), field(row, 5))?;
+    let cell = turn_cell(&draft.cells, &draft.connectors, row.field(1))?;
+    let (from, to) = range_within(MOST_STEPS, row.field(2), row.field(3))?;
+    let (b1, b2) = weights(MOST_RATIO, row.field(4), row.field(5))?;
     Ok(Entry::Turn(Turn {
         cell,
         from,
@@ -247,12 +245,12 @@ fn read_turn(draft: &NetDraft, row: &ByteRecord) -> Result<Entry, RecordRefusal>
 }
 
 #[tactic(auto, unfolding(crate::specs::Taking::take_region))]
-fn read_region(draft: &NetDraft, row: &ByteRecord) -> Result<Entry, RecordRefusal>
+fn read_region(draft: &NetDraft, row: &Row) -> Result<Entry, RecordRefusal>
     requires { draft.now.format ≡ 2 }
-    ensures answer { AnswersBy result (with_entry draft.now) (take_region draft.now (fields_of row.now)) }
+    ensures answer { AnswersBy result (with_entry draft.now) (take_region draft.now row.now) }
     ensures fits { IfOk result (FitsEntry draft.now) }
 {
-    let cell = region_cell(&draft.cells, &draft.regions, field(row, 1))?;
-    let number = whole_within(0, MOST_REGIONS - 1, field(row, 2))?;
+    let cell = region_cell(&draft.cells, &draft.regions, row.field(1))?;
+    let number = whole_within(0, MOST_REGIONS - 1, row.field(2))?;
     Ok(Entry::Region(RegionRecord { cell, number }))
 }

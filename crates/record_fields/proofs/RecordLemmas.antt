@@ -80,7 +80,7 @@ enough (suc n) (suc m) s xs shut a b = by (next_record config s [] [] xs) refl (
         ap (λ rest. p.0 ∷ rest) (more p.1 p.2 (leaves s p.1 [] p.0 [] xs p.2 e).1 (omega arith) (omega arith))
 
 -- the records of bytes from which one was read
-records_from-next : (s s2 : State) (r : List (List ℕ)) (xs ys : List ℕ) → ends_at_end s ≡ false → next_record config s [] [] xs ≡ Some (r, s2, ys)
+pub records_from-next : (s s2 : State) (r : List (List ℕ)) (xs ys : List ℕ) → ends_at_end s ≡ false → next_record config s [] [] xs ≡ Some (r, s2, ys)
     → (records_from config (length xs + 1) s xs ≡ r ∷ records_from config (length ys + 1) s2 ys) × (ends_at_end s2 ≡ false)
 unfolding records_from
 records_from-next s s2 r xs ys shut h =
@@ -89,7 +89,7 @@ records_from-next s s2 r xs ys shut h =
     (rw (add-one, h) (ap (λ rest. r ∷ rest) (enough (length xs) (length ys + 1) s2 ys closed_after fewer (omega arith))), closed_after)
 
 -- the records of bytes in which there is none
-records_from-end : (s : State) (xs : List ℕ) → next_record config s [] [] xs ≡ None → records_from config (length xs + 1) s xs ≡ []
+pub records_from-end : (s : State) (xs : List ℕ) → next_record config s [] [] xs ≡ None → records_from config (length xs + 1) s xs ≡ []
 unfolding records_from
 records_from-end s xs h = rw (add-one, h) refl
 

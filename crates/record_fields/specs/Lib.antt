@@ -5,5 +5,8 @@ pub mod FaultCode
 pub mod Fields
 pub mod FileRecords
 pub mod Marks
+pub mod Parts
+pub mod PlainText
 pub mod RecordKinds
+pub mod RecordsLeft
 pub mod Regions

@@ -1,7 +1,8 @@
 //! The records of a network file one by one: the fields of each, its kind, what its fields say by themselves, and
 //! why one is refused (docs/FORMAT.md).
 //!
-//! `file_records` reads them (`csv`); `record_kind` has their kinds, `fields` their numbers, `name` the names of
+//! `records` gives the records of a file as `row`s: `plain_text` cuts a text without quotes into `parts`, and
+//! `file_records` reads any text (`csv`). `record_kind` has their kinds, `fields` their numbers, `name` the names of
 //! cells, `code` and `record_refusal` their faults. `marks` is a set of cell numbers, and `region_table` has the
 //! region records so far.
 #![tactic(auto)]
@@ -11,10 +12,14 @@ mod fields;
 mod file_records;
 mod marks;
 mod name;
+mod parts;
+mod plain_text;
 mod record_kind;
 mod record_refusal;
+mod records;
 mod region_record;
 mod region_table;
+mod row;
 
 pub use code::Code;
 pub use fields::{amount_within, field, range_within, ratio, weights, whole_within};
@@ -23,5 +28,7 @@ pub use marks::Marks;
 pub use name::Name;
 pub use record_kind::RecordKind;
 pub use record_refusal::RecordRefusal;
+pub use records::Records;
 pub use region_record::RegionRecord;
 pub use region_table::RegionTable;
+pub use row::Row;

@@ -19,6 +19,7 @@ impl std::marker::Model for Marks {
 }
 
 impl Marks {
+    /// The empty set. It takes no memory.
     pub fn new(alloc: Global) -> Marks
         ensures { (i : ℕ) → is_marked result i ≡ false }
     {
@@ -27,6 +28,7 @@ impl Marks {
         }
     }
 
+    /// Whether a number is in the set; it may be any, also one above the greatest.
     pub fn has(&self, i: u32) -> bool
         ensures { result ≡ is_marked self.now i }
     {
@@ -36,7 +38,7 @@ impl Marks {
         }
     }
 
-    /// Puts one more number into the set.
+    /// Puts one more number into the set, where memory for a mark of each number up to it is given.
     pub fn mark(&mut self, i: u32) -> Result<(), NoMemory>
         ensures { OnOk result ((j : ℕ) → is_marked self.new j ≡ ((j == i) || is_marked self.old j)) }
     {

@@ -1,26 +1,29 @@
-ghost use Rattle.std.specs.Prelude.{◌≡◌, true, IfOk};
+ghost use Rattle.std.specs.Prelude.{◌≡◌, true};
 ghost use Rattle.std.specs.List.{list_all};
 ghost use Rattle.record_fields.specs.CellName.{allowed_in_name, is_name};
 
-use no_memory::NoMemory;
-use std::alloc::Global;
 use std::marker::Model;
 
-/// The name of a cell: 1 to 32 bytes, each an ASCII letter, an ASCII digit, `_`, `-` or `.`.
+// The most bytes of a name.
+const LONGEST: usize = 32;
+
+/// The name of a cell: 1 to 32 bytes, each an ASCII letter, an ASCII digit, `_`, `-` or `.`. It is kept in place, so
+/// that it takes no memory of its own.
 #[derive(Drop)]
 pub struct Name {
-    bytes: Vec<u8>,
+    room: [u8; LONGEST],
+    length: u8,
 }
 
 impl Model for Name {
-    ghost use Rattle.std.specs.Prelude.{◌≡◌, true, List, ℕ};
+    ghost use Rattle.std.specs.Prelude.{◌≡◌, ◌≤◌, true, List, ℕ, take};
     ghost use Rattle.record_fields.specs.CellName.{is_name};
 
     ghost Value = { List ℕ };
 
-    ghost view = { λ a. a.bytes.items };
+    ghost view = { λ a. take a.length a.room };
 
-    ghost invariant = { λ a. is_name a.bytes.items ≡ true };
+    ghost invariant = { λ a. (a.length ≤ 32) × (is_name (take a.length a.room) ≡ true) };
 }
 
 impl Name {
@@ -29,7 +32,7 @@ impl Name {
         ensures bytes { result.now ≡ self.now }
         ensures spelled { is_name self.now ≡ true }
     {
-        self.bytes.as_slice()
+        &self.room[..self.length as usize]
     }
 
     /// Whether a text is spelled as a name.
@@ -37,16 +40,21 @@ impl Name {
     pub fn is_spelled(text: &[u8]) -> bool
         ensures { result ≡ is_name text.now }
     {
-        1 <= text.len() && text.len() <= 32 && all_allowed(text)
+        1 <= text.len() && text.len() <= LONGEST && all_allowed(text)
     }
 
-    pub fn new(alloc: Global, text: &[u8]) -> Result<Name, NoMemory>
+    /// The name that a text spells; it keeps a copy of the text.
+    #[tactic(auto, unfolding(crate::specs::CellName::is_name))]
+    pub fn new(text: &[u8]) -> Name
         requires { is_name text.now ≡ true }
-        ensures { IfOk result (λ name. name ≡ text.now) }
+        ensures { result ≡ text.now }
     {
-        let mut bytes = Vec::new(alloc);
-        bytes.extend_from_slice(text)?;
-        Ok(Name { bytes })
+        let mut room = [0; LONGEST];
+        room[..text.len()].copy_from_slice(text);
+        Name {
+            room,
+            length: text.len() as u8,
+        }
     }
 }
 

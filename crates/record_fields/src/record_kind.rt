@@ -4,17 +4,29 @@ ghost use Rattle.record_fields.specs.RecordKinds.{field_count, record_kind_of};
 /// The kinds of record, by the first field.
 #[derive(Clone, Copy)]
 pub enum RecordKind {
+    /// How many steps are taken.
     Steps,
+    /// A cell that is a stretch of road.
     Road,
+    /// A cell where demand enters.
     Gate,
+    /// A cell where vehicles leave.
     Exit,
+    /// A connector from one cell to one cell.
     Link,
+    /// A connector from two cells to one cell.
     Merge,
+    /// A connector from one cell to two cells.
     Diverge,
+    /// The signal of a cell.
     Signal,
+    /// The capacity of a cell in some steps.
     Limit,
+    /// What enters a gate in some steps.
     Demand,
+    /// The turning shares of a diverge in some steps, in format 2.
     Turn,
+    /// The region of a cell, in format 2.
     Region,
 }
 

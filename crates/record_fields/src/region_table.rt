@@ -34,6 +34,7 @@ impl Model for RegionTable {
 }
 
 impl RegionTable {
+    /// The table without records; an error says that memory was refused.
     pub fn new(alloc: Global) -> Result<RegionTable, NoMemory>
         ensures { IfOk result (λ regions. regions ≡ []) }
     {
@@ -46,6 +47,7 @@ impl RegionTable {
         })
     }
 
+    /// Whether the file has given no region so far.
     pub fn is_empty(&self) -> bool
         ensures { result ≡ (length self.now == 0) }
     {

@@ -1,5 +1,4 @@
-use Rattle.std.proofs.Common.{◌≡◌, ◌<◌, ◌∙◌, length, rules, sym}
-use Rattle.std.specs.Cmp.Lexicographic.{bytes_decides}
+use Rattle.std.proofs.Common.{◌≡◌, ◌<◌, ◌∙◌, length, rules}
 use Rattle.std.specs.Prelude.{slice_index_or}
 use Rattle.network_file.proofs.NetworkFacts.{name_at-read}
 use Rattle.network_file.proofs.cell_table.has_name.Goals as goal
@@ -10,4 +9,4 @@ returns-in-Some-clause-named c = λ same.
     let cell = c.in-Some.cell.now in
     let within : c.args.cell < length cells = search rules in
     let here : cell ≡ slice_index_or cells c.args.cell cell = search rules in
-    name_at-read cells c.args.cell cell within here ∙ sym c.bytes.ensures.bytes ∙ (bytes_decides c.bytes.result.now c.args.name.now).0 (sym c.eq.ensures ∙ same)
+    name_at-read cells c.args.cell cell within here ∙ c.is_named.ensures same

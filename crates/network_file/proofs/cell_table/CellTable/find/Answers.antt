@@ -8,5 +8,5 @@ returns-in-Some-clause-there c = rw c.in-Some.ensures at (cell_named-there c.arg
 
 pub returns-in-None-clause-there : goal.returns-in-None-clause-there
 returns-in-None-clause-there c =
-    let found : c.find.result ≡ cell_named c.args.self.now c.args.name.now = search rules in
+    let found : c.find_in_bucket.result ≡ cell_named c.args.self.now c.args.name.now = search rules in
     rw found (cell_named-there c.args.self.now c.args.name.now)
