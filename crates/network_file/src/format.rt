@@ -2,12 +2,12 @@ ghost use Rattle.std.specs.Prelude.{◌≡◌, ◌⊎◌, ◌≤◌, IfSome};
 ghost use Rattle.network_file.specs.Formats.{format_of, most_records};
 
 use crate::limits::MOST_RECORDS_OF_FORMAT_1;
-use record_fields::Row;
+use record_fields::FileRecord;
 use signal_plan::MOST_RECORDS;
 
 /// The format that a header names.
 #[tactic(auto, unfolding(crate::specs::Formats::format_of))]
-pub(crate) fn format_of(header: &Row) -> Option<u32>
+pub(crate) fn format_of(header: &FileRecord) -> Option<u32>
     ensures value { result ≡ format_of header.now }
     ensures known { IfSome result (λ format. (format ≡ 1) ⊎ (format ≡ 2)) }
 {

@@ -13,7 +13,7 @@ use crate::limits::MOST_BYTES;
 use crate::net::Net;
 use crate::records::take_record;
 use fixed_flow::MOST_PARTS;
-use record_fields::{Code, RecordRefusal, Records, Row};
+use record_fields::{Code, FileRecord, RecordRefusal, Records};
 use std::alloc::Global;
 
 /// Reads a file: its header, and then the later records one after the other.
@@ -23,7 +23,7 @@ pub(crate) fn read_file(alloc: Global, bytes: &[u8]) -> Result<Net, NetRefusal>
     ensures refusal { IfErr result (λ refusal. IsRefusal refusal (network_of bytes.now)) }
 {
     let mut records = Records::of_file(alloc, bytes);
-    let mut row = Row::new(alloc);
+    let mut row = FileRecord::new(alloc);
     read_all(alloc, bytes, &mut records, &mut row)
 }
 
@@ -32,7 +32,7 @@ fn read_all<'a>(
     alloc: Global,
     bytes: &[u8],
     records: &mut Records<'a>,
-    row: &mut Row<'a>,
+    row: &mut FileRecord<'a>,
 ) -> Result<Net, NetRefusal>
     requires few { length bytes.now ≤ MOST_BYTES }
     requires reading { IsReadable records.old }
@@ -56,7 +56,7 @@ fn read_later<'a>(
     bytes: &[u8],
     draft: NetDraft,
     records: &mut Records<'a>,
-    row: &mut Row<'a>,
+    row: &mut FileRecord<'a>,
 ) -> Result<Net, NetRefusal>
     requires reading { IsReadable records.old }
     requires few { length (left_of records.old) ≤ MOST_BYTES }

@@ -16,7 +16,7 @@ use crate::format::most_records;
 use crate::limits::{MOST_CAPACITY, MOST_REGIONS, MOST_ROOM};
 use fixed_flow::MOST_PARTS;
 use record_fields::{
-    Code, RecordKind, RecordRefusal, RegionRecord, Row, amount_within, range_within, ratio,
+    Code, FileRecord, RecordKind, RecordRefusal, RegionRecord, amount_within, range_within, ratio,
     weights, whole_within,
 };
 use signal_plan::{Demand, Limit, MOST_RATIO, MOST_STEPS, Signal, Turn};
@@ -26,7 +26,7 @@ use signal_plan::{Demand, Limit, MOST_RATIO, MOST_STEPS, Signal, Turn};
 pub(crate) fn take_record(
     bytes: &[u8],
     draft: NetDraft,
-    row: &Row,
+    row: &FileRecord,
 ) -> Result<NetDraft, RecordRefusal>
     ensures { Answers result (take_record draft row.now) }
 {
@@ -36,7 +36,7 @@ pub(crate) fn take_record(
 
 /// What a record says, if the draft can take it.
 #[tactic(auto, unfolding(crate::specs::Taking::take_record))]
-fn read_record(draft: &NetDraft, row: &Row) -> Result<Entry, RecordRefusal>
+fn read_record(draft: &NetDraft, row: &FileRecord) -> Result<Entry, RecordRefusal>
     ensures answer { AnswersBy result (with_entry draft.now) (take_record draft.now row.now) }
     ensures fits { IfOk result (FitsEntry draft.now) }
 {
@@ -66,7 +66,7 @@ fn read_record(draft: &NetDraft, row: &Row) -> Result<Entry, RecordRefusal>
 }
 
 #[tactic(auto, unfolding(crate::specs::Taking::take_steps))]
-fn read_steps(draft: &NetDraft, row: &Row) -> Result<Entry, RecordRefusal>
+fn read_steps(draft: &NetDraft, row: &FileRecord) -> Result<Entry, RecordRefusal>
     ensures answer { AnswersBy result (with_entry draft.now) (take_steps draft.now row.now) }
     ensures fits { IfOk result (FitsEntry draft.now) }
 {
@@ -78,7 +78,7 @@ fn read_steps(draft: &NetDraft, row: &Row) -> Result<Entry, RecordRefusal>
 }
 
 #[tactic(auto, unfolding(crate::specs::Taking::take_road))]
-fn read_road(draft: &NetDraft, row: &Row) -> Result<Entry, RecordRefusal>
+fn read_road(draft: &NetDraft, row: &FileRecord) -> Result<Entry, RecordRefusal>
     requires { length draft.now.cells < most_records draft.now.format }
     ensures answer { AnswersBy result (with_entry draft.now) (take_road draft.now row.now) }
     ensures fits { IfOk result (FitsEntry draft.now) }
@@ -100,7 +100,7 @@ fn read_road(draft: &NetDraft, row: &Row) -> Result<Entry, RecordRefusal>
 }
 
 #[tactic(auto, unfolding(crate::specs::Taking::take_gate))]
-fn read_gate(draft: &NetDraft, row: &Row) -> Result<Entry, RecordRefusal>
+fn read_gate(draft: &NetDraft, row: &FileRecord) -> Result<Entry, RecordRefusal>
     requires { length draft.now.cells < most_records draft.now.format }
     ensures answer { AnswersBy result (with_entry draft.now) (take_gate draft.now row.now) }
     ensures fits { IfOk result (FitsEntry draft.now) }
@@ -113,7 +113,7 @@ fn read_gate(draft: &NetDraft, row: &Row) -> Result<Entry, RecordRefusal>
 }
 
 #[tactic(auto, unfolding(crate::specs::Taking::take_exit))]
-fn read_exit(draft: &NetDraft, row: &Row) -> Result<Entry, RecordRefusal>
+fn read_exit(draft: &NetDraft, row: &FileRecord) -> Result<Entry, RecordRefusal>
     requires { length draft.now.cells < most_records draft.now.format }
     ensures answer { AnswersBy result (with_entry draft.now) (take_exit draft.now row.now) }
     ensures fits { IfOk result (FitsEntry draft.now) }
@@ -125,7 +125,7 @@ fn read_exit(draft: &NetDraft, row: &Row) -> Result<Entry, RecordRefusal>
 }
 
 #[tactic(auto, unfolding(crate::specs::Taking::take_link))]
-fn read_link(draft: &NetDraft, row: &Row) -> Result<Entry, RecordRefusal>
+fn read_link(draft: &NetDraft, row: &FileRecord) -> Result<Entry, RecordRefusal>
     requires { length draft.now.connectors < most_records draft.now.format }
     ensures answer { AnswersBy result (with_entry draft.now) (take_link draft.now row.now) }
     ensures fits { IfOk result (FitsEntry draft.now) }
@@ -136,7 +136,7 @@ fn read_link(draft: &NetDraft, row: &Row) -> Result<Entry, RecordRefusal>
 }
 
 #[tactic(auto, unfolding(crate::specs::Taking::take_merge))]
-fn read_merge(draft: &NetDraft, row: &Row) -> Result<Entry, RecordRefusal>
+fn read_merge(draft: &NetDraft, row: &FileRecord) -> Result<Entry, RecordRefusal>
     requires { length draft.now.connectors < most_records draft.now.format }
     ensures answer { AnswersBy result (with_entry draft.now) (take_merge draft.now row.now) }
     ensures fits { IfOk result (FitsEntry draft.now) }
@@ -155,7 +155,7 @@ fn read_merge(draft: &NetDraft, row: &Row) -> Result<Entry, RecordRefusal>
 }
 
 #[tactic(auto, unfolding(crate::specs::Taking::take_diverge))]
-fn read_diverge(draft: &NetDraft, row: &Row) -> Result<Entry, RecordRefusal>
+fn read_diverge(draft: &NetDraft, row: &FileRecord) -> Result<Entry, RecordRefusal>
     requires { length draft.now.connectors < most_records draft.now.format }
     ensures answer { AnswersBy result (with_entry draft.now) (take_diverge draft.now row.now) }
     ensures fits { IfOk result (FitsEntry draft.now) }
@@ -174,7 +174,7 @@ fn read_diverge(draft: &NetDraft, row: &Row) -> Result<Entry, RecordRefusal>
 }
 
 #[tactic(auto, unfolding(crate::specs::Taking::take_signal))]
-fn read_signal(draft: &NetDraft, row: &Row) -> Result<Entry, RecordRefusal>
+fn read_signal(draft: &NetDraft, row: &FileRecord) -> Result<Entry, RecordRefusal>
     ensures answer { AnswersBy result (with_entry draft.now) (take_signal draft.now row.now) }
     ensures fits { IfOk result (FitsEntry draft.now) }
 {
@@ -192,7 +192,7 @@ fn read_signal(draft: &NetDraft, row: &Row) -> Result<Entry, RecordRefusal>
 }
 
 #[tactic(auto, unfolding(crate::specs::Taking::take_limit))]
-fn read_limit(draft: &NetDraft, row: &Row) -> Result<Entry, RecordRefusal>
+fn read_limit(draft: &NetDraft, row: &FileRecord) -> Result<Entry, RecordRefusal>
     requires { limit_count draft.now.plan < most_records draft.now.format }
     ensures answer { AnswersBy result (with_entry draft.now) (take_limit draft.now row.now) }
     ensures fits { IfOk result (FitsEntry draft.now) }
@@ -209,7 +209,7 @@ fn read_limit(draft: &NetDraft, row: &Row) -> Result<Entry, RecordRefusal>
 }
 
 #[tactic(auto, unfolding(crate::specs::Taking::take_demand))]
-fn read_demand(draft: &NetDraft, row: &Row) -> Result<Entry, RecordRefusal>
+fn read_demand(draft: &NetDraft, row: &FileRecord) -> Result<Entry, RecordRefusal>
     requires { demand_count draft.now.plan < most_records draft.now.format }
     ensures answer { AnswersBy result (with_entry draft.now) (take_demand draft.now row.now) }
     ensures fits { IfOk result (FitsEntry draft.now) }
@@ -226,7 +226,7 @@ fn read_demand(draft: &NetDraft, row: &Row) -> Result<Entry, RecordRefusal>
 }
 
 #[tactic(auto, unfolding(crate::specs::Taking::take_turn))]
-fn read_turn(draft: &NetDraft, row: &Row) -> Result<Entry, RecordRefusal>
+fn read_turn(draft: &NetDraft, row: &FileRecord) -> Result<Entry, RecordRefusal>
     requires room { turn_count draft.now.plan < most_records draft.now.format }
     requires second_format { draft.now.format ≡ 2 }
     ensures answer { AnswersBy result (with_entry draft.now) (take_turn draft.now row.now) }
@@ -245,7 +245,7 @@ fn read_turn(draft: &NetDraft, row: &Row) -> Result<Entry, RecordRefusal>
 }
 
 #[tactic(auto, unfolding(crate::specs::Taking::take_region))]
-fn read_region(draft: &NetDraft, row: &Row) -> Result<Entry, RecordRefusal>
+fn read_region(draft: &NetDraft, row: &FileRecord) -> Result<Entry, RecordRefusal>
     requires { draft.now.format ≡ 2 }
     ensures answer { AnswersBy result (with_entry draft.now) (take_region draft.now row.now) }
     ensures fits { IfOk result (FitsEntry draft.now) }

@@ -9,6 +9,7 @@
 
 mod code;
 mod fields;
+mod file_record;
 mod file_records;
 mod marks;
 mod name;
@@ -19,10 +20,10 @@ mod record_refusal;
 mod records;
 mod region_record;
 mod region_table;
-mod row;
 
 pub use code::Code;
 pub use fields::{amount_within, field, range_within, ratio, weights, whole_within};
+pub use file_record::FileRecord;
 pub use file_records::{next_record, open_records};
 pub use marks::Marks;
 pub use name::Name;
@@ -31,4 +32,3 @@ pub use record_refusal::RecordRefusal;
 pub use records::Records;
 pub use region_record::RegionRecord;
 pub use region_table::RegionTable;
-pub use row::Row;

@@ -2,9 +2,9 @@ ghost use Rattle.std.specs.Prelude.{◌≡◌, ◌∷◌, [], IfOk, true, false}
 ghost use Rattle.record_fields.specs.FileRecords.{file_records_of};
 ghost use Rattle.record_fields.specs.RecordsLeft.{IsReadable, left_of};
 
+use crate::file_record::FileRecord;
 use crate::file_records::open_records;
 use crate::plain_text::PlainText;
-use crate::row::Row;
 use csv::Reader;
 use memchr::memchr;
 use no_memory::NoMemory;
@@ -32,7 +32,7 @@ impl<'a> Records<'a> {
     }
 
     /// Reads the next record, if there is one; an error says that memory was refused.
-    pub fn next(&mut self, row: &mut Row<'a>) -> Result<bool, NoMemory>
+    pub fn next(&mut self, row: &mut FileRecord<'a>) -> Result<bool, NoMemory>
         requires { IsReadable self.old }
         ensures reading { IfOk result (λ found. found ≡ true → IsReadable self.new) }
         ensures found { IfOk result (λ found. found ≡ true → left_of self.old ≡ row.new ∷ left_of self.new) }

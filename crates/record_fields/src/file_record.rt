@@ -13,13 +13,13 @@ use std::marker::Model;
 
 /// The fields of a record of a file. Where the file has no quotes they are parts of it, and else copies.
 #[derive(Drop)]
-pub struct Row<'a> {
+pub struct FileRecord<'a> {
     parts: Parts<'a>,
     copied: ByteRecord,
     is_copied: bool,
 }
 
-impl<'a> Model for Row<'a> {
+impl<'a> Model for FileRecord<'a> {
     ghost use Rattle.std.specs.Prelude.{List, ℕ, if◌then◌else◌};
     ghost use Rattle.csv.specs.Records.{fields_of};
 
@@ -28,12 +28,12 @@ impl<'a> Model for Row<'a> {
     ghost view = { λ a. if a.is_copied then fields_of a.copied else a.parts };
 }
 
-impl<'a> Row<'a> {
+impl<'a> FileRecord<'a> {
     /// A record without fields, to be read into. It takes no memory.
-    pub fn new(alloc: Global) -> Row<'a>
+    pub fn new(alloc: Global) -> FileRecord<'a>
         ensures { result ≡ [] }
     {
-        Row {
+        FileRecord {
             parts: Parts::new(alloc),
             copied: ByteRecord::new(alloc),
             is_copied: false,
