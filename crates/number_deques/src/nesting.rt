@@ -1,10 +1,13 @@
-ghost use Rattle.std.specs.Prelude.{◌≡◌, ◌+◌, ◌<◌, ◌≤◌, ℕ, All, IfOk, length, vec_len};
+ghost use Rattle.std.specs.Prelude.{◌≡◌, ◌+◌, ◌*◌, ◌/◌, ◌<◌, ◌≤◌, ℕ, All, IfOk, length, max, vec_len};
 
 use crate::deque::Deque;
 use crate::nest::Nest;
 use crate::thief::Thief;
 use no_memory::NoMemory;
 use std::alloc::Global;
+
+/// Into so many stretches the regions are cut for each member, as far as there are regions.
+const STRETCHES: u32 = 4;
 
 /// An empty nest for each of so many members, which hand the numbers of so many regions to each other.
 pub fn nests(alloc: Global, members: u32, regions: u32) -> Result<Vec<Nest>, NoMemory>
@@ -32,15 +35,25 @@ fn joined(
     requires one_each { vec_len others ≡ vec_len owns }
     requires knows { (regions : ℕ) × All (λ own. own ≡ regions) owns.items × All (λ thieves. All (λ thief. thief ≡ regions) thieves.items) others.items }
     requires many { All (λ thieves. vec_len thieves + 1 ≡ vec_len owns) others.items }
+    requires members { (1 ≤ vec_len owns) × (vec_len owns ≤ 16) }
     ensures one_each { IfOk result (λ nests. vec_len nests ≡ vec_len owns) }
     ensures made { (regions : ℕ) → All (λ own. own ≡ regions) owns.items → IfOk result (λ nests. All (λ nest. nest ≡ record { members = vec_len owns; regions = regions }) nests.items) }
 {
+    let stretch = stretch_of(owns.len() as u32, regions);
     let mut nests = Vec::with_capacity(alloc, owns.len())?;
     while let (Some(own), Some(thieves)) = (owns.pop(), others.pop()) {
         let refused = Vec::with_capacity(alloc, regions as usize)?;
-        nests.push(Nest::new(own, thieves, refused))?;
+        nests.push(Nest::new(own, thieves, refused, stretch))?;
     }
     Ok(nests)
+}
+
+// For how many regions in a row a number stands: the longer they are, the less often one is popped and pushed.
+fn stretch_of(members: u32, regions: u32) -> u32
+    requires { (1 ≤ members) × (members ≤ 16) }
+    ensures { result ≡ max 1 (regions / (4 * members)) }
+{
+    (regions / (STRETCHES * members)).max(1)
 }
 
 // A deque for each member.

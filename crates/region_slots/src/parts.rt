@@ -48,10 +48,10 @@ impl<'a> Field<'a> {
     {
         let _regions = self.chart.regions();
         let halo = self.chart.halo(region);
-        for j in 0..halo.len() {
-            let other = halo[j];
+        for j in 0..halo.len() as u32 {
+            let other = halo[j as usize];
             let n = self.load_border_word(seat, other.region, step, other.place);
-            self.puts(seat, region, j as u32, n);
+            self.puts(seat, region, j, n);
         }
     }
 
@@ -107,9 +107,9 @@ impl<'a> Field<'a> {
     {
         let _regions = self.chart.regions();
         let border = self.chart.border(region);
-        for j in 0..border.len() {
-            let n = self.holds_now(seat, region, step, j as u32);
-            self.store_border_word(seat, region, step, j as u32, n);
+        for j in 0..border.len() as u32 {
+            let n = self.holds_now(seat, region, step, j);
+            self.store_border_word(seat, region, step, j, n);
         }
     }
 

@@ -167,6 +167,7 @@ impl Region {
 
     /// Takes the region through its step, by its own rows and by what was told of its halo; nothing is told of its halo
     /// then. It takes no memory.
+    #[inline(never)]
     pub fn advance(&mut self, net: &Net, chart: &Chart)
         requires opened { IsIn net.now chart.now self.old }
         requires in_time { self.old.state.step < net.now.steps }

@@ -1,4 +1,4 @@
-ghost use Rattle.std.specs.Prelude.{◌≡◌, ◌+◌, ◌<◌, ◌^◌, ◌↔◌, IsTrue};
+ghost use Rattle.std.specs.Prelude.{◌≡◌, ◌+◌, ◌<◌, ◌^◌};
 ghost use Rattle.worker_claim.specs.Turns.{added, counted, none, turns_of};
 
 use region_slots::Turn;
@@ -33,13 +33,6 @@ impl Driven {
         ensures { result ≡ turns_of self.now }
     {
         self.moved + self.held + self.behind + self.ended
-    }
-
-    /// Whether no turn found its region at the goal.
-    pub(crate) fn none_ended(&self) -> bool
-        ensures { IsTrue result ↔ (self.now.ended ≡ 0) }
-    {
-        self.ended == 0
     }
 
     /// The turns of both, of which the later ones tell whether all regions are at the goal.

@@ -6,6 +6,9 @@ use crate::pausing::pause_where;
 use number_deques::Nest;
 use region_slots::{Field, Gate, Pauses};
 
+/// So often in a row a helper's turns are in vain before it sweeps.
+const PATIENCE: u32 = 16;
+
 /// A member of a crew that hands numbers of regions on: the member, whose `driven` tells what came of its last turns, and
 /// its nest.
 #[derive(Drop)]
@@ -54,29 +57,24 @@ impl Helper {
         ensures paused { pauses.new ≤ turns_of result }
     {
         let mut driven = Driven::none();
-        let mut waits = false;
+        let mut vain: u32 = 0;
         while driven.turns() < budget && !driven.all {
             let left = budget - driven.turns();
-            let made = self.work(field, goal, left, waits, gate);
+            let made = self.work(field, goal, left, vain, gate);
             // Twice in vain.
-            pause_where(pauses, waits && made.moved == 0 && !made.all);
-            // Where it was held or behind, another's region may serve better than one of its own.
-            waits = made.held + made.behind > 0;
+            pause_where(pauses, vain > 0 && made.moved == 0 && !made.all);
+            let waits = made.moved == 0 && made.held + made.behind > 0;
+            vain = if waits { vain.saturating_add(1) } else { 0 };
             driven = driven.then(made);
         }
         driven
     }
 
-    // A turn on a region whose number comes from the deques, or a sweep where none comes, as far as the turns left go. With a
-    // number that there was no memory for it sweeps once it waits, since it may wait for that number's region.
-    fn work<G: Gate>(
-        &mut self,
-        field: &Field,
-        goal: u64,
-        left: u64,
-        waits: bool,
-        gate: &G,
-    ) -> Driven
+    // Turns on the regions of a number that comes from the deques, or a sweep where none comes, as far as the turns left go.
+    // Once it was in vain, regions of another's number may serve better than its own, or it may wait for those of a number
+    // that there was no memory for, and sweeps. Often in vain it may wait for regions of a number that another has popped and
+    // does not come to.
+    fn work<G: Gate>(&mut self, field: &Field, goal: u64, left: u64, vain: u32, gate: &G) -> Driven
         requires helper { IsHelperOf field.now self.old }
         requires in_time { goal ≤ field.now.terms.net.now.steps }
         requires some { 1 ≤ left }
@@ -85,28 +83,39 @@ impl Helper {
         ensures told { AreTold (G.told_held gate.now) (G.told_freed gate.now) self.old.member.pass.knows.log self.new.member.pass.knows.log }
         ensures some { 1 ≤ turns_of result }
     {
-        if waits && self.nest.has_refused() {
+        let waits = vain > 0;
+        if vain >= PATIENCE || waits && self.nest.has_refused() {
             return self.sweep(field, goal, left, gate);
         }
         match self.nest.next(waits) {
-            Some(region) => self.turn(field, region, goal, gate),
+            Some(region) => self.turns(field, region, goal, left, gate),
             None => self.sweep(field, goal, left, gate),
         }
     }
 
-    // A turn on a region whose number came from a deque. The number goes back unless the region stands at the goal.
-    fn turn<G: Gate>(&mut self, field: &Field, region: u32, goal: u64, gate: &G) -> Driven
+    // Turns on the regions that a number from the deques stands for, as far as the turns left go. The number goes back unless
+    // all of them stand at the goal.
+    fn turns<G: Gate>(
+        &mut self,
+        field: &Field,
+        region: u32,
+        goal: u64,
+        left: u64,
+        gate: &G,
+    ) -> Driven
         requires helper { IsHelperOf field.now self.old }
         requires there { region < region_count field.now.terms.chart.now.cut }
         requires in_time { goal ≤ field.now.terms.net.now.steps }
+        requires some { 1 ≤ left }
         ensures kept { IsKept field.now self.old self.new }
-        ensures worked { HasWorked field.now.terms self.old.member.pass.knows self.new.member.pass.knows goal 1 result }
+        ensures worked { HasWorked field.now.terms self.old.member.pass.knows self.new.member.pass.knows goal left result }
         ensures told { AreTold (G.told_held gate.now) (G.told_freed gate.now) self.old.member.pass.knows.log self.new.member.pass.knows.log }
-        ensures one { turns_of result ≡ 1 }
+        ensures some { 1 ≤ turns_of result }
     {
-        let _regions = field.regions();
-        let made = turns(field, &mut self.member.pass, goal, region, region + 1, gate);
-        if made.none_ended() {
+        let many = self.nest.stretch().min(field.regions() - region);
+        let to = region + u64::from(many).min(left) as u32;
+        let made = turns(field, &mut self.member.pass, goal, region, to, gate);
+        if made.ended < u64::from(many) {
             self.nest.push(region);
         }
         made

@@ -59,15 +59,15 @@ load_border_word-n-requires-clause-working c =
     subst (λ r. are_neighbours terms.net.now.connectors terms.chart.now.cut r other.region ≡ true) (sym at.region) beside.0 in
     (at.hold, subst (λ (v : View). IsWorkingAt v at.hold) (sym view) at.works, at.step, c.requires.cleared.all at.hold other.region at.works near, near)
 
-pub overflow_cast-j : goal.overflow_cast-j
-overflow_cast-j c =
+pub overflow_cast-j-end : goal.overflow_cast-j-end
+overflow_cast-j-end c =
     let terms : Terms = c.args.self.now.terms in
     let net : c.self.inside.net.now ≡ terms.net.now = sym c.self.invariant.0 ∙ ap (λ field. field.terms.net.now) c.self.view_is in
     let chart : c.self.inside.chart.now ≡ terms.chart.now = sym c.self.invariant.1 ∙ ap (λ field. field.terms.chart.now) c.self.view_is in
     let field : IsTableFor terms c.args.self.now.table = subst (λ (f : FieldValue). IsTableFor f.terms f.table) c.self.view_is c.self.invariant.3 in
     let list : c.halo-halo.result.now ≡ list_at terms.chart.now.halo c.args.region = c.halo-halo.ensures.list ∙ ap (λ (lists : ChartLists). list_at lists.halo c.args.region) chart in
     let lists = ground terms.net.now terms.chart.now.cut terms.chart.now c.args.region field.sound field.charted c.requires.there in
-    omega (arith, c.loop-j-test.true, ap length list, length-map (list_at terms.chart.now.halo c.args.region) (λ halo. halo.cell), lists.few_halo)
+    omega (arith, ap length list, length-map (list_at terms.chart.now.halo c.args.region) (λ halo. halo.cell), lists.few_halo)
 
 pub loop-j-preserved : goal.loop-j-preserved
 unfolding blank
