@@ -1,7 +1,7 @@
 //! The records of a network file one by one: the fields of each, its kind, what its fields say by themselves, and
 //! why one is refused (docs/FORMAT.md).
 //!
-//! `records` gives the records of a file as `row`s: `plain_text` cuts a text without quotes into `parts`, and
+//! `records` gives the records of a file as `file_record`s: `plain_text` cuts a text without quotes into `parts`, and
 //! `file_records` reads any text (`csv`). `record_kind` has their kinds, `fields` their numbers, `name` the names of
 //! cells, `code` and `record_refusal` their faults. `marks` is a set of cell numbers, and `region_table` has the
 //! region records so far.

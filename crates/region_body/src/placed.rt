@@ -46,7 +46,7 @@ pub struct PlacedRows {
     ties_until: u64,
     gates: Vec<GatePlace>,
     pause: Pause,
-    // What was put for the cells of the halo as the pause was looked for.
+    // What was put for the cells of the halo as the pause was found.
     seen: Vec<Option<u64>>,
 }
 
@@ -81,8 +81,9 @@ impl fmt::Debug for PlacedRows {
 }
 
 impl PlacedRows {
-    /// These cells, placed in their order, with their rows at step `t` and what they held earlier, joined by these connectors. Of all rows and
-    /// earlier occupancies those of these cells are used. All memory that a step needs is taken here.
+    /// These cells, placed in their order, with their rows at step `t` and what they held earlier, joined by these
+    /// connectors. Of all rows and earlier occupancies those of these cells are used. All memory that a step needs is taken
+    /// here.
     pub fn new(
         alloc: Global,
         net: &Net,
@@ -130,7 +131,7 @@ impl PlacedRows {
         self.origins.len()
     }
 
-    /// The row of the `i`-th cell.
+    /// The row of the cell at place `i`.
     pub fn row(&self, i: u32) -> Row
         requires { i < length self.now.origins }
         ensures { result ≡ row_at (rows_of self.now.origins self.now.places) i }
@@ -139,7 +140,7 @@ impl PlacedRows {
         self.origins[i as usize].row(&place)
     }
 
-    /// What the `i`-th cell holds.
+    /// What the cell at place `i` holds.
     pub fn held(&self, i: u32) -> u64
         requires { i < length self.now.origins }
         ensures { result ≡ occupancy (rows_of self.now.origins self.now.places) i }
@@ -163,8 +164,8 @@ impl PlacedRows {
         self.before[i as usize]
     }
 
-    /// Takes the cells through step `t`, by what was put for each cell of their halo. Where nothing moves among them, and
-    /// that is known, their places are not looked at.
+    /// Takes the cells, given as they are placed, through step `t`, by what was put for each cell of their halo. Where
+    /// nothing moves among them, and that is known, their places are not looked at.
     pub fn step(&mut self, net: &Net, t: u64, cells: &[u32], put: &[Option<u64>])
         requires in_time { t < net.now.steps }
         requires can { CanAdvance net.now cells.now t self.old put.now }

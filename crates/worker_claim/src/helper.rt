@@ -71,9 +71,9 @@ impl Helper {
     }
 
     // Turns on the regions of a number that comes from the deques, or a sweep where none comes, as far as the turns left go.
-    // Once it was in vain, regions of another's number may serve better than its own, or it may wait for those of a number
-    // that there was no memory for, and sweeps. Often in vain it may wait for regions of a number that another has popped and
-    // does not come to.
+    // In vain once, it steals first. Where its nest keeps a number that there was no memory for it sweeps then, since it may
+    // wait for that number's regions; and in vain often it sweeps too, since it may wait for those of a number that another
+    // has popped and doesn't come to.
     fn work<G: Gate>(&mut self, field: &Field, goal: u64, left: u64, vain: u32, gate: &G) -> Driven
         requires helper { IsHelperOf field.now self.old }
         requires in_time { goal ≤ field.now.terms.net.now.steps }
