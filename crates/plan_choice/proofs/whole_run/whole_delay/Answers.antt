@@ -6,10 +6,9 @@ use Rattle.plan_choice.proofs.whole_run.whole_delay.Goals as goal
 
 pub run_delay-requires-clause-stand : goal.run_delay-requires-clause-stand
 run_delay-requires-clause-stand c =
-    let one : region_count c.in_ok-chart.chart.cut ≡ 1 = ap region_count c.in_ok-chart.ensures.cut ∙ c.in_ok-whole.ensures.one in
-    (
+    let one : region_count c.in_ok-chart.chart.cut ≡ 1 = ap region_count c.in_ok-chart.ensures.cut ∙ c.in_ok-whole.ensures.one in (
       0,
       rw (c.deref.ensures.value, c.in_ok-push.ensures.items, c.new-regions.ensures.items)
-      (one-stands c.args.net.now c.in_ok-chart.chart (zero_start c.args.net.now c.in_ok-chart.chart.cut) 0 c.args.net.now.steps c.in_ok-last_region.field-0 one
-      c.in_ok-last_region.ensures),
+          (one-stands c.args.net.now c.in_ok-chart.chart (zero_start c.args.net.now c.in_ok-chart.chart.cut) 0 c.args.net.now.steps c.in_ok-last_region.field-0 one
+          c.in_ok-last_region.ensures),
     )
