@@ -9,7 +9,8 @@ use network_file::Net;
 /// The most regions for each worker where their number is chosen: enough that none waits long for another.
 const EACH: u32 = 8;
 
-/// The fewest cells of a region where the number of regions is chosen: below, the turns cost more than the steps.
+/// The fewest cells of a region where the number of regions is chosen, and for each worker that there are regions for: below,
+/// the turns cost more than the steps.
 const FEWEST_CELLS: u32 = 256;
 
 /// Into how many regions a request has a network cut, or more than there are cells.
@@ -32,8 +33,9 @@ fn chosen_regions(cells: u32, workers: u32) -> u32
     ensures some { 1 ≤ result }
     ensures few { result ≤ MOST_REGIONS }
 {
-    if workers <= 1 {
+    let most = cells / FEWEST_CELLS;
+    if workers <= 1 || most < workers {
         return 1;
     }
-    (cells / FEWEST_CELLS).min(EACH * workers).max(1)
+    most.min(EACH * workers)
 }
