@@ -1,10 +1,13 @@
 """In which order crates are proved and by how many jobs, and how long that takes.
 
-The crates behind which the longest chain of others waits come first. The first of these gets all processors, and the
-others one each beside it, at a lower priority: they take what it leaves idle.
+The crates behind which the longest chain of others waits come first. Such a crate is begun as soon as it can be, by as
+many jobs as there are processors. The others get one job each beside it, at a lower priority: they take what it leaves
+idle.
 """
 
 SPEED_OF_A_JOB = 0.3  # what each job beyond the first adds to a check's speed, as a first command from nothing showed
+FIRST = 0.95  # a crate comes first where its chain is at least this part of the longest one
+LEAST = 0.1  # the part of the processors that the others have even where those that come first could take all
 
 
 class Schedule:
@@ -21,11 +24,12 @@ class Schedule:
         """The crate to start now and its jobs, or None; `jobs` has the jobs of each crate that runs."""
         ready = [it for it in self.names if it not in done and it not in jobs and done.issuperset(self.uses[it])]
         free = self.most_jobs - sum(jobs.values())
-        if not ready or len(jobs) >= self.processors or (jobs and free < 1):
+        if not ready or (jobs and free < 1):
             return None
         name = max(ready, key=self.chains.get)
-        is_first = all(self.chains[name] >= self.chains[it] for it in jobs)
-        return name, max(1, min(self.processors, free)) if is_first else 1
+        if self.chains[name] >= FIRST * max(self.chains[it] for it in [*ready, *jobs]):
+            return name, max(1, min(self.processors, free))
+        return (name, 1) if len(jobs) < self.processors else None
 
     def seconds_left(self, done, jobs, left):
         """How long the rest takes; `left` has what is left of the costs of the crates that run."""
@@ -36,8 +40,7 @@ class Schedule:
                 jobs[start[0]] = start[1]
                 left[start[0]] = self.costs[start[0]]
                 continue
-            share = min(1, self.processors / sum(jobs.values()))
-            speeds = {it: share * self.speed(jobs[it]) for it in jobs}
+            speeds = self.speeds(jobs)
             step = min(left[it] / speeds[it] for it in jobs)
             seconds += step
             left = {it: left[it] - step * speeds[it] for it in jobs}
@@ -45,6 +48,14 @@ class Schedule:
                 done.add(it)
                 del jobs[it], left[it]
         return seconds
+
+    def speeds(self, jobs):
+        """How fast each crate that runs gets on. Those with more than one job come first, and the others share the rest."""
+        first = {it: self.speed(jobs[it]) for it in jobs if jobs[it] > 1}
+        taken = sum(first.values())
+        share = min(1, self.processors / taken) if first else 1
+        rest = max(self.processors - taken, LEAST * self.processors) / max(1, len(jobs) - len(first))
+        return {it: share * first[it] if it in first else min(1, rest) for it in jobs}
 
     def speed(self, jobs):
         return 1 + SPEED_OF_A_JOB * (jobs - 1)

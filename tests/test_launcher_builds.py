@@ -84,14 +84,26 @@ def test_the_folder_of_a_build_is_out_of_reach_of_the_gate(repository):
 
 
 def test_the_time_that_is_left():
-    """By the costs below on two processors, worked on paper. `a` has two jobs beside `c`, which has one: as long as `c` runs
-    the three share two processors. Then `a` has both, and then `b`."""
+    """By the costs below on two processors, worked on paper. `a` has two jobs, by which it is 1.3 times as fast as by one, and
+    leaves 0.7 of a processor to `c`, which has one. Then `b` has both, and a `c` that is longer than that is alone."""
+    left = "seconds_left((), {}, {})"
+    assert float(schedule_of_three(left)) == pytest.approx(10 / 1.3 + 20 / 1.3)
+    assert float(schedule_of_three(left, c=28)) == pytest.approx(30 / 1.3 + (28 - 30 / 1.3 * 0.7))
+
+
+def test_a_crate_that_comes_first_waits_for_no_other():
+    assert schedule_of_three("next_start({'a'}, {'c': 1, 'd': 1})") == "('b', 2)"
+    assert schedule_of_three("next_start(set(), {'a': 2, 'd': 1})") == "None"
+    assert schedule_of_three("next_start(set(), {'a': 2})") == "('c', 1)"
+    assert schedule_of_three("next_start(set(), {'a': 2})", c=29) == "('c', 2)"
+
+
+def schedule_of_three(asked, a=10, b=20, c=5):
+    """What a schedule on two processors answers, of the crates `a`, `b`, which stands on it, and `c`, with their costs."""
     asks = ("import sys; sys.path.insert(0, 'launcher'); from schedule import Schedule; "
-            "print(Schedule(['a', 'b', 'c'], {'a': [], 'b': ['a'], 'c': []}, {'a': 10, 'b': 20, 'c': 5}, 2, 9)"
-            ".seconds_left((), {}, {}))")
-    told = subprocess.run(["python3", "-B", "-c", asks], cwd=TOP, stdout=subprocess.PIPE, check=True).stdout
-    of_c = 5 / (2 / 3)
-    assert float(told) == pytest.approx(of_c + (10 - of_c * 1.3 * 2 / 3) / 1.3 + 20 / 1.3)
+            f"print(Schedule(['a', 'b', 'c', 'd'], {{'a': [], 'b': ['a'], 'c': [], 'd': []}}, {{'a': {a}, 'b': {b}, 'c': {c}, 'd': 0}}, "
+            f"2, 9).{asked})")
+    return subprocess.run(["python3", "-B", "-c", asks], cwd=TOP, stdout=subprocess.PIPE, check=True, text=True).stdout.strip()
 
 
 def test_each_crate_of_the_program_has_a_check_time():

@@ -4,7 +4,7 @@ ghost use Rattle.chain_order.specs.Order.{IsOrder};
 use crate::chains::Chains;
 use crate::inverse::are_inverse;
 use crate::walk::Walk;
-use network_file::Net;
+use network_file::{Connector, Net};
 use no_memory::NoMemory;
 use std::alloc::Global;
 use std::marker::Model;
@@ -38,6 +38,9 @@ impl Order {
         requires few { length cells.now < 2 ^ 32 }
         ensures { IfOk result (IsOrder cells.now) }
     {
+        if are_in_order(net, connectors) {
+            return as_given(alloc, cells);
+        }
         let chains = Chains::of(alloc, net, cells, connectors)?;
         let Walk { placed, places, .. } = Walk::along(alloc, &chains)?;
         if are_inverse(cells.len(), &placed, &places) {
@@ -61,6 +64,18 @@ impl Order {
     {
         &self.places
     }
+}
+
+// Whether each link among these connectors leads to the cell behind, so that chains lie side by side as they are.
+fn are_in_order(net: &Net, connectors: &[u32]) -> bool
+    requires { All (λ k. k < length net.now.connectors) connectors.now }
+{
+    connectors
+        .iter()
+        .all(|k| match net.connectors[*k as usize] {
+            Connector::Link { up, down } => up.checked_add(1) == Some(down),
+            Connector::Merge { .. } | Connector::Diverge { .. } => true,
+        })
 }
 
 // The cells at these indices.

@@ -56,7 +56,7 @@ impl ByCell<'_> {
         ensures one_each { IfOk result (λ own. length own.items ≡ length net.now.cells) }
         ensures rows { IfOk result (λ own. (rows : List RowValue) → AreRowsOf self.now.chart.now self.now.regions.now rows → own.items ≡ rows) }
     {
-        let mut rows = Vec::new(alloc);
+        let mut rows = Vec::with_capacity(alloc, net.cells.len())?;
         for i in 0..net.cells.len() as u32 {
             rows.push(self.row(i))?;
         }

@@ -13,7 +13,7 @@ pub(crate) fn cell_places(alloc: Global, net: &Net, chart: &Chart) -> Result<Vec
     requires one_each { length chart.now.cut ≡ length net.now.cells }
     ensures { IfOk result (λ places. AreCellPlaces chart.now (length net.now.cells) places.items) }
 {
-    let mut places = Vec::new(alloc);
+    let mut places = Vec::with_capacity(alloc, net.cells.len())?;
     for i in 0..net.cells.len() as u32 {
         let cells = chart.cells(chart.region_of(i));
         places.push(place(cells, i))?;

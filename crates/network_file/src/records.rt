@@ -1,9 +1,11 @@
-ghost use Rattle.std.specs.Prelude.{◌≡◌, ◌<◌, IfOk, length};
+ghost use Rattle.std.specs.Prelude.{◌≡◌, ◌<◌, IfOk, Some, length};
 ghost use Rattle.signal_plan.specs.Counts.{demand_count, limit_count, turn_count};
 ghost use Rattle.record_fields.specs.Answers.{Answers, AnswersBy};
+ghost use Rattle.record_fields.specs.Fields.{field};
+ghost use Rattle.record_fields.specs.RecordKinds.{record_kind_of};
 ghost use Rattle.network_file.specs.Fitting.{FitsEntry, with_entry};
 ghost use Rattle.network_file.specs.Formats.{most_records};
-ghost use Rattle.network_file.specs.Taking.{take_demand, take_diverge, take_exit, take_gate, take_limit, take_link, take_merge, take_record, take_region, take_road, take_signal, take_steps, take_turn};
+ghost use Rattle.network_file.specs.Taking.{take_demand, take_diverge, take_exit, take_gate, take_kind, take_limit, take_link, take_merge, take_record, take_region, take_road, take_signal, take_steps, take_turn, taken_before};
 
 use crate::cell::{Cell, Kind};
 use crate::cell_fields::{
@@ -49,6 +51,20 @@ fn read_record(draft: &NetDraft, row: &FileRecord) -> Result<Entry, RecordRefusa
     if draft.taken_before(kind) >= most_records(draft.format) {
         return Err(RecordRefusal::Fault(Code::TooMany));
     }
+    read_of_kind(kind, draft, row)
+}
+
+/// What a record of this kind says, if the draft can take it.
+fn read_of_kind(
+    kind: RecordKind,
+    draft: &NetDraft,
+    row: &FileRecord,
+) -> Result<Entry, RecordRefusal>
+    requires of { record_kind_of draft.now.format (field row.now 0) ≡ Some kind }
+    requires room { taken_before kind draft.now < most_records draft.now.format }
+    ensures answer { AnswersBy result (with_entry draft.now) (take_kind kind draft.now row.now) }
+    ensures fits { IfOk result (FitsEntry draft.now) }
+{
     match kind {
         RecordKind::Steps => read_steps(draft, row),
         RecordKind::Road => read_road(draft, row),

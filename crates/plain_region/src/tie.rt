@@ -7,7 +7,7 @@ ghost use Rattle.region_body.specs.Joining.{AreKnown, IsKnown};
 use crate::place::Place;
 use network_file::Net;
 use no_memory::NoMemory;
-use region_cut::{place, three_cells};
+use region_cut::{place, place_if_listed, three_cells};
 use std::alloc::Global;
 
 /// A connector that touches the region, with the places of its cells in the order of its fields. Of a link
@@ -72,8 +72,8 @@ fn place_of(cell: u32, cells: &[u32], halo: &[u32]) -> Place
     requires few_halo { length halo.now < 2 ^ 32 }
     ensures { IsPlaceOf cells.now halo.now cell result }
 {
-    match cells.binary_search(&cell) {
-        Ok(own) => Place::Own(own as u32),
-        Err(_) => Place::Halo(place(halo, cell)),
+    match place_if_listed(cells, cell) {
+        Some(own) => Place::Own(own),
+        None => Place::Halo(place(halo, cell)),
     }
 }

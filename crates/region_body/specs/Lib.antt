@@ -1,5 +1,6 @@
 pub mod Space
 pub mod Places
+pub mod Sweeping
 pub mod Moving
 pub mod Followed
 pub mod Weights

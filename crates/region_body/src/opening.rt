@@ -25,7 +25,7 @@ pub(crate) fn origins_of(alloc: Global, net: &Net, cells: &[u32]) -> Result<Vec<
     ensures each { IfOk result (λ origins. (p : ℕ) → p < length cells.now →
         IsOriginOf net.now (slice_index cells.now p) (origin_at origins.items p)) }
 {
-    let mut origins = Vec::new(alloc);
+    let mut origins = Vec::with_capacity(alloc, cells.len())?;
     for i in cells {
         origins.push(origin_of(net, *i))?;
     }
@@ -48,7 +48,7 @@ pub(crate) fn places_of(
     ensures each { IfOk result (λ places. (p : ℕ) → p < length cells.now →
         IsFirst net.now (slice_index cells.now p) (row_at rows.now (slice_index cells.now p)) (place_at places.items p)) }
 {
-    let mut places = Vec::new(alloc);
+    let mut places = Vec::with_capacity(alloc, cells.len())?;
     for i in cells {
         places.push(place_of(net, t, *i, &rows[*i as usize]))?;
     }
@@ -64,7 +64,7 @@ pub(crate) fn earlier_of(
     requires { All (λ i. i < length earlier.now) cells.now }
     ensures { IfOk result (λ before. before.items ≡ map (slice_index earlier.now) cells.now) }
 {
-    let mut before = Vec::new(alloc);
+    let mut before = Vec::with_capacity(alloc, cells.len())?;
     for i in cells {
         before.push(earlier[*i as usize])?;
     }
@@ -75,11 +75,7 @@ pub(crate) fn earlier_of(
 pub fn nothing_put(alloc: Global, places: usize) -> Result<Vec<Option<u64>>, NoMemory>
     ensures { IfOk result (λ put. put.items ≡ replicate places None) }
 {
-    let mut put = Vec::new(alloc);
-    for _ in 0..places {
-        put.push(None)?;
-    }
-    Ok(put)
+    Ok(vec![in alloc; None; places]?)
 }
 
 /// The gates among these cells, at step 0.

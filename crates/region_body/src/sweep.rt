@@ -1,5 +1,7 @@
-ghost use Rattle.std.specs.Prelude.{◌≡◌, ◌+◌, ◌<◌, ◌≤◌, ◌^◌, ℕ, length, slice_index};
+ghost use Rattle.std.specs.Prelude.{◌≡◌, ◌+◌, ◌*◌, ◌/◌, ◌<◌, ◌≤◌, ◌^◌, ℕ, List, length, slice_index};
 ghost use Rattle.region_body.specs.Places.{AreSound, carried, place_at, swept};
+ghost use Rattle.region_body.specs.Sweeping.{IsSweptTo};
+ghost use Rattle.region_body.specs.declared.place.Place.{Place as PlaceValue};
 
 use crate::place::Place;
 
@@ -15,15 +17,57 @@ pub(crate) fn sweep(places: &mut [Place], before: &mut [u64])
     let Some(last) = places.len().checked_sub(1) else {
         return;
     };
-    let mut enters = 0;
-    for p in 0..last {
-        let leaves = carried_from(places, p);
-        before[p] = places[p].n;
-        places[p].step(enters, leaves);
-        enters = leaves;
+    let mut enters = pass_fours(places, before, last);
+    for p in last / 4 * 4..last {
+        enters = pass(places, before, p, enters);
     }
     before[last] = places[last].n;
     places[last].step(enters, 0);
+}
+
+// Takes the first of so many places through the step, in fours as far as these go, and gives what enters the next one.
+#[inline(always)]
+fn pass_fours(places: &mut [Place], before: &mut [u64], last: usize) -> u64
+    requires sound { AreSound places.old }
+    requires within { last < length places.old }
+    requires one_each { length before.old ≡ length places.old }
+    ensures { IsSweptTo places.old (last / 4 * 4) places.new before.new result }
+{
+    let mut enters = 0;
+    for m in 0..last / 4 {
+        enters = pass_four(places, before, 4 * m, enters);
+    }
+    enters
+}
+
+// Takes four places: a loop over single ones takes some instructions more for each.
+#[inline(always)]
+fn pass_four(places: &mut [Place], before: &mut [u64], p: usize, enters: u64) -> u64
+    requires there { p + 4 < length places.old }
+    requires one_each { length before.old ≡ length places.old }
+    requires swept { (first : List PlaceValue) × IsSweptTo first p places.old before.old enters }
+    ensures { (first : List PlaceValue) → IsSweptTo first p places.old before.old enters →
+        IsSweptTo first (p + 4) places.new before.new result }
+{
+    let second = pass(places, before, p, enters);
+    let third = pass(places, before, p + 1, second);
+    let fourth = pass(places, before, p + 2, third);
+    pass(places, before, p + 3, fourth)
+}
+
+// Takes the place of this number, which so much enters, and gives what leaves it for the next one.
+#[inline(always)]
+fn pass(places: &mut [Place], before: &mut [u64], p: usize, enters: u64) -> u64
+    requires there { p + 1 < length places.old }
+    requires one_each { length before.old ≡ length places.old }
+    requires swept { (first : List PlaceValue) × IsSweptTo first p places.old before.old enters }
+    ensures { (first : List PlaceValue) → IsSweptTo first p places.old before.old enters →
+        IsSweptTo first (p + 1) places.new before.new result }
+{
+    let leaves = carried_from(places, p);
+    before[p] = places[p].n;
+    places[p].step(enters, leaves);
+    leaves
 }
 
 // What the link out of the place of this number carries.

@@ -2,8 +2,8 @@
 use Rattle.std.specs.Prelude.{All, ◌==◌}
 use Rattle.std.specs.List.{Contains, list_any}
 use Rattle.std.specs.List.Sorted.{IsStrictlyIncreasing}
-use Rattle.std.proofs.Common.{◌≡◌, ℕ, ◌<◌, ◌≤◌, inl, inr, Bool, true, List, length, map, get_or, refl, sym, ◌∙◌, arith, subst}
-use Rattle.std.proofs.lemmas.Bool.{cases_lt, eq-eqb, eqb-true}
+use Rattle.std.proofs.Common.{◌≡◌, ℕ, ◌<◌, Bool, true, List, length, map, get_or, refl, sym, ◌∙◌, arith, subst}
+use Rattle.std.proofs.lemmas.Bool.{eq-eqb, eqb-true}
 use Rattle.std.proofs.lemmas.List.{get_or_default}
 use Rattle.std.proofs.lemmas.List.Elements.{All-contains}
 use Rattle.region_cut.specs.Gathered.{halo_regions}
@@ -11,18 +11,13 @@ use Rattle.region_cut.specs.declared.halo.Halo.{Halo}
 use Rattle.region_cut.proofs.Anys.{found, finds, list_any-map}
 use Rattle.region_cut.proofs.Ranges.{filter_range_is}
 
--- a number that is listed is not missed by a search
-pub not_past : (xs : List ℕ) (i x : ℕ) → ((k : ℕ) → k < i → get_or xs k 0 < x) → ((k : ℕ) → i ≤ k → k < length xs → x < get_or xs k 0) →
-    list_any (λ j. j == x) xs ≡ true → ⊥
-not_past xs i x below above listed =
+-- a number that is listed stands somewhere
+pub not_missing : (xs : List ℕ) (x : ℕ) → ((p : ℕ) → p < length xs → get_or xs p 0 ≡ x → ⊥) → list_any (λ j. j == x) xs ≡ true → ⊥
+not_missing xs x none listed =
     let here = found (λ j. j == x) xs listed in
     let k : ℕ = here.1.0 in
     let same : here.0 ≡ x = eqb-true here.0 x here.2 in
-    let stands : get_or xs k 0 ≡ x = get_or_default xs k 0 here.0 here.1.1 ∙ here.1.2 ∙ same in
-    elim (cases_lt k i) [
-      | inl before ↦ omega (arith, below k before)
-      | inr behind ↦ omega (arith, above k behind here.1.1)
-    ]
+    none k here.1.1 (get_or_default xs k 0 here.0 here.1.1 ∙ here.1.2 ∙ same)
 
 -- an increasing list of the regions that a halo names
 pub halo_regions-is : (count : ℕ) (halo : List Halo) (regions : List ℕ) → IsStrictlyIncreasing regions →

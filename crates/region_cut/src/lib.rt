@@ -29,5 +29,5 @@ pub use crossing::crosses;
 pub use cut::Cut;
 pub use fault::{CutFault, CutRefusal};
 pub use halo::Halo;
-pub use list_place::place;
+pub use list_place::{place, place_if_listed};
 pub use own_or_even::{charted, cutting};

@@ -1,12 +1,12 @@
 -- Into how many regions a network is cut.
-use Rattle.std.specs.Prelude.{ℕ, ◌*◌, ◌/◌, Option, Some, None, if◌then◌else◌, min, nat_le}
+use Rattle.std.specs.Prelude.{ℕ, ◌*◌, ◌/◌, ◌||◌, Option, Some, None, if◌then◌else◌, min, nat_le, nat_lt}
 use Rattle.command_words.specs.declared.request.Request.{Request}
 
--- how many are chosen for so many cells and workers: one for one worker, and where there are fewer than 256 cells for each
--- worker, and else up to eight for each of them, of 256 cells or more each
+-- how many are chosen for so many cells and workers: one for one worker and where there are fewer than 10,000 cells, and
+-- else eight for each worker, of 128 cells or more each
 abbrev pub chosen_regions : (cells workers : ℕ) → ℕ
 chosen_regions cells workers =
-    if nat_le workers 1 then 1 else (if nat_le workers (cells / 256) then min (cells / 256) (8 * workers) else 1)
+    if nat_le workers 1 || nat_lt cells 10_000 then 1 else min (8 * workers) (cells / 128)
 
 -- the number that the words give, or else the one that is chosen
 abbrev pub wanted_by : Option ℕ → (chosen : ℕ) → ℕ

@@ -9,9 +9,12 @@ use network_file::Net;
 /// The most regions for each worker where their number is chosen: enough that none waits long for another.
 const EACH: u32 = 8;
 
-/// The fewest cells of a region where the number of regions is chosen, and for each worker that there are regions for: below,
-/// the turns cost more than the steps.
-const FEWEST_CELLS: u32 = 256;
+/// The fewest cells of a network for which more than one region is chosen: in smaller ones the turns may cost more than the
+/// workers save.
+const FEWEST_CELLS: u32 = 10_000;
+
+/// The fewest cells of a region where their number is chosen.
+const FEWEST_OF_A_REGION: u32 = 128;
 
 /// Into how many regions a request has a network cut, or more than there are cells.
 pub fn regions_wanted(net: &Net, request: Request) -> u32
@@ -33,9 +36,8 @@ fn chosen_regions(cells: u32, workers: u32) -> u32
     ensures some { 1 ≤ result }
     ensures few { result ≤ MOST_REGIONS }
 {
-    let most = cells / FEWEST_CELLS;
-    if workers <= 1 || most < workers {
+    if workers <= 1 || cells < FEWEST_CELLS {
         return 1;
     }
-    most.min(EACH * workers)
+    (EACH * workers).min(cells / FEWEST_OF_A_REGION)
 }
