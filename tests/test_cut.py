@@ -128,11 +128,11 @@ def test_the_regions_of_the_file_come_first(run):
 
 
 @pytest.mark.parametrize("cells, workers, regions", [
-    (3, 4, 1), (511, 2, 1), (512, 2, 2), (767, 2, 2), (768, 2, 3), (1023, 4, 1), (1024, 4, 4), (5000, 1, 1), (4095, 2, 15),
-    (4096, 2, 16), (4095, 16, 1), (4096, 16, 16), (9000, 2, 16), (9000, 4, 32), (9000, 16, 35),
+    (3, 4, 1), (2, 16, 1), (4000, 4, 1), (9999, 2, 1), (9999, 16, 1), (10000, 1, 1), (10000, 2, 16), (10000, 3, 24), (10000, 4, 32),
+    (10000, 16, 78), (10111, 10, 78), (10112, 10, 79), (16383, 16, 127), (16384, 16, 128), (20000, 16, 128),
 ])
 def test_regions_are_chosen_by_the_cells_and_the_workers(cells, workers, regions, run):
-    """One for one worker and below 256 cells for each, else one for each 256 cells, at most 8 for each worker."""
+    """One for one worker and below 10,000 cells, else 8 for each worker, of 128 cells or more each."""
     names = ["g", *(f"r{i}" for i in range(cells - 2)), "x"]
     chain = lines("; ".join(["ctm,1; steps,1; gate,g,2,0", *(f"road,{it},6,2,1,2,0" for it in names[1:-1]), "exit,x,2",
                              *(f"link,{one},{other}" for one, other in zip(names, names[1:]))]))
