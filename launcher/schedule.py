@@ -1,8 +1,8 @@
 """In which order crates are proved and by how many jobs, and how long that takes.
 
 The crates behind which the longest chain of others waits come first. Such a crate is begun as soon as it can be, by as
-many jobs as there are processors. The others get one job each beside it, at a lower priority: they take what it leaves
-idle.
+many jobs as there are processors where it is the only one. All others get one job each, since more jobs take more time of
+the processors in all, and those that don't come first run at a lower priority: they take what is left idle.
 """
 
 SPEED_OF_A_JOB = 0.3  # what each job beyond the first adds to a check's speed, as a first command from nothing showed
@@ -27,9 +27,14 @@ class Schedule:
         if not ready or (jobs and free < 1):
             return None
         name = max(ready, key=self.chains.get)
-        if self.chains[name] >= FIRST * max(self.chains[it] for it in [*ready, *jobs]):
-            return name, max(1, min(self.processors, free))
-        return (name, 1) if len(jobs) < self.processors else None
+        if not self.comes_first(name, [*ready, *jobs]):
+            return (name, 1) if len(jobs) < self.processors else None
+        is_only = not any(self.comes_first(it, [*ready, *jobs]) for it in jobs)
+        return name, max(1, min(self.processors, free)) if is_only else 1
+
+    def comes_first(self, name, others):
+        """Whether the chain of crates that wait for this one is about as long as the longest of these others."""
+        return self.chains[name] >= FIRST * max((self.chains[it] for it in others), default=0)
 
     def seconds_left(self, done, jobs, left):
         """How long the rest takes; `left` has what is left of the costs of the crates that run."""

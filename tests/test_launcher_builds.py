@@ -85,17 +85,19 @@ def test_the_folder_of_a_build_is_out_of_reach_of_the_gate(repository):
 
 def test_the_time_that_is_left():
     """By the costs below on two processors, worked on paper. `a` has two jobs, by which it is 1.3 times as fast as by one, and
-    leaves 0.7 of a processor to `c`, which has one. Then `b` has both, and a `c` that is longer than that is alone."""
+    leaves 0.7 of a processor to `c`, which has one. Then `b` has both, or one beside a `c` with a longer chain."""
     left = "seconds_left((), {}, {})"
     assert float(schedule_of_three(left)) == pytest.approx(10 / 1.3 + 20 / 1.3)
-    assert float(schedule_of_three(left, c=28)) == pytest.approx(30 / 1.3 + (28 - 30 / 1.3 * 0.7))
+    assert float(schedule_of_three(left, c=28)) == pytest.approx(10 / 1.3 + 28 - 10 / 1.3 * 0.7)
 
 
 def test_a_crate_that_comes_first_waits_for_no_other():
     assert schedule_of_three("next_start({'a'}, {'c': 1, 'd': 1})") == "('b', 2)"
     assert schedule_of_three("next_start(set(), {'a': 2, 'd': 1})") == "None"
     assert schedule_of_three("next_start(set(), {'a': 2})") == "('c', 1)"
-    assert schedule_of_three("next_start(set(), {'a': 2})", c=29) == "('c', 2)"
+    assert schedule_of_three("next_start(set(), {'a': 2})", c=29) == "('c', 1)"
+    assert schedule_of_three("next_start({'a'}, {'c': 1})", c=29) == "('b', 1)"
+    assert schedule_of_three("next_start({'a', 'c'}, {'d': 1})") == "('b', 2)"
 
 
 def schedule_of_three(asked, a=10, b=20, c=5):

@@ -1,9 +1,2 @@
 pub mod Answer
-pub mod RecutMode
-pub mod Recutting
-pub mod ResumeMode
-pub mod RunMode
-pub mod SampleMode
-pub mod SaveMode
 pub mod Telling
-pub mod WatchMode

@@ -9,16 +9,12 @@ ghost use Rattle.workerless_call.specs.Input.{IsInputOf, IsReadWhole, IsUnread, 
 ghost use Rattle.workerless_call.specs.Task.{task_of};
 ghost use Rattle.workerless_call.specs.Words.{requested};
 
-use crate::recut_mode::recut_text;
-use crate::resume_mode::resume_text;
-use crate::run_mode::run_text;
-use crate::sample_mode::sample_text;
-use crate::save_mode::saved;
-use crate::watch_mode::watch_text;
 use call_ending::Refusal;
 use command_words::{Mode, Request};
 use ctm_ports::Source;
 use region_slots::Gate;
+use run_modes::{run_text, sample_text, watch_text};
+use saved_modes::{recut_text, resume_text, saved_text};
 use std::alloc::Global;
 use std::thread::Threads;
 use workerless_call::{check_text, choose_text, convert_text, cut_text, input_of, request_of};
@@ -68,7 +64,7 @@ fn text_of<R: Threads + Sync, G: Gate>(
         Mode::Run => run_text(rt, alloc, request, input, gate),
         Mode::Watch => watch_text(rt, alloc, request, input, gate),
         Mode::Sample => sample_text(rt, alloc, request, input, gate),
-        Mode::Save => saved(rt, alloc, request, input, gate),
+        Mode::Save => saved_text(rt, alloc, request, input, gate),
         Mode::Resume => resume_text(rt, alloc, request, input, gate),
         Mode::Choose => choose_text(rt, alloc, input),
         Mode::Recut => recut_text(rt, alloc, request, input, gate),

@@ -1,7 +1,0 @@
-use Rattle.workerless_call.specs.Recording.{why_unrecorded}
-use Rattle.ctm_call.specs.WatchMode.{first_why, why_unshown}
-use Rattle.ctm_call.proofs.watch_mode.watch_text.Goals as goal
-
-pub returns-in-Err-clause-refusal : goal.returns-in-Err-clause-refusal
-returns-in-Err-clause-refusal g c =
-    c.in-Err.ensures.refusal (λ net. first_why (why_unrecorded net c.args.request.every) (why_unshown net c.args.request.shots))

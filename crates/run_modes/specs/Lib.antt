@@ -1,0 +1,4 @@
+pub mod RunMode
+pub mod WatchMode
+pub mod SampleMode
+pub mod Told

@@ -1,0 +1,64 @@
+ghost use Rattle.std.specs.Prelude.{◌≡◌, ◌≤◌, IfErr, IfOk, IsOk, None, length};
+ghost use Rattle.command_words.specs.Words.{IsInRange};
+ghost use Rattle.network_file.specs.declared.limits.TheConstants.{MOST_BYTES};
+ghost use Rattle.delay_report.specs.Report.{report_of};
+ghost use Rattle.call_ending.specs.Refusing.{IsRefusalOf};
+ghost use Rattle.run_modes.specs.RunMode.{IsRunText, run_refused};
+ghost use Rattle.workerless_call.specs.Task.{task_of};
+ghost use Rattle.network_file.specs.Reading.{network_of};
+ghost use Rattle.workerless_call.specs.NetworkInput.{IsNetworkWith};
+ghost use Rattle.run_modes.specs.Told.{HasToldRun};
+
+use call_ending::Refusal;
+use command_words::Request;
+use delay_report::run_report;
+use network_file::Net;
+use network_run::last_regions;
+use no_memory::NoMemory;
+use region_slots::Gate;
+use std::alloc::Global;
+use std::thread::Threads;
+use workerless_call::{chart_asked, large_record, network_in, records_too_much};
+
+/// The report of a network that workers take through all its steps, in regions.
+pub fn run_text<R: Threads + Sync, G: Gate>(
+    rt: &R,
+    alloc: Global,
+    request: Request,
+    input: &[u8],
+    gate: &G,
+) -> Result<Vec<u8>, Refusal>
+    requires in_range { IsInRange request }
+    requires few_bytes { length input.now ≤ MOST_BYTES }
+    ensures text { IfOk result (λ text. (run_refused (task_of request input.now) ≡ None) × IsRunText (task_of request input.now) text.items) }
+    ensures told { IsOk result → IsNetworkWith (network_of input.now) (λ net. HasToldRun (G.told_held gate.now) (G.told_freed gate.now) net request) }
+    ensures refusal { IfErr result (IsRefusalOf (run_refused (task_of request input.now)) ⊥) }
+{
+    let net = match network_in(alloc, input) {
+        Ok(net) => net,
+        Err(refusal) => return Err(refusal),
+    };
+    if records_too_much(&net, u64::from(request.every)) {
+        return Err(large_record());
+    }
+    Ok(report_of_run(rt, alloc, &net, request, gate)?)
+}
+
+// The report, whatever it records.
+fn report_of_run<R: Threads + Sync, G: Gate>(
+    rt: &R,
+    alloc: Global,
+    net: &Net,
+    request: Request,
+    gate: &G,
+) -> Result<Vec<u8>, NoMemory>
+    requires { IsInRange request }
+    ensures text { IfOk result (λ text. text.items ≡ report_of net.now request.every) }
+    ensures told { IsOk result → HasToldRun (G.told_held gate.now) (G.told_freed gate.now) net.now request }
+{
+    let _steps = net.steps;
+    let every = u64::from(request.every);
+    let chart = chart_asked(alloc, net, request)?;
+    let regions = last_regions(rt, alloc, net, &chart, every, request.workers, gate)?;
+    run_report(alloc, net, &chart, &regions, every)
+}

@@ -1,0 +1,78 @@
+ghost use Rattle.std.specs.Prelude.{◌≡◌, ◌≤◌, ◌++◌, IfErr, IfOk, IsOk, None, OnOk, length};
+ghost use Rattle.command_words.specs.Words.{IsInRange};
+ghost use Rattle.network_file.specs.declared.limits.TheConstants.{MOST_BYTES};
+ghost use Rattle.call_ending.specs.Refusing.{IsRefusalOf};
+ghost use Rattle.run_modes.specs.SampleMode.{IsSampleText, sample_line, sample_of, sample_refused};
+ghost use Rattle.workerless_call.specs.Task.{task_of};
+ghost use Rattle.network_file.specs.Reading.{network_of};
+ghost use Rattle.workerless_call.specs.NetworkInput.{IsNetworkWith};
+ghost use Rattle.run_modes.specs.Told.{HasToldSample};
+
+use call_ending::Refusal;
+use command_words::Request;
+use delay_report::put_last_totals;
+use line_fields::put_count;
+use network_file::Net;
+use network_run::last_regions;
+use no_memory::NoMemory;
+use region_cut::charted;
+use region_slots::Gate;
+use std::alloc::Global;
+use std::thread::Threads;
+use workerless_call::{network_in, regions_wanted};
+
+/// What is in a made network, and its totals once workers have taken it through all its steps, in regions.
+pub fn sample_text<R: Threads + Sync, G: Gate>(
+    rt: &R,
+    alloc: Global,
+    request: Request,
+    input: &[u8],
+    gate: &G,
+) -> Result<Vec<u8>, Refusal>
+    requires in_range { IsInRange request }
+    requires few_bytes { length input.now ≤ MOST_BYTES }
+    ensures text { IfOk result (λ text. (sample_refused (task_of request input.now) ≡ None) × IsSampleText (task_of request input.now) text.items) }
+    ensures told { IsOk result → IsNetworkWith (network_of input.now) (λ net. HasToldSample (G.told_held gate.now) (G.told_freed gate.now) net request) }
+    ensures refusal { IfErr result (IsRefusalOf (sample_refused (task_of request input.now)) ⊥) }
+{
+    match network_in(alloc, input) {
+        Ok(net) => Ok(sample_totals(rt, alloc, &net, request, gate)?),
+        Err(refusal) => Err(refusal),
+    }
+}
+
+// The lines of a network.
+#[tactic(auto, unfolding(crate::specs::SampleMode::sample_of))]
+fn sample_totals<R: Threads + Sync, G: Gate>(
+    rt: &R,
+    alloc: Global,
+    net: &Net,
+    request: Request,
+    gate: &G,
+) -> Result<Vec<u8>, NoMemory>
+    requires { IsInRange request }
+    ensures text { IfOk result (λ text. text.items ≡ sample_of request.size request.seed net.now) }
+    ensures told { IsOk result → HasToldSample (G.told_held gate.now) (G.told_freed gate.now) net.now request }
+{
+    let _steps = net.steps;
+    let chart = charted(alloc, net, regions_wanted(net, request))?;
+    let regions = last_regions(rt, alloc, net, &chart, 0, request.workers, gate)?;
+    let mut text = Vec::new(alloc);
+    put_sample_line(&mut text, net, request.size, request.seed)?;
+    put_last_totals(alloc, net, &chart, &regions, &mut text)?;
+    Ok(text)
+}
+
+#[tactic(auto, unfolding(crate::specs::SampleMode::sample_line))]
+fn put_sample_line(text: &mut Vec<u8>, net: &Net, size: u32, seed: u32) -> Result<(), NoMemory>
+    ensures { OnOk result (text.new.items ≡ text.old.items ++ sample_line size seed net.now) }
+{
+    text.extend_from_slice(b"sample")?;
+    put_count(text, u64::from(size))?;
+    put_count(text, u64::from(seed))?;
+    put_count(text, net.cells.len() as u64)?;
+    put_count(text, net.connectors.len() as u64)?;
+    put_count(text, net.steps)?;
+    text.extend_from_slice(b"\n")?;
+    Ok(())
+}

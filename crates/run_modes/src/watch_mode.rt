@@ -1,0 +1,94 @@
+ghost use Rattle.std.specs.Prelude.{◌≡◌, ◌≤◌, IfErr, IfOk, IsOk, None, Some, length, nat_lt};
+ghost use Rattle.command_words.specs.Words.{IsInRange};
+ghost use Rattle.network_file.specs.declared.limits.TheConstants.{MOST_BYTES};
+ghost use Rattle.call_ending.specs.Refusing.{IsRefusalOf};
+ghost use Rattle.workerless_call.specs.Task.{task_of};
+ghost use Rattle.run_modes.specs.WatchMode.{HasShotsAndReport, IsWatchText, large_shots, shown_rows, watch_refused};
+ghost use Rattle.network_file.specs.Reading.{network_of};
+ghost use Rattle.workerless_call.specs.NetworkInput.{IsNetworkWith};
+ghost use Rattle.run_modes.specs.Told.{HasToldRun};
+
+use call_ending::{Cause, Line, Refusal};
+use command_words::Request;
+use delay_report::run_report;
+use network_file::Net;
+use network_run::{Watched, watched_regions};
+use no_memory::NoMemory;
+use region_slots::Gate;
+use std::alloc::Global;
+use std::thread::Threads;
+use workerless_call::{chart_asked, large_record, network_in, records_too_much};
+
+/// The most rows that a run's shots may show: cells times shots.
+const MOST_SHOWN: u64 = 4_000_000;
+
+/// The shots and the report of a network that workers take through all its steps, in regions.
+pub fn watch_text<R: Threads + Sync, G: Gate>(
+    rt: &R,
+    alloc: Global,
+    request: Request,
+    input: &[u8],
+    gate: &G,
+) -> Result<Vec<u8>, Refusal>
+    requires in_range { IsInRange request }
+    requires few_bytes { length input.now ≤ MOST_BYTES }
+    ensures text { IfOk result (λ text. (watch_refused (task_of request input.now) ≡ None) × IsWatchText (task_of request input.now) text.items) }
+    ensures told { IsOk result → IsNetworkWith (network_of input.now) (λ net. HasToldRun (G.told_held gate.now) (G.told_freed gate.now) net request) }
+    ensures refusal { IfErr result (IsRefusalOf (watch_refused (task_of request input.now)) ⊥) }
+{
+    let net = match network_in(alloc, input) {
+        Ok(net) => net,
+        Err(refusal) => return Err(refusal),
+    };
+    if records_too_much(&net, u64::from(request.every)) {
+        return Err(large_record());
+    }
+    if shows_too_much(&net, request.shots) {
+        return Err(large_shots());
+    }
+    Ok(shots_and_report(rt, alloc, &net, request, gate)?)
+}
+
+// Whether so many shots would show more rows than they may.
+fn shows_too_much(net: &Net, shots: u32) -> bool
+    ensures { result ≡ nat_lt 4_000_000 (shown_rows net.now shots) }
+{
+    net.cells.len() as u64 * u64::from(shots) > MOST_SHOWN
+}
+
+// The refusal of a run whose shots would.
+fn large_shots() -> Refusal
+    ensures { IsRefusalOf (Some large_shots) ⊥ result }
+{
+    Refusal::Told(Cause::TooLarge, Line::Fixed(b"ctm: too large: shots\n"))
+}
+
+// The shots and the report, whatever they show and record.
+fn shots_and_report<R: Threads + Sync, G: Gate>(
+    rt: &R,
+    alloc: Global,
+    net: &Net,
+    request: Request,
+    gate: &G,
+) -> Result<Vec<u8>, NoMemory>
+    requires { IsInRange request }
+    ensures text { IfOk result (λ text. HasShotsAndReport net.now request text.items) }
+    ensures told { IsOk result → HasToldRun (G.told_held gate.now) (G.told_freed gate.now) net.now request }
+{
+    let _steps = net.steps;
+    let every = u64::from(request.every);
+    let chart = chart_asked(alloc, net, request)?;
+    let Watched { mut shots, regions } = watched_regions(
+        rt,
+        alloc,
+        net,
+        &chart,
+        every,
+        request.workers,
+        request.shots,
+        gate,
+    )?;
+    let report = run_report(alloc, net, &chart, &regions, every)?;
+    shots.extend_from_slice(&report)?;
+    Ok(shots)
+}

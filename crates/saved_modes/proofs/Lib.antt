@@ -1,0 +1,4 @@
+pub mod RecutParts
+pub mod Resumed
+pub mod Resuming
+pub mod Saved

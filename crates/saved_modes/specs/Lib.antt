@@ -1,0 +1,4 @@
+pub mod RecutMode
+pub mod Recutting
+pub mod ResumeMode
+pub mod SaveMode

@@ -1,0 +1,143 @@
+ghost use Rattle.std.specs.Prelude.{◌≡◌, ◌<◌, ◌≤◌, All, IfOk, Some, length, replicate};
+ghost use Rattle.region_cut.specs.Chart.{chart_of};
+ghost use Rattle.region_cut.specs.Cuttings.{region_count};
+ghost use Rattle.region_cut.specs.LawfulSteps.{AreLawful};
+ghost use Rattle.region_step.specs.Start.{Fits, IsTrueStart};
+ghost use Rattle.snapshot.specs.Shots.{goal_of};
+ghost use Rattle.delay_report.specs.Report.{report_of};
+ghost use Rattle.saved_modes.specs.Recutting.{IsLastPart, IsPart, step_of};
+
+use delay_report::report_from;
+use network_file::Net;
+use network_run::regions_from;
+use no_memory::NoMemory;
+use region_cut::{Chart, Cut};
+use region_slots::Gate;
+use region_step::{Region, Start};
+use saved_run::even_start;
+use std::alloc::Global;
+use std::thread::Threads;
+
+/// What a part of a run comes to: the regions of its chart, at the step where the part ends.
+#[derive(Drop)]
+pub(crate) struct Part {
+    step: u64,
+    chart: Chart,
+    regions: Vec<Region>,
+}
+
+/// The report of a run in as many parts as there are cuttings of the network, by so many workers. The goals divide the
+/// steps evenly, rounded down; each part takes the regions of its cutting from the last goal to its own, and one whose
+/// goal is the last one again is passed over. Where memory is refused the cuttings are gone.
+pub fn recut_report<R: Threads + Sync, G: Gate>(
+    rt: &R,
+    alloc: Global,
+    net: &Net,
+    cuts: Vec<Cut>,
+    workers: u32,
+    gate: &G,
+) -> Result<Vec<u8>, NoMemory>
+    requires some { 1 ≤ length cuts.items }
+    requires few { length cuts.items ≤ 64 }
+    requires one_each { All (λ cut. length cut ≡ length net.now.cells) cuts.items }
+    requires workers { (1 ≤ workers) × (workers ≤ 16) }
+
+    // That of the plain recurrences, whatever the cuttings.
+    ensures text { IfOk result (λ text. text.items ≡ report_of net.now 0) }
+{
+    let _steps = net.steps;
+    let parts = cuts.len() as u32;
+    let mut last: Option<Part> = None;
+    let mut i = 0;
+    for cut in cuts {
+        i += 1;
+        let goal = goal_at(net, parts, i);
+        if goal > step_of(&last) {
+            last = Some(next_part(rt, alloc, net, last, cut, goal, workers, gate)?);
+        }
+    }
+    let part = last.unwrap();
+    part_report(alloc, net, &part)
+}
+
+// Goal `i` of so many parts.
+fn goal_at(net: &Net, parts: u32, i: u32) -> u64
+    requires some { 1 ≤ parts }
+    requires one_of { i ≤ parts }
+    ensures goal { result ≡ goal_of net.now.steps parts i }
+    ensures in_time { result ≤ net.now.steps }
+    ensures last { i ≡ parts → result ≡ net.now.steps }
+{
+    u64::from(i) * net.steps / u64::from(parts)
+}
+
+// The step where the last part ended, 0 before the first.
+fn step_of(last: &Option<Part>) -> u64
+    ensures { result ≡ step_of last.now }
+{
+    match last {
+        Some(part) => part.step,
+        None => 0,
+    }
+}
+
+// The part to a goal, in another cutting.
+fn next_part<R: Threads + Sync, G: Gate>(
+    rt: &R,
+    alloc: Global,
+    net: &Net,
+    last: Option<Part>,
+    cut: Cut,
+    goal: u64,
+    workers: u32,
+    gate: &G,
+) -> Result<Part, NoMemory>
+    requires last { IsLastPart net.now last }
+    requires one_each { length cut ≡ length net.now.cells }
+    requires later { step_of last < goal }
+    requires in_time { goal ≤ net.now.steps }
+    requires workers { (1 ≤ workers) × (workers ≤ 16) }
+    ensures part { IfOk result (IsPart net.now) }
+    ensures goal { IfOk result (λ part. part.step ≡ goal) }
+{
+    let _steps = net.steps;
+    let chart = Chart::new(alloc, net, cut)?;
+    let start = part_start(alloc, net, last, &chart)?;
+    let regions = regions_from(rt, alloc, net, &chart, &start, 0, goal, workers, gate)?;
+    Ok(Part {
+        step: goal,
+        chart,
+        regions,
+    })
+}
+
+// Where the regions of a chart start behind the last part.
+fn part_start(
+    alloc: Global,
+    net: &Net,
+    last: Option<Part>,
+    chart: &Chart,
+) -> Result<Start, NoMemory>
+    requires last { IsLastPart net.now last }
+    ensures steps { IfOk result (λ start. start.steps ≡ replicate (region_count chart.now.cut) (step_of last)) }
+    ensures fits { IfOk result (λ start. Fits net.now chart.now.cut start) }
+    ensures lawful { IfOk result (λ start. AreLawful net.now chart.now.cut start.steps) }
+    ensures true_start { IfOk result (λ start. IsTrueStart net.now chart.now.cut start) }
+{
+    let _steps = net.steps;
+    match last {
+        Some(part) => even_start(alloc, net, &part.chart, &part.regions, chart),
+        None => Start::zero(alloc, net, chart),
+    }
+}
+
+// The report of a part that ends at the last step.
+fn part_report(alloc: Global, net: &Net, part: &Part) -> Result<Vec<u8>, NoMemory>
+    requires part { IsPart net.now part.now }
+    requires ended { part.now.step ≡ net.now.steps }
+    ensures { IfOk result (λ text. text.items ≡ report_of net.now 0) }
+{
+    let _steps = net.steps;
+    let text = report_from(alloc, net, &part.chart, &part.regions)?;
+    Ok(text)
+}

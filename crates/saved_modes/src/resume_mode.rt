@@ -1,0 +1,118 @@
+ghost use Rattle.std.specs.Prelude.{◌≡◌, ◌≤◌, IfErr, IfOk, None, Some, length, replicate};
+ghost use Rattle.command_words.specs.Words.{IsInRange};
+ghost use Rattle.region_cut.specs.Chart.{chart_of};
+ghost use Rattle.region_cut.specs.Cuttings.{region_count};
+ghost use Rattle.region_step.specs.Standing.{AllStand};
+ghost use Rattle.region_step.specs.Start.{IsTrueStart};
+ghost use Rattle.saved_run.specs.Loading.{CanStart};
+ghost use Rattle.delay_report.specs.FromStart.{report_from};
+ghost use Rattle.delay_report.specs.Report.{report_of};
+ghost use Rattle.call_ending.specs.Refusing.{IsRefusalOf};
+ghost use Rattle.saved_modes.specs.ResumeMode.{IsResumeText, resume_refused, saved_refused, why_of_fault};
+ghost use Rattle.workerless_call.specs.Task.{task_of};
+
+use call_ending::{Cause, Line, Refusal};
+use command_words::Request;
+use delay_report::report_from;
+use network_file::{Net, NetRefusal};
+use network_run::regions_from;
+use no_memory::NoMemory;
+use region_cut::Chart;
+use region_slots::Gate;
+use region_step::{Region, Start};
+use saved_run::{LoadFault, LoadRefusal, load};
+use std::alloc::Global;
+use std::thread::Threads;
+use workerless_call::refused;
+
+/// The report of a saved run that workers take on to the last step.
+pub fn resume_text<R: Threads + Sync, G: Gate>(
+    rt: &R,
+    alloc: Global,
+    request: Request,
+    input: &[u8],
+    gate: &G,
+) -> Result<Vec<u8>, Refusal>
+    requires in_range { IsInRange request }
+    ensures text { IfOk result (λ text. (resume_refused (task_of request input.now) ≡ None) × IsResumeText (task_of request input.now) text.items) }
+    ensures refusal { IfErr result (IsRefusalOf (resume_refused (task_of request input.now)) ⊥) }
+{
+    let saved = match load(alloc, input) {
+        Ok(saved) => saved,
+        Err(LoadRefusal::Fault(fault)) => return Err(unsaved(alloc, fault)),
+        Err(LoadRefusal::NoMemory) => return Err(Refusal::NoMemory),
+    };
+    let text = report_on(
+        rt,
+        alloc,
+        &saved.net,
+        &saved.chart,
+        &saved.start,
+        request.workers,
+        gate,
+    )?;
+    Ok(text)
+}
+
+// The report of regions that go on from a start.
+fn report_on<R: Threads + Sync, G: Gate>(
+    rt: &R,
+    alloc: Global,
+    net: &Net,
+    chart: &Chart,
+    start: &Start,
+    workers: u32,
+    gate: &G,
+) -> Result<Vec<u8>, NoMemory>
+    requires chart { chart.now ≡ chart_of net.now chart.now.cut }
+    requires one_each { length chart.now.cut ≡ length net.now.cells }
+    requires can_start { CanStart net.now chart.now.cut start.now }
+    requires workers { (1 ≤ workers) × (workers ≤ 16) }
+    ensures text { IfOk result (λ text. text.items ≡ report_from net.now chart.now.cut start.now) }
+
+    // Of a true start it is the report of the plain recurrences.
+    ensures plain { IfOk result (λ text. IsTrueStart net.now chart.now.cut start.now → text.items ≡ report_of net.now 0) }
+{
+    let _steps = net.steps;
+    let regions = last_regions_from(rt, alloc, net, chart, start, workers, gate)?;
+    let text = report_from(alloc, net, chart, &regions)?;
+    Ok(text)
+}
+
+// The regions that go on from a start, at the last step.
+fn last_regions_from<R: Threads + Sync, G: Gate>(
+    rt: &R,
+    alloc: Global,
+    net: &Net,
+    chart: &Chart,
+    start: &Start,
+    workers: u32,
+    gate: &G,
+) -> Result<Vec<Region>, NoMemory>
+    requires chart { chart.now ≡ chart_of net.now chart.now.cut }
+    requires can_start { CanStart net.now chart.now.cut start.now }
+    requires workers { (1 ≤ workers) × (workers ≤ 16) }
+    ensures { IfOk result (λ regions. AllStand net.now chart.now start.now 0 (replicate (region_count chart.now.cut) net.now.steps) regions.items) }
+{
+    let last = net.steps;
+    regions_from(rt, alloc, net, chart, start, 0, last, workers, gate)
+}
+
+// The refusal of a text by its first fault.
+fn unsaved(alloc: Global, fault: LoadFault) -> Refusal
+    ensures { IsRefusalOf (Some (why_of_fault fault)) ⊥ result }
+{
+    match fault {
+        LoadFault::Spelling => told(b"ctm: saved: code 1 Spelling\n"),
+        LoadFault::Network(fault) => refused(alloc, NetRefusal::Fault(fault)),
+        LoadFault::Cutting => told(b"ctm: saved: code 3 Cutting\n"),
+        LoadFault::Start => told(b"ctm: saved: code 4 Start\n"),
+    }
+}
+
+// The refusal with this line.
+fn told(line: &'static [u8]) -> Refusal
+    ensures { IsRefusalOf (Some (saved_refused line.now)) ⊥ result }
+{
+    Refusal::Told(Cause::Saved, Line::Fixed(line))
+}

@@ -1,0 +1,60 @@
+ghost use Rattle.std.specs.Prelude.{◌≡◌, ◌≤◌, IfErr, IfOk, None, Ok, length};
+ghost use Rattle.command_words.specs.Words.{IsInRange};
+ghost use Rattle.network_file.specs.Reading.{network_of};
+ghost use Rattle.network_file.specs.declared.limits.TheConstants.{MOST_BYTES};
+ghost use Rattle.call_ending.specs.Refusing.{IsRefusalOf};
+ghost use Rattle.saved_modes.specs.SaveMode.{IsSaveText, IsSavedRun, save_refused};
+ghost use Rattle.workerless_call.specs.Task.{task_of};
+
+use call_ending::Refusal;
+use command_words::Request;
+use network_file::Net;
+use network_run::room_near;
+use no_memory::NoMemory;
+use region_slots::Gate;
+use saved_run::save_text;
+use std::alloc::Global;
+use std::thread::Threads;
+use workerless_call::{chart_asked, network_in};
+
+/// The saved text of a network whose regions workers take near a step.
+pub fn saved_text<R: Threads + Sync, G: Gate>(
+    rt: &R,
+    alloc: Global,
+    request: Request,
+    input: &[u8],
+    gate: &G,
+) -> Result<Vec<u8>, Refusal>
+    requires in_range { IsInRange request }
+    requires few_bytes { length input.now ≤ MOST_BYTES }
+    ensures text { IfOk result (λ text. (save_refused (task_of request input.now) ≡ None) × IsSaveText (task_of request input.now) text.items) }
+    ensures refusal { IfErr result (IsRefusalOf (save_refused (task_of request input.now)) ⊥) }
+{
+    match network_in(alloc, input) {
+        Ok(net) => Ok(saved_near(rt, alloc, &net, input, request, gate)?),
+        Err(refusal) => Err(refusal),
+    }
+}
+
+// The saved text of the network of these bytes.
+fn saved_near<R: Threads + Sync, G: Gate>(
+    rt: &R,
+    alloc: Global,
+    net: &Net,
+    input: &[u8],
+    request: Request,
+    gate: &G,
+) -> Result<Vec<u8>, NoMemory>
+    requires in_range { IsInRange request }
+    requires network { network_of input.now ≡ Ok net.now }
+    requires few_bytes { length input.now ≤ MOST_BYTES }
+    ensures { IfOk result (λ text. IsSavedRun net.now request input.now text.items) }
+{
+    let _steps = net.steps;
+    let until = u64::from(request.until);
+    let chart = chart_asked(alloc, net, request)?;
+    let _regions = chart.regions();
+    let room = room_near(rt, alloc, net, &chart, until, request.workers, gate)?;
+    let text = save_text(alloc, &chart, &room, input)?;
+    Ok(text)
+}
