@@ -1,4 +1,4 @@
-"""A small repository with ./ctm and ./ctm-wait, in which tests/fake_rt stands for the toolchain's command: it sleeps in place of proving."""
+"""A small repository with ./ctm and ./ctm-wait, and a stand-in for the toolchain, which sleeps in place of proving."""
 
 import shutil
 import signal
@@ -28,16 +28,20 @@ def heed_signals():
 
 
 class Repository:
-    """A small repository with the launcher, in which tests/fake_rt stands for rt."""
+    """A small repository with the launcher, in which tests/fake_rt stands for rt and tests/fake_rattle for the prover."""
 
     def __init__(self, folder, has_rt=True):
         self.top = Path(folder) / "repository"
         self.bin = Path(folder) / "bin"
         self.log = Path(folder) / "log"
         self.trial = Path(folder) / "trial"
+        self.passing = Path(folder) / "passing"
         self.bin.mkdir()
+        self.passing.mkdir()
         if has_rt:
             shutil.copy(TOP / "tests/fake_rt", self.bin / "rt")
+            for command in "rattle", "rattle-link":
+                shutil.copy(TOP / "tests/fake_rattle", self.bin / command)
         self.top.mkdir()
         for command in ("ctm", "ctm-wait"):
             shutil.copy(TOP / command, self.top)
@@ -57,7 +61,7 @@ class Repository:
     @property
     def environment(self):
         return {"PATH": f"{self.bin}:/usr/bin:/bin", "HOME": str(self.top), "CTM_JOBS": str(JOBS),
-                "FAKE_RT_LOG": str(self.log), "FAKE_RT_TRY": str(self.trial)}
+                "TMPDIR": str(self.passing), "FAKE_RT_LOG": str(self.log), "FAKE_RT_TRY": str(self.trial)}
 
     def start(self, *words, command="ctm", **how):
         how = {"stdin": subprocess.DEVNULL, "stdout": subprocess.PIPE, "stderr": subprocess.PIPE,
@@ -71,7 +75,7 @@ class Repository:
         return process.returncode, out.decode(), err.decode()
 
     def events(self, *kinds):
-        """What fake_rt noted since it was last asked: the kind of the event, the crate and its jobs."""
+        """What fake_rattle noted since it was last asked: the kind of the event, the crate and its jobs."""
         lines = self.log.read_text().splitlines() if self.log.exists() else []
         self.log.write_text("")
         return [tuple(line.split()[1:]) for line in lines if not kinds or line.split()[1] in kinds]

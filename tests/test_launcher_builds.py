@@ -1,6 +1,7 @@
 """How ./ctm builds: which crates in which order and by how many jobs, what it says, and what it leaves behind."""
 
 import re
+import shutil
 import signal
 import subprocess
 import time
@@ -11,12 +12,12 @@ from launched import JOBS
 
 
 def test_crates_are_proved_side_by_side_the_longest_chain_first(repository):
-    for name in ("long", "side"):
+    for name in ("low", "long", "side"):
         (repository.top / "crates" / name / "src/seconds").write_text("6\n")
     err = repository.call("run")[2]
     events = repository.events()
     assert [name for kind, name, _ in events if kind == "began"][:2] in (["low", "other"], ["other", "low"])
-    assert not [it for it in events if it[0] == "waited" or it[0].startswith("lacked")]
+    assert not [it for it in events if it[0].startswith("lacked") or it[0] == "without-statements"]
     order = [(kind, name) for kind, name, _ in events if kind in ("began", "ended")]
     # `side` is proved while `long` is, though both stand on `low`.
     assert order.index(("began", "side")) < order.index(("ended", "long"))
@@ -42,7 +43,7 @@ def test_a_crate_that_fails_is_told(repository):
     assert (status, out) == (125, "")
     assert "long is wrong" in err and "long failed after" in err
     assert err.splitlines()[-1] == "./ctm: the build failed, so nothing was run"
-    assert not (repository.top / ".ctm-build").exists()
+    assert not any(repository.passing.iterdir())
     (repository.top / "crates/long/src/lib.rt").write_text("// long\n")
     repository.events()
     assert repository.call("run")[0] == 0
@@ -59,7 +60,7 @@ def test_an_interrupted_build_leaves_nothing_behind(repository, number):
     _, err = process.communicate(timeout=30)
     assert process.returncode == 125
     assert b"interrupted, so nothing was run" in err
-    assert not (repository.top / ".ctm-build").exists()
+    assert not any(repository.passing.iterdir())
     sleeping = subprocess.run(["pgrep", "-f", f"^sleep {77 / JOBS:g}$"], stdout=subprocess.PIPE)
     assert sleeping.stdout == b""
 
@@ -72,15 +73,11 @@ def test_two_calls_at_once_build_once(repository):
     assert sorted(repository.proved()) == ["ctm_program", "long", "low", "other", "side", "top"]
 
 
-def test_the_folder_of_a_build_is_out_of_reach_of_the_gate(repository):
-    (repository.top / ".git").mkdir()
-    process = repository.start("run")
-    while not repository.log.exists() or "began" not in repository.log.read_text():
-        time.sleep(0.01)
-    outside = [path for path in repository.top.rglob("*.rt")
-               if path.relative_to(repository.top).parts[0] not in ("crates", ".git")]
-    assert process.communicate(timeout=60) and outside == []
-    assert not (repository.top / ".git/ctm-build").exists()
+def test_a_library_that_was_removed_is_made_again_and_what_stands_on_it(built):
+    shutil.rmtree(built.top / "crates/long/out/proved/long.rlib")
+    built.edit("other")
+    assert built.call("run")[0] == 0
+    assert sorted(built.proved()) == ["ctm_program", "long", "other", "top"]
 
 
 def test_the_time_that_is_left():

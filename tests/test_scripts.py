@@ -8,7 +8,7 @@ from conftest import TOP
 
 
 SCRIPTS = ["ctm", "ctm-wait", "ctm-tools", "launcher/words", "launcher/current", "launcher/having", "launcher/try",
-           "tests/fake_rt", "tests/program", "tests/launcher", "examples/check", "tools/check", "tools/find-python",
+           "tests/fake_rt", "tests/fake_rattle", "tests/program", "tests/launcher", "examples/check", "tools/check", "tools/find-python",
            "tools/pictures", "tools/setup", ".ci/run"]
 
 
