@@ -1,8 +1,8 @@
 """In which order crates are proved and by how many jobs, and how long that takes.
 
 The crates behind which the longest chain of others waits come first. Such a crate is begun as soon as it can be, by as
-many jobs as there are processors where it is the only one. All others get one job each, since more jobs take more time of
-the processors in all, and those that don't come first run at a lower priority: they take what is left idle.
+many jobs as there are processors, or by its share of them where several come first. All others get one job each, since
+more jobs take more time of the processors in all, and run at a lower priority: they take what is left idle.
 """
 
 SPEED_OF_A_JOB = 0.3  # what each job beyond the first adds to a check's speed, as a first command from nothing showed
@@ -29,8 +29,10 @@ class Schedule:
         name = max(ready, key=self.chains.get)
         if not self.comes_first(name, [*ready, *jobs]):
             return (name, 1) if len(jobs) < self.processors else None
-        is_only = not any(self.comes_first(it, [*ready, *jobs]) for it in jobs)
-        return name, max(1, min(self.processors, free)) if is_only else 1
+        firsts = [it for it in (*ready, *jobs) if self.comes_first(it, [*ready, *jobs])]
+        taken = sum(jobs[it] for it in firsts if it in jobs)
+        share = (self.processors - taken) // sum(it not in jobs for it in firsts)
+        return name, max(1, min(share, free))
 
     def comes_first(self, name, others):
         """Whether the chain of crates that wait for this one is about as long as the longest of these others."""

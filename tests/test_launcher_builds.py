@@ -95,6 +95,7 @@ def test_a_crate_that_comes_first_waits_for_no_other():
     assert schedule_of_three("next_start(set(), {'a': 2})", c=29) == "('c', 1)"
     assert schedule_of_three("next_start({'a'}, {'c': 1})", c=29) == "('b', 1)"
     assert schedule_of_three("next_start({'a', 'c'}, {'d': 1})") == "('b', 2)"
+    assert schedule_of_three("next_start({'a'}, {})", c=20) == "('b', 1)"
 
 
 def schedule_of_three(asked, a=10, b=20, c=5):
