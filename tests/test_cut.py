@@ -132,7 +132,7 @@ def test_the_regions_of_the_file_come_first(run):
     (10000, 16, 78), (10111, 10, 78), (10112, 10, 79), (16383, 16, 127), (16384, 16, 128), (20000, 16, 128),
 ])
 def test_regions_are_chosen_by_the_cells_and_the_workers(cells, workers, regions, run):
-    """One for one worker and below 10,000 cells, else 8 for each worker, of 128 cells or more each."""
+    """One for one worker and below 10,000 cells, else 8 for each worker, or fewer, so that each has 128 cells or more."""
     names = ["g", *(f"r{i}" for i in range(cells - 2)), "x"]
     chain = lines("; ".join(["ctm,1; steps,1; gate,g,2,0", *(f"road,{it},6,2,1,2,0" for it in names[1:-1]), "exit,x,2",
                              *(f"link,{one},{other}" for one, other in zip(names, names[1:]))]))

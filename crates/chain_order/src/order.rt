@@ -26,7 +26,7 @@ impl Model for Order {
 
 impl Order {
     /// The order of these cells by the links among these connectors: chains in the order of their first cells, and
-    /// then rings. Where each link leads to the cell behind, it is the order that was given. Links of cells that
+    /// then rings. Where each link leads to the next cell of the file, it is the order that was given. Links of cells that
     /// don't stand in rising order may be missed.
     pub fn of(
         alloc: Global,
@@ -66,7 +66,7 @@ impl Order {
     }
 }
 
-// Whether each link among these connectors leads to the cell behind, so that chains lie side by side as they are.
+// Whether each link among these connectors leads to the next cell of the file, so that chains lie side by side as they are.
 fn are_in_order(net: &Net, connectors: &[u32]) -> bool
     requires { All (λ k. k < length net.now.connectors) connectors.now }
 {

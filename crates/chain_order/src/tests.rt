@@ -6,10 +6,11 @@ use no_memory::NoMemory;
 use std::alloc::Global;
 use std::test::Fail;
 
-// A road from a gate to an exit and a ring, with cells that stand in the file in another order than links join them.
+// A road from a gate to an exit and a ring, with cells that stand in the file in another order than links join them; one
+// link alone leads to the next cell of the file.
 const ROADS: &str =
-    "ctm,1; steps,9; exit,d,1; road,b,4,1,1,2,0; road,r,4,1,1,2,1; gate,a,2,1; road,t,4,1,1,2,0; \
-road,c,4,1,1,2,0; road,s,4,1,1,2,0; link,b,c; link,r,s; link,c,d; link,t,r; link,a,b; link,s,t";
+    "ctm,1; steps,9; exit,d,1; road,b,4,1,1,2,0; road,c,4,1,1,2,0; road,r,4,1,1,2,1; gate,a,2,1; \
+road,t,4,1,1,2,0; road,s,4,1,1,2,0; link,b,c; link,r,s; link,c,d; link,t,r; link,a,b; link,s,t";
 
 const ALL: [u32; 6] = [0, 1, 2, 3, 4, 5];
 
@@ -39,8 +40,8 @@ fn cells_of_chains_lie_side_by_side_and_rings_behind_them(rt: HostRuntime) -> Re
             rt.alloc(),
             &net,
             &[0, 1, 2, 3, 4, 5, 6],
-            &[3, 1, 5, 0, 2, 6, 4],
-            &[3, 1, 4, 0, 6, 2, 5]
+            &[4, 1, 2, 0, 3, 6, 5],
+            &[3, 1, 2, 4, 0, 6, 5]
         )?,
         "all"
     );
@@ -48,8 +49,8 @@ fn cells_of_chains_lie_side_by_side_and_rings_behind_them(rt: HostRuntime) -> Re
         are_placed(
             rt.alloc(),
             &net,
-            &[1, 2, 3, 6],
-            &[2, 6, 3, 1],
+            &[1, 3, 4, 6],
+            &[3, 6, 4, 1],
             &[3, 0, 2, 1]
         )?,
         "some"

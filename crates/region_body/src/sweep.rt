@@ -17,17 +17,17 @@ pub(crate) fn sweep(places: &mut [Place], before: &mut [u64])
     let Some(last) = places.len().checked_sub(1) else {
         return;
     };
-    let mut enters = pass_fours(places, before, last);
+    let mut enters = sweep_fours(places, before, last);
     for p in last / 4 * 4..last {
-        enters = pass(places, before, p, enters);
+        enters = sweep_one(places, before, p, enters);
     }
     before[last] = places[last].n;
     places[last].step(enters, 0);
 }
 
-// Takes the first of so many places through the step, in fours as far as these go, and gives what enters the next one.
+// Takes the places before the last through the step, in fours as far as these go, and gives what enters the next one.
 #[inline(always)]
-fn pass_fours(places: &mut [Place], before: &mut [u64], last: usize) -> u64
+fn sweep_fours(places: &mut [Place], before: &mut [u64], last: usize) -> u64
     requires sound { AreSound places.old }
     requires within { last < length places.old }
     requires one_each { length before.old ≡ length places.old }
@@ -35,29 +35,29 @@ fn pass_fours(places: &mut [Place], before: &mut [u64], last: usize) -> u64
 {
     let mut enters = 0;
     for m in 0..last / 4 {
-        enters = pass_four(places, before, 4 * m, enters);
+        enters = sweep_four(places, before, 4 * m, enters);
     }
     enters
 }
 
 // Takes four places: a loop over single ones takes some instructions more for each.
 #[inline(always)]
-fn pass_four(places: &mut [Place], before: &mut [u64], p: usize, enters: u64) -> u64
+fn sweep_four(places: &mut [Place], before: &mut [u64], p: usize, enters: u64) -> u64
     requires there { p + 4 < length places.old }
     requires one_each { length before.old ≡ length places.old }
     requires swept { (first : List PlaceValue) × IsSweptTo first p places.old before.old enters }
     ensures { (first : List PlaceValue) → IsSweptTo first p places.old before.old enters →
         IsSweptTo first (p + 4) places.new before.new result }
 {
-    let second = pass(places, before, p, enters);
-    let third = pass(places, before, p + 1, second);
-    let fourth = pass(places, before, p + 2, third);
-    pass(places, before, p + 3, fourth)
+    let second = sweep_one(places, before, p, enters);
+    let third = sweep_one(places, before, p + 1, second);
+    let fourth = sweep_one(places, before, p + 2, third);
+    sweep_one(places, before, p + 3, fourth)
 }
 
 // Takes the place of this number, which so much enters, and gives what leaves it for the next one.
 #[inline(always)]
-fn pass(places: &mut [Place], before: &mut [u64], p: usize, enters: u64) -> u64
+fn sweep_one(places: &mut [Place], before: &mut [u64], p: usize, enters: u64) -> u64
     requires there { p + 1 < length places.old }
     requires one_each { length before.old ≡ length places.old }
     requires swept { (first : List PlaceValue) × IsSweptTo first p places.old before.old enters }

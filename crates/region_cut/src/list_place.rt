@@ -16,7 +16,7 @@ pub fn place(list: &[u32], number: u32) -> u32
     }
 }
 
-/// The same in a list that may not have the number.
+/// The place of a number in an increasing list, as `place` finds it, or nothing where the list doesn't have the number.
 pub fn place_if_listed(list: &[u32], number: u32) -> Option<u32>
     requires few { length list.now < 2 ^ 32 }
     requires increasing { IsStrictlyIncreasing list.now }

@@ -3,7 +3,7 @@ use Rattle.std.specs.Prelude.{ℕ, ◌*◌, ◌/◌, ◌||◌, Option, Some, Non
 use Rattle.command_words.specs.declared.request.Request.{Request}
 
 -- how many are chosen for so many cells and workers: one for one worker and where there are fewer than 10,000 cells, and
--- else eight for each worker, of 128 cells or more each
+-- else eight for each worker, or fewer, so that each has 128 cells or more
 abbrev pub chosen_regions : (cells workers : ℕ) → ℕ
 chosen_regions cells workers =
     if nat_le workers 1 || nat_lt cells 10_000 then 1 else min (8 * workers) (cells / 128)

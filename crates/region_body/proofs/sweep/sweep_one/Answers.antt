@@ -3,7 +3,7 @@ use Rattle.std.proofs.lemmas.List.{get_or-set_other, length-set}
 use Rattle.region_body.specs.Places.{carried, no_place, place_at, swept}
 use Rattle.region_body.proofs.Neighbours.{link_in-more, link_out-carried, swept-more}
 use Rattle.region_body.proofs.Sets.{done_more, rest_more}
-use Rattle.region_body.proofs.sweep.pass.Goals as goal
+use Rattle.region_body.proofs.sweep.sweep_one.Goals as goal
 
 pub returns : goal.returns
 returns c = λ first held.

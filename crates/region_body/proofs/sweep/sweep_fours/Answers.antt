@@ -1,6 +1,6 @@
 use Rattle.std.proofs.Common.{refl, sym, arith}
 use Rattle.region_body.proofs.Neighbours.{link_in-first}
-use Rattle.region_body.proofs.sweep.pass_fours.Goals as goal
+use Rattle.region_body.proofs.sweep.sweep_fours.Goals as goal
 
 pub loop-m-init : goal.loop-m-init
 loop-m-init c = record {
