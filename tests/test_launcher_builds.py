@@ -50,6 +50,12 @@ def test_a_crate_that_fails_is_told(repository):
     assert "low" not in repository.proved()
 
 
+def test_a_proof_that_memory_is_too_small_for_is_tried_with_one_job(repository):
+    (repository.top / "crates/long/src/large").touch()
+    assert repository.call("run")[0] == 0
+    assert [jobs for kind, name, jobs in repository.events("began") if name == "long"] == [str(JOBS), "1"]
+
+
 @pytest.mark.parametrize("number", [signal.SIGINT, signal.SIGTERM, signal.SIGHUP])
 def test_an_interrupted_build_leaves_nothing_behind(repository, number):
     (repository.top / "crates/long/src/seconds").write_text("77\n")
