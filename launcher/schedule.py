@@ -27,9 +27,9 @@ class Schedule:
         if not ready or (jobs and free < 1):
             return None
         name = max(ready, key=self.chains.get)
-        if not self.comes_first(name, [*ready, *jobs]):
-            return (name, 1) if len(jobs) < self.processors else None
         firsts = [it for it in (*ready, *jobs) if self.comes_first(it, [*ready, *jobs])]
+        if name not in firsts:
+            return (name, 1) if len(jobs) < self.processors else None
         taken = sum(jobs[it] for it in firsts if it in jobs)
         share = (self.processors - taken) // sum(it not in jobs for it in firsts)
         return name, max(1, min(share, free))

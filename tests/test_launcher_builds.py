@@ -1,5 +1,7 @@
 """How ./ctm builds: which crates in which order and by how many jobs, what it says, and what it leaves behind."""
 
+import fcntl
+import os
 import re
 import shutil
 import signal
@@ -69,6 +71,19 @@ def test_an_interrupted_build_leaves_nothing_behind(repository, number):
     assert not any(repository.passing.iterdir())
     sleeping = subprocess.run(["pgrep", "-f", f"^sleep {77 / JOBS:g}$"], stdout=subprocess.PIPE)
     assert sleeping.stdout == b""
+
+
+def test_a_crate_in_which_rt_works_is_waited_for(repository):
+    """`rt ci` locks all crates, and moves what was made in them."""
+    held = os.open(repository.top / "crates/long", os.O_RDONLY)
+    fcntl.flock(held, fcntl.LOCK_EX)
+    process = repository.start("run")
+    for line in process.stderr:
+        if line == b"./ctm: waiting for rt, which works in crates/long\n":
+            break
+    assert "long" not in repository.proved()
+    os.close(held)
+    assert b"6 of 6: ctm_program" in process.communicate(timeout=60)[1] and process.returncode == 0
 
 
 def test_two_calls_at_once_build_once(repository):
