@@ -1,14 +1,14 @@
 """The crates of the repository: which of them a crate stands on, what their proofs cost, and whether they are built."""
 
+import csv
 import hashlib
-import re
 import subprocess
 from pathlib import Path
 
 PARTS = ("src", "specs", "proofs")
 # The programs, and the command that has each built.
 PROGRAMS = {"ctm_program": "./ctm", "ctm_wait": "./ctm-wait"}
-SECONDS_A_LINE = 0.06  # of a crate that the table of check times doesn't have
+SECONDS_A_LINE = 0.06  # of a crate that the file of check times doesn't have
 
 
 class Crates:
@@ -50,9 +50,9 @@ class Crates:
         return self.folder(name) / "out" / "proved" / f"{name}.rlib"
 
     def costs(self):
-        """The seconds that one processor takes for each crate, by the table of check times, or by its lines."""
-        page = self.top / "docs/MAP.md"
-        told = check_times(page.read_text()) if page.is_file() else {}
+        """The seconds that one processor takes for each crate, by the file of check times, or by its lines."""
+        path = self.top / "launcher/check_times.csv"
+        told = proof_times(path) if path.is_file() else {}
         return {name: told.get(name) or 1 + SECONDS_A_LINE * self.count_lines(name) for name in self.names}
 
     def count_lines(self, name):
@@ -96,15 +96,7 @@ class Crates:
         return self.library(name).parent / "sums"
 
 
-def check_times(page):
-    """The seconds of each crate's own proof, from the table of check times in docs/MAP.md."""
-    section = page.partition("## Check times")[2].partition("\n## ")[0]
-    rows = [[cell.strip() for cell in line.strip("|").split("|")] for line in section.splitlines() if line.startswith("|")]
-    heads = rows[0] if rows else []
-    column = next((at for at, head in enumerate(heads) if re.match("Proof|Seconds", head)), 0)
-    times = {}
-    for row in rows if column else ():
-        name, seconds = re.fullmatch(r"`(\w+)`", row[0]), re.match(r"\d+", "".join(row[column:column + 1]))
-        if name and seconds:
-            times[name[1]] = int(seconds[0])
-    return times
+def proof_times(path):
+    """The seconds of each crate's own proof, from the file of check times."""
+    with open(path, newline="") as file:
+        return {row["crate"]: int(row["proof"]) for row in csv.DictReader(file) if row["proof"].isdigit()}

@@ -46,9 +46,8 @@ class Repository:
         for command in ("ctm", "ctm-wait"):
             shutil.copy(TOP / command, self.top)
         shutil.copytree(TOP / "launcher", self.top / "launcher", ignore=shutil.ignore_patterns("__pycache__"))
-        (self.top / "docs").mkdir()
-        rows = "".join(f"| `{name}` | 1 | {round(100 * seconds)} | 1 |\n" for name, seconds in SECONDS.items())
-        (self.top / "docs/MAP.md").write_text(f"## Check times\n\n| Crate | Functions | Seconds | Edits |\n|---|\n{rows}")
+        rows = "".join(f"{name},1,{round(100 * seconds)},none,1\n" for name, seconds in SECONDS.items())
+        (self.top / "launcher/check_times.csv").write_text(f"crate,functions,proof,tests,edits\n{rows}")
         (self.top / "crates.txt").write_text(CRATES)
         for name, seconds in SECONDS.items():
             source = self.top / "crates" / name / "src"

@@ -10,7 +10,11 @@ from pathlib import Path
 import pytest
 from conftest import TOP
 
-LOG = """rt: low proved
+LOG = """rt: no_memory proved
+rt: low proved
+rt: trials proved
+rt: ctm_program proved
+rt: ctm_wait proved
 rt: top is kept: an earlier run on this machine proved the same files over the same libraries
 rt: must-fail low/one.edit: refused, as it must be: src/lib.rt:1:1: error
 rt: must-fail top/two.edit: refused, as it must be
@@ -21,24 +25,40 @@ rt: ok; handles allowed: none
 4 passed, 0 failed
 """
 CHECKS = ["tests/plays", "tests/program", "tests/launcher", "examples/check", "tools/check"]
+# What a check does: it passes, and it tells how many cases each of its test files has.
+PASSING = """case "$*" in *--collect-only*) echo 'test_it.py: 9000' ;; *) echo 9000 passed in 1.00s ;; esac"""
+HANDLES = "Handles allowed: Threads, Wait.\n"
 
 
 class Gate:
     def __init__(self, folder):
         self.top = Path(folder) / "repository"
         self.bin = Path(folder) / "bin"
+
+    def make(self):
+        """Makes a gate that passes."""
         for part in (".ci", "launcher"):
             shutil.copytree(TOP / part, self.top / part, ignore=shutil.ignore_patterns("__pycache__"))
-        for crate in ("low", "top", "trials", "ctm_program"):
+        for crate in ("top", "ctm_program", "ctm_wait", "no_memory"):
             self.write(f"crates/{crate}/src/lib.rt", "")
-        self.write("crates.txt", "low:\ntop: low\ntrials tests_may=Threads: top\nctm_program: top\n")
-        self.write(".ci/without-edits", "trials # tests alone\nctm_program\n")
+        self.write("crates/low/src/lib.rt", "pub fn half(n: u8) -> u8\n    ensures half { result ≡ n / 2 }\n{ n / 2 }\n")
+        self.write("crates/trials/src/lib.rt", "".join(f"#[test]\nfn trial_{at}() {{}}\n" for at in range(5)))
+        self.write("crates.txt", "no_memory:\nlow:\ntop: low\ntrials tests_may=Threads: top\nctm_program: top\nctm_wait: top\n")
+        self.write(".ci/without-edits", "no_memory\ntrials # tests alone\nctm_program\nctm_wait\n")
         self.write("crates/low/must-fail/one.edit", "")
         self.write("crates/top/must-fail/two.edit", "")
+        self.write("docs/PROVED.md", "")
+        self.write("HANDLES", HANDLES)
+        self.write("crates/top/stdin", "ctm,1\nsteps,2\n")
+        self.write("examples/one.report", "")
         self.script("tools/setup", ":")
+        self.script("launcher/prove", "mkdir -p crates/$2/out/proved/$2.rlib")
         for check in CHECKS:
-            self.script(check, "echo 9000 passed in 1.00s")
+            self.script(check, PASSING)
+        self.script("examples/check", "echo 1 passed")
         self.ci()
+        for script in (".ci/contracts", ".ci/counts"):
+            subprocess.run([self.top / script], check=True)
 
     def write(self, path, text):
         path = self.top / path
@@ -49,11 +69,16 @@ class Gate:
     def script(self, path, text):
         self.write(path, f"#!/bin/bash\n{text}\n").chmod(0o755)
 
+    def replace(self, path, old, new):
+        text = (self.top / path).read_text()
+        assert old in text
+        self.write(path, text.replace(old, new))
+
     def ci(self, log=LOG, status=0):
-        """What `rt ci` writes and ends with. It builds the program."""
+        """What `rt ci` writes and ends with. It builds the programs."""
         self.write("log", log)
-        self.script("../bin/rt", '[ "$*" = ci ] || exit 9; mkdir -p crates/ctm_program/out; '
-                    f"cp ../bin/rt crates/ctm_program/out/ctm_program; cat log; exit {status}")
+        self.script("../bin/rt", '[ "$*" = ci ] || exit 9; for it in ctm_program ctm_wait; do mkdir -p crates/$it/out; '
+                    f"cp ../bin/rt crates/$it/out/$it; done; cat log; exit {status}")
 
     def run(self):
         """The status and the lines of the gate."""
@@ -62,32 +87,42 @@ class Gate:
         return ended.returncode, ended.stdout.splitlines()
 
 
+@pytest.fixture(scope="session")
+def passing_gate(tmp_path_factory):
+    folder = tmp_path_factory.mktemp("gate")
+    Gate(folder).make()
+    return folder
+
+
 @pytest.fixture
-def gate(tmp_path):
+def gate(tmp_path, passing_gate):
+    shutil.copytree(passing_gate, tmp_path, dirs_exist_ok=True)
     return Gate(tmp_path)
 
 
 def test_a_gate_that_passes_says_how_many_checks_of_each_sort_ran(gate):
     status, told = gate.run()
+    assert told[-1] == (".ci/run: passed: 6 crates proved, 2 edits refused, 5 tests of crates passed, 9000 of tests/plays, "
+                        "9000 of tests/program, 9000 of tests/launcher, 1 of examples/check, 9000 of tools/check")
     assert status == 0
-    assert told[-1] == (".ci/run: passed: 2 crates proved, 2 edits refused, 5 tests of crates passed, 9000 of tests/plays, "
-                        "9000 of tests/program, 9000 of tests/launcher, 9000 of examples/check, 9000 of tools/check")
 
 
-def test_the_program_of_the_gate_is_current_for_the_launcher(gate):
+@pytest.mark.parametrize("program", ["ctm_program", "ctm_wait"])
+def test_the_programs_of_the_gate_are_current_for_the_launcher(gate, program):
     gate.run()
-    asks = f'top={gate.top}; target=ctm_program; . "$top/launcher/current"; is_current'
+    asks = f'top={gate.top}; target={program}; . "$top/launcher/current"; is_current'
     assert subprocess.run(["bash", "-c", asks]).returncode == 0
     gate.write("crates/low/src/lib.rt", "changed")
     assert subprocess.run(["bash", "-c", asks]).returncode == 1
 
 
-def test_each_check_gets_the_program_that_was_built_and_knows_that_it_is_in_the_gate(gate):
+def test_each_check_gets_the_programs_that_were_built_and_knows_that_it_is_in_the_gate(gate):
     for check in CHECKS:
-        gate.script(check, 'echo "$CI $CTM_PROGRAM $*"; echo 9000 passed')
+        gate.script(check, f'{PASSING}; echo "$CI $CTM_PROGRAM $CTM_WAIT_PROGRAM $*"')
     told = gate.run()[1]
-    program = f"{gate.top}/crates/ctm_program/out/ctm_program"
-    assert [line for line in told if line.startswith("true")] == [f"true {program} "] + [f"true {program} {program}"] * 3 + [f"true {program} "]
+    program, waits = (f"{gate.top}/crates/{it}/out/{it}" for it in ("ctm_program", "ctm_wait"))
+    begin = f"true {program} {waits} "
+    assert [line for line in told if line.startswith("true")] == [begin] + [f"{begin}{program}"] * 3 + [begin]
 
 
 def broken(change, told):
@@ -95,11 +130,25 @@ def broken(change, told):
     return pytest.param(change, told, id=told)
 
 
+def without(gate, path, part):
+    """Takes a text away from a file."""
+    gate.replace(path, part, "")
+
+
 @pytest.mark.parametrize("change, told", [
     broken(lambda gate: gate.ci(LOG, status=1), "FAILED, status 1"),
+    broken(lambda gate: gate.ci(""), "low: not proved"),
+    broken(lambda gate: gate.ci(LOG.replace("rt: low proved", "rt: low NOT PROVED")), ".ci/edits: low: not proved"),
+    broken(lambda gate: gate.ci(LOG.replace("ok. 3 passed", "ok. 2 passed")), "4 tests of crates passed, and 5 are to"),
     broken(lambda gate: gate.ci(LOG.replace("one.edit: refused, as it must be: src/lib.rt:1:1: error",
                                             "one.edit: BAD EDIT: an 'old:' text is in src/lib.rt 0 times, and not once")),
            "low/one.edit: BAD EDIT: an 'old:' text is in src/lib.rt 0 times"),
+    *[broken(lambda gate, why=why: gate.ci(LOG.replace("one.edit: refused, as it must be: src/lib.rt:1:1: error",
+                                                       f"one.edit: refused, as it must be{why}")), f"low/one.edit: refused, as it must be{why}")
+      for why in (" (only because a proof file names what the edit took away, so this says little of the contract)",
+                  " (only by a limit of the prover, which gave no verdict)",
+                  ": ./proofs/half/Answers.antt:5:9: error: `half-requires`: `goal.half-requires`: module `Rattle.low.proofs.half.Goals`",
+                  ": error: 2 declarations that depend on `returns`, which was rejected, were not checked")],
     broken(lambda gate: gate.ci(LOG.replace("rt: must-fail top/two.edit: refused, as it must be\n", "")),
            "top/two.edit: not tried"),
     broken(lambda gate: gate.ci(LOG + "rt: crates/low/must-fail/three.edt: BAD EDIT: an edit stands right in must-fail/\n"),
@@ -107,14 +156,30 @@ def broken(change, told):
     broken(lambda gate: gate.write("crates/low/must-fail/more.edit", ""), "low/more.edit: not tried"),
     broken(lambda gate: shutil.rmtree(gate.top / "crates/top/must-fail"), "top has no must-fail edits"),
     broken(lambda gate: gate.write("crates/trials/must-fail/one.edit", ""), "names trials, which has edits"),
-    broken(lambda gate: gate.write(".ci/without-edits", "trials\nctm_program\ngone\n"), "names gone, which is no crate"),
+    broken(lambda gate: gate.replace(".ci/without-edits", "trials", "gone\ntrials"), "names gone, which is no crate"),
     broken(lambda gate: gate.write("crates/hidden/src/lib.rt", ""), "crates/hidden is in no line of crates.txt"),
-    *[broken(lambda gate, check=check: os.remove(gate.top / check), f"{check}: no cases passed") for check in CHECKS],
-    *[broken(lambda gate, check=check: gate.script(check, ""), f"{check}: no cases passed,") for check in CHECKS],
-    *[broken(lambda gate, check=check: gate.script(check, "echo 3 passed"), f"{check}: 3 cases passed") for check in CHECKS],
-    *[broken(lambda gate, check=check: gate.script(check, "echo 9000 passed; exit 1"), f"{check} fails") for check in CHECKS],
-    *[broken(lambda gate, check=check: gate.script(check, "echo 9000 passed, 1 skipped in 1.00s"),
-             f"{check}: cases were left out") for check in CHECKS],
+    broken(lambda gate: gate.write("HANDLES", HANDLES.replace(".", ", Files.")), "HANDLES isn't the line"),
+    broken(lambda gate: without(gate, "crates/low/src/lib.rt", "ensures half { result ≡ n / 2 }"),
+           "-low/src/lib.rt half: ensures half { result ≡ n / 2 }"),
+    broken(lambda gate: os.rename(gate.top / "crates/low/must-fail/one.edit", gate.top / "crates/low/must-fail/won.edit"),
+           "-edit low one"),
+    broken(lambda gate: without(gate, "crates.txt", "trials tests_may=Threads: top\n"), "-crate trials"),
+    broken(lambda gate: gate.replace("crates/trials/src/lib.rt", "trial_2", "trial_two"), "-test trials lib trial_2"),
+    broken(lambda gate: without(gate, "crates/top/stdin", "steps,2\n"), "-run top stdin 2"),
+    broken(lambda gate: gate.script("tests/program", PASSING.replace("test_it.py", "test_other.py")),
+           "-cases tests/program test_it.py 9000"),
+    broken(lambda gate: os.remove(gate.top / "examples/one.report"), "-cases examples/check 1"),
+    broken(lambda gate: os.remove(gate.top / ".ci/counts.txt"), "counts.txt differs"),
+    broken(lambda gate: os.remove(gate.top / "contracts.txt"), "contracts.txt differs"),
+    broken(lambda gate: gate.script("launcher/prove", "exit 3"), "launcher/prove doesn't prove no_memory: status 3"),
+    broken(lambda gate: gate.script("launcher/prove", ""), "launcher/prove made no library of no_memory"),
+    *[broken(lambda gate, check=check: os.remove(gate.top / check), f"{check}: no cases passed, and") for check in CHECKS],
+    broken(lambda gate: gate.script("tests/program", PASSING.replace("9000 passed", "8999 passed")),
+           "tests/program: 8999 cases passed, and 9000 are to"),
+    broken(lambda gate: gate.script("tools/check", PASSING.replace("9000 passed", "9001 passed")),
+           "tools/check: 9001 cases passed, and 9000 are to"),
+    broken(lambda gate: gate.script("tests/launcher", f"{PASSING}; exit 1"), "tests/launcher fails"),
+    broken(lambda gate: gate.script("tools/check", PASSING.replace("passed", "passed, 1 skipped")), "tools/check: cases were left out"),
 ])
 def test_a_gate_in_which_something_is_broken_fails(gate, change, told):
     change(gate)
@@ -125,8 +190,8 @@ def test_a_gate_in_which_something_is_broken_fails(gate, change, told):
 
 
 def test_the_status_is_the_worst(gate):
-    gate.script("tests/program", "exit 3")
-    gate.script("tools/check", "exit 2")
+    gate.script("tests/program", f"{PASSING}; exit 3")
+    gate.script("tools/check", f"{PASSING}; exit 2")
     assert gate.run()[0] == 3
 
 

@@ -56,11 +56,12 @@ def test_an_input_that_pauses_is_read_whole(repository):
     assert (process.returncode, out) == (0, b"one\ntwo\n")
 
 
-def test_an_input_without_end_is_read_to_the_limit_of_the_program(repository):
+@pytest.mark.parametrize("mode, read", [("run", b"16777217\n"), ("resume", b"67108865\n")])
+def test_an_input_without_end_is_read_to_the_limit_of_the_program(repository, mode, read):
     repository.trial.write_text("wc -c; " + ENDED % (4, 4, 4))
     with open("/dev/zero", "rb") as endless:
-        process = repository.start("--try", "run", stdin=endless)
-        assert process.communicate()[0] == b"16777217\n"
+        process = repository.start("--try", mode, stdin=endless)
+        assert process.communicate()[0] == read
 
 
 def test_a_made_network_reads_nothing(repository):

@@ -1,14 +1,25 @@
-"""./ctm's own words, and why words are refused: its table of words against docs/FORMAT.md and against the program."""
+"""./ctm's own words, and why words are refused: its table of words against docs/FORMAT.md, the manual pages and the program."""
 
 import re
 import shlex
 import subprocess
+import sys
 
 import pytest
-from conftest import TOP
+from conftest import TOP, hold
+from messages import TOO_LARGE
 from worked import CORRIDOR
 
+sys.path.append(str(TOP / "launcher"))
+from word_table import read_table
+
 FORMAT = (TOP / "docs/FORMAT.md").read_text()
+TABLE = read_table()
+MODES = {mode.word: mode.options for mode in TABLE.modes.values()}
+RANGES = {option.word: option.range for option in TABLE.options.values() if option.range}
+WORDS = {option.word: option.words for option in TABLE.options.values() if not option.range}
+WORDS_TOO = {option.word: option.words[0] for option in TABLE.options.values() if option.range and option.words}
+DEFAULTS = {option.word: option.default for option in TABLE.options.values()}
 
 
 def rows_of(heading, page=FORMAT):
@@ -17,22 +28,33 @@ def rows_of(heading, page=FORMAT):
     return [[cell.strip() for cell in re.split(r"(?<!\\)\|", line.strip("|"))] for line in lines]
 
 
-MODES = {row[0].strip("`"): re.findall(r"`--(\w+)`", row[1]) for row in rows_of("Mode")}
-OPTIONS = {row[0].strip("`-"): row[1:3] for row in rows_of("Option")}
-RANGES = {name: tuple(map(int, re.findall(r"\d+", values))) for name, (values, _) in OPTIONS.items() if "number" in values}
-WORDS_TOO = {name: word for name, (values, _) in OPTIONS.items() if "number" in values for word in re.findall(r"`(\w+)`", values)}
-WORDS = {name: re.findall(r"`(\w+)`", values) for name, (values, _) in OPTIONS.items() if "number" not in values}
-DEFAULTS = {name: default.strip("`") for name, (_, default) in OPTIONS.items()}
 REFUSED = [shlex.split(example)[1:] for row in rows_of("Words") for example in re.findall(r"`(ctm[^`]*)`", row[1])]
 
 
-def test_the_page_has_the_tables_that_are_read():
+def test_the_table_has_all_words_of_today():
     assert (len(MODES), len(RANGES), len(DEFAULTS), WORDS) == (10, 8, 9, {"cut": ["even", "grown"]})
     assert WORDS_TOO == {"regions": "auto"}
     assert len(REFUSED) >= 20
 
 
-def test_help_has_the_modes_options_and_ranges_of_the_page(without_rt):
+def test_the_newest_version_of_the_changes_is_that_of_the_table():
+    assert re.search(r"^## (\S+?),? ", (TOP / "CHANGELOG.md").read_text(), re.MULTILINE)[1] == TABLE.version
+
+
+def test_the_page_has_the_modes_options_and_ranges_of_the_table():
+    assert {row[0].strip("`"): re.findall(r"`--(\w+)`", row[1]) for row in rows_of("Mode")} == MODES
+    reads = {"nothing": "nothing", "network": "a network", "saved": "a [saved text]"}
+    assert all(row[2].startswith(reads[TABLE.modes[row[0].strip("`")].input]) for row in rows_of("Mode"))
+    told = {row[0].strip("`-"): row for row in rows_of("Option")}
+    assert list(told) == list(TABLE.options)
+    numbers = {name: tuple(map(int, re.findall(r"\d+", row[1]))) for name, row in told.items() if "number" in row[1]}
+    words = {name: re.findall(r"`(\w+)`", row[1]) for name, row in told.items()}
+    assert numbers == RANGES
+    assert words == {option.word: option.words for option in TABLE.options.values()}
+    assert {name: row[2].strip("`") for name, row in told.items()} == DEFAULTS
+
+
+def test_help_has_the_modes_options_and_ranges_of_the_table(without_rt):
     status, out, err = without_rt.call("--help")
     assert (status, err) == (0, "")
     modes, _, options = out.partition("An option takes")
@@ -44,14 +66,23 @@ def test_help_has_the_modes_options_and_ranges_of_the_page(without_rt):
     assert {name: (int(least), int(most)) for name, least, most, _ in terms} == RANGES
     assert dict(re.findall(r"^  --(\w+) .*; from \d+ to \d+ or (\w+), and", options, re.MULTILINE)) == WORDS_TOO
     assert {name: default for name, _, _, default in [*terms, *words]} == DEFAULTS
+    told = " ".join(re.findall(r"^  \./ctm (.*?)  ", out, re.MULTILINE))
+    assert re.findall(r"--?[a-zA-Z]+|help", told) == TABLE.own_spellings("./ctm")
 
 
-def test_the_manual_has_the_modes_options_and_ranges_of_the_page():
+def test_the_page_has_the_words_that_ctm_answers_itself():
+    told = FORMAT.partition("\n`./ctm`, which builds the program")[2].partition("\n\n")[0]
+    assert set(re.findall(r"`(-[-\w]+|help)`", told.partition("Where the words")[0])) == set(TABLE.own_spellings("./ctm"))
+
+
+def test_the_manual_has_the_modes_options_and_ranges_of_the_table():
     manual = (TOP / "docs/ctm.1").read_text().replace("\\-", "-")
     synopsis = manual.partition(".SH SYNOPSIS")[2].partition(".SH DESCRIPTION")[0]
     calls = re.split(r"^\.B ctm ", synopsis, flags=re.MULTILINE)[1:]
     assert {call.split()[0]: sorted(re.findall(r"--(\w+)", call)) for call in calls} == \
         {mode: sorted(options) for mode, options in MODES.items()}
+    letters = {name: letter for call in calls for name, letter in re.findall(r"--(\w+)\n\.IR (\w+)", call)}
+    assert letters == {option.word: option.letter for option in TABLE.options.values()}
     description, _, options = manual.partition(".SH DESCRIPTION")[2].partition(".SH OPTIONS")
     assert set(re.findall(r"^\.TP\n\.B (\w+)$", description, re.MULTILINE)) == set(MODES)
     told = {it.split()[0]: it for it in options.partition(".SH FILES")[0].split("\n.TP\n.BI --")[1:]}
@@ -62,6 +93,11 @@ def test_the_manual_has_the_modes_options_and_ranges_of_the_page():
     assert {name: re.findall(r"^\.BR (\w+) :$", told[name], re.MULTILINE) for name in WORDS_TOO} == \
         {name: [word] for name, word in WORDS_TOO.items()}
     assert {name: default for name, (_, _, default) in terms.items()} | {name: own[0] for name, own in words.items()} == DEFAULTS
+
+
+def test_the_manual_of_ctm_wait_has_its_range():
+    least, most = TABLE.waiting.split("..")
+    assert f"number of workers, a whole number from {least} to {most}.\n" in (TOP / "docs/ctm-wait.1").read_text()
 
 
 def words_at_the_ends():
@@ -90,7 +126,7 @@ OTHER_WORDS = [["--regions", "2", "run"], ["--regions=2", "run"], ["--", "run"],
                ["run", "--regions", "3", "--regions", "3"], ["run", "-regions", "3"], ["run", "--Regions", "3"]]
 
 
-OWN_WORDS = {"help", "--help", "-h", "--version", "-V"}
+OWN_WORDS = {*TABLE.own_spellings("./ctm")}
 TRIED = [words for words in [*words_at_the_ends(), *OTHER_WORDS, *REFUSED] if not OWN_WORDS & {*words}]
 
 
@@ -136,6 +172,24 @@ def test_which_word_is_refused_and_why(words, told, without_rt):
     assert err.startswith("./ctm: ")
     for it in told:
         assert it in err
+
+
+@pytest.mark.parametrize("mode", MODES)
+def test_the_program_reads_as_much_as_the_table_says(mode, run):
+    """An input of one byte more is refused for its length alone; one that is as long is refused for what it is."""
+    most = TABLE.inputs[TABLE.modes[mode].input]
+    if most == 0:
+        assert run([mode, "--size", "1"], input=b"x")[0] == 0
+    else:
+        assert run([mode], input=b"x" * most)[0] in (3, 8, 9)
+        hold((4, b"", TOO_LARGE), run([mode], input=b"x" * (most + 1)))
+
+
+@pytest.mark.parametrize("command, word", [("ctm", "--help"), ("ctm", "--version"), ("ctm-wait", "--help")])
+def test_a_page_that_cannot_be_written_is_told_in_one_line(command, word, without_rt):
+    with open("/dev/full", "wb") as full:
+        ended = subprocess.run([without_rt.top / command, word], stdout=full, stderr=subprocess.PIPE, text=True)
+    assert (ended.returncode, ended.stderr) == (6, f"./{command}: the text can't be written\n")
 
 
 @pytest.mark.parametrize("words", [["--help"], ["-h"], ["help"], ["run", "--help"], ["run", "-h"]], ids=" ".join)

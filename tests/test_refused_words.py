@@ -5,6 +5,7 @@ import shlex
 
 import pytest
 from conftest import hold
+from every_option import EVERY_OPTION
 from format_tables import rows_of
 from messages import WORDS
 
@@ -166,6 +167,13 @@ CASES = [
 def test_refused_words(words, run, directory):
     """A read of the directory would be a read fault."""
     hold((2, b"", WORDS), run(words, stdin=directory))
+
+
+@pytest.mark.parametrize("past", [["drive"], ["--", "--every"], ["--workers", "2"]], ids=" ".join)
+@pytest.mark.parametrize("mode", EVERY_OPTION)
+def test_a_word_past_every_option_is_refused(mode, past, run, directory):
+    """An option twice, where the mode has it, or else one that it hasn't."""
+    hold((2, b"", WORDS), run([*EVERY_OPTION[mode], *past], stdin=directory))
 
 
 EXAMPLES = rows_of("Words | So")

@@ -7,9 +7,11 @@ import pytest
 from conftest import TOP
 
 
-SCRIPTS = ["ctm", "ctm-wait", "ctm-tools", "launcher/words", "launcher/current", "launcher/having", "launcher/try",
+SCRIPTS = ["ctm", "ctm-wait", "ctm-tools", "launcher/words", "launcher/waiting", "launcher/commit", "launcher/current",
+           "launcher/having", "launcher/install", "launcher/try", "launcher/installed/ctm", "launcher/installed/ctm-wait",
+           "launcher/installed/ctm-tools", "packaging/debian/postinst", "packaging/debian/prerm",
            "tests/fake_rt", "tests/fake_rattle", "tests/program", "tests/launcher", "examples/check", "tools/check", "tools/find-python",
-           "tools/pictures", "tools/setup", ".ci/run"]
+           "tools/documents", "tools/package", "tools/pictures", "tools/setup", ".ci/run", "bench/installed"]
 
 
 @pytest.mark.parametrize("script", SCRIPTS)

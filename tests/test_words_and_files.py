@@ -1,9 +1,14 @@
 """Words that are taken and files without a fault, with the text that is wanted; the examples of docs/FORMAT.md among them."""
 
+import re
+
 import pytest
 from conftest import hold
+from every_option import EVERY_OPTION
+from format_tables import rows_of
+from plain_model import report as plain_report
 from worked import (CITY, CORRIDOR, QUEUE_CHOICE, QUEUE_PLANS, RAMPS, RAMPS_TOTALS, RECORDED, REPORT, SAVED, SAVED_LAST,
-                    TURN, lines)
+                    TURN, TWO_ROADS, lines)
 
 CONVERTED = CORRIDOR.replace(b"ctm,1", b"ctm,2")
 FIRST_AND_LAST = b"".join(line for line in RECORDED.splitlines(True) if not line.startswith(b"at,2,"))
@@ -72,6 +77,10 @@ CASES = [
     ("resume by two workers", ["resume", "--workers", "2"], SAVED, REPORT),
     ("resume at the last step", ["resume"], SAVED_LAST, REPORT),
     ("choose among four plans", ["choose"], QUEUE_PLANS, QUEUE_CHOICE),
+    ("every option of run", EVERY_OPTION["run"], CORRIDOR, RECORDED),
+    ("every option of save", EVERY_OPTION["save"], CORRIDOR, SAVED_LAST),
+    ("every option of recut", EVERY_OPTION["recut"], CORRIDOR, REPORT),
+    ("every option of cut", EVERY_OPTION["cut"], CORRIDOR, lines("cut,3,2,2; cell,in,0; cell,a,1; cell,out,2")),
     ("check with turns in the file", ["check"], TURN, b"network2,3,1,3,0,0,0,1\n"),
     ("recorded every other step", ["run", "--every", "2"], CORRIDOR, RECORDED),
     ("recorded in three regions", ["run", "--every", "2", "--regions", "3"], CORRIDOR, RECORDED),
@@ -102,6 +111,8 @@ def test_words_and_files(words, given, text, run):
 SAMPLES = [
     ("the smallest made network", ["sample", "--size", "1", "--seed", "0"],
      lines("sample,1,0,3,2,42; total,0.000000,58.068940,58.068940,262.344330")),
+    ("every option of sample", EVERY_OPTION["sample"],
+     lines("sample,1,0,3,2,42; total,0.000000,58.068940,58.068940,262.344330")),
     ("a made network in regions by workers", ["sample", "--size", "100", "--seed", "7", "--workers", "8", "--regions", "32"],
      MADE),
     ("a made network whole", ["sample", "--size=100", "--seed=7"], MADE),
@@ -126,3 +137,17 @@ def test_a_made_network_of_which_neither_size_nor_seed_is_given(run, directory):
     text = run(["sample", "--size", "100", "--seed", "1"], stdin=directory)[1]
     assert text.startswith(lines("sample,100,1,127,101,240"))
     hold((0, text, b""), run(["sample"], stdin=directory))
+
+
+def test_every_option_of_watch(run):
+    """Eight shots of three regions each, and behind them the report with the first and the last step recorded."""
+    for words in (EVERY_OPTION["watch"], [*EVERY_OPTION["watch"], "--"]):
+        status, text, err = run(words, input=TWO_ROADS)
+        assert (status, err) == (0, b"")
+        assert [text.count(b"\n" + line) + text.startswith(line) for line in (b"shot,", b"region,")] == [8, 24]
+        assert text.endswith(plain_report(TWO_ROADS, 5))
+
+
+def test_every_option_of_the_table_of_modes_is_given():
+    told = {row.split("`")[1]: set(re.findall("`(--[a-z]+)`", row.split("|")[2])) for row in rows_of("Mode | Options | Reads | Writes")}
+    assert {mode: {word for word in words if word.startswith("--")} for mode, words in EVERY_OPTION.items()} == told

@@ -7,7 +7,10 @@ for each combination of varied values. `read_report(path)` gives a report that s
 Of a report, `states(report)` is the tidy table of occupancy (vehicles), flow (vehicles/h), density (vehicles/km) and
 speed (km/h) over time, `totals(report)` its delays (vehicle-hours) by cell, `queues_of(report)` its queues,
 `travel_times(report, chain_of(report, road="m"), every=900)` the travel times along a chain of cells,
-`compare(first, second)` what two of them differ by, and `plot(report, kind)` a picture.
+`compare(first, second)` what two of them differ by, `plot(report, kind)` a picture, and `page(report)` a page for a browser.
+
+`assign`, `choose`, `draw`, `optimise`, `meter` and `calibrate` are the commands of their names, `import_sumo` and `import_gmns` make studies of
+other programs' networks.
 """
 
 from __future__ import annotations
@@ -16,7 +19,16 @@ from importlib import import_module
 from typing import TYPE_CHECKING, Any
 
 if TYPE_CHECKING:
+    from .interface import assign as assign
     from .interface import build as build
+    from .interface import calibrate as calibrate
+    from .interface import choose as choose
+    from .interface import draw as draw
+    from .interface import import_gmns as import_gmns
+    from .interface import import_sumo as import_sumo
+    from .interface import meter as meter
+    from .interface import optimise as optimise
+    from .interface import page as page
     from .interface import plot as plot
     from .interface import run as run
     from .interface import sweep as sweep
@@ -34,12 +46,15 @@ if TYPE_CHECKING:
     from .report.travel import travel_times as travel_times
     from .study.reading import read_study as read_study
 
+__version__ = "1.0"  # the program's, in launcher/words.table
+
 # Where each public name is at home; it is loaded when it is first asked for.
-HOMES = {"Network": "network_file.network", "Problem": "problem", "Report": "report.reading", "build": "interface",
-         "by_road": "report.by_road", "chain_of": "report.travel", "compare": "report.comparing", "plot": "interface",
-         "queues_of": "report.states", "read_network": "network_file.network", "read_report": "report.reading",
-         "read_study": "study.reading", "run": "interface", "states": "report.states", "sweep": "interface",
-         "totals": "report.states", "travel_times": "report.travel"}
+HOMES = {"Network": "network_file.network", "Problem": "problem", "Report": "report.reading", "by_road": "report.by_road",
+         "chain_of": "report.travel", "compare": "report.comparing", "queues_of": "report.states",
+         "read_network": "network_file.network", "read_report": "report.reading", "read_study": "study.reading",
+         "states": "report.states", "totals": "report.states", "travel_times": "report.travel",
+         **dict.fromkeys(("assign", "build", "calibrate", "choose", "draw", "import_gmns", "import_sumo", "meter", "optimise", "page",
+                          "plot", "run", "sweep"), "interface")}
 __all__ = sorted(HOMES)
 
 

@@ -1,5 +1,11 @@
 """`python3 -m ctmtools`, which ./ctm-tools calls."""
 
-from .command_line import main
+import sys
+
+try:
+    from .command_line import main
+except KeyboardInterrupt:  # while the packages were loaded
+    print("ctm-tools: interrupted", file=sys.stderr)
+    sys.exit(130)
 
 main()

@@ -3,13 +3,18 @@
 from __future__ import annotations
 
 import importlib
+import os
 import sys
 from collections.abc import Sequence
-from typing import NoReturn
+from contextlib import suppress
+from typing import Any, NoReturn
 
 import click
 
-from .problem import Problem, one_line
+from . import __version__
+from .interrupt import INTERRUPTS, STATUS, heeded
+from .problem import Interrupted, Problem, one_line
+from .program import found_program
 
 PROGRAM = "ctm-tools"
 COMMANDS = {"build": "Make the network file of a study.", "run": "Run a study or a network, and print its page.",
@@ -17,9 +22,11 @@ COMMANDS = {"build": "Make the network file of a study.", "run": "Run a study or
             "table": "Write a report as a tidy table, CSV.",
             "travel-time": "Tell the travel times along a road or a route.", "plot": "Draw a report.",
             "import": "Make a study of another program's network.",
-            "report": "Make a page for a browser of a report, or of two.",
+            "report": "Make a page for a browser of a report, or of several.",
             "export": "Write a report in the format of another program.", "compare": "Compare two reports.",
+            "assign": "Let the trips of a study choose their ways.",
             "sweep": "Run a study over varied values.",
+            "draw": "Run a study over draws of what is uncertain of it.",
             "choose": "Choose among plans of varied values by one call of the program for 16.",
             "optimise": "Search for the timing of signals with the least delay.",
             "branch": "Run several futures of a saved moment.",
@@ -30,7 +37,7 @@ COMMANDS = {"build": "Make the network file of a study.", "run": "Run a study or
 MODULES = {"export": "exporting", "import": "importing", "travel-time": "travel_time"}
 PACKAGES = {"click": "python3-click", "pandas": "python3-pandas", "numpy": "python3-numpy",
             "matplotlib": "python3-matplotlib", "networkx": "python3-networkx", "distributed": "python3-distributed",
-            "scipy": "python3-scipy"}
+            "scipy": "python3-scipy", "pyproj": "python3-pyproj"}
 EPILOG = """\b
 Examples:
   ctm-tools run examples/bottleneck.toml
@@ -38,7 +45,7 @@ Examples:
   ctm-tools lint examples/interchange.csv
 
 A study is in TOML and in physical units, a network in docs/FORMAT.md's records. The tools stand apart from the
-proofs: the traffic is ./ctm's, and what they say around it is checked by tests alone. tools/README.md has more."""
+proofs: the traffic is ctm's, and what they say around it is checked by tests alone. tools/README.md has more."""
 
 
 class Commands(click.Group):
@@ -55,40 +62,96 @@ class Commands(click.Group):
         command: click.Command = importlib.import_module(f".commands.{MODULES.get(name, name)}", __package__).command
         return command
 
+    def invoke(self, context: click.Context) -> Any:
+        """Runs a command; an interrupt is left to the caller, since click would write a line of its own."""
+        try:
+            return super().invoke(context)
+        except KeyboardInterrupt:
+            raise Interrupted("interrupted") from None
+
     def format_commands(self, context: click.Context, formatter: click.HelpFormatter) -> None:
         """The commands with a line for each, without loading them."""
         with formatter.section("Commands"):
             formatter.write_dl(list(COMMANDS.items()))
 
 
+def show_version(context: click.Context, _: click.Parameter, asked: bool) -> None:
+    """Tells the version of the tools, and which program they call."""
+    if asked and not context.resilient_parsing:
+        program = found_program()
+        click.echo(f"{PROGRAM} {__version__}, over {program.path}, {program.by}")
+        context.exit()
+
+
 @click.group(cls=Commands, epilog=EPILOG, context_settings={"help_option_names": ["-h", "--help"],
                                                             "max_content_width": 110})
+@click.option("--version", is_flag=True, expose_value=False, is_eager=True, callback=show_version,
+              help="Show the version, and which program is called.")
 def tools() -> None:
-    """Studies of road traffic in an engineer's own units, over the proved program ./ctm."""
+    """Studies of road traffic in an engineer's own units, over the proved program ctm."""
 
 
 def main(words: Sequence[str] | None = None) -> NoReturn:
     """Runs a command on the words, and ends with status 2 and one line where they or a file have a fault."""
-    try:
-        status = tools.main(words, prog_name=PROGRAM, standalone_mode=False)
-        sys.stdout.flush()
-    except click.exceptions.Abort:
-        fail("interrupted", 130)
-    except click.ClickException as error:
+    last_word = LastWord()
+    with heeded(last_word):
+        try:
+            status = tools.main(words, prog_name=PROGRAM, standalone_mode=False)
+            sys.stdout.flush()
+        except KeyboardInterrupt:
+            stop(last_word)
+        except Exception as error:
+            if isinstance(error, Interrupted):
+                stop(last_word, str(error))
+            if INTERRUPTS.came:
+                stop(last_word)
+            answer(error)
+    sys.exit(status if isinstance(status, int) else 0)
+
+
+def answer(error: Exception) -> NoReturn:
+    """Ends with the line that tells an error, or raises one that no user made."""
+    if isinstance(error, click.exceptions.Abort):
+        fail("interrupted", STATUS)
+    if isinstance(error, click.ClickException):
         context = getattr(error, "ctx", None)
         where = context.command_path if context else PROGRAM
         fail(f"{one_line(error.format_message())} ({where} --help tells more)")
-    except Problem as problem:
-        fail(one_line(problem))
-    except ModuleNotFoundError as missing:
-        package = PACKAGES.get((missing.name or "").split(".")[0])
-        if package is None:
-            raise
-        fail(f"the Python package {missing.name} is missing; Debian has it as {package}: apt install {package}")
-    except BrokenPipeError:
+    if isinstance(error, Problem):
+        fail(one_line(error))
+    if isinstance(error, BrokenPipeError):
         sys.stderr.close()
         sys.exit(1)
-    sys.exit(status if isinstance(status, int) else 0)
+    if isinstance(error, ModuleNotFoundError):
+        package = PACKAGES.get((error.name or "").split(".")[0])
+        if package is not None:
+            fail(f"the Python package {error.name} is missing; Debian has it as {package}: apt install {package}")
+    raise error
+
+
+class LastWord:
+    """The line of a command that was interrupted, which is told once."""
+
+    def __init__(self) -> None:
+        self.told = False
+
+    def __call__(self, line: str = "interrupted") -> None:
+        """Tells the line, in the place of what a terminal shows in its last one."""
+        if not self.told:
+            self.told = True
+            begin = "\r\x1b[K\x1b[?25h" if sys.stderr.isatty() else ""  # a bar hides the cursor
+            print(f"{begin}{PROGRAM}: {one_line(line)}", file=sys.stderr, flush=True)
+
+
+def stop(last_word: LastWord, line: str = "interrupted") -> NoReturn:
+    """Ends with the line and the status of an interrupt, and with it all that was begun."""
+    INTERRUPTS.end_groups()
+    last_word(line)
+    if INTERRUPTS.came:  # what Python would do at its end takes too long
+        with suppress(OSError, ValueError):
+            sys.stdout.flush()
+        os._exit(STATUS)
+    sys.exit(STATUS)
 
 
 def fail(line: str, status: int = 2) -> NoReturn:

@@ -2,12 +2,16 @@
 
 from __future__ import annotations
 
+import csv
 import os
+from collections.abc import Iterable, Sequence
 from pathlib import Path
+from typing import TextIO
 
 from .problem import Problem, reason
 from .study.network_text import MADE, Built
-from .units import Units, units_path, units_text
+from .ties import marked
+from .units import Units, read_units, units_path, units_text
 
 
 def network_target(source: str | Path, output: str | Path | None = None) -> Path:
@@ -33,10 +37,17 @@ def guard_report(path: Path) -> None:
 
 
 def write_network(built: Built, target: Path) -> None:
-    """Writes a built network, and its units beside it."""
+    """Writes a built network, and its units beside it, which keep what the old ones say of the report there."""
+    path, units = units_path(target), built.units
+    try:
+        old = read_units(path)
+    except Problem:  # what is no file of units is written over
+        old = Units()
+    marked(units, built.text.encode(), built.network.steps)
+    units.network = beside(target, path)
+    units.report_checksum, units.report_network = old.report_checksum, old.report_network
     write(target, built.text)
-    built.units.network = beside(target, units_path(target))
-    write_units(units_path(target), built.units)
+    write_units(path, units)
 
 
 def write_units(path: str | Path, units: Units) -> None:
@@ -44,8 +55,11 @@ def write_units(path: str | Path, units: Units) -> None:
     write(path, units_text(units))
 
 
-def write(path: str | Path, content: str | bytes) -> None:
-    """Writes text or bytes to a file as a whole: where that fails, what stood there stays. Devices are written to."""
+def write(path: str | Path, content: str | bytes, lasting: bool = False) -> None:
+    """Writes text or bytes to a file as a whole: where that fails, what stood there stays. Devices are written to.
+
+    What is `lasting` stands on the disk when this returns.
+    """
     path, content = Path(path), content if isinstance(content, bytes) else content.encode()
     if path.exists() and not path.is_file():
         try:
@@ -53,7 +67,7 @@ def write(path: str | Path, content: str | bytes) -> None:
         except OSError as error:
             raise Problem(f"{path}: {reason(error)}") from None
     else:
-        replace(path, content, lasting=False)
+        replace(path, content, lasting)
 
 
 def replace(path: str | Path, content: bytes, lasting: bool = True) -> None:
@@ -73,6 +87,26 @@ def replace(path: str | Path, content: bytes, lasting: bool = True) -> None:
     except OSError as error:
         part.unlink(missing_ok=True)
         raise Problem(f"{path}: {reason(error)}") from None
+    except BaseException:  # an interrupt
+        part.unlink(missing_ok=True)
+        raise
+
+
+def begun_anew(path: Path, header: Sequence[str], rows: Iterable[Sequence[str]]) -> TextIO:
+    """Puts a table of CSV in the place of the one at a path, at once, and gives its file, open for the rows to come."""
+    anew = path.with_suffix(".new")
+    try:
+        path.parent.mkdir(parents=True, exist_ok=True)
+        file = open(anew, "w", newline="")
+        csv.writer(file).writerows([header, *rows])
+        file.flush()
+        anew.replace(path)
+    except OSError as error:
+        raise Problem(f"{path}: {reason(error)}") from None
+    except BaseException:  # an interrupt
+        anew.unlink(missing_ok=True)
+        raise
+    return file
 
 
 def beside(path: str | Path, other: str | Path) -> str:

@@ -5,6 +5,10 @@ class Problem(Exception):
     """A fault of what the user gave, told in one line; a command ends with it and with status 2."""
 
 
+class Interrupted(Problem):
+    """An interrupt from the keyboard, with what of the command is kept; it ends with status 130."""
+
+
 class NoSuchKey(Problem):
     """A key that a study doesn't have."""
 

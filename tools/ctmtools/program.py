@@ -3,17 +3,22 @@
 from __future__ import annotations
 
 import os
+import shutil
+import signal
 import subprocess
 import threading
-from collections.abc import Callable, Sequence
+from collections.abc import Callable, Iterator, Sequence
+from contextlib import contextmanager, suppress
 from dataclasses import dataclass
 from functools import lru_cache
 from pathlib import Path
 from typing import IO
 
+from .interrupt import INTERRUPTS, LEAVE, end_group
 from .problem import Problem, one_line, reason
 
 TOP = Path(__file__).resolve().parents[2]
+PACKAGED = "ctm/ctm_program"  # where packages have the program, in the folder lib around the tools
 MOST_RECORDED = 4_000_000  # cells times recorded steps, docs/FORMAT.md
 SMALLEST = b"ctm,1\nsteps,1\nexit,x,0\n"
 NOT_BUILT = 125
@@ -36,11 +41,41 @@ class Answer:
         return one_line(self.err.decode("utf-8", "replace"))
 
 
+@dataclass(frozen=True)
+class Found:
+    """The program that the tools call, and what says that it is this one."""
+
+    path: Path
+    by: str
+
+
 def program_path() -> Path:
-    """The path of the program: that of the variable CTM_PROGRAM, else `ctm` at the top of the repository."""
-    path = Path(os.environ.get("CTM_PROGRAM") or TOP / "ctm").resolve()
+    """The path of the program that the tools call."""
+    return found_program().path
+
+
+def found_program() -> Found:
+    """The program: what the variable CTM_PROGRAM names, else the repository's own, else the packaged one, else `ctm` on the
+    path."""
+    named = os.environ.get("CTM_PROGRAM")
+    if named:
+        return Found(_standing(Path(named).resolve()), "which CTM_PROGRAM names")
+    if (TOP / "ctm").is_file():
+        return Found(TOP / "ctm", "the repository's own")
+    packaged = [folder / PACKAGED for folder in Path(__file__).resolve().parents if folder.name == "lib"]
+    for path in packaged:
+        if path.is_file():
+            return Found(path, "the packaged one")
+    on_path = shutil.which("ctm")
+    if on_path:
+        return Found(Path(on_path).resolve(), "ctm on the path")
+    raise Problem("no program was found: CTM_PROGRAM names none, there is none in a repository or a package of ctm around "
+                  f"{Path(__file__).resolve().parent}, and no ctm on the path")
+
+
+def _standing(path: Path) -> Path:
     if not path.exists():
-        raise Problem(f"{path}: there is no program there; CTM_PROGRAM names one, and without it ./ctm is taken")
+        raise Problem(f"{path}: there is no program there, and CTM_PROGRAM names it")
     return path
 
 
@@ -49,7 +84,7 @@ def ask(words: Sequence[str], content: bytes, program: str | Path | None = None,
     program = str(program or program_path())
     try:
         process = subprocess.Popen([program, *words], stdin=subprocess.PIPE, stdout=subprocess.PIPE,
-                                   stderr=subprocess.PIPE)
+                                   stderr=subprocess.PIPE, process_group=0 if INTERRUPTS.own_groups else None)
     except OSError as error:
         raise Problem(f"{program}: {reason(error)}") from None
     told: list[str] = []
@@ -59,22 +94,19 @@ def ask(words: Sequence[str], content: bytes, program: str | Path | None = None,
         for line in stream:
             if line.startswith(BUILD_NEWS):
                 told.append(line.decode("utf-8", "replace").rstrip())
-                if news:
+                if news and not INTERRUPTS.came:  # that it was interrupted too is nothing new
                     news(told[-1])
             else:
                 kept.append(line)
 
     assert process.stdin and process.stdout and process.stderr  # they are pipes
-    reader = threading.Thread(target=read_errors, args=(process.stderr,))
-    writer = threading.Thread(target=_write, args=(process.stdin, content))
-    reader.start()
-    writer.start()
-    try:
+    reader = threading.Thread(target=read_errors, args=(process.stderr,), daemon=True)
+    writer = threading.Thread(target=_write, args=(process.stdin, content), daemon=True)
+    with _listed(process):
+        reader.start()
+        writer.start()
         out = process.stdout.read()
         status = process.wait()
-    except BaseException:  # the caller is interrupted, and nobody waits for an answer any more
-        process.kill()
-        raise
     writer.join()
     reader.join()
     if status == NOT_BUILT and told:
@@ -82,6 +114,26 @@ def ask(words: Sequence[str], content: bytes, program: str | Path | None = None,
     if status < 0:
         raise Problem(f"{program} was ended by signal {-status}")
     return Answer(status, out, b"".join(kept))
+
+
+@contextmanager
+def _listed(process: subprocess.Popen[bytes]) -> Iterator[None]:
+    """Has a call of the program end with its caller: where that is interrupted nobody waits for an answer any more."""
+    if INTERRUPTS.own_groups:
+        INTERRUPTS.groups.add(process.pid)
+    try:
+        yield
+    except BaseException:
+        with suppress(subprocess.TimeoutExpired):
+            if INTERRUPTS.own_groups:
+                end_group(process.pid, signal.SIGTERM)
+                process.wait(LEAVE)  # ./ctm that builds ends what it began
+        if INTERRUPTS.own_groups:
+            end_group(process.pid)
+        process.kill()
+        raise
+    finally:
+        INTERRUPTS.groups.discard(process.pid)
 
 
 def _write(stream: IO[bytes], content: bytes) -> None:

@@ -4,20 +4,27 @@ from __future__ import annotations
 
 import dataclasses
 import os
+from collections.abc import Callable
 from pathlib import Path
 
 from .files import beside, guard_network, write, write_network, write_units
 from .given import read_as
+from .moments.actuated_signals import ActuatedSignals
+from .moments.going_on import Runner
 from .network_file.network import Network, network_of
 from .network_file.warnings import shortened, warnings_of
 from .problem import Problem
 from .program import News, ask, recording_step, run_words
 from .report.reading import Report, report_of
-from .study.network_text import Built, build
+from .study.network_text import Built
 from .study.plan import Study
 from .study.reading import read_study
 from .study.telling import told
-from .units import Units, read_units, units_path
+from .ties import checksum, marked, units_of
+from .units import Units, units_path
+from .yielding.settling import MOST_RUNS, Done, Settled, settled
+
+Shown = Callable[[int], Done]  # takes how many runs there may be, and gives what is called after each
 
 
 def run(content: bytes, name: str, units: Units | None = None, every: int | None = None, workers: int | None = None,
@@ -42,6 +49,18 @@ def run(content: bytes, name: str, units: Units | None = None, every: int | None
     return answer.out, report
 
 
+def settled_by_runs(study: Study, workers: int | None = None, program: str | None = None, done: Done | None = None) -> Settled:
+    """The network of a study, with what runs of the program settle: what passes of those who give way, and greens that follow
+    traffic."""
+    def run_built(built: Built, every: int) -> Report:
+        return run(built.text.encode(), str(study.path), built.units, every, workers, program, network=built.network)[1]
+
+    found = settled(study, run_built, done)
+    if not study.actuated:
+        return found
+    return dataclasses.replace(found, built=ActuatedSignals(found.built, study, Runner(str(study.path))).run(done))
+
+
 @dataclasses.dataclass
 class Prepared:
     """A network file that is to be run: its path, its bytes, the network in them, and its units as the report has them.
@@ -58,31 +77,36 @@ class Prepared:
     built: Built | None = None
 
 
-def opened(source: str | Path | Study) -> Prepared:
-    """The network of a study, which is built, or that of a file. Nothing is written."""
+def opened(source: str | Path | Study, shown: Shown | None = None) -> Prepared:
+    """The network of a study, which is built, or that of a file. Nothing is written.
+
+    What passes of those who give way, and greens that follow traffic, are worked out by runs; `shown` is told how many of them,
+    or steps, there may be, once.
+    """
     if isinstance(source, Study) or is_study(source):
         study = source if isinstance(source, Study) else read_study(source)
-        built = build(study)
+        count = MOST_RUNS if study.yields else round(study.duration / study.step) if study.actuated else 0
+        built = settled_by_runs(study, done=shown(count) if shown and count else None).built
         return Prepared(study.path, built.text.encode(), built.network, built.units, list(told(built)), built)
     path = Path(source)
-    content, units = read_as(path, "a network"), read_units(units_path(path))
+    content = read_as(path, "a network")
     network = network_of(content, str(path))
+    units = units_of(network, path)
     warnings = [f"warning: {path}: {line}" for line in shortened(warnings_of(network, units))]
     return Prepared(path, content, network, units, warnings)
 
 
 def placed(prepared: Prepared, target: Path) -> Prepared:
-    """A network with a place beside the report that is to come: one that was built is written there."""
+    """A network with its place beside the report that is to come; one that was built is written there with the report."""
     if prepared.built is None:
         return dataclasses.replace(prepared, units=dataclasses.replace(prepared.units, network=beside(prepared.path, target)))
     path = target.with_suffix(".csv")
     guard_network(path)
-    write_network(prepared.built, path)
     return dataclasses.replace(prepared, path=path)
 
 
 def prepare(source: str | Path | Study, target: Path) -> Prepared:
-    """The network of a study, which is built and written beside the report that is to come, or that of a file."""
+    """The network of a study, which is built and has its place beside the report that is to come, or that of a file."""
     return placed(opened(source), target)
 
 
@@ -91,14 +115,19 @@ def run_into(target: Path, prepared: Prepared, every: int | None = None, workers
     """Runs a prepared network, writes its report and units, and gives the report."""
     text, report = run(prepared.content, str(prepared.path), prepared.units, every, workers, news=news,
                        network=prepared.network)
-    write(target, text)
-    return kept(target, prepared, report)
+    return kept(target, prepared, text, report)
 
 
-def kept(target: Path, prepared: Prepared, report: Report) -> Report:
-    """The report of a prepared network that stands at a place, with its units, which are written beside it."""
-    write_units(units_path(target), prepared.units)
-    report.name, report.units, report.network = str(target), prepared.units, prepared.network
+def kept(target: Path, prepared: Prepared, text: bytes, report: Report) -> Report:
+    """The report of a prepared network, which is written to a place with its units, and with the network that was built."""
+    units = prepared.units
+    if prepared.built is not None:
+        write_network(prepared.built, prepared.path)
+    write(target, text, lasting=True)
+    marked(units, prepared.content, prepared.network.steps)
+    units.report_checksum, units.report_network = checksum(text), units.network_checksum
+    write_units(units_path(target), units)
+    report.name, report.units, report.network = str(target), units, prepared.network
     return report
 
 

@@ -3,6 +3,7 @@
 from __future__ import annotations
 
 import json
+from collections.abc import Sequence
 from dataclasses import dataclass, field
 from pathlib import Path
 from typing import Any, TypeVar
@@ -12,6 +13,7 @@ from .problem import Problem
 SUFFIX = ".units.json"
 DAY = 24 * 3600
 MILE_KM = 1.609344
+CHECKSUMS = ("network_checksum", "report_checksum", "report_network")
 Amount = TypeVar("Amount")  # a number, or a series of numbers
 
 
@@ -23,7 +25,9 @@ class Units:
     where it isn't known. `cells` has for each road cell `road`, `from_km`, `to_km`, `lanes`, `free_flow_kmh`,
     `wave_kmh`; `roads` has for each road its cells in the direction of travel, and `points` where they are given.
     `cycles` has the cycle in steps of each signal that the network has as limits, by the cell or the gate of its stop
-    line.
+    line. `crs` is the coordinate system of the points, which are in km of it, where it is known. `network_checksum` and
+    `steps` are of the network that the units are of; `report_checksum` is of the report that was last written beside them,
+    and `report_network` of the network that it was run of.
     """
 
     title: str = ""
@@ -34,6 +38,11 @@ class Units:
     roads: dict[str, list[str]] = field(default_factory=dict)
     points: dict[str, list[Any]] = field(default_factory=dict)
     cycles: dict[str, int] = field(default_factory=dict)
+    crs: str | None = None
+    steps: int | None = None
+    network_checksum: str | None = None
+    report_checksum: str | None = None
+    report_network: str | None = None
 
     @property
     def known(self) -> bool:
@@ -61,13 +70,32 @@ class Units:
             return f"step {step:g}"
         return clock_text((self.start or 0) + step * self.step, seconds)
 
+    def stamps(self, steps: Sequence[float]) -> list[str]:
+        """Steps as times that pandas reads: `hh:mm:ss`, or where one is at midnight or past it with 1 January 1900 as the first day.
+
+        Where the step isn't known they are its numbers.
+        """
+        if self.step is None:
+            return [f"{step:g}" for step in steps]
+        seconds = [round((self.start or 0) + step * self.step) for step in steps]
+        if max(seconds, default=0) < DAY:
+            return [time_text(time, True) for time in seconds]
+        return [f"1900-01-{1 + time // DAY:02d} {time_text(time % DAY, True)}" for time in seconds]
+
 
 def clock_text(seconds: float, always: bool = False) -> str:
-    """Seconds after midnight as `hh:mm`, with `:ss` where they aren't whole minutes or where `always` asks for it."""
+    """Seconds after midnight as `hh:mm`, with `:ss` where they aren't whole minutes or where `always` asks for it.
+
+    A time past midnight has its day behind it, as `00:30 +1 day`; midnight itself is 24:00.
+    """
     whole = round(seconds)
-    if whole > DAY:
-        whole %= DAY
-    hours, rest = divmod(whole, 3600)
+    days = max(0, whole - 1) // DAY
+    return time_text(whole - days * DAY, always) + (f" +{days} day{'s'[:days > 1]}" if days else "")
+
+
+def time_text(seconds: float, always: bool = False) -> str:
+    """Seconds after midnight as `hh:mm` or `hh:mm:ss`."""
+    hours, rest = divmod(round(seconds), 3600)
     minutes, rest = divmod(rest, 60)
     return f"{hours:02d}:{minutes:02d}" + (f":{rest:02d}" if rest or always else "")
 
@@ -87,7 +115,7 @@ def read_units(path: str | Path) -> Units:
         values = json.loads(path.read_text())
         return Units(values.get("title", ""), values.get("step_seconds"), values.get("start_seconds"),
                      values.get("network"), values.get("cells", {}), values.get("roads", {}), values.get("points", {}),
-                     values.get("cycles", {}))
+                     values.get("cycles", {}), values.get("crs"), values.get("steps"), *(values.get(key) for key in CHECKSUMS))
     except (OSError, ValueError, AttributeError) as error:
         raise Problem(f"{path}: no units file: {error}") from None
 
@@ -96,7 +124,8 @@ def units_text(units: Units) -> str:
     """The text of the units' file, with a line for each cell."""
     cells = ",\n".join(f"    {json.dumps(name)}: {json.dumps(row)}" for name, row in units.cells.items())
     head = {"title": units.title, "step_seconds": units.step, "start_seconds": units.start, "network": units.network,
-            "roads": units.roads, "points": units.points, "cycles": units.cycles}
+            "steps": units.steps, **{key: getattr(units, key) for key in CHECKSUMS},
+            "roads": units.roads, "points": units.points, "cycles": units.cycles, "crs": units.crs}
     lines = [f"  {json.dumps(key)}: {json.dumps(value)}" for key, value in head.items() if value not in (None, {}, "")]
     if cells:
         lines.append('  "cells": {\n' + cells + "\n  }")

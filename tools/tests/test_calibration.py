@@ -6,7 +6,8 @@ import pytest
 
 from ctmtools import Problem, run
 from ctmtools.calibration.diagram import fit, read_states
-from ctmtools.calibration.fitting import around, by_place, calibrate, distance, geh, range_of
+from ctmtools.calibration.fitting import Calibration, by_place, calibrate, distance, geh, range_of
+from ctmtools.calibration.nearest import Reach, around, descend, starts, width_of
 from ctmtools.calibration.observed import modelled, read_observed
 
 from .corridor import HEAD
@@ -50,15 +51,73 @@ def test_the_values_of_a_known_run_are_found(tmp_path, recording_program):
     observed = read_observed(seen(tmp_path, known))
     found = calibrate(study(tmp_path), observed, [range_of("lane.saturation_flow=1700:2200")], most=40)
     assert found.values["lane.saturation_flow"] == pytest.approx(1930, abs=5)
-    assert found.distance < 0.002 < found.before and found.runs <= 42
+    assert found.distance < 0.002 < found.before and found.runs <= 1 + 40 + 12
+    low, high = found.as_well["lane.saturation_flow"]
+    assert 1900 < low <= 1930 <= high < 1960
     rows = by_place(found.modelled, observed)
     assert list(rows.index) == ["m.0.5", "m.1.5"] and (rows.geh < 0.2).all() and (rows.below_5 == 1).all()
 
 
 def test_the_points_to_begin_at():
-    ranges = [range_of("a=0:1"), range_of("b=0:1")]
-    assert around(ranges, 1) == [(0.5, 0.5)] and around(ranges[:1], 4) == [(0.125,), (0.375,), (0.625,), (0.875,)]
-    assert len(around(ranges, 9)) == 9 and len(around(ranges, 8)) == 4
+    assert around(2, 1) == [(0.5, 0.5)] and around(1, 4) == [(0.125,), (0.375,), (0.625,), (0.875,)]
+    assert len(around(2, 9)) == 9 and len(around(2, 8)) == 4
+
+
+def valleys(parts):
+    """A distance with valleys at 0.47, where it is 0.3, and at 0.94, where it is 0.1, in the first part; in the others at 0.4."""
+    first = min(0.3 + 2 * (parts[0] - 0.47) ** 2, 0.1 + 20 * (parts[0] - 0.94) ** 2)
+    return first + sum((part - 0.4) ** 2 for part in parts[1:])
+
+
+@pytest.mark.parametrize("keys", [1, 2])
+def test_a_search_leaves_the_valley_that_it_begins_in(keys):
+    def found(grid, count):
+        seen = {}
+
+        def off(parts):
+            seen[tuple(parts)] = valleys(parts)
+            return seen[tuple(parts)]
+        for start in starts(grid, valleys, count):
+            descend(off, start, width_of(grid), 60)
+        return min(seen, key=seen.get)
+
+    # From the middle alone it ends where it began, as it did when it had no other start.
+    assert found(around(keys, 1), 1)[0] == pytest.approx(0.47, abs=0.01)
+    assert found(around(keys, 16), 3)[0] == pytest.approx(0.94, abs=0.01)
+
+
+def test_the_starts_are_valleys_of_the_grid_that_lie_apart():
+    grid = around(1, 16)
+    assert starts(grid, valleys, 3) == [(0.96875,), (0.46875,)] and len(starts(grid, valleys, 1)) == 1
+
+
+def test_how_far_a_value_does_as_well_is_halved():
+    reach, tried = Reach((0.5,), 0, 1), []
+    for _ in range(5):
+        tried.append(reach.parts[0])
+        reach.judged(reach.parts[0] <= 0.6)
+    assert tried == [1, 0.75, 0.625, 0.5625, 0.59375] and reach.end == (0.59375,)
+
+
+def test_values_that_do_as_well_are_told(tmp_path, recording_program):
+    # Of 2,700 vehicles/h from 06:20 to 07:00 some wait, but by 07:37 at the latest; from then on 900 come and go freely.
+    (tmp_path / "seen.csv").write_text("place,start,end,flow\nm.0.5,07:45,08:00,900\n")
+    observed = read_observed(tmp_path / "seen.csv")
+    found = calibrate(study(tmp_path), observed, [range_of("lane.saturation_flow=1850:2160")], 8, first=4)
+    assert found.as_well["lane.saturation_flow"] == (1850, 2160) and found.distance < 0.001
+
+
+def test_what_was_tried_is_not_run_again(tmp_path, recording_program):
+    observed = read_observed(seen(tmp_path, run(study(tmp_path, 1930, "known.toml"))))
+    ranges = [range_of("lane.saturation_flow=1700:2160")]
+    terms = {"most": 10, "first": 4, "folder": tmp_path / "kept"}
+    whole = calibrate(study(tmp_path), observed, ranges, **terms)
+    lines = (tmp_path / "kept/tried.csv").read_text().splitlines(keepends=True)
+    (tmp_path / "kept/tried.csv").write_text("".join(lines[:6]) + lines[6][:20])  # stopped in the middle of a row
+    again = calibrate(study(tmp_path), observed, ranges, **terms)
+    assert (again.values, again.distance, again.as_well) == (whole.values, whole.distance, whole.as_well)
+    assert again.runs == whole.runs - 5
+    assert Calibration(study(tmp_path, 2000), observed, ranges, folder=tmp_path / "kept").earlier == 0
 
 
 @pytest.mark.parametrize("jobs", [1, 2])

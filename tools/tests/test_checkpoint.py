@@ -86,7 +86,7 @@ def test_a_run_that_is_killed_goes_on(tool, program, tmp_path, whole, call):
 
 
 @pytest.mark.parametrize("when", ["before", "behind"])
-@pytest.mark.parametrize("file", range(1, 5))
+@pytest.mark.parametrize("file", [1, 3, 4, 5, 6, 7])  # moments, the network, the report, the units
 def test_a_run_that_is_killed_as_a_file_is_replaced_goes_on(tool, program, tmp_path, whole, file, when):
     code = f"""
 import os
@@ -117,7 +117,7 @@ def test_a_run_that_is_interrupted_says_from_where_it_goes_on(program, tmp_path,
         time.sleep(0.02)
     ended.send_signal(signal.SIGINT)
     out, _ = ended.communicate(timeout=30)
-    assert ended.returncode == 2 and "ctm-tools: stopped; the same call goes on from 08:00" in out
+    assert ended.returncode == 130 and "ctm-tools: stopped; the same call goes on from 08:00" in out
     status, out, err = tool(*WORDS)
     assert status == 0 and "Goes on from 08:00, which stands in interchange.saved" in out
     assert (tmp_path / "interchange.report").read_bytes() == whole
@@ -126,7 +126,6 @@ def test_a_run_that_is_interrupted_says_from_where_it_goes_on(program, tmp_path,
 def test_what_was_kept_of_another_study_is_refused(tool, program, tmp_path):
     started(stand_in(tmp_path, program, 4, "kill -9 $PPID")).communicate()
     saved = (tmp_path / "interchange.saved").read_bytes()
-    network = (tmp_path / "interchange.csv").read_bytes()
     for old, new, told in ((", 1800]", ", 1440]", "the demand of the gate ramp is 1,440 vehicles/h, and 1,800 vehicles/h in the "
                             "saved one, from 06:30 on"), ("at = 7 ", "at = 6.5 ", "connector"),
                            ('"08:30", 720', '"08:30", 540', "the two differ behind 08:00 alone, where `ctm-tools branch`")):
@@ -134,7 +133,7 @@ def test_what_was_kept_of_another_study_is_refused(tool, program, tmp_path):
         (tmp_path / "other/interchange.toml").write_text(STUDY.read_text().replace(old, new))
         status, out, err = tool("run", "other/interchange.toml", "--checkpoint", "1 h")
         assert status == 2 and "interchange.saved: is a saved run of another network" in err and told in err
-    assert (tmp_path / "interchange.saved").read_bytes() == saved and (tmp_path / "interchange.csv").read_bytes() == network
+    assert (tmp_path / "interchange.saved").read_bytes() == saved and not (tmp_path / "interchange.csv").exists()
 
 
 @pytest.mark.parametrize("content, told", [(b"", "is no saved run"), (b"my notes", "is no saved run"), (b"saved,1,1\n", "cut short")])

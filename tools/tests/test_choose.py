@@ -95,7 +95,9 @@ def test_the_command_tells_the_least_first_and_writes_all(tool):
     frame = pandas.read_csv("c.csv")
     assert len(frame) == 16 and frame.delay_vehicle_hours[0] == pytest.approx(4618 / 360, abs=1e-6)
     status, out, err = tool("choose", STREET, "--vary", "signals.offset=x,40")
-    assert status == 0 and out.splitlines()[1].split()[0] == "40" and "failed: " in out.splitlines()[2]
+    # The plan of 40 s stands in the folder of the call before it.
+    assert out.splitlines()[0] == "1 of 1 plans stand in arterial-ten.choose/plans.csv already"
+    assert status == 0 and out.splitlines()[2].split()[0] == "40" and "failed: " in out.splitlines()[3]
     status, out, err = tool("choose", STREET, "--vary", "signals.ofset=1,2")
     assert status == 2 and "no plan can be built" in err
 

@@ -204,8 +204,8 @@ def passed(made, cell):
     return gone[360], gone[1080] - gone[360], gone.iloc[-1] - gone[1080]
 
 
-def test_the_meter_of_the_readme(tmp_path):
-    text = (TOOLS / "README.md").read_text().split("is a signal at the end of the ramp")[1]
+def test_the_meter_of_the_page_on_saved_moments(tmp_path):
+    text = (TOOLS / "docs" / "saved.md").read_text().split("is a signal at the end of the ramp")[1]
     meter, rate = text.split("```")[1], text.split("`limits` of the ramp's gate, `")[1].split("`")[0]
     made = corridor(tmp_path, RAMP.format("") + meter, end="10:00")
     before, metered, after = passed(made, "a2")

@@ -12,7 +12,7 @@ from ctmtools.files import write
 
 from .examples import EXAMPLES, TOOLS
 
-STUDIES = sorted(path.stem for path in EXAMPLES.glob("*.toml"))
+STUDIES = sorted(path.stem for path in EXAMPLES.glob("*.toml") if "[[trips]]" not in path.read_text())
 PLOTS = ["time-space", "n-curves", "queue", "delay", "map", "mfd"]
 
 

@@ -104,6 +104,37 @@ def test_rows_that_dont_agree_on_the_interval_are_refused(tmp_path):
     assert "no count for 06:10, behind line 2" in problem(tmp_path, rows, 'interval = "10 min"')
 
 
+DAY_OF_QUARTERS = "time,n\n" + "".join(f"{hour:02d}:{minute:02d},100\n" for hour in range(6, 10) for minute in (0, 15, 30, 45))
+
+
+@pytest.mark.parametrize("missing", ["error", "zero", "interpolate"])
+@pytest.mark.parametrize("odd, told", [("07:50", "from line 9 to the next row are 5 min, less than the interval of 15 min"),
+                                       ("07:37", "from line 8 to the next row are 7 min, less than the interval of 15 min")])
+def test_an_odd_row_among_quarters_is_refused(tmp_path, missing, odd, told):
+    rows = sorted([*DAY_OF_QUARTERS.splitlines()[1:], f"{odd},100"])
+    assert told in problem(tmp_path, "time,n\n" + "\n".join(rows), f'missing = "{missing}"', end="10:00")
+
+
+@pytest.mark.parametrize("missing", ["zero", "interpolate"])
+def test_hours_among_quarters_are_no_gaps(tmp_path, missing):
+    # By day there is a count each quarter of an hour, and by night one of the whole hour.
+    rows = DAY_OF_QUARTERS + "10:00,400\n11:00,400\n12:00,400\n"
+    told = problem(tmp_path, rows, f'missing = "{missing}"')
+    assert "the rows don't agree on the interval: 15 min from line 2 on, 1 h from line 18 on; say interval" in told.replace("60 min", "1 h")
+    mixed = "time,n\n06:00,90\n06:15,180\n06:20,9\n06:30,270\n"
+    assert "the rows don't agree on the interval" in problem(tmp_path, mixed, f'missing = "{missing}"')
+
+
+def test_a_row_with_more_fields_than_the_head_is_refused(tmp_path):
+    for head in ("time,n", "time,n,", "time,n,,"):
+        rows = QUARTERS.replace("time,n", head).replace("06:30,270", "06:30,1,050")
+        assert "line 4 has 3 fields, and line 1 has 2; is a comma of thousands or a decimal comma among them?" in problem(tmp_path, rows)
+    assert demands(counted(tmp_path, QUARTERS.replace("\n", ",\n"))) == FLOWS
+    assert demands(counted(tmp_path, QUARTERS.replace("270", "270, ,"))) == FLOWS
+    indexed = "".join(f"{i or ''},{row}\n" for i, row in enumerate(QUARTERS.splitlines()))
+    assert demands(counted(tmp_path, indexed)) == FLOWS
+
+
 def test_a_missing_row_doesnt_stretch_its_neighbour(tmp_path):
     assert "no count for 06:15" in problem(tmp_path, "time,n\n06:00,5\n06:30,5\n06:45,5\n")
 

@@ -10,10 +10,11 @@ import pytest
 from .examples import TOOLS
 
 TOP = TOOLS.parent
-COMMANDS_IN = {"README.md": 17, "tools/README.md": 7, "examples/README.md": 12, "tools/docs/measures.md": 6,
+COMMANDS_IN = {"README.md": 17, "tools/README.md": 7, "examples/README.md": 18, "tools/docs/measures.md": 6,
                "tools/docs/networks.md": 1, "tools/docs/calibration.md": 0, "tools/docs/saved.md": 6,
-               "tools/docs/plans.md": 2, "tools/docs/counts.md": 0, "tools/docs/queues.md": 0, "tools/docs/sweeps.md": 1,
-               "tools/docs/python.md": 0}  # and how many there are at least
+               "tools/docs/plans.md": 2, "tools/docs/pages.md": 3, "tools/docs/counts.md": 0, "tools/docs/queues.md": 0, "tools/docs/sweeps.md": 1,
+               "tools/docs/python.md": 0, "tools/docs/units.md": 0, "tools/docs/uncertainty.md": 1, "tools/docs/routes.md": 2,
+               "tools/docs/yields.md": 0}  # and how many there are at least
 PAGES = sorted(str(path.relative_to(TOP)) for path in
                [*TOP.glob("*.md"), *TOP.glob("docs/*.md"), *TOP.glob("tools/docs/*.md"), TOP / "tools/README.md",
                 TOP / "examples/README.md"])
@@ -22,6 +23,7 @@ PAGES = sorted(str(path.relative_to(TOP)) for path in
 LEFT_OUT = {
     ".ci/run": "it proves all crates",
     "tools/setup": "it installs packages",
+    "./ctm --install": "it builds the programs",
     "man -l docs/ctm.1": "it needs man",
     "dask-scheduler --port 8786": "it needs a cluster",
     "dask-worker tcp://HOST:8786": "it needs a cluster",
@@ -30,13 +32,15 @@ LEFT_OUT = {
     "./ctm-tools import sumo NET.net.xml": "its files are a user's",
     "./ctm-tools calibrate study.toml --observed det.csv --vary lane.saturation_flow=1800:2400 --vary demand=0.9:1.1":
         "its files are a user's",
+    "./ctm-tools draw STUDY.toml": "examples/README.md has one of a study with something uncertain",
     "./ctm-tools diagram detector.csv --lanes 3": "its file is a user's",
     "./ctm-tools branch SAVED STUDY..": "its files are a user's",
+    "./ctm-tools assign STUDY.toml": "tools/docs/routes.md has one of a study with trips",
     "./ctm-tools optimise STUDY.toml --signals": "tools/docs/plans.md has one of a study with signals",
     "./ctm-tools meter STUDY.toml": "tools/docs/saved.md has one of a study with meters",
     "./ctm-tools calibrate STUDY.toml --observed FILE.csv --vary KEY=LOW:HIGH": "its files are a user's",
     "./ctm-tools diagram FILE.csv": "its file is a user's",
-    "./ctm-tools report a.report b.report -o ab.html": "its files are a user's",
+    "./ctm-tools report town.report --map-behind": "its files are a user's",
     "./ctm-tools sweep study.toml --vary demand=0.8:1.2:0.01 --dask tcp://HOST:8786": "it needs a cluster",
 }
 
@@ -105,6 +109,11 @@ def test_the_commands_of_a_document_run(name, top, recording_program):
         assert status == 0, f"{command}: status {status}: {told[-500:]}"
 
 
+def test_the_manual_page_says_what_the_commands_say():
+    """tools/documents makes it anew."""
+    subprocess.run([sys.executable, "-B", TOP / "packaging/documents.py", "--check", "docs/ctm-tools.1"], check=True)
+
+
 def test_each_command_that_is_left_out_is_in_a_document():
     told = {command for name in COMMANDS_IN for command in commands(read(name))}
     assert not LEFT_OUT.keys() - told
@@ -115,6 +124,66 @@ def test_the_lines_of_python_run(top, recording_program):
     assert ended(top, recording_program, "./ctm-tools", "run", "examples/bottleneck.toml")[0] == 0
     status, told = ended(top, recording_program, sys.executable, "-c", f"import ctmtools\n{lines}\nprint(queues.cell[0])")
     assert (status, told) == (0, "m20\n")
+
+
+def blocks(page):
+    """The lines of each block of a page, with the text before it."""
+    parts = re.split(r"^```$", page, flags=re.MULTILINE)
+    return [(before, block.strip("\n").splitlines()) for before, block in zip(parts[::2], parts[1::2])]
+
+
+def stand_in_order(lines, text):
+    """Whether these lines stand in a text, one behind the other. `...` stands for others, and comments are a page's own."""
+    rest = iter(text.splitlines())
+    return all(line in rest for line in lines if line != "..." and not line.startswith("#"))
+
+
+def texts_shown(top, program, before, calls):
+    """What an excerpt may be of: what each call writes, or all, with the numbers of steps that stand before it, or a file."""
+    steps = re.findall(r"`steps,(\d+)`", before) or [None]
+    written = [written_at(top, program, call, steps) for call in calls]
+    return [*written, "".join(written) if steps != [None] else "", *(read(file_of(call)) for call in calls)]
+
+
+def file_of(call):
+    return re.findall(r"examples/\S+", call)[-1]
+
+
+def written_at(top, program, call, steps):
+    """What a call writes of its file with each of these numbers of steps, or as the file stands."""
+    calls = [f"sed 's/^steps,.*/steps,{number}/' {file_of(call)} | ./ctm run" if number else call for number in steps]
+    return "".join(ended(top, program, "bash", "-c", it)[1] for it in calls)
+
+
+def test_the_excerpts_of_the_examples_are_what_the_commands_above_them_write(top, recording_program):
+    calls, excerpts = [], 0
+    for before, lines in blocks(read("examples/README.md")):
+        if all(re.match(r"\./|sed ", line) for line in lines):
+            calls = lines
+            continue
+        excerpts += 1
+        assert any(stand_in_order(lines, text) for text in texts_shown(top, recording_program, before, calls)), lines
+    assert excerpts == 20
+
+
+def test_the_example_of_the_first_page_is_the_file_and_its_report(top, recording_program):
+    page = read("README.md").split("## An example")[1].split("\n## ")[0]
+    file, report = (lines for _, lines in blocks(page))
+    assert stand_in_order(file, read("examples/bottleneck.csv"))
+    assert stand_in_order(report, ended(top, recording_program, "bash", "-c", "./ctm run < examples/bottleneck.csv")[1])
+    assert f"in {len(read('examples/bottleneck.toml').splitlines())} lines" in read("README.md")
+
+
+def test_the_must_fail_edits_and_the_tests_of_the_map_are_those_that_stand():
+    page = read("docs/MAP.md").split("## Check times")[1].split("\n## ")[0]
+    rows = re.findall(r"^\| `(\w+)` \| \w+ \| \w+ \| (\w+) \| (\w+) \|$", page, re.MULTILINE)
+    counts = [line.split() for line in read(".ci/counts.txt").splitlines()]
+    assert [crate for crate, _, _ in rows] == [words[1] for words in counts if words[0] == "crate"]
+    for crate, tests, edits in rows:
+        stand = sum(words[:2] == ["edit", crate] for words in counts)
+        assert edits == (str(stand) if stand else "none"), crate
+        assert (tests == "none") == (["test", crate] not in [words[:2] for words in counts]), crate
+    assert f"The {sum(words[0] == 'edit' for words in counts)} edits" in page
 
 
 def anchors(page):

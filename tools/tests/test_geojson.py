@@ -4,10 +4,13 @@ import json
 
 import pytest
 
+from ctmtools import Problem, read_report
 from ctmtools.exports.geojson import collection
+from ctmtools.report.by_road import by_road
 
+from .corridor import HEAD, corridor
+from .examples import save_report
 from .test_travel import reported
-from .corridor import corridor
 
 
 def made(tmp_path, **named):
@@ -36,10 +39,54 @@ def test_by_quarter_of_an_hour(tmp_path):
     assert rows[3]["flow"] == 0 and rows[3]["speed"] is None
 
 
+@pytest.mark.parametrize("every, records", [(900, 1), (900, 6), (700, 7)])
+def test_the_delay_of_all_cells_adds_up_to_the_programs(tmp_path, every, records):
+    # The bottleneck costs 461.25 vehicle-hours, which is the area between its curves of arrival and departure.
+    report = read_report(save_report(tmp_path, "bottleneck", records))
+    for rows in (collection(report)["features"], collection(report, every)["features"]):
+        delays = [(row["properties"]["kind"], row["properties"]["delay"]) for row in rows]
+        assert sum(delay for _, delay in delays) == pytest.approx(461.25, abs=0.01)
+        assert all(delay == 0 for kind, delay in delays if kind == "exit")
+    assert by_road(report, every).delay.sum() == pytest.approx(461.25, abs=0.01)
+
+
+CENTRE = [[13.40, 52.52], [13.41, 52.52]]  # degrees, in Berlin
+UTM = [[391440.03, 5820079.67], [392118.49, 5820064.67]]  # the same in zone 33 of UTM, in m, by Krueger's series
+
+
+@pytest.mark.parametrize("crs, points", [("EPSG:4326", CENTRE), ("EPSG:25833", UTM)])
+def test_points_of_a_coordinate_system_are_written_in_degrees(tmp_path, crs, points):
+    made = reported(corridor(tmp_path, head=f'crs = "{crs}"\n{HEAD}', lanes=f"2\npoints = {points}"))
+    read = collection(made)
+    rows = {row["properties"]["cell"]: row["geometry"]["coordinates"] for row in read["features"]}
+    assert read["units"]["coordinates"] == "longitude and latitude"
+    assert rows["m1"][0] == pytest.approx(CENTRE[0], abs=1e-6) and rows["m4"][-1] == pytest.approx(CENTRE[1], abs=1e-6)
+    assert rows["m2"][-1] == pytest.approx([13.405, 52.52], abs=1e-5)
+
+
+def test_points_without_a_system_are_told_as_local(tmp_path):
+    report = made(tmp_path)
+    assert collection(report)["units"]["coordinates"] == "local, of a schematic map in km"
+    report.units.points = {"m": [[0, 0], [0.6, 0.8]]}
+    assert collection(report)["units"]["coordinates"] == "local, in metres"
+
+
+@pytest.mark.parametrize("crs, points, wanted", [
+    ("EPSG:4326", [[52.52, 113.4], [52.53, 113.4]], "roads.m.points: expected a longitude and a latitude in degrees, found 52.52, 113.4"),
+    ("EPSG:1", CENTRE, 'crs: expected a coordinate system such as EPSG:25832, found "EPSG:1"'),
+    ("WGS84", CENTRE, 'crs: expected a code such as "EPSG:25832"'), ("EPSG:4978", CENTRE, "crs: expected a system of longitude"),
+    ("EPSG:25833", [[1e12, 5e6], [2e12, 5e6]], "is no place of EPSG:25833")])
+def test_mistakes_in_coordinates(tmp_path, crs, points, wanted):
+    with pytest.raises(Problem) as found:
+        collection(reported(corridor(tmp_path, head=f'crs = "{crs}"\n{HEAD}', lanes=f"2\npoints = {points}")))
+    assert wanted in str(found.value)
+
+
 def test_the_command(tool, reports, tmp_path):
     status, out, err = tool("export", "geojson", reports("interchange"), "--every", "30 min", "-o", "i.geojson")
     read = json.loads((tmp_path / "i.geojson").read_text())
-    assert status == 0 and read["type"] == "FeatureCollection" and out == f"i.geojson: {len(read['features']):,} lines\n"
+    assert status == 0 and read["type"] == "FeatureCollection" and out == \
+        f"i.geojson: {len(read['features']):,} lines; coordinates are local, of a schematic map in km\n"
     assert read["units"]["density"] == "vehicles/km" and read["features"][0]["geometry"]["type"] == "LineString"
     assert "its name ends with .geojson" in tool("export", "geojson", reports("interchange"), "-o", "i.csv")[2]
     assert "is less than the way from record to record" in tool("export", "geojson", reports("interchange"), "--every", "1")[2]

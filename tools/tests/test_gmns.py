@@ -1,10 +1,13 @@
 """Networks in GMNS as studies: tables, units, rings of a signal, shares and demand, worked out on paper."""
 
+from pathlib import Path
+
 import plain_model
 import pytest
 
 from ctmtools import Problem, build, read_study
 from ctmtools.imports.gmns import phase_spans, read_folder
+from ctmtools.imports.gmns_tables import Row
 from ctmtools.report.reading import report_of
 
 TABLES = {
@@ -21,6 +24,9 @@ TABLES = {
     "signal_coordination": "timing_plan_id,offset\nday,70\n",
     "demand": "link_id,start,end,flow\na,0,1800,1200\nb,0,3600,300\n",
 }
+
+
+DEMAND = "link_id,start,end,flow\na,0,1800,1200\n{}\n"
 
 
 @pytest.fixture
@@ -55,7 +61,7 @@ def test_speed_limits_by_time_are_told_as_out_of_reach(folder):
 
 
 def test_rings_wait_for_each_other_at_a_barrier():
-    rows = [dict(zip(("ring", "barrier", "position", "max_green", "clearance"), row)) for row in (
+    rows = [Row(Path("t.csv"), 2, dict(zip(("ring", "barrier", "position", "max_green", "clearance"), row))) for row in (
         ("1", "1", "1", "10", "5"), ("1", "1", "2", "20", "5"), ("2", "1", "1", "15", "5"), ("1", "2", "1", "12", "3"),
         ("2", "2", "1", "10", "5"))]
     assert phase_spans(rows) == [(0, 10), (15, 35), (0, 15), (40, 52), (40, 50)]
@@ -63,7 +69,7 @@ def test_rings_wait_for_each_other_at_a_barrier():
 
 def test_the_study_serves_its_demand(tool, folder):
     status, out, err = tool("import", "gmns", folder, "-o", "town.toml", "--until", "2 h")
-    assert status == 0 and out.splitlines()[0] == "town.toml: 4 streets, 1 signals, 0 vehicles"
+    assert status == 0 and out.splitlines()[0] == "town.toml: 4 streets, 1 signals, 900 vehicles"
     made = build(read_study("town.toml"))
     signals = {line.split(",")[1]: line.split(",")[2:] for line in made.text.splitlines() if line.startswith("signal,")}
     # Steps of 2 s; the cycle begins at 10 s. 25 s of green are told as 24 s.
@@ -79,6 +85,7 @@ def test_without_movements_all_ways_but_that_back_are_taken(folder):
     (folder / "movement.csv").unlink()
     found = read_folder(folder)
     assert set(found.ways) == {("a", "c"), ("a", "d"), ("b", "c")}
+    assert "there is no movement.csv, so the signals aren't kept: all movements are green at all times" in found.notes
 
 
 def test_a_link_that_is_not_directed_makes_two_streets(folder):
@@ -90,9 +97,35 @@ def test_a_link_that_is_not_directed_makes_two_streets(folder):
 @pytest.mark.parametrize("name, text, wanted", [
     ("link", None, "link.csv: no such file"), ("link", "link_id,length\n1,2\n", "has no column from_node_id"),
     ("config", "long_length\nfurlong\n", "long_length: expected km or"),
-    ("link", TABLES["link"].replace("a,1,2,1,1,45", "a,1,2,1,x,45"), 'length: expected a number, found "x"'),
+    ("link", TABLES["link"].replace("a,1,2,1,1,45", "a,1,2,1,x,45"), 'length: expected a number of 0 or more, found "x"'),
     ("link", TABLES["link"].replace("a,1,2,1,1,45,2", "a,1,2,1,1,45,0"), "link a: lanes, free_speed and length must be above 0"),
-    ("demand", "link_id,flow\nz,5\n", "demand.csv: there is no link z")])
+    ("demand", "link_id,flow\nz,5\n", "demand.csv: has no column start"),
+    ("demand", DEMAND.format("z,0,1800,5"), "demand.csv: line 3, link_id: there is no link z"),
+    ("demand", DEMAND.format("e,0,1800,5"), "demand.csv: line 3, link_id: cars may not use link e"),
+    ("demand", DEMAND.format("a,0,1800,nan"), 'demand.csv: line 3, flow: expected a number of 0 or more, found "nan"'),
+    ("demand", DEMAND.format("a,0,1800,"), 'demand.csv: line 3, flow: expected a number of 0 or more, found ""'),
+    ("demand", DEMAND.format("a,0,1800,-5"), 'demand.csv: line 3, flow: expected a number of 0 or more, found "-5"'),
+    ("demand", DEMAND.format("a,1800,0,5"), "demand.csv: line 3, end: expected a time after the start at 1800 s, found 0"),
+    ("demand", DEMAND.format("a,0,1800,1,050"), "demand.csv: line 3 has 5 fields, and line 1 has 4"),
+    ("link", TABLES["link"] + "a,1,2,1,1,45,2,1500,auto\n", "link.csv: line 7, link_id: a stands in line 2 too"),
+    ("link", TABLES["link"] + ",1,2,1,1,45,2,1500,auto\n", "link.csv: line 7, link_id: is empty"),
+    ("link", TABLES["link"] + "f,1,9,1,1,45,2,1500,auto\n", "link.csv: line 7, to_node_id: there is no node 9"),
+    ("link", TABLES["link"].replace("true", "maybe"), 'link.csv: line 5, directed: expected 1 or 0, found "maybe"'),
+    ("link", TABLES["link"].replace("45,1,,auto", "45,1.5,,auto"), 'link.csv: line 3, lanes: expected a whole number, found "1.5"'),
+    ("node", TABLES["node"] + "1,0,0\n", "node.csv: line 6, node_id: 1 stands in line 2 too"),
+    ("node", TABLES["node"].replace("1609,0", "west,0"), 'node.csv: line 3, x_coord: expected a number, found "west"'),
+    ("movement", TABLES["movement"] + "4,2,a,1,1,z,signal,\n", "movement.csv: line 5, ob_link_id: there is no link z"),
+    ("movement", TABLES["movement"] + "4,2,c,1,1,d,signal,\n", "movement.csv: line 5: link c doesn't lead to node 2 at which d begins"),
+    ("movement", TABLES["movement"] + "3,2,b,1,1,d,signal,\n", "movement.csv: line 5, mvmt_id: 3 stands in line 4 too"),
+    ("movement", TABLES["movement"].replace("d,signal,1", "d,signal,"), "movement.csv: line 3, share: is empty, and other movements from link a"),
+    ("movement", TABLES["movement"].replace("signal,3", "signal,-3"), 'movement.csv: line 2, share: expected a number of 0 or more, found "-3"'),
+    ("movement", "node_id,ib_link_id,ob_link_id,share\n2,a,c,\n2,a,d,1\n", "movement.csv: has no column mvmt_id"),
+    ("movement", TABLES["movement"] + "4,2,a,1,1,c,signal,\n", "movement.csv: line 5, share: is empty, and other movements from link a"),
+    ("signal_phase_mvmt", TABLES["signal_phase_mvmt"] + "p4,9,permitted\n", 'line 5, mvmt_id: there is none of this name, "9"'),
+    ("signal_phase_mvmt", TABLES["signal_phase_mvmt"] + "p9,3,permitted\n", 'line 5, timing_phase_id: there is none of this name, "p9"'),
+    ("signal_timing_phase", TABLES["signal_timing_phase"] + "p5,noon,2,25,5,1,1,1\n", 'line 4, timing_plan_id: there is none of this'),
+    ("signal_timing_phase", TABLES["signal_timing_phase"].replace("25,5,1,2", "x,5,1,2"), 'line 3, max_green: expected a number of 0'),
+    ("config", "crs\nEPSG:1\n", 'config.csv: crs: expected a coordinate system such as EPSG:25832, found "EPSG:1"')])
 def test_mistakes_in_the_tables(folder, name, text, wanted):
     if text is None:
         (folder / f"{name}.csv").unlink()
@@ -101,3 +134,97 @@ def test_mistakes_in_the_tables(folder, name, text, wanted):
     with pytest.raises(Problem) as found:
         read_folder(folder)
     assert wanted in str(found.value)
+
+
+def test_the_vehicles_of_the_demand_are_told_by_time(tool, folder):
+    out = tool("import", "gmns", folder, "-o", "town.toml", "--until", "45 min")[1]
+    # 600 vehicles come on a in half an hour, and 225 of 300 on b in 45 minutes.
+    assert out.splitlines()[:4] == ["town.toml: 4 streets, 1 signals, 825 vehicles",
+                                    "  vehicles              in the files  in the study",
+                                    "  all                            900           825",
+                                    "  00:00:00 to 00:45:00           825           825"]
+    (folder / "demand.csv").unlink()
+    assert "there is no demand.csv, so no vehicle comes" in tool("import", "gmns", folder, "-o", "town.toml")[1]
+
+
+def test_demand_behind_the_end_is_told_and_left_out(tool, folder):
+    (folder / "demand.csv").write_text(TABLES["demand"] + "a,7200,9000,600\nb,1800,90000,60\n")
+    out = tool("import", "gmns", folder, "-o", "town.toml", "--start", "23:30")[1]
+    # In the hour come 600 and 300, and 30 of the 1,470 of the last row.
+    assert ", 930 vehicles" in out and "  after 00:30:00               1,740             0" in out.replace("24:30", "00:30")
+    gates = build(read_study("town.toml")).text
+    assert sum((int(row[3]) - int(row[2])) * float(row[4]) for row in (line.split(",") for line in gates.splitlines())
+               if row[0] == "demand") == pytest.approx(930, abs=0.01)
+
+
+# Two nodes in Berlin, 0.01 degrees of longitude apart: 678.6 m by the series of the UTM, so the links are of 0.68 km or so.
+DEGREES = "node_id,x_coord,y_coord\n1,13.40,52.52\n2,13.41,52.52\n3,13.42,52.52\n4,13.41,52.53\n"
+
+
+def lengths(text, one, two):
+    """The table of links with other lengths of those from west to east, and of the others."""
+    for ends, length in (("a,1,2,1", one), ("b,4,2,1", two), ("c,2,3,1", one), ("d,2,4,true", two), ("e,2,4,1", two)):
+        text = text.replace(f"{ends},1,", f"{ends},{length},")
+    return text
+
+
+@pytest.mark.parametrize("config, length, told", [
+    ("crs,long_length\nEPSG:4326,km\n", "0.68", False), ("crs\nWGS84\n", "0.68", False), ("long_length\nm\n", "680", True),
+    ("dataset_name\ntown\n", "0.68", True), ("crs,long_length\nEPSG:4326,m\n", "", False)])
+def test_degrees_are_kept_as_degrees(tool, folder, config, length, told):
+    (folder / "config.csv").write_text(config)
+    (folder / "node.csv").write_text(DEGREES)
+    (folder / "link.csv").write_text(lengths(TABLES["link"], length, {"0.68": "1.11"}.get(length, "1112")))
+    found = read_folder(folder)
+    assert (found.crs, found.streets["a"].points) == ("EPSG:4326", [(13.40, 52.52), (13.41, 52.52)])
+    assert found.streets["a"].length == pytest.approx(0.6786, abs=0.0015)
+    assert any("has no crs; the coordinates are taken as longitude and latitude" in note for note in found.notes) == told
+
+
+def test_coordinates_are_written_with_all_their_digits(tool, folder):
+    (folder / "config.csv").write_text("crs,long_length,speed\nEPSG:4326,km,km/h\n")
+    (folder / "node.csv").write_text(DEGREES.replace("13.40", "13.4012345"))
+    (folder / "link.csv").write_text(lengths(TABLES["link"], "0.6", "1.1"))
+    tool("import", "gmns", folder, "-o", "town.toml")
+    text = Path("town.toml").read_text()
+    assert 'crs = "EPSG:4326"' in text and "points = [[13.4012345, 52.52], [13.41, 52.52]]" in text
+    units = build(read_study("town.toml")).units
+    # Zone 33 of UTM has the second node at 392.11849 km and 5820.06467 km, by Krueger's series.
+    assert units.crs == "EPSG:32633" and units.points["a"][1] == pytest.approx([392.11849, 5820.06467], abs=1e-5)
+
+
+def test_metres_that_would_be_taken_for_km_are_refused(folder):
+    (folder / "config.csv").unlink()
+    (folder / "link.csv").write_text(lengths(TABLES["link"], "1609", "1609"))
+    with pytest.raises(Problem, match="config.csv: has no long_length, and in km the links are 1,000 times as long"):
+        read_folder(folder)
+    (folder / "node.csv").write_text(DEGREES)
+    (folder / "link.csv").write_text(lengths(TABLES["link"], "679", "1112"))
+    with pytest.raises(Problem, match="config.csv: has no long_length, and in km the links are 1,00[01] times as long"):
+        read_folder(folder)
+
+
+def test_coordinates_that_fit_nothing_are_left_out_and_told(folder):
+    (folder / "node.csv").write_text("node_id,x_coord,y_coord\n1,0,0\n2,1,0\n3,2,0\n4,1,1\n")
+    (folder / "link.csv").write_text(TABLES["link"])
+    found = read_folder(folder)
+    assert found.streets["a"].points == [] and "the coordinates of the nodes aren't kept: by them" in "".join(found.notes)
+
+
+def test_a_node_without_coordinates_isnt_put_at_the_origin(folder):
+    (folder / "node.csv").write_text(TABLES["node"].replace("1,0,0", "1,,"))
+    found = read_folder(folder)
+    assert found.streets["a"].points == [] and found.streets["c"].points == [(1.609, 0), (3.218, 0)]
+
+
+def test_a_movement_from_a_link_that_is_not_directed_takes_the_street_to_its_node(folder):
+    (folder / "link.csv").write_text(TABLES["link"].replace("d,2,4,true", "d,2,4,0"))
+    (folder / "movement.csv").write_text(TABLES["movement"] + "4,2,d,1,1,c,signal,\n")
+    assert ("d_back", "c") in read_folder(folder).ways
+
+
+def test_movements_by_lanes_from_link_to_link_add_up(folder):
+    rows = TABLES["movement"].replace("1,2,a,1,2,c,signal,3", "1,2,a,1,1,c,signal,1\n4,2,a,2,2,c,signal,2")
+    (folder / "movement.csv").write_text(rows)
+    found = read_folder(folder)
+    assert (found.ways["a", "c"].lanes, found.shares["a", "c"], found.shares["a", "d"]) == (2, 3, 1)

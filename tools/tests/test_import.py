@@ -26,8 +26,8 @@ NET = """<net version="1.9">
     <tlLogic id="J" type="{sort}" programID="0" offset="10">
         <phase duration="30" state="GGr"/><phase duration="4" state="yyr"/><phase duration="26" state="rrG"/>
     </tlLogic>
-    <junction id="J" type="traffic_light" x="0" y="0" incLanes="a_0 a_1 a_2 b_0"/>
-    <junction id="C" type="priority" x="125" y="0" incLanes="c_0"/><junction id="A" type="dead_end" x="-250" y="0" incLanes=""/>
+    <junction id="J" type="traffic_light" x="0" y="0" intLanes="" incLanes="a_0 a_1 a_2 b_0"/>
+    <junction id="C" type="priority" x="125" y="0" intLanes="" incLanes="c_0"/><junction id="A" type="dead_end" x="-250" y="0" intLanes="" incLanes=""/>
     {ends}
     <connection from="a" to="c" fromLane="1" toLane="0" tl="J" linkIndex="0" dir="s" state="O"/>
     <connection from="a" to="d" fromLane="2" toLane="0" tl="J" linkIndex="1" dir="s" state="O"/>
@@ -36,7 +36,7 @@ NET = """<net version="1.9">
     <connection from="d" to="g" fromLane="0" toLane="0" dir="s" state="M"/>
 </net>
 """
-ENDS = "".join(f'<junction id="{node}" type="dead_end" x="9" y="9" incLanes=""/>' for node in "BDEFG")
+ENDS = "".join(f'<junction id="{node}" type="dead_end" x="9" y="9" intLanes="" incLanes=""/>' for node in "BDEFG")
 
 
 def net(sort="static"):
@@ -91,11 +91,12 @@ def test_an_actuated_signal_is_told(files):
 
 def test_trips(files):
     found = read_network(files / "town.net.xml")
-    read_trips(found, files / "town.rou.xml", 3600)
+    read_trips(found, [files / "town.rou.xml"], [], 3600)
     told = {(" ".join(trip.route), trip.begin, trip.end, round(trip.vehicles, 6)) for trip in found.trips}
     assert told == {("a c e", 0, 3600, 360), ("a d", 900, 1800, 90), ("b c", 0, 3600, 180), ("a d", 100, 100, 1),
                     ("b c e", 200, 200, 1)}
-    assert "town.rou.xml: 1 vehicles without a way over the network are left out" in found.notes
+    assert "town.rou.xml: 1 vehicles without a way over the network are left out, as trip 6 from d to a, where no way is" in \
+        found.notes
     assert "vehicles that take 14.5 m take as much as the others" in found.notes
 
 
@@ -107,7 +108,8 @@ def test_the_study(tool, files):
     # A step of 2 s at 12.5 m/s is 25 m: a has 10 cells. Who ends at c leaves there, so that c and e are no one road.
     assert {road: len(cells) for road, cells in made.units.roads.items()} == {
         "a": 10, "b": 10, "c": 5, "d": 10, "e": 5, "a-c": 1, "a-d": 1, "b-c": 1}
-    assert [line in made.remarks for line in (line.strip() for line in out.splitlines()[1:])] == [True] * (out.count("\n") - 1)
+    notes = out.splitlines()[out.splitlines().index("  after 01:00:00                 181             0") + 1:]
+    assert notes and all(line.strip() in made.remarks for line in notes)
     # The cycle of 30 steps begins at 10 s, step 5: a is green from 5 to 20, and b from 22 to 35. Yellow is no green.
     signals = {line.split(",")[1]: line.split(",")[2:] for line in made.text.splitlines() if line.startswith("signal,")}
     assert signals == {"a10": ["30", "25", "0", "15"], "b10": ["30", "8", "0", "13"]}
@@ -202,7 +204,23 @@ def test_speed_limits_by_time_are_told_as_out_of_reach(tool, files, recording_pr
     # What is told by the import is told by each run too, before its results.
     status, out, err = tool("run", "town.toml", "--every", "0")
     assert status == 0 and out.index(told) < out.index("Vehicles")
-    assert "expected <additional> or <routes>, found <net>" in tool(*words, "--additional", "town.net.xml")[2]
+    assert "expected <routes> or <additional> or <add> or <trips> or <flows>, found <net>" in tool(*words, "--additional", "town.net.xml")[2]
+
+
+UTM = "+proj=utm +zone=33 +ellps=WGS84 +datum=WGS84 +units=m +no_defs"
+OWN = "+proj=tmerc +lat_0=0 +lon_0=15 +k=0.9996 +x_0=400000 +y_0=0 +ellps=GRS80 +units=m"  # which has no code
+
+
+@pytest.mark.parametrize("there", sorted({False, sumolib_net.is_there()}))
+@pytest.mark.parametrize("projection, crs, point", [
+    (UTM, "EPSG:32633", (391440.03, 5820079.67)), (OWN, "EPSG:4326", (14.873813, 52.530748)),  # by Krueger's series
+    ("!", None, (-0.25, 0))])
+def test_streets_lie_where_the_projection_has_them(tool, files, monkeypatch, there, projection, crs, point):
+    monkeypatch.setattr(sumolib_net, "is_there", lambda: there)
+    location = f'<location netOffset="-391690.03,-5820079.67" convBoundary="0,0,1,1" origBoundary="0,0,1,1" projParameter="{projection}"/>'
+    (files / "town.net.xml").write_text(net().replace('<net version="1.9">', f'<net version="1.9">{location}'))
+    found = read_network(files / "town.net.xml")
+    assert found.crs == crs and found.streets["a"].points[0] == pytest.approx(point, abs=1e-6)
 
 
 def test_a_file_of_routes_may_have_speed_signs(tool, files):
@@ -217,7 +235,8 @@ def test_a_network_that_sumolib_can_not_read_is_read_by_its_xml(files):
 
 def canonical(found):
     """A network whatever the order of its connections and of its signals."""
-    return found.name, found.edges, sorted(found.links, key=repr), sorted(found.logics, key=repr), found.nodes, found.roundabouts
+    return (found.name, found.edges, sorted(found.links, key=repr), sorted(found.logics, key=repr), found.nodes, found.roundabouts,
+            found.location)
 
 
 # The tools can do without sumolib, and in the full check no case may be skipped: where it isn't there, these are none.
@@ -231,7 +250,7 @@ if sumolib_net.is_there():
         if path != given:
             path.write_text(given)
         one, two = sumo_net.read(path), sumolib_net.read(path)
-        assert canonical(one) == canonical(two) and streets_of(one) == streets_of(two) == read_network(path)
+        assert canonical(one) == canonical(two) and streets_of(one, "n") == streets_of(two, "n") == read_network(path)
 
 
 @pytest.mark.parametrize("there", sorted({False, sumolib_net.is_there()}))

@@ -1,4 +1,4 @@
-"""What `import ctmtools` gives: build, run, plot and sweep as functions, and every name with its annotations."""
+"""What `import ctmtools` gives: the commands as functions, and every name with its annotations."""
 
 import ast
 import inspect
@@ -14,7 +14,8 @@ import pandas
 import pytest
 
 import ctmtools
-from ctmtools import Problem, build, plot, queues_of, read_network, read_report, read_study, run, sweep, totals
+from ctmtools import (Problem, build, calibrate, choose, import_gmns, import_sumo, meter, optimise, page, plot, queues_of,
+                      read_network, read_report, read_study, run, sweep, totals)
 
 from .examples import EXAMPLES, TOOLS
 
@@ -69,6 +70,62 @@ def test_sweep(plain, tmp_path, monkeypatch):
     assert len((tmp_path / "kept" / "results.csv").read_text().splitlines()) == 3
     with pytest.raises(Problem, match="has no values"):
         sweep(STUDY, {"demand": []})
+
+
+def test_the_delay_by_its_name(plain):
+    report = run(STUDY)
+    assert report.delay_vehicle_hours == pytest.approx(33) == pytest.approx(report.total.delay / 360)
+    with pytest.raises(Problem, match="11880 vehicle-steps"):
+        run(EXAMPLES / "arterial-0.csv").delay_vehicle_hours
+
+
+def test_choose_and_optimise(program, tmp_path, monkeypatch):
+    monkeypatch.chdir(tmp_path)
+    rows = choose(STUDY, {"signals.offset": [0, 40, 80]})
+    assert rows["signals.offset"].tolist()[0] == 40 and rows.delay_vehicle_hours.tolist()[0] == pytest.approx(6.75)
+    found = optimise(STUDY, generations=1, population=6)
+    assert found.before == pytest.approx(33) and found.after <= found.before and "[[signals]]" in found.text
+    assert not os.listdir(tmp_path)
+    choose(STUDY, {"signals.offset": [0, 40]}, output="kept")
+    optimise(STUDY, "found", generations=1, population=6)
+    assert os.listdir("kept") == ["plans.csv"] and sorted(os.listdir("found")) == ["best.toml", "tried.csv"]
+    assert run("found/best.toml").delay_vehicle_hours == pytest.approx(found.after)
+
+
+def test_meter(program, tmp_path):
+    done = meter(EXAMPLES / "feedback.toml", tmp_path / "m.report")
+    assert done.report.delay_vehicle_hours < done.without.delay_vehicle_hours
+    assert list(done.rates.columns) == ["time", "step", "ramp", "occupancy", "rate"]
+    assert sorted(os.listdir(tmp_path)) == ["m.csv", "m.report", "m.units.json"]
+    with pytest.raises(Problem, match=r"has no \[\[meters\]\]"):
+        meter(STUDY)
+
+
+def test_calibrate(program, tmp_path):
+    # A run with a demand of 0.9 passes the detector at km 1 with 0.9 · 1,080 vehicles/h from 07:00 on.
+    (tmp_path / "seen.csv").write_text("place,start,end,flow\nc.1,07:20,07:50,972\n")
+    found = calibrate(STUDY, tmp_path / "seen.csv", {"demand": (0.7, 1.1)}, runs=20, first=4)
+    low, high = found.as_well["demand"]
+    assert found.values["demand"] == pytest.approx(0.9, abs=0.02) and low <= found.values["demand"] <= high
+
+
+def test_imports_and_the_page(program, tmp_path, report):
+    study = import_gmns(gmns_road(tmp_path), tmp_path / "made.toml", until="30 min")
+    assert study.path == tmp_path / "made.toml" and len(study.roads) == 1
+    with pytest.raises(Problem, match="No such option: --untl"):
+        import_gmns(tmp_path, tmp_path / "made.toml", untl="30 min")
+    with pytest.raises(Problem, match="no such file"):
+        import_sumo(tmp_path / "none.net.xml", tmp_path / "made.toml")
+    text = page(report("bottleneck"), output=tmp_path / "b.html")
+    assert (tmp_path / "b.html").read_text() == text and "A lane drop" in text
+
+
+def gmns_road(folder):
+    """A folder in GMNS with a single road."""
+    (folder / "node.csv").write_text("node_id,x_coord,y_coord\n1,0,0\n2,1000,0\n")
+    (folder / "link.csv").write_text("link_id,from_node_id,to_node_id,length,lanes,free_speed,directed\na,1,2,1,2,50,1\n")
+    (folder / "demand.csv").write_text("link_id,start,end,flow\na,0,900,600\n")
+    return folder
 
 
 def test_the_public_names_are_those_that_a_type_checker_sees():

@@ -43,6 +43,16 @@ def test_an_approach_of_three_movements_parts_twice(tmp_path):
                             "in each cell"]
 
 
+def test_phases_that_are_green_together_by_their_starts_are_told(tmp_path):
+    phases = ('cycle = 60\n[[junctions.phases]]\nstart = 0\ngreen = 30\nfrom = ["n"]\n'
+              '[[junctions.phases]]\nstart = {}\ngreen = 25\nfrom = ["e", "w"]\n')
+    told = [built(tmp_path, THREE + phases.format(start)).warnings for start in (20, 30, 50)]
+    # From 20 to 30 s of the cycle both are green; from 30 s on none is; from 50 s on the second lasts to 15 s of the next cycle.
+    assert told[0] == ["junctions[1].phases: phases 1 and 2 by their start are both green for 10 s of each cycle, with n to x and "
+                       "e to y, which no phase has together"]
+    assert not told[1] and "both green for 15 s" in told[2][0]
+
+
 def test_three_that_lead_to_one_way_out_are_joined_twice(tmp_path):
     made = built(tmp_path, 'from = ["n", "e", "w"]\ninto = ["x"]\nshares = [[1], [1], [1]]\npriorities = [3, 2, 1]\n')
     assert records(made, "merge") == [["n-x1", "e-x1", "x-join1.1", "3", "2"], ["x-join1.1", "w-x1", "x1", "5", "1"]]

@@ -81,13 +81,12 @@ def test_a_study_without_signals_is_refused():
 def test_on_the_street_of_ten_signals_the_delay_is_at_least_a_tenth_less(tool, choosing_program):
     words = ["optimise", STREET, "--signals", "--generations", "3", "--population", "16"]
     status, out, err = tool(*words)
-    assert status == 0 and "generation 3 of 3: " in err
+    assert status == 0 and not err
     row = next(line.split() for line in out.splitlines() if line.strip().startswith("delay (vehicle-hours)"))
     before, after = map(float, row[-2:])
     assert before == pytest.approx(49980 / 360, abs=0.01) and after <= 0.9 * before  # all at once, examples/README.md
     assert "64 runs in this call, 64 plans tried in all" in out
     assert candidate(read_study("arterial-ten.optimise/best.toml")).cells == candidate(read_study(STREET)).cells
-    assert f"{after:g} vehicle-hours" in err.splitlines()[-1]
     # The same call makes no run again, and one with another folder tries the same plans.
     again = tool(*words)[1]
     assert again.startswith("64 plans stand in") and "less delay; 0 runs in this call, 64 plans" in again

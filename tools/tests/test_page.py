@@ -1,42 +1,61 @@
-"""The page of a report: its data, worked out on paper, and what a browser shows when it is used."""
+"""What the page of reports shows, against numbers worked out on paper and those of the program, `compare` and `table`."""
 
-import base64
+import datetime
 import json
+import subprocess
+from dataclasses import replace
 
 import numpy
 import pandas
 import pytest
-from selenium import webdriver
-from selenium.webdriver.chrome.service import Service
-from selenium.webdriver.common.action_chains import ActionChains
-from selenium.webdriver.common.by import By
 
-from ctmtools import Problem, read_report
+from ctmtools import Problem, by_road, read_report
 from ctmtools.network_file.network import network_of
-from ctmtools.pages.page import DRAWING_LIBRARY, data_of, page_of, table_of
-from ctmtools.report.reading import Report
+from ctmtools.pages.background import Background
+from ctmtools.pages.content import data_of
+from ctmtools.pages.junctions import junctions_of
+from ctmtools.pages.networks import roads_of
+from ctmtools.pages.page import DRAWING_LIBRARY, page_of
+from ctmtools.pages.tables import table_of
+from ctmtools.report.names import names_of
+from ctmtools.report.queues import standing
+from ctmtools.report.reading import Report, report_of
 
-from .corridor import corridor
+from .corridor import HEAD, corridor
+from .examples import TOOLS
+from .page_data import cells_of, decoded, figures, queued
 from .test_travel import reported
 
-
-def decoded(data, name, report=0):
-    """The values of a quantity: a row for each cell, a column for each frame."""
-    found = data["reports"][report][name]
-    rows = numpy.frombuffer(base64.b64decode(found["text"]), dtype=numpy.uint8).reshape(len(data["cells"]), -1)
-    return rows / 255 * found["most"], found["most"]
+# A road and its gate beside the corridor: 3 vehicles come in a step and 2 leave.
+BESIDE = """
+[roads.b]
+length = 0.5
+lanes = 1
+[gates.h]
+into = "b"
+demand = [["06:00", "06:30", 1080]]
+[exits.y]
+from = "b"
+capacity = 720
+"""
 
 
 def test_density_and_flow(tmp_path):
     data = data_of([reported(corridor(tmp_path, demand='[["06:00", "06:30", 1440]]'))])
-    assert [cell["name"] for cell in data["cells"]] == ["g", "m1", "m2", "m3", "m4", "x"]
-    assert data["roads"] == {"m": [1, 2, 3, 4]} and len(data["times"]) == 361 and data["times"][180] == "06:30:00"
-    density, most = decoded(data, "density")
+    assert [cell["name"] for cell in cells_of(data)] == ["g", "m1", "m2", "m3", "m4", "x"]
+    assert data["networks"][0]["roads"] == {"m": [1, 2, 3, 4]}
+    assert len(data["times"]) == 361 and data["times"][180] == "06:30:00"
     # 4 vehicles in each step and so in each cell of 250 m, 16 vehicles/km, from two steps after 06:00 to two after 06:30.
-    assert most == 16 and density[1].tolist() == [0] * 2 + [16] * 180 + [0] * 178
-    flow, most = decoded(data, "flow")
-    assert most == 1440 and flow[4].tolist() == [0] * 5 + [1440] * 180 + [0] * 175
-    assert data["clock"] == {"begin": 6 * 3600, "end": 7 * 3600, "each": True}
+    assert decoded(data, "density")["m1"].tolist() == [0] * 2 + [16] * 180 + [0] * 178
+    assert decoded(data, "flow")["m4"].tolist() == [0] * 5 + [1440] * 180 + [0] * 175
+    assert data["clock"]["known"] and data["clock"]["bounds"][::360] == [6 * 3600, 7 * 3600]
+
+
+def test_a_gate_shows_all_that_wait_in_it(tmp_path):
+    # 10 vehicles come in a step, from the first on, and 6 go in a lane, from the second on: 10 + 4 x 59 after 60 of them.
+    data = data_of([reported(corridor(tmp_path, lanes=1, demand='[["06:00", "06:10", 3600]]'))])
+    waiting = decoded(data, "density")["g"]
+    assert waiting[1:61] == pytest.approx(10 + 4 * numpy.arange(60), abs=0.01) and waiting.max() == pytest.approx(246)
 
 
 def large():
@@ -52,24 +71,132 @@ def large():
 
 
 def test_the_data_of_a_large_report_stay_small():
-    made = data_of([large()])
-    assert len(json.dumps(made, separators=(",", ":"))) < 5_000_000 and len(made["times"]) == 721  # two steps each
-
-
-def test_means_over_several_steps():
     report = large()
-    density, most = decoded(data_of([report]), "density")
+    made = data_of([report])
+    assert len(json.dumps(made, separators=(",", ":"))) < 5_000_000 and len(made["times"]) == 361  # four steps each
     held = report.occupancy.to_numpy()
-    assert numpy.abs(density[7, 3] - (held[6, 7] + held[7, 7]) / 2) <= most / 255
+    assert decoded(made, "density")["c0007"][3] == pytest.approx(held[12:16, 7].mean(), abs=0.001)
+
+
+def test_reports_that_are_recorded_at_other_steps(tmp_path):
+    one, two = (reported(corridor(tmp_path, demand='[["06:00", "06:30", 1440]]'), every) for every in (1, 6))
+    data = data_of([one, two])
+    assert len(data["times"]) == 61 and data["times"][:2] == ["06:00", "06:01"]
+    assert "means over 60 s. Queues and travel times are seen every 60 s" in data["notes"]
+    # 4 vehicles in a step leave m4 from the fifth step on: one of six in the first minute, and then all.
+    for report in (0, 1):
+        assert decoded(data, "flow", report)["m4"][[0, 1, 29]] == pytest.approx([240, 1440, 1440], abs=0.1)
+
+
+def test_lengths_that_are_not_known_are_not_km(report):
+    read = report("interchange")
+    read.units.cells, read.units.roads = {}, {}
+    data = data_of([read])
+    assert data["units"] == {"density": "vehicles in a cell", "flow": "vehicles/h", "speed": "cells in a step", "place": "cell"}
+    assert decoded(data, "density")["m24"].max() == pytest.approx(read.held["m24"].max(), abs=0.01)
+    assert [measure["unit"] for measure in data["tables"]["roads"]["measures"]][::4] == ["cells", "cells"]
+
+
+def test_queues_are_outlined_as_in_the_pictures(report):
+    read = report("bottleneck")
+    stands, shown = standing(read), queued(data_of([read]))
+    assert stands["m20"].any() and all((shown[cell] == stands[cell].to_numpy()).all() for cell in shown)
+
+
+def test_the_page_opens_at_the_greatest_density_of_the_road_with_the_greatest_delay(report):
+    data = data_of([report("bottleneck-staggered"), report("bottleneck")])
+    # More come than the lane drop passes until 08:00, and what the gate lets in then is on the road a step later.
+    opening = data["opening"]
+    assert (opening["report"], opening["road"], opening["cell"]) == (1, "m", "m20")
+    assert data["times"][opening["frame"]] == "08:00:10"
+    assert decoded(data, "density", 1)["m20"][opening["frame"]] == pytest.approx(192)
+
+
+def test_what_a_junction_is_made_of_is_no_road(report):
+    read = report("four-arms")
+    assert len(roads_of(read)) == 16 and {len(cells) for cells in junctions_of(read).values()} == {20}
+    assert "junction of nP, QP, RP and wP" in junctions_of(read)
+    data = data_of([read])
+    assert not [road for road in data["networks"][0]["roads"] if "-" in road] and data["opening"]["road"] in roads_of(read)
 
 
 def test_the_table_of_roads(report):
     table = table_of([report("bottleneck")])
-    assert table["columns"] == ["road", "km", "delay, vehicle-hours", "vehicles", "delay a vehicle, s", "longest queue, km"]
-    road, gate = table["rows"]
-    # The lane drop's delay, by theory, over the 12,900 that came; its longest queue is 13 cells.
-    assert road[0] == "m" and road[1:] == pytest.approx([7.5, 461.25, 12900, 461.25 * 3600 / 12900, 3.25], abs=0.01)
-    assert gate[0] == "gate on" and gate[4] == pytest.approx(0)
+    assert [(measure["name"], measure["unit"]) for measure in table["measures"]] == [
+        ("length", "km"), ("delay", "vehicle-hours"), ("vehicles that left", ""), ("delay of each", "s"),
+        ("most in queues at once", "km"), ("mean travel time", "min")]
+    # The lane drop's delay, by theory, over the 12,900 that came; its longest queue is 13 cells; 7.5 km are 5 min long.
+    each = 461.25 * 3600 / 12900
+    assert figures(table)["m"] == pytest.approx([7.5, 461.25, 12900, each, 3.25, 5 + each / 60], abs=0.01)
+    assert figures(table)["gate on"] == [None, pytest.approx(0), pytest.approx(12900), pytest.approx(0), None, None]
+    assert table["total"][0][:4] == pytest.approx([7.5, 461.25, 12900, each], abs=0.01)
+
+
+@pytest.mark.parametrize("name", ["interchange", "grid", "four-arms"])
+def test_the_delays_of_a_table_add_up_to_the_programs(report, name):
+    read = report(name)
+    table, total = table_of([read]), read.units.hours(read.total.delay)
+    assert sum(own[1] for own in figures(table).values()) == pytest.approx(total, abs=1e-4)
+    assert table["total"][0][1] == pytest.approx(total, abs=1e-5)
+
+
+@pytest.mark.parametrize("name", ["interchange", "grid"])
+def test_the_table_tells_what_table_by_road_tells(report, name):
+    read = report(name)
+    rows = by_road(read).set_index("road")
+    for road, own in figures(table_of([read])).items():
+        if road in rows.index:
+            told = rows.loc[road, ["delay", "vehicles", "delay_each", *(["queue"] if own[4] is not None else [])]]
+            assert [value for value in own[1:5] if value is not None] == pytest.approx(told.tolist(), abs=1e-4), road
+
+
+def test_roads_that_one_report_alone_has_count(tmp_path):
+    one = reported(corridor(tmp_path, lanes=1, demand='[["06:00", "06:10", 3600]]'))
+    two = reported(corridor(tmp_path, BESIDE, lanes=1, demand='[["06:00", "06:10", 3600]]'))
+    for reports in ([one, two], [two, one]):
+        table = table_of(reports)
+        for i, report in enumerate(reports):
+            told = sum(own[1] for own in figures(table, i).values() if own is not None)
+            assert told == pytest.approx(report.units.hours(report.total.delay), abs=1e-5)
+    table = table_of([one, two])
+    assert figures(table, 0)["b"] is None and figures(table, 0)["gate h"] is None
+    # Of 3 that come in a step 2 leave: 180 are too many after 180 steps, so all wait for 180 x 180 / 2 + 90 x 180 / 2 steps.
+    assert sum(figures(table, 1)[name][1] for name in ("b", "gate h")) == pytest.approx((16200 + 8100) / 360, rel=0.02)
+    data = data_of([one, two])
+    assert [len(network["roads"]) for network in data["networks"]] == [1, 2]
+    assert data["tables"]["told"] == ["A is “study (1)”, B is “study (2)”:",
+                                      "Mind: A and B have other cells: 4 of B alone (h, b1, b2 and 1 more), 6 of both."]
+
+
+def test_a_road_that_nobody_left_has_no_delay_of_each(tmp_path):
+    parts = BESIDE.replace("1080", "0")
+    own = figures(table_of([reported(corridor(tmp_path, parts))]))
+    assert own["b"] == [0.5, 0, 0, None, 0, None] and own["m"][3] == 0
+
+
+def test_reports_side_by_side_tell_what_compare_tells(tool, reports):
+    paths = reports("bottleneck"), reports("bottleneck-staggered")
+    data = data_of([read_report(path) for path in paths])
+    first, second = data["tables"]["reports"]["rows"]
+    assert first == ["A lane drop", 12900, 12900, 0, pytest.approx(461.25), None, None]
+    assert second[4:] == pytest.approx([120, -341.25, -100 * 341.25 / 461.25])
+    told = tool("compare", *paths)[1]
+    for cell, *row in data["tables"]["cells"]["rows"]:
+        line = next(line.split() for line in told.splitlines() if line.split()[:1] == [cell])
+        assert [float(text.replace(",", "")) for text in line[1:]] == pytest.approx(row, abs=0.005)
+    assert f"{len(data['tables']['cells']['rows'])} of {data['tables']['cells']['count']} cells that differ" in told
+
+
+def test_lanes_of_another_number_are_told(tmp_path):
+    data = data_of([reported(corridor(tmp_path, lanes=lanes)) for lanes in (2, 3)])
+    assert data["tables"]["told"][1] == "4 cells have another number of lanes in A and in B, as m1: 2 in A, 3 in B."
+    assert [cells_of(data, report)[1]["lanes"] for report in (0, 1)] == [2, 3]
+
+
+def test_more_than_two_reports(report):
+    data = data_of([report(name) for name in ("bottleneck", "bottleneck-staggered", "bottleneck")])
+    assert len(data["tables"]["reports"]["rows"]) == 3 and len(data["tables"]["roads"]["rows"][0]["of"]) == 3
+    assert len(data["networks"]) == 1 and data["tables"]["cells"] is None
 
 
 def test_two_reports_need_the_same_times(tmp_path):
@@ -78,11 +205,63 @@ def test_two_reports_need_the_same_times(tmp_path):
         data_of([one, two])
 
 
+def test_a_network_without_a_road_is_refused():
+    network = network_of(b"ctm,1\nsteps,2\ngate,g,5,3\n")
+    report = report_of(b"report,2,1\n" + b"".join(b"at,%d,g,3,0\n" % step for step in range(3)) +
+                       b"cell,g,3,0,0,6\ntotal,3,0,0,6\n", "alone.report")
+    with pytest.raises(Problem, match="^alone.report: its network has no road, of which a page could tell$"):
+        page_of([replace(report, network=network)])
+
+
+def test_what_reports_are_called(tmp_path):
+    def called(title, name):
+        report = reported(corridor(tmp_path))
+        report.units.title, report.name = title, name
+        return report
+    assert names_of([called("One", "a.report"), called("Two", "b.report")]) == ["One", "Two"]
+    assert names_of([called("One", "x/a.report"), called("One", "x/b.report")]) == ["a", "b"]
+    assert names_of([called("One", "x/a.report"), called("One", "y/a.report")]) == ["x/a.report", "y/a.report"]
+    assert len(set(names_of([called("One", "a.report")] * 2))) == 2
+
+
+def test_where_a_page_comes_from(report):
+    told = data_of([report("bottleneck")])["provenance"]
+    commit = subprocess.run(["git", "log", "-1", "--format=%h"], cwd=TOOLS, capture_output=True, text=True).stdout.strip()
+    today = datetime.date.today().isoformat()
+    assert told.startswith("Study “A lane drop”, network bottleneck.csv, report bottleneck.report of ")
+    assert f"Page made on {today} by ctm " in told and commit in told
+
+
+def test_a_map_behind_needs_points(report):
+    with pytest.raises(Problem, match="have no points"):
+        data_of([report("bottleneck")], Background("EPSG:25832"))
+
+
+@pytest.mark.parametrize("crs, cause", [(None, "isn't known; --crs names"), ("EPSG:1", '--crs: expected a coordinate system such as EPSG:25832, found "EPSG:1"'),
+                                        ("EPSG:4326", "--crs: expected a projected system")])
+def test_a_map_behind_needs_a_place_on_the_earth(report, crs, cause):
+    with pytest.raises(Problem, match=cause):
+        data_of([report("grid")], Background(crs))
+
+
+# Said by --crs, where the study has km of its own, and by the study.
+@pytest.mark.parametrize("said, own, points", [("EPSG:32632", "", "[[500, 0], [501, 0]]"),
+                                               (None, 'crs = "EPSG:32632"', "[[500000, 0], [501000, 0]]"),
+                                               (None, 'crs = "EPSG:4326"', "[[9, 0], [9.008983, 0]]")])
+def test_roads_lie_on_the_map_behind_them(tmp_path, said, own, points):
+    # 500 km east and 0 km north in zone 32 are 9 degrees east on the equator, where Mercator's metres are those of the earth.
+    head = own + HEAD.replace("[lane]", f"[roads.b]\nlength = 1\nlanes = 1\npoints = {points}\n[gates.h]\n"
+                              'into = "b"\n[exits.y]\nfrom = "b"\n[lane]')
+    data = data_of([reported(corridor(tmp_path, head=head))], Background(said))
+    line = next(cell["line"] for cell in cells_of(data) if cell["name"] == "b1")
+    assert line[0] == pytest.approx([9 / 180 * 20037508.34, 0], abs=1) and line[1][0] - line[0][0] == pytest.approx(250, rel=0.001)
+
+
 def test_a_title_can_not_end_the_script(tmp_path):
     report = reported(corridor(tmp_path))
-    report.units.title = 'a</script><b>"'
+    report.units.title = 'a</script><b>"<!--<script>'
     page = page_of([report], library="// d3")
-    assert page.count("</script>") == 3 and "<title>a&lt;/script&gt;" in page
+    assert page.count("</script>") == 3 and "<title>a&lt;/script&gt;" in page and "<!--" not in page
 
 
 def test_a_missing_library_is_named(tmp_path, monkeypatch):
@@ -91,103 +270,7 @@ def test_a_missing_library_is_named(tmp_path, monkeypatch):
         page_of([reported(corridor(tmp_path))])
 
 
-@pytest.fixture(scope="module")
-def browser():
-    """A browser without a window, which reaches no network."""
-    options = webdriver.ChromeOptions()
-    for word in ("--headless=new", "--no-sandbox", "--disable-gpu", "--hide-scrollbars", "--proxy-server=127.0.0.1:9"):
-        options.add_argument(word)
-    options.set_capability("goog:loggingPrefs", {"browser": "ALL"})
-    found = webdriver.Chrome(service=Service("/usr/bin/chromedriver"), options=options)
-    yield found
-    found.quit()
-
-
-def opened(browser, page, width=1200, scheme="light"):
-    """Opens a page in a window of a width, in a colour scheme."""
-    browser.execute_cdp_cmd("Emulation.setEmulatedMedia", {"features": [{"name": "prefers-color-scheme", "value": scheme}]})
-    browser.execute_cdp_cmd("Emulation.setDeviceMetricsOverride", {"width": width, "height": 1000, "deviceScaleFactor": 1,
-                                                                    "mobile": False})
-    browser.get(page.as_uri())
-    return browser
-
-
-def ink(browser, name):
-    """The bytes of a drawing, by which one tells whether it changed."""
-    return browser.execute_script(f"return document.querySelector('#{name} canvas').toDataURL()")
-
-
-def text(browser, name):
-    return browser.find_element(By.ID, name).text
-
-
-@pytest.fixture
-def page(tool, reports, tmp_path):
-    """The page of two reports."""
-    status, out, err = tool("report", reports("bottleneck"), reports("bottleneck-staggered"), "-o", "two.html")
-    assert status == 0 and out == f"two.html: {(tmp_path / 'two.html').stat().st_size:,} bytes\n"
-    return tmp_path / "two.html"
-
-
-def test_a_page_that_is_used(browser, page):
-    opened(browser, page)
-    assert text(browser, "title") == "A lane drop and Staggered hours before a lane drop"
-    assert "12,900 were served, delay 461.25 vehicle-hours; B:" in text(browser, "subtitle")
-    before = ink(browser, "map")
-    browser.execute_script("const s = document.getElementById('slider'); s.value = 720; s.dispatchEvent(new Event('input'))")
-    assert text(browser, "time") == "08:00:00" and ink(browser, "map") != before
-    before = browser.execute_script("return document.querySelector('#curves path.curve').getAttribute('d')")
-    drawing = browser.find_element(By.ID, "space")
-    ActionChains(browser).move_to_element_with_offset(drawing, -100, 100).click().perform()
-    assert text(browser, "cell").startswith("Cell m") and text(browser, "cell") != "Cell m20, road m, km 4.75 to 5"
-    assert browser.execute_script("return document.querySelector('#curves path.curve').getAttribute('d')") != before
-    ActionChains(browser).move_to_element_with_offset(browser.find_element(By.ID, "map"), 0, 0).click().perform()
-    # The middle of the way from the gate to the exit, 30 cells of 250 m and both ends of 150 m, is km 3.75.
-    assert text(browser, "cell").split(",")[0] in ("Cell m15", "Cell m16")
-    assert browser.get_log("browser") == []
-
-
-def test_the_difference_of_two_reports(browser, page):
-    opened(browser, page)
-    before = ink(browser, "space")
-    browser.execute_script("const s = document.getElementById('view'); s.value = 2; s.dispatchEvent(new Event('change'))")
-    assert ink(browser, "space") != before and text(browser, "scale").startswith("B less A, blue for less, -192 to 192")
-    assert "linear-gradient" in browser.find_element(By.ID, "legend").value_of_css_property("background-image")
-    assert browser.get_log("browser") == []
-
-
-def test_the_table_is_sorted_by_a_click(browser, page):
-    opened(browser, page)
-    head = browser.find_elements(By.CSS_SELECTOR, "#roads th button")
-    assert [cell.text for cell in browser.find_elements(By.CSS_SELECTOR, "#roads td:first-child")] == ["m", "gate on"]
-    head[0].click()
-    assert [cell.text for cell in browser.find_elements(By.CSS_SELECTOR, "#roads td:first-child")] == ["gate on", "m"]
-    assert browser.find_elements(By.CSS_SELECTOR, "#roads th")[0].get_attribute("aria-sort") == "ascending"
-    browser.find_elements(By.CSS_SELECTOR, "#roads th button")[0].click()
-    assert [cell.text for cell in browser.find_elements(By.CSS_SELECTOR, "#roads td:first-child")] == ["m", "gate on"]
-    assert browser.get_log("browser") == []
-
-
-@pytest.mark.parametrize("scheme, paper", [("light", "rgba(255, 255, 255, 1)"), ("dark", "rgba(22, 24, 27, 1)")])
-def test_light_and_dark_on_a_small_screen(browser, page, scheme, paper):
-    opened(browser, page, 400, scheme)
-    body = browser.find_element(By.TAG_NAME, "body")
-    assert body.value_of_css_property("background-color") == paper
-    assert browser.execute_script("return document.documentElement.scrollWidth") <= 400
-    assert browser.find_element(By.ID, "map").size["height"] == 120  # a motorway, which is flat
-    assert browser.get_log("browser") == []
-
-
-def test_a_report_of_steps_and_cells(browser, tool, tmp_path, reports):
-    report = read_report(reports("interchange"))
-    report.units.step, report.units.cells, report.units.roads = None, {}, {}
-    assert table_of([report])["columns"] == ["road", "cells", "delay, vehicle-steps", "vehicles", "delay a vehicle, steps",
-                                             "longest queue, cells"]
-    (tmp_path / "plain.html").write_text(page_of([report]))
-    opened(browser, tmp_path / "plain.html")
-    assert browser.get_log("browser") == [] and text(browser, "cell").startswith("road ")
-
-
 def test_mistakes_in_the_words(tool, reports):
     assert "a page's name ends with .html" in tool("report", reports("bottleneck"), "-o", "x.txt")[2]
+    assert "go with --map-behind" in tool("report", reports("bottleneck"), "--tiles", "x/{z}/{x}/{y}.png")[2]
     assert DRAWING_LIBRARY.exists()

@@ -10,7 +10,7 @@ from matplotlib.collections import LineCollection
 from matplotlib.colors import to_hex
 from matplotlib.text import Text
 
-from ctmtools import Problem, plot
+from ctmtools import Problem, plot, read_report
 from ctmtools.network_file.network import network_of
 from ctmtools.plots.layout import lay_out
 from ctmtools.plots.network_map import MOST_WIDTH, _points
@@ -18,6 +18,8 @@ from ctmtools.plots.pictures import PICTURES
 from ctmtools.report.queues import queues_in
 from ctmtools.report.reading import report_of
 from ctmtools.units import Units
+
+from .examples import EXAMPLES, save_report
 
 RED = "#c00000"
 STUDIES = ["grid", "meter", "interchange", "street"]
@@ -56,6 +58,24 @@ def assert_readable(figure):
 @pytest.mark.parametrize("name", STUDIES)
 def test_no_name_stands_over_another_and_none_is_cut_off(report, name, kind):
     assert_readable(plot(report(name), kind))
+
+
+@pytest.mark.parametrize("kind", PICTURES)
+def test_a_long_title_in_wide_letters_is_not_cut(report, kind):
+    read = report("interchange")
+    read.units.title = "WIDENING OF MOTORWAY W7 BETWEEN MMMMM AND WWWWW WITH AN INTERCHANGE AT MMMMMMMMMM AND WWWWWWWWWWWW"
+    assert_readable(plot(read, kind))
+
+
+@pytest.mark.parametrize("kind, options", [("n-curves", {"cells": [f"m{i:02d}" for i in range(3, 33, 3)]}), ("queue", {})])
+def test_a_legend_stands_over_no_curve(report, kind, options):
+    read = report("interchange")
+    figure = plot(read, kind, **options)
+    assert_readable(figure)
+    legend, = figure.legends
+    box = legend.get_window_extent()
+    assert all(box.y1 <= axes.get_window_extent().y0 + 1 and axes.get_legend() is None for axes in figure.axes)
+    assert box.x0 >= 0 and box.x1 <= figure.bbox.x1
 
 
 def test_the_rates_of_meters_can_be_read(report):
@@ -160,6 +180,17 @@ def test_the_queues_of_a_road_alone(report):
     assert len(plot(read, "queue").axes[1].lines) == 2
     with pytest.raises(Problem, match="no road q"):
         plot(read, "queue", roads=["q"])
+
+
+@pytest.mark.parametrize("kind", ["queue", "time-space"])
+def test_a_queue_that_reaches_the_upstream_end_is_told_below(tmp_path, kind):
+    # Of the 450 vehicles that wait at 08:00 before the lane drop 36 find room in each of the four cells of a kilometre.
+    text = (EXAMPLES / "bottleneck.toml").read_text().replace("length = 7.5", "length = 3.5").replace("from = 5.0", "from = 1.0")
+    (tmp_path / "short.toml").write_text(text)
+    figure = plot(read_report(save_report(tmp_path, tmp_path / "short")), kind)
+    shown = " ".join(texts(figure).split())
+    assert "The queue of m04 (m km 1.00) reaches the upstream end of the model at 07:12:00: up to 306 vehicles wait in the gate on" in shown
+    assert_readable(figure)
 
 
 def test_no_such_picture(report):

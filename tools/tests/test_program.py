@@ -5,8 +5,10 @@ import random
 import plain_model
 import pytest
 
+from ctmtools import __version__
+from ctmtools import program as found_in
 from ctmtools.problem import Problem
-from ctmtools.program import ask, recording_step, run_words
+from ctmtools.program import Found, ask, found_program, program_path, recording_step, run_words
 
 from .examples import EXAMPLES
 
@@ -77,3 +79,41 @@ def test_a_program_that_is_none(tmp_path):
     with pytest.raises(Problem, match="the build failed"):
         ask(("run",), b"", script, news.append)
     assert news[0] == "./ctm: building"
+
+
+@pytest.fixture
+def searched(tmp_path, monkeypatch):
+    """A folder in which the tools are taken to lie, with no program anywhere."""
+    monkeypatch.delenv("CTM_PROGRAM", raising=False)
+    monkeypatch.setenv("PATH", str(tmp_path / "bin"))
+    monkeypatch.setattr(found_in, "TOP", tmp_path / "repository")
+    monkeypatch.setattr(found_in, "__file__", str(tmp_path / "lib/python3/dist-packages/ctmtools/program.py"))
+
+    def put(path):
+        (tmp_path / path).parent.mkdir(parents=True, exist_ok=True)
+        (tmp_path / path).write_text("#!/bin/sh\n")
+        (tmp_path / path).chmod(0o755)
+        return tmp_path / path
+    return put
+
+
+def test_the_program_is_searched_for_in_four_places(searched, monkeypatch):
+    """Each that is added comes before those that are there."""
+    with pytest.raises(Problem, match="no program was found: CTM_PROGRAM names none, .* no ctm on the path"):
+        program_path()
+    for path, by in (("bin/ctm", "ctm on the path"), ("lib/ctm/ctm_program", "the packaged one"),
+                     ("repository/ctm", "the repository's own")):
+        put = searched(path)
+        assert found_program() == Found(put, by)
+    named = searched("named")
+    monkeypatch.setenv("CTM_PROGRAM", str(named))
+    assert found_program() == Found(named, "which CTM_PROGRAM names")
+    monkeypatch.setenv("CTM_PROGRAM", str(named.parent / "none"))
+    with pytest.raises(Problem, match="none: there is no program there, and CTM_PROGRAM names it"):
+        program_path()
+
+
+def test_the_version_tells_which_program_is_called(tool, program):
+    status, out, err = tool("--version")
+    assert (status, err) == (0, "")
+    assert out == f"ctm-tools {__version__}, over {program}, which CTM_PROGRAM names\n"

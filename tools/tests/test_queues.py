@@ -8,6 +8,7 @@ from ctmtools.network_file.network import network_of
 from ctmtools.report.page import page
 from ctmtools.report.queues import course, queues_in, reach_of_part
 from ctmtools.report.reading import report_of
+from ctmtools.report.upstream import spills
 
 from .corridor import corridor
 
@@ -218,3 +219,42 @@ def test_through_traffic_at_the_end_is_no_queue():
     made = reported("ctm,1\nsteps,9\ngate,g,2,0\nroad,a,6,2,1,2,0\nroad,b,6,2,1,2,0\nexit,x,2\nlink,g,a\nlink,a,b\n"
                     "link,b,x\ndemand,g,0,9,1\n")
     assert list(page(made))[-1] == "Still inside at the end: 3 vehicles, none of them in a queue."
+
+
+def two_bottlenecks():
+    """A road of twenty cells whose tenth passes 4 vehicles in a step, and to which 6 come; from step 60 on 2 leave at its end."""
+    cells = [f"c{i:02d}" for i in range(1, 21)]
+    rows = "".join(f"road,{cell},36,{4 if cell == 'c10' else 6},1,5,0\n" for cell in cells)
+    links = "".join(f"link,{up},{down}\n" for up, down in zip(["g", *cells], [*cells, "x"]))
+    return reported(f"ctm,1\nsteps,220\ngate,g,6,0\n{rows}exit,x,6\n{links}limit,x,60,220,2\ndemand,g,0,220,6\n")
+
+
+def test_a_queue_that_touches_another_reaches_back_to_it_and_no_farther():
+    # In a queue that 2 leave a cell holds 36 - 5 · 2 = 26: with 2 more in each step its tail goes 11 steps from cell to cell,
+    # and stands at c10, eleven cells back, before step 200. What stands before c10 since step 3 is of the first queue.
+    read = two_bottlenecks()
+    queue, = queues_in(read)
+    part, = queue.others
+    assert (queue.origin, queue.farthest, queue.reach) == ("c09", "c01", 9)
+    assert (part.cell, part.reach, queue.longest_reach) == ("c20", 11, 20)
+    assert reach_of_part(read, queue, part).max() == 11
+    assert any("was joined by one that began at c20 at 60 and reached back 11 cells" in line or
+               "was joined by one that began at c20 at 61 and reached back 11 cells" in line for line in page(read))
+
+
+def test_a_queue_that_reaches_the_upstream_end_is_told_with_who_wait_behind_it():
+    read = two_bottlenecks()
+    queue, = queues_in(read)
+    spill, = spills(read, queue)
+    # All that come and don't fit on the road wait in the gate; at the last step 6 come, and at most 2 go in.
+    assert spill.gate == "g" and spill.most_at == 219
+    assert spill.most == pytest.approx(read.occupancy.g[219] - read.flow.g[219])
+    line, = [line for line in page(read) if "upstream end" in line]
+    assert line == (f"  The queue of c09 reaches the upstream end of the model at {spill.start}: up to {spill.most:,.0f} vehicles "
+                    "wait in the gate g, at 219, so it is longer than told.")
+
+
+def test_a_queue_that_begins_in_a_gate_is_told_as_before(report):
+    read = report("meter")
+    assert not any(spills(read, queue) for queue in queues_in(read))
+    assert not any("upstream end" in line for line in page(read))

@@ -8,6 +8,7 @@ from ctmtools.report.comparing import compare
 from ctmtools.report.queues import queues_in
 from ctmtools.report.reading import report_of
 from ctmtools.report.routes import kilometres, route_of
+from ctmtools.units import Units
 
 from .examples import EXAMPLES, save_report
 
@@ -46,6 +47,51 @@ def test_times_go_on_behind_midnight(tmp_path):
     read = read_report(save_report(tmp_path, tmp_path / "night"))
     frame = states(read)
     assert frame.time.is_monotonic_increasing and frame.time.iloc[-1] == pandas.Timestamp("1900-01-02 00:10")
+
+
+NIGHT = """step = 10
+start = "23:50"
+duration = "{}"
+[lane]
+free_flow_speed = 90
+wave_speed = 18
+jam_density = 144
+saturation_flow = 2160
+[roads.m]
+length = 1
+lanes = 2
+[gates.on]
+into = "m"
+demand = 1000
+[exits.off]
+from = "m"
+"""
+
+
+@pytest.mark.parametrize("lasting, first, last", [("9 min", "23:50:00", "23:59:00"),
+                                                  ("10 min", "1900-01-01 23:50:00", "1900-01-02 00:00:00"),
+                                                  ("20 min", "1900-01-01 23:50:00", "1900-01-02 00:10:00")])
+def test_the_times_of_a_table_are_read_by_pandas_at_midnight_and_past_it(tool, tmp_path, lasting, first, last):
+    (tmp_path / "night.toml").write_text(NIGHT.format(lasting))
+    status, out, err = tool("table", save_report(tmp_path, tmp_path / "night"))
+    times = [line.partition(",")[0] for line in out.splitlines()[1:]]
+    assert status == 0 and (times[0], times[-1]) == (first, last)
+    assert pandas.to_datetime(pandas.Series(times)).is_monotonic_increasing
+
+
+def test_a_time_past_midnight_is_told_with_its_day():
+    units = Units(step=10, start=23 * 3600 + 50 * 60)
+    assert [units.clock(step) for step in (0, 60, 61, 120, 60 + 8640, 120 + 8640)] == [
+        "23:50", "24:00", "00:00:10 +1 day", "00:10 +1 day", "24:00 +1 day", "00:10 +2 days"]
+
+
+def test_no_table_has_what_differences_leave_of_nothing(tool, tmp_path):
+    (tmp_path / "night.toml").write_text(NIGHT.format("20 min").replace("demand = 1000", "demand = 1234.567"))
+    path = save_report(tmp_path, tmp_path / "night")
+    for words in (["--by", "road"], ["--by", "road", "--interval", "5 min"], [], ["--totals"]):
+        out = tool("table", path, *words)[1]
+        small = [field for line in out.splitlines()[1:] for field in line.split(",") if "e-" in field]
+        assert not small, small
 
 
 def test_queues_as_a_frame(report):

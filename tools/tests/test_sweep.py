@@ -4,6 +4,8 @@ import importlib.util
 import multiprocessing
 import os
 import signal
+import subprocess
+import sys
 import threading
 import time
 from fractions import Fraction
@@ -51,7 +53,8 @@ def test_a_run_is_measured(plain):
     # 21 cells of 10 s with the gate, and 6.75 vehicle-hours of 1,080 vehicles.
     assert measured == {"delay_vehicle_hours": pytest.approx(6.75), "longest_queue_km": pytest.approx(0.125),
                         "most_waiting_vehicles": pytest.approx(18), "served_vehicles": 1080, "inside_vehicles": 0,
-                        "travel_time_min": pytest.approx((210 + 22.5) / 60, abs=0.01), "rounded": "", "error": ""}
+                        "travel_time_min": pytest.approx((210 + 22.5) / 60, abs=0.01), "waiting_upstream_vehicles": 0,
+                        "rounded": "", "error": ""}
     assert "length of road c: 2.5 km asked, 2.5375 km modelled and" in measure(task(plain, step=Fraction(7)))["rounded"]
     assert measure(task(plain, **{"demand": Fraction(2)}))["served_vehicles"] > 1080
     assert "no such key" in measure(task(plain, **{"signals.ofset": 40}))["error"]
@@ -147,7 +150,67 @@ def test_a_lost_worker_of_a_cluster_loses_nothing(tool, plain):
     assert out.splitlines()[1].split()[:2] == ["40", "6.75"]
 
 
+@pytest.mark.skipif(importlib.util.find_spec("distributed") is None, reason="python3-distributed is missing")
+@pytest.mark.parametrize("number", [signal.SIGKILL, signal.SIGINT])
+def test_a_scheduler_that_dies_is_told_with_what_to_do(tool, plain, tmp_path, number):
+    scheduler = subprocess.Popen([sys.executable, "-c", SCHEDULER, tmp_path / "address"], stdout=subprocess.DEVNULL,
+                                 stderr=subprocess.DEVNULL)
+    try:
+        while not (tmp_path / "address").exists():
+            assert scheduler.poll() is None
+            time.sleep(0.05)
+        address = (tmp_path / "address").read_text()
+
+        def end_it():
+            while not os.path.exists("arterial-0.sweep/results.csv") or \
+                    len(open("arterial-0.sweep/results.csv").readlines()) < 3:
+                time.sleep(0.02)
+            scheduler.send_signal(number)
+
+        ender = threading.Thread(target=end_it)
+        ender.start()
+        status, out, err = tool("sweep", STUDY, "--vary", "signals.offset=0:110:1", "--vary", "demand=1,1.01,1.02,1.03",
+                                "--dask", address)
+        ender.join()
+    finally:
+        scheduler.kill()
+        scheduler.wait()
+    assert status == 2 and err.count("\n") == 1
+    assert f"--dask {address}: the scheduler doesn't answer any more; begin it and its workers again, and the same call goes on" in err
+    assert len(open("arterial-0.sweep/results.csv").readlines()) >= 3
+
+
+# A scheduler and a worker in one process, which write their address into a file.
+SCHEDULER = """
+import os, sys
+from distributed import LocalCluster
+if __name__ == "__main__":
+    cluster = LocalCluster(n_workers=1, threads_per_worker=1, processes=False, protocol="tcp://", host="127.0.0.1",
+                           dashboard_address=None)
+    open(sys.argv[1] + ".new", "w").write(cluster.scheduler_address)
+    os.rename(sys.argv[1] + ".new", sys.argv[1])
+    import signal
+    signal.signal(signal.SIGINT, lambda *_: (cluster.close(), os._exit(0)))
+    while True:
+        signal.pause()
+"""
+
+
 def test_no_scheduler(tool, plain, monkeypatch):
     monkeypatch.setattr(workers, "PATIENCE", 1)
     status, out, err = tool("sweep", STUDY, "--vary", "demand=1", "--dask", "tcp://127.0.0.1:1")
     assert status == 2 and "no scheduler answers there" in err
+
+
+def test_a_queue_that_reaches_the_upstream_end_is_told_in_its_row(tool, plain, tmp_path):
+    # A kilometre before the lane drop 144 of the 450 vehicles that wait at 08:00 find room, 36 in each of four cells.
+    text = (EXAMPLES / "bottleneck.toml").read_text().replace("length = 7.5", "length = 3.5").replace("from = 5.0", "from = 1.0")
+    (tmp_path / "s.toml").write_text(text)
+    status, out, err = tool("sweep", "s.toml", "--vary", "demand=0.7,1", "-j", "1")
+    rows = {line.split()[0]: line for line in out.splitlines() if line.strip().startswith(("0.7", "1 "))}
+    assert "a queue reaches the upstream end: 306 wait in a gate behind it" in rows["1"] and "upstream" not in rows["0.7"]
+    with open("s.sweep/results.csv") as file:
+        text = file.read()
+    with open("s.sweep/results.csv", "w") as file:
+        file.write(text.replace(",waiting_upstream_vehicles", ""))
+    assert "has other measures, as another version of these tools wrote it" in tool("sweep", "s.toml", "--vary", "demand=0.7,1")[2]

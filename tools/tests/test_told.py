@@ -46,6 +46,8 @@ SLIPS = {
                                         "capacity of 4,320 vehicles/h"),
     "demands that overlap": (STUDY.replace("1000", '[["06:00", "06:40", 900], ["06:30", "07:00", 360]]'),
                              "warning: the demands of g overlap from 06:30 on; their amounts add up"),
+    "a hole in the demand": (STUDY.replace("1000", '[["06:30", "07:00", 900], ["06:00", "06:20", 900]]'),
+                             "warning: gates.g.demand: nobody comes from 06:20 to 06:30, a hole between its rows; is a row missing?"),
     "a road shorter than was meant": (STUDY.replace("length = 1\n", "length = 0.9\n"),
                                       "rounded: length of road m: 0.9 km asked, 1 km modelled"),
     "a speed limit by time": (STUDY + '[[speed_limits]]\nroad = "m"\nfrom = 0.5\nstart = "06:15"\nend = "06:45"\nspeed = 60\n',
@@ -130,7 +132,10 @@ def test_git_ignores_what_the_commands_write_at_the_top(tmp_path):
     studies = sorted(EXAMPLES.glob("*.toml"))
     made = [path(study) for study in studies for path in (network_target, report_target)]
     made += [units_path(report_target(study)) for study in studies]
-    made += [f"{study.stem}.sweep/results.csv" for study in studies]
+    made += [f"{study.stem}.{folder}" for study in studies for folder in (
+        "sweep/results.csv", "choose/plans.csv", "optimise/tried.csv", "calibrate/tried.csv")]
+    made += [f"{study.stem}-metered.meter.json" for study in studies]
+    made += ["tools/build/lib/ctmtools/units.py", "tools/ctmtools.egg-info/PKG-INFO"]  # of pip
     made += [f"{study.stem}-{plot}.{ending}" for study in studies for plot in ("queue", "time-space", "difference")
              for ending in ("png", "svg", "pdf")]
     made += [f"{study.stem}.{ending}" for study in studies for ending in ("html", "geojson", "saved")]

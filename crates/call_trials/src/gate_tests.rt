@@ -1,6 +1,9 @@
 use crate::calling::{CORRIDOR, CORRIDOR_REPORT, call_gives};
 use crate::gates::{Glance, Meeting, Notes};
+use std::alloc::Global;
+use std::process::Abort;
 use std::sync::atomic::Ordering;
+use std::thread::Threads;
 
 // A gate, two roads and an exit, each a region of its own where there are four.
 const CHAIN: &str =
@@ -15,6 +18,15 @@ const CHAIN_AHEAD: &str =
     "saved,1,4; step,1; step,0; step,0; step,0; row,0,6000000,0,2000000,6000000,8000000; \
 row,1,0,0,0,0,0; row,2,0,0,0,0,0; row,3,0,0,0,0,0; net";
 
+// What comes before the chain where it is saved at its first step, and at its last.
+const CHAIN_BEGUN: &str = "saved,1,4; step,0; step,0; step,0; step,0; row,0,8000000,0,0,0,0; \
+row,1,0,0,0,0,0; row,2,0,0,0,0,0; row,3,0,0,0,0,0; net";
+
+const CHAIN_ENDED: &str =
+    "saved,1,4; step,4; step,4; step,4; step,4; row,0,0,0,8000000,12000000,2000000; \
+row,1,2000000,8000000,6000000,0,2000000; row,2,2000000,6000000,4000000,0,2000000; \
+row,3,4000000,4000000,0,0,2000000; net";
+
 // The steps 0 to 3 as bits.
 const ALL_FOUR: u64 = 0b1111;
 
@@ -25,25 +37,51 @@ region,3,0; flight,0,2.000000; flight,1,0.000000; flight,2,0.000000; row,g,6.000
 row,a,0.000000,0.000000,0.000000,0.000000; row,b,0.000000,0.000000,0.000000,0.000000; \
 row,x,0.000000,0.000000,0.000000,0.000000";
 
-#[test]
-fn two_workers_work_at_once(rt: HostRuntime) {
+// Looks whether two workers of a call wait for each other, whether each region is held at each step, and whether the text ends with
+// the lines of these texts.
+fn check_meeting<R: Abort + Threads + Sync>(
+    rt: &R,
+    alloc: Global,
+    words: &str,
+    input: &[&str],
+    texts: &[&str],
+) {
     let gate = Meeting::new();
-    let words = "run --regions 4 --workers 2";
-    call_gives(
-        &rt,
-        rt.alloc(),
-        words,
-        &[CHAIN],
-        &gate,
-        &[CHAIN_REPORT],
-        true,
-    );
-    assert_eq!(rt; gate.met(), 2, "each waited for the other");
+    call_gives(rt, alloc, words, input, &gate, texts, false);
+    assert_eq!(rt; gate.met(), 2, "{words}: each waited for the other");
     assert_eq!(rt;
         gate.notes.steps(),
         [ALL_FOUR; 4],
-        "each was held at each step"
+        "{words}: each was held at each step"
     );
+}
+
+#[test]
+fn two_workers_work_at_once(rt: HostRuntime) {
+    let saved = [CHAIN_BEGUN, CHAIN];
+    let ended = [CHAIN_ENDED, CHAIN];
+    let report = [CHAIN_REPORT];
+    for (words, input, texts) in [
+        ("run --regions 4 --workers 2", &saved[1..], &report[..]),
+        (
+            "watch --shots 1 --regions 4 --workers 2",
+            &saved[1..],
+            &report[..],
+        ),
+        (
+            "save --until 4 --regions 4 --workers 2",
+            &saved[1..],
+            &ended[..],
+        ),
+        ("resume --workers 2", &saved[..], &report[..]),
+        (
+            "recut --parts 2 --regions 4 --workers 2",
+            &saved[1..],
+            &report[..],
+        ),
+    ] {
+        check_meeting(&rt, rt.alloc(), words, input, texts);
+    }
 }
 
 #[test]

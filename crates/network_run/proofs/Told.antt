@@ -2,7 +2,7 @@
 use Rattle.std.specs.Prelude.{All, ◌==◌, ◌&&◌, if◌then◌else◌, slice_index, slice_index_or}
 use Rattle.std.specs.List.{Contains}
 use Rattle.std.proofs.Common.{◌≡◌, ℕ, suc, ◌+◌, ◌-◌, ◌<◌, ◌≤◌, inl, inr, List, [], ◌∷◌, ◌++◌, length, get_or, refl, sym, ap, subst, ◌∙◌, arith}
-use Rattle.std.proofs.lemmas.Bool.{cases_eq, eq-eqb, ne_eqb}
+use Rattle.std.proofs.lemmas.Bool.{cases_eq, ne_eqb}
 use Rattle.std.proofs.lemmas.List.{get_or-map, length-map}
 use Rattle.std.proofs.lemmas.List.Sums.{sum_by-cons}
 use Rattle.std.proofs.lemmas.List.Elements.{Contains-append_cases, Contains-append_left, Contains-append_right}
@@ -15,6 +15,7 @@ use Rattle.worker_claim.specs.Telling.{AreHelpersTold, AreMembersTold, AreTold}
 use Rattle.worker_claim.specs.declared.helper.Helper.{Helper}
 use Rattle.worker_claim.specs.declared.member.Member.{Member}
 use Rattle.worker_claim.proofs.Telling.{told-more, told-none}
+use Rattle.network_run.specs.Run.{HasLogged}
 use Rattle.network_run.specs.Telling.{AreFrom, HasTold, HasToldFrom}
 use Rattle.network_run.proofs.Crewing.{members_of}
 
@@ -88,14 +89,19 @@ times-Contains (entry ∷ log) r s some =
       ]
     ]
 
--- regions that have all come to a goal or past it
-pub told-ended : (held freed : ℕ → ℕ → Type 0) (start : StartLists) (count : ℕ) (steps : List ℕ) (log : List PublishedStep) (goal : ℕ) → AreLogged start count steps log →
-    AreTold held freed [] log → ((r : ℕ) → r < count → goal ≤ slice_index steps r) → HasToldFrom held freed count start.steps goal
-told-ended held freed start count steps log goal logged told reach = λ r s within started below.
+-- the log of regions that have all come to a goal or past it
+pub logged-ended : (start : StartLists) (count : ℕ) (steps : List ℕ) (log : List PublishedStep) (goal : ℕ) → AreLogged start count steps log →
+    ((r : ℕ) → r < count → goal ≤ slice_index steps r) → HasLogged count start.steps goal log
+logged-ended start count steps log goal logged reach = λ r s within started below.
     let once : times_in log r (s + 1) ≡ 1 = logged.each r (s + 1) within (omega (arith, started)) (omega (arith, reach r within, below)) in
-    let has = times-Contains log r (s + 1) (omega (arith, once)) in
+    times-Contains log r (s + 1) (omega (arith, once))
+
+-- what was told of such a log
+pub told-logged : (held freed : ℕ → ℕ → Type 0) (count : ℕ) (starts : List ℕ) (goal : ℕ) (log : List PublishedStep) → HasLogged count starts goal log →
+    AreTold held freed [] log → HasToldFrom held freed count starts goal
+told-logged held freed count starts goal log logged told = λ r s within started below.
     let before : s + 1 - 1 ≡ s = omega arith in
-    elim (told (record { region = r; step = s + 1 }) has) [
+    elim (told (record { region = r; step = s + 1 }) (logged r s within started below)) [
       | inl was ↦ absurd (omega (arith, was.1))
       | inr both ↦ (subst (held r) before both.0, both.1)
     ]

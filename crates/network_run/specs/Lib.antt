@@ -2,4 +2,5 @@ pub mod Crews
 pub mod Enlisted
 pub mod Near
 pub mod Rounds
+pub mod Run
 pub mod Telling

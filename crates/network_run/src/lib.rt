@@ -6,9 +6,9 @@ mod crew;
 mod near;
 mod rounds;
 mod run;
-mod watch;
+mod taken_regions;
 mod watched_run;
 
 pub use near::room_near;
-pub use run::{last_regions, regions_from};
+pub use taken_regions::{last_regions, regions_from};
 pub use watched_run::{Watched, watched_regions};

@@ -1,102 +1,132 @@
-ghost use Rattle.std.specs.Prelude.{◌≡◌, ◌+◌, ◌<◌, ◌≤◌, ℕ, IfOk, IsOk, [], replicate, slice_index};
-ghost use Rattle.region_cut.specs.Chart.{chart_of};
-ghost use Rattle.region_cut.specs.Cuttings.{region_count};
-ghost use Rattle.region_cut.specs.LawfulSteps.{AreLawful};
-ghost use Rattle.region_step.specs.Standing.{AllStand};
-ghost use Rattle.region_step.specs.Start.{Fits, zero_start};
-ghost use Rattle.region_slots.specs.FieldView.{IsPassOf};
-ghost use Rattle.worker_claim.specs.Driving.{AllReach};
-ghost use Rattle.worker_claim.specs.Telling.{AreTold};
-ghost use Rattle.network_run.specs.Telling.{HasTold, HasToldFrom};
-
 use crate::crew::Crew;
 use network_file::Net;
 use no_memory::NoMemory;
 use region_cut::Chart;
-use region_slots::{Closed, Field, Gate, Pass};
+use region_slots::{Closed, Field, Gate, Pass, Shot};
 use region_step::{Region, Start};
+use snapshot::ShotRoom;
 use std::alloc::Global;
+use std::marker::Model;
 use std::thread::Threads;
 use worker_claim::finish;
 
-/// The regions of a chart at the last step, taken there from step 0 by so many workers. Each is recorded at each step that
-/// `every` divides and at the last one, never where `every` is 0. The observer is told of each of its steps. All memory is
-/// taken before the first step, but for what the workers' deques may ask for and do without.
-pub fn last_regions<R: Threads + Sync, G: Gate>(
-    rt: &R,
-    alloc: Global,
-    net: &Net,
-    chart: &Chart,
-    every: u64,
-    workers: u32,
-    gate: &G,
-) -> Result<Vec<Region>, NoMemory>
-    requires chart { chart.now ≡ chart_of net.now chart.now.cut }
-    requires workers { (1 ≤ workers) × (workers ≤ 16) }
-    ensures stand { IfOk result (λ regions. AllStand net.now chart.now (zero_start net.now chart.now.cut) every
-        (replicate (region_count chart.now.cut) net.now.steps) regions.items) }
-    ensures told { IsOk result → HasTold (G.told_held gate.now) (G.told_freed gate.now) (region_count chart.now.cut) net.now.steps }
-{
-    let goal = net.steps;
-    let start = Start::zero(alloc, net, chart)?;
-    regions_from(rt, alloc, net, chart, &start, every, goal, workers, gate)
+/// A field of regions with the pass that has all of its seats, and the crew that takes them on, of which nobody is a member
+/// between two calls.
+#[derive(Drop)]
+pub(crate) struct Run<'a> {
+    field: Field<'a>,
+    pass: Pass,
+    crew: Crew,
 }
 
-/// The regions of a chart at the step `goal`, taken there by so many workers from the steps of `start`, none of which is
-/// past `goal`. They are recorded as those of `last_regions`, and memory is taken as there.
-pub fn regions_from<R: Threads + Sync, G: Gate>(
-    rt: &R,
-    alloc: Global,
-    net: &Net,
-    chart: &Chart,
-    start: &Start,
-    every: u64,
-    goal: u64,
-    workers: u32,
-    gate: &G,
-) -> Result<Vec<Region>, NoMemory>
-    requires chart { chart.now ≡ chart_of net.now chart.now.cut }
-    requires fits { Fits net.now chart.now.cut start.now }
-    requires lawful { AreLawful net.now chart.now.cut start.now.steps }
-    requires before { (r : ℕ) → r < region_count chart.now.cut → slice_index start.now.steps r ≤ goal }
-    requires in_time { goal ≤ net.now.steps }
-    requires workers { (1 ≤ workers) × (workers ≤ 16) }
-    ensures stand { IfOk result (λ regions. AllStand net.now chart.now start.now every
-        (replicate (region_count chart.now.cut) goal) regions.items) }
-    ensures told { IsOk result → HasToldFrom (G.told_held gate.now) (G.told_freed gate.now) (region_count chart.now.cut) start.now.steps goal }
-{
-    let mut crew = Crew::new(alloc, workers, chart.regions())?;
-    let (field, mut pass) = Field::open(alloc, net, chart, start, every, workers + 1)?;
-    take_to(rt, &field, &mut pass, &mut crew, goal, gate);
-    let Closed { steps: _, regions } = field.close(pass);
-    Ok(regions)
+impl<'a> Model for Run<'a> {
+    ghost use Rattle.std.specs.Prelude.{◌≡◌, ◌+◌, ◌≤◌, []};
+    ghost use Rattle.region_cut.specs.Cuttings.{region_count};
+    ghost use Rattle.region_slots.specs.FieldView.{IsPassOf};
+    ghost use Rattle.network_run.specs.Run.{RunValue};
+
+    ghost Value = { RunValue };
+
+    ghost view = { λ run. record { terms = run.field.terms; knows = run.pass.knows } };
+
+    ghost invariant = { λ run. IsPassOf run.field run.pass × (run.pass.knows.share ≡ run.crew.workers + 1)
+        × (run.pass.knows.share ≡ run.field.terms.seats) × (1 ≤ run.crew.workers)
+        × (run.crew.regions ≡ region_count run.field.terms.chart.now.cut) × (run.crew.members ≡ []) };
 }
 
-/// Takes all regions to a goal.
-pub(crate) fn take_to<R: Threads + Sync, G: Gate>(
-    rt: &R,
-    field: &Field,
-    pass: &mut Pass,
-    crew: &mut Crew,
-    goal: u64,
-    gate: &G,
-)
-    requires belongs { IsPassOf field.now pass.old }
-    requires seats { pass.old.knows.share ≡ crew.old.workers + 1 }
-    requires whole { pass.old.knows.share ≡ field.now.terms.seats }
-    requires regions { crew.old.regions ≡ region_count field.now.terms.chart.now.cut }
-    requires nobody { crew.old.members ≡ [] }
-    requires in_time { goal ≤ field.now.terms.net.now.steps }
-    requires reach { pass.old.knows.reach ≤ goal }
-    ensures belongs { IsPassOf field.now pass.new }
-    ensures share { pass.new.knows.share ≡ pass.old.knows.share }
-    ensures crew { crew.new ≡ crew.old }
-    ensures reach { pass.new.knows.reach ≤ goal }
-    ensures told { AreTold (G.told_held gate.now) (G.told_freed gate.now) pass.old.knows.log pass.new.knows.log }
-    ensures done { AllReach (region_count field.now.terms.chart.now.cut) goal pass.new.knows }
-{
-    crew.enlist(field, pass);
-    crew.drive(rt, field, goal, gate);
-    crew.dismiss(field, pass);
-    finish(field, pass, goal, gate);
+impl<'a> Run<'a> {
+    ghost use Rattle.std.specs.Prelude.{◌≡◌, ◌+◌, ◌<◌, ◌≤◌, ℕ, IfOk, max, slice_index};
+    ghost use Rattle.region_cut.specs.Chart.{chart_of};
+    ghost use Rattle.region_cut.specs.Cuttings.{region_count};
+    ghost use Rattle.region_cut.specs.LawfulSteps.{AreLawful};
+    ghost use Rattle.region_step.specs.Start.{Fits};
+    ghost use Rattle.snapshot.specs.Rooms.{IsRoomFor};
+    ghost use Rattle.snapshot.specs.Snapshots.{IsSnapshot};
+    ghost use Rattle.region_slots.specs.Opening.{first_view};
+    ghost use Rattle.worker_claim.specs.Driving.{AllReach};
+    ghost use Rattle.worker_claim.specs.Telling.{AreTold};
+    ghost use Rattle.network_run.specs.Run.{IsLoggedWhereTheyCame, StandWhereTheyCame};
+
+    /// A run of so many workers, whose regions stand where the start says. They are recorded at each step that `every` divides
+    /// and at the last one, never where `every` is 0.
+    pub(crate) fn open(
+        alloc: Global,
+        net: &'a Net,
+        chart: &'a Chart,
+        start: &'a Start,
+        every: u64,
+        workers: u32,
+    ) -> Result<Run<'a>, NoMemory>
+        requires chart { chart.now ≡ chart_of net.now chart.now.cut }
+        requires fits { Fits net.now chart.now.cut start.now }
+        requires lawful { AreLawful net.now chart.now.cut start.now.steps }
+        requires workers { (1 ≤ workers) × (workers ≤ 16) }
+        ensures terms { IfOk result (λ run. run.terms ≡ record { net = net.entry; chart = chart.entry; start = start.entry; every = every; seats = workers + 1 }) }
+        ensures knows { IfOk result (λ run. run.knows ≡ first_view run.terms) }
+    {
+        let crew = Crew::new(alloc, workers, chart.regions())?;
+        let (field, pass) = Field::open(alloc, net, chart, start, every, workers + 1)?;
+        Ok(Run { field, pass, crew })
+    }
+
+    /// Takes all regions to a goal.
+    pub(crate) fn take_to<R: Threads + Sync, G: Gate>(&mut self, rt: &R, goal: u64, gate: &G)
+        requires in_time { goal ≤ self.old.terms.net.now.steps }
+        requires reach { self.old.knows.reach ≤ goal }
+        ensures terms { self.new.terms ≡ self.old.terms }
+        ensures reach { self.new.knows.reach ≤ goal }
+        ensures told { AreTold (G.told_held gate.now) (G.told_freed gate.now) self.old.knows.log self.new.knows.log }
+        ensures done { AllReach (region_count self.old.terms.chart.now.cut) goal self.new.knows }
+    {
+        self.crew.enlist(&self.field, &mut self.pass);
+        self.crew.drive(rt, &self.field, goal, gate);
+        self.crew.dismiss(&self.field, &mut self.pass);
+        finish(&self.field, &mut self.pass, goal, gate);
+    }
+
+    /// The same, and shows all regions in a room once on the way, or at the goal where another seat had one of them at each of
+    /// the tries.
+    pub(crate) fn show_on_the_way<R: Threads + Sync, G: Gate>(
+        &mut self,
+        rt: &R,
+        room: &mut ShotRoom,
+        goal: u64,
+        gate: &G,
+    )
+        requires room { IsRoomFor self.old.terms.chart.now room.old }
+        requires in_time { goal ≤ self.old.terms.net.now.steps }
+        requires reach { self.old.knows.reach ≤ goal }
+        ensures terms { self.new.terms ≡ self.old.terms }
+        ensures room { IsRoomFor self.old.terms.chart.now room.new }
+        ensures reach { self.new.knows.reach ≤ goal }
+        ensures told { AreTold (G.told_held gate.now) (G.told_freed gate.now) self.old.knows.log self.new.knows.log }
+        ensures done { AllReach (region_count self.old.terms.chart.now.cut) goal self.new.knows }
+        ensures snapshot { IsSnapshot self.old.terms.net.now self.old.terms.chart.now.cut self.old.terms.start.now room.new }
+        ensures between { (r : ℕ) → r < region_count self.old.terms.chart.now.cut → (slice_index self.old.knows.seen r ≤ slice_index room.new.steps r)
+            × (slice_index room.new.steps r ≤ max (slice_index self.old.terms.start.now.steps r) goal) }
+    {
+        self.crew.enlist(&self.field, &mut self.pass);
+        let shot = self
+            .crew
+            .drive_watched(rt, &self.field, &mut self.pass, room, goal, gate);
+        self.crew.dismiss(&self.field, &mut self.pass);
+        finish(&self.field, &mut self.pass, goal, gate);
+        if let Shot::Busy { region: _ } = shot {
+            self.field.shot(&mut self.pass, room, 1);
+        }
+    }
+
+    /// Its regions, which stand at any goal that all have come to, where none has gone past it.
+    pub(crate) fn close(self) -> Vec<Region>
+        ensures stand { StandWhereTheyCame self.entry result.items }
+        ensures logged { IsLoggedWhereTheyCame self.entry }
+    {
+        let Run {
+            field,
+            pass,
+            crew: _,
+        } = self;
+        let Closed { steps: _, regions } = field.close(pass);
+        regions
+    }
 }

@@ -2,22 +2,19 @@ ghost use Rattle.std.specs.Prelude.{◌≡◌, ◌+◌, ◌<◌, ◌≤◌, ◌^
 ghost use Rattle.region_cut.specs.Chart.{chart_of};
 ghost use Rattle.region_cut.specs.Cuttings.{region_count};
 ghost use Rattle.region_step.specs.Standing.{AllStand};
-ghost use Rattle.region_cut.specs.LawfulSteps.{AreLawful};
-ghost use Rattle.region_step.specs.Start.{Fits, zero_start};
+ghost use Rattle.region_step.specs.Start.{zero_start};
 ghost use Rattle.snapshot.specs.Rooms.{IsRoomFor};
 ghost use Rattle.snapshot.specs.Shots.{goal_of};
 ghost use Rattle.shot_lines.specs.Shots.{AreShots};
-ghost use Rattle.region_slots.specs.FieldView.{IsPassOf};
 ghost use Rattle.worker_claim.specs.Driving.{AllReach};
 ghost use Rattle.worker_claim.specs.Telling.{AreTold};
 ghost use Rattle.network_run.specs.Telling.{HasTold};
 
-use crate::crew::Crew;
-use crate::watch::watch_to;
+use crate::run::Run;
 use network_file::Net;
 use no_memory::NoMemory;
 use region_cut::Chart;
-use region_slots::{Closed, Field, Gate, Pass};
+use region_slots::Gate;
 use region_step::{Region, Start};
 use shot_lines::shot_text;
 use snapshot::ShotRoom;
@@ -56,120 +53,49 @@ pub fn watched_regions<R: Threads + Sync, G: Gate>(
     ensures told { IsOk result → HasTold (G.told_held gate.now) (G.told_freed gate.now) (region_count chart.now.cut) net.now.steps }
 {
     let start = Start::zero(alloc, net, chart)?;
-    watched_from(rt, alloc, net, chart, &start, every, workers, shots, gate)
-}
-
-// The same from this start, which is that at step 0.
-fn watched_from<R: Threads + Sync, G: Gate>(
-    rt: &R,
-    alloc: Global,
-    net: &Net,
-    chart: &Chart,
-    start: &Start,
-    every: u64,
-    workers: u32,
-    shots: u32,
-    gate: &G,
-) -> Result<Watched, NoMemory>
-    requires chart { chart.now ≡ chart_of net.now chart.now.cut }
-    requires start { start.now ≡ zero_start net.now chart.now.cut }
-    requires fits { Fits net.now chart.now.cut start.now }
-    requires lawful { AreLawful net.now chart.now.cut start.now.steps }
-    requires one_each { length chart.now.cut ≡ length net.now.cells }
-    requires workers { (1 ≤ workers) × (workers ≤ 16) }
-    requires shots { (1 ≤ shots) × (shots + 1 < 2 ^ 32) }
-    ensures shots { IfOk result (λ watched. AreShots net.now chart.now.cut shots watched.shots.items) }
-    ensures stand { IfOk result (λ watched. AllStand net.now chart.now (zero_start net.now chart.now.cut) every
-        (replicate (region_count chart.now.cut) net.now.steps) watched.regions.items) }
-    ensures told { IsOk result → HasTold (G.told_held gate.now) (G.told_freed gate.now) (region_count chart.now.cut) net.now.steps }
-{
-    let mut crew = Crew::new(alloc, workers, chart.regions())?;
     let mut room = ShotRoom::new(alloc, net, chart)?;
-    let (field, pass) = Field::open(alloc, net, chart, start, every, workers + 1)?;
-    watched_field(
-        rt, alloc, net, chart, field, pass, &mut crew, &mut room, shots, gate,
-    )
-}
-
-// The same of a field that is open.
-fn watched_field<R: Threads + Sync, G: Gate>(
-    rt: &R,
-    alloc: Global,
-    net: &Net,
-    chart: &Chart,
-    field: Field,
-    mut pass: Pass,
-    crew: &mut Crew,
-    room: &mut ShotRoom,
-    shots: u32,
-    gate: &G,
-) -> Result<Watched, NoMemory>
-    requires network { (field.terms.net.now ≡ net.now) × (field.terms.chart.now ≡ chart.now) }
-    requires start { field.terms.start.now ≡ zero_start net.now chart.now.cut }
-    requires one_each { length chart.now.cut ≡ length net.now.cells }
-    requires shots { (1 ≤ shots) × (shots + 1 < 2 ^ 32) }
-    requires belongs { IsPassOf field pass }
-    requires seats { (pass.knows.share ≡ crew.old.workers + 1) × (pass.knows.share ≡ field.terms.seats) }
-    requires some { 1 ≤ crew.old.workers }
-    requires regions { crew.old.regions ≡ region_count chart.now.cut }
-    requires nobody { crew.old.members ≡ [] }
-    requires room { IsRoomFor chart.now room.old }
-    requires reach { pass.knows.reach ≡ 0 }
-    requires nothing { pass.knows.log ≡ [] }
-    ensures shots { IfOk result (λ watched. AreShots net.now chart.now.cut shots watched.shots.items) }
-    ensures stand { IfOk result (λ watched. AllStand net.now chart.now (zero_start net.now chart.now.cut) field.entry.terms.every
-        (replicate (region_count chart.now.cut) net.now.steps) watched.regions.items) }
-    ensures told { IsOk result → HasTold (G.told_held gate.now) (G.told_freed gate.now) (region_count chart.now.cut) net.now.steps }
-{
+    let mut run = Run::open(alloc, net, chart, &start, every, workers)?;
     let mut text = Vec::new(alloc);
-    take_shots(
-        rt, net, chart, &field, &mut pass, crew, room, shots, gate, &mut text,
-    )?;
-    let Closed { steps: _, regions } = field.close(pass);
+    run.take_shots(rt, net, chart, &mut room, shots, gate, &mut text)?;
     Ok(Watched {
         shots: text,
-        regions,
+        regions: run.close(),
     })
 }
 
-// Takes all regions of a field to the last step, and appends the text of so many shots on the way.
-fn take_shots<R: Threads + Sync, G: Gate>(
-    rt: &R,
-    net: &Net,
-    chart: &Chart,
-    field: &Field,
-    pass: &mut Pass,
-    crew: &mut Crew,
-    room: &mut ShotRoom,
-    shots: u32,
-    gate: &G,
-    text: &mut Vec<u8>,
-) -> Result<(), NoMemory>
-    requires network { (field.now.terms.net.now ≡ net.now) × (field.now.terms.chart.now ≡ chart.now) }
-    requires start { field.now.terms.start.now ≡ zero_start net.now chart.now.cut }
-    requires one_each { length chart.now.cut ≡ length net.now.cells }
-    requires shots { (1 ≤ shots) × (shots + 1 < 2 ^ 32) }
-    requires belongs { IsPassOf field.now pass.old }
-    requires seats { (pass.old.knows.share ≡ crew.old.workers + 1) × (pass.old.knows.share ≡ field.now.terms.seats) }
-    requires some { 1 ≤ crew.old.workers }
-    requires regions { crew.old.regions ≡ region_count chart.now.cut }
-    requires nobody { crew.old.members ≡ [] }
-    requires room { IsRoomFor chart.now room.old }
-    requires reach { pass.old.knows.reach ≡ 0 }
-    requires nothing { text.old.items ≡ [] }
-    ensures belongs { IsOk result → IsPassOf field.now pass.new }
-    ensures share { IsOk result → pass.new.knows.share ≡ pass.old.knows.share }
-    ensures told { IsOk result → AreTold (G.told_held gate.now) (G.told_freed gate.now) pass.old.knows.log pass.new.knows.log }
-    ensures last { IsOk result → AllReach (region_count chart.now.cut) net.now.steps pass.new.knows }
-    ensures shots { IsOk result → AreShots net.now chart.now.cut shots text.new.items }
-{
-    let _steps = net.steps;
-    for i in 0..shots {
-        let goal = goal_at(net, shots, i + 1);
-        watch_to(rt, field, pass, crew, room, goal, gate);
-        shot_text(net, chart, room, i + 1, text)?;
+impl<'a> Run<'a> {
+    // Takes all regions of a run from step 0 to the last step, and appends the text of so many shots on the way.
+    fn take_shots<R: Threads + Sync, G: Gate>(
+        &mut self,
+        rt: &R,
+        net: &Net,
+        chart: &Chart,
+        room: &mut ShotRoom,
+        shots: u32,
+        gate: &G,
+        text: &mut Vec<u8>,
+    ) -> Result<(), NoMemory>
+        requires network { (self.old.terms.net.now ≡ net.now) × (self.old.terms.chart.now ≡ chart.now) }
+        requires start { self.old.terms.start.now ≡ zero_start net.now chart.now.cut }
+        requires one_each { length chart.now.cut ≡ length net.now.cells }
+        requires shots { (1 ≤ shots) × (shots + 1 < 2 ^ 32) }
+        requires room { IsRoomFor chart.now room.old }
+        requires reach { self.old.knows.reach ≡ 0 }
+        requires nothing { text.old.items ≡ [] }
+        ensures terms { IsOk result → self.new.terms ≡ self.old.terms }
+        ensures reach { IsOk result → self.new.knows.reach ≤ net.now.steps }
+        ensures told { IsOk result → AreTold (G.told_held gate.now) (G.told_freed gate.now) self.old.knows.log self.new.knows.log }
+        ensures last { IsOk result → AllReach (region_count chart.now.cut) net.now.steps self.new.knows }
+        ensures shots { IsOk result → AreShots net.now chart.now.cut shots text.new.items }
+    {
+        let _steps = net.steps;
+        for i in 0..shots {
+            let goal = goal_at(net, shots, i + 1);
+            self.show_on_the_way(rt, room, goal, gate);
+            shot_text(net, chart, room, i + 1, text)?;
+        }
+        Ok(())
     }
-    Ok(())
 }
 
 // Goal `i` of so many shots.

@@ -1,8 +1,7 @@
-"""The values of a study's keys by which it comes nearest to what detectors saw, by scipy's search without derivatives."""
+"""The values of a study's keys by which it comes nearest to what detectors saw, and those that do as well."""
 
 from __future__ import annotations
 
-import itertools
 from collections.abc import Callable, Sequence
 from dataclasses import dataclass
 from fractions import Fraction
@@ -12,18 +11,25 @@ from typing import Any
 import numpy
 import pandas
 
+from ..kept_rows import KeptRows
 from ..problem import Problem
 from ..program import program_path
-from ..report.reading import Report
-from ..running import run
-from ..study.network_text import build
+from ..running import run, settled_by_runs
 from ..study.reading import read_values
-from ..sweeps.task import Task, study
+from ..sweeps.task import Task, fingerprint, study
 from ..sweeps.workers import Done, beside, cluster, here
+from .nearest import SIDES, Reach, around, descend, starts, width_of
 from .observed import Observed, modelled
 
 DIGITS = 4  # of the values that are tried
-News = Callable[[int, dict[str, float], float], object]  # takes how many runs there were, the values, and their distance
+AS_WELL = 0.05  # values do as well where they add no more than this part to the distance
+LEAST = 0.001  # or no more than this
+FEWEST = 8  # runs for each key, with which a search is worth its while
+HALVINGS = 6  # of the way to the end of a range, by which is found how far they do
+FILE = "tried.csv"
+COLUMNS = ["search", "point", "distance"]
+Point = tuple[float, ...]  # a value for each key; none where the study is as it stands
+News = Callable[[int, dict[str, float], float], object]  # takes the runs so far, the nearest values and their distance
 
 
 @dataclass(frozen=True)
@@ -33,17 +39,6 @@ class Range:
     key: str
     low: float
     high: float
-
-
-@dataclass
-class Fitted:
-    """The values that come nearest, how far they and those of the study are, and what the model has with them."""
-
-    values: dict[str, float]
-    distance: float
-    before: float
-    modelled: pandas.DataFrame
-    runs: int
 
 
 def range_of(text: str) -> Range:
@@ -87,80 +82,154 @@ class Trial:
 def tried(trial: Trial) -> dict[str, Any]:
     """What the run of a trial has where detectors stand, and why it failed, an empty text where it didn't."""
     try:
-        return {"model": modelled(_run(trial.task), trial.observed), "error": ""}
+        task = trial.task
+        built = settled_by_runs(study(task), 1, task.program).built
+        report = run(built.text.encode(), "the built network", built.units, None, 1, task.program)[1]
+        return {"model": modelled(report, trial.observed), "error": ""}
     except Problem as problem:
         return {"model": None, "error": str(problem)}
 
 
-def around(ranges: Sequence[Range], count: int) -> list[tuple[float, ...]]:
-    """The points of a grid over the ranges, each with the part of every range, as many as stay within a count."""
-    each = max(1, int(count ** (1 / len(ranges)) + 1e-9))
-    return list(itertools.product([(i + 0.5) / each for i in range(each)], repeat=len(ranges)))
+@dataclass
+class Fitted:
+    """The values that come nearest, how far they and those of the study are, and what the model has with them.
+
+    `as_well` has for each key the least and the greatest value that does as well while the other keys stay.
+    """
+
+    values: dict[str, float]
+    distance: float
+    before: float
+    modelled: pandas.DataFrame
+    runs: int
+    as_well: dict[str, tuple[float, float]]
+
+
+class Calibration:
+    """The runs of a study with some keys varied, and how far each is from what was seen.
+
+    With a folder the distances are kept there as they come, and what stands there isn't run again. Runs that need not follow
+    each other are made on `jobs` processes, or on the Dask cluster at an address.
+    """
+
+    def __init__(self, path: str | Path, observed: Observed, ranges: Sequence[Range], jobs: int = 1, dask: str | None = None,
+                 folder: Path | None = None, news: News | None = None) -> None:
+        if not ranges:
+            raise Problem("--vary: name a key of the study to vary")
+        self.path, self.observed, self.ranges, self.values = str(path), observed, ranges, read_values(path)
+        self.jobs, self.dask, self.news, self.program = jobs, dask, news, str(program_path())
+        self.models: dict[Point, pandas.DataFrame] = {}
+        self.runs = 0
+        mark = fingerprint(Task(self.values, self.path, {"observed": observed.rows.to_csv(), "keys": [one.key for one in ranges]}, ""))
+        self.kept = None if folder is None else KeptRows(folder / FILE, mark, COLUMNS)
+        self.off = {} if self.kept is None else {tuple(map(float, point.split())): float(off)
+                                                 for point, off in self.kept.values.items()}
+        self.earlier = len(self.off)
+
+    def point_of(self, parts: Sequence[float]) -> Point:
+        """The values, of a few digits, at a point that says the part of each range."""
+        return tuple(float(f"{one.low + min(1, max(0, part)) * (one.high - one.low):.{DIGITS}g}")
+                     for one, part in zip(self.ranges, parts))
+
+    def distance(self, parts: Sequence[float]) -> float:
+        """How far the run at a point is from what was seen."""
+        point = self.point_of(parts)
+        self.need([point])
+        return self.off[point]
+
+    def need(self, points: Sequence[Point]) -> None:
+        """Makes the runs of some points that haven't been made."""
+        missing = [point for point in dict.fromkeys(points) if point not in self.off]
+        for place, found in self._done([self._trial(point) for point in missing]):
+            if found["error"]:
+                raise Problem(found["error"])
+            self._put(missing[place], found["model"])
+
+    def model(self, point: Point) -> pandas.DataFrame:
+        """What the run of a point has where detectors stand."""
+        if point not in self.models:
+            found = tried(self._trial(point))
+            if found["error"]:
+                raise Problem(found["error"])
+            self.models[point] = found["model"]
+        return self.models[point]
+
+    @property
+    def best(self) -> Point:
+        """The nearest point within the ranges that was run; of those that are as near the first."""
+        within = (point for point in self.off if point and all(one.low <= value <= one.high
+                                                               for one, value in zip(self.ranges, point)))
+        return min(within, key=lambda point: self.off[point])
+
+    def named(self, point: Point) -> dict[str, float]:
+        """The values of a point by their keys."""
+        return dict(zip((one.key for one in self.ranges), point))
+
+    def _trial(self, point: Point) -> Trial:
+        changes = {key: Fraction(str(value)) for key, value in self.named(point).items()}
+        return Trial(Task(self.values, self.path, changes, self.program), self.observed)
+
+    def _put(self, point: Point, model: pandas.DataFrame) -> None:
+        self.runs += 1
+        self.models[point], self.off[point] = model, distance(model, self.observed)
+        if self.kept:
+            self.kept.put(" ".join(map(repr, point)), repr(self.off[point]))
+        if self.news and point:
+            self.news(self.runs, self.named(self.best), self.off[self.best])
+
+    def _done(self, trials: Sequence[Trial]) -> Done:
+        """Does the trials on the cluster, on processes or here."""
+        if self.dask and len(trials) > 1:
+            return cluster(trials, self.dask, tried)
+        return beside(trials, min(self.jobs, len(trials)), tried) if self.jobs > 1 and len(trials) > 1 else here(trials, tried)
+
+    def search(self, most: int, first: int, count: int) -> Point:
+        """The nearest point after at most so many runs, of which `first` are those of a grid, in `count` searches."""
+        keys = len(self.ranges)
+        grid = around(keys, min(first, max(1, most // 2)))
+        self.need([(), *map(self.point_of, grid)])
+        left = most - len(grid)
+        begins = starts(grid, self.distance, max(1, min(count, left // (FEWEST * keys))))
+        for start in begins:
+            descend(self.distance, start, width_of(grid), max(1, left // len(begins)))
+        return self.best
+
+    def as_well(self, best: Point) -> dict[str, tuple[float, float]]:
+        """For each key the values next to the best one that do as well while the others stay."""
+        most = self.off[best] + max(AS_WELL * self.off[best], LEAST)
+        parts = tuple((value - one.low) / (one.high - one.low) for one, value in zip(self.ranges, best))
+        reaches = [Reach(parts, place, side) for place in range(len(parts)) for side in SIDES]
+        for _ in range(HALVINGS):
+            points = [self.point_of(reach.parts) for reach in reaches]
+            self.need(points)
+            for reach, point in zip(reaches, points):
+                reach.judged(self.off[point] <= most)
+        ends = [self.point_of(reach.end)[reach.place] for reach in reaches]
+        return {one.key: (min(ends[2 * i], best[i]), max(ends[2 * i + 1], best[i])) for i, one in enumerate(self.ranges)}
 
 
 def calibrate(path: str | Path, observed: Observed, ranges: Sequence[Range], most: int = 80, news: News | None = None,
-              first: int = 1, jobs: int = 1, dask: str | None = None) -> Fitted:
-    """The values within the ranges by which the study comes nearest, after at most so many runs.
+              first: int = 16, jobs: int = 1, dask: str | None = None, searches: int = 3, folder: Path | None = None) -> Fitted:
+    """The values within the ranges by which the study comes nearest, after at most so many runs, and those that do as well.
 
-    The search begins at the nearest of a grid of `first` points, which are run on `jobs` processes, or on the Dask
-    cluster at an address.
+    The runs begin with a grid of `first` points, and so many searches go down from the nearest of them that lie apart. What
+    does as well takes up to a dozen more for each key.
     """
-    from scipy.optimize import minimize
-
-    if not ranges:
-        raise Problem("--vary: name a key of the study to vary")
-    values, grid = read_values(path), around(ranges, first)
-    runs: dict[tuple[float, ...], tuple[float, pandas.DataFrame]] = {}
-
-    def point_of(parts: Sequence[float]) -> tuple[float, ...]:
-        return tuple(float(f"{one.low + min(1, max(0, part)) * (one.high - one.low):.{DIGITS}g}")
-                     for one, part in zip(ranges, parts))
-
-    def trial(parts: Sequence[float]) -> float:
-        point = point_of(parts)
-        if point not in runs:
-            model = modelled(_report(values, path, dict(zip((one.key for one in ranges), point))), observed)
-            runs[point] = distance(model, observed), model
-            if news:
-                news(len(runs), dict(zip((one.key for one in ranges), point)), runs[point][0])
-        return runs[point][0]
-
-    before = distance(modelled(_report(values, path, {}), observed), observed)
-    trials = [Trial(_task(values, path, dict(zip((one.key for one in ranges), point_of(parts)))), observed)
-              for parts in grid]
-    for place, found in _done(trials, jobs, dask):
-        if found["error"]:
-            raise Problem(found["error"])
-        runs[point_of(grid[place])] = distance(found["model"], observed), found["model"]
-    start = numpy.array(min(grid, key=lambda parts: runs[point_of(parts)][0]))
-    wide = 0.3 if len(grid) == 1 else 0.5 / len(grid) ** (1 / len(ranges))
-    simplex = numpy.vstack([start, *(start + wide * numpy.eye(len(ranges)))])
-    minimize(trial, start, method="Nelder-Mead", bounds=[(0, 1)] * len(ranges),
-             options={"maxfev": most, "xatol": 0.002, "fatol": 1e-6, "initial_simplex": simplex})
-    best = min(runs, key=lambda point: runs[point][0])
-    return Fitted(dict(zip((one.key for one in ranges), best)), runs[best][0], before, runs[best][1], len(runs) + 1)
+    return fitted(Calibration(path, observed, ranges, jobs, dask, folder, news), most, first, searches)
 
 
-def _done(trials: Sequence[Trial], jobs: int, dask: str | None) -> Done:
-    """Does the trials on the cluster, on processes or here."""
-    if dask:
-        return cluster(trials, dask, tried)
-    return beside(trials, jobs, tried) if jobs > 1 and len(trials) > 1 else here(trials, tried)
+def most_runs(most: int, keys: int) -> int:
+    """The runs of a calibration of so many keys, at most, whose search has so many."""
+    return 1 + most + 2 * HALVINGS * keys
 
 
-def _task(values: dict[str, Any], path: str | Path, changes: dict[str, float]) -> Task:
-    fractions = {key: Fraction(str(value)) for key, value in changes.items()}
-    return Task(values, str(path), fractions, str(program_path()))
-
-
-def _report(values: dict[str, Any], path: str | Path, changes: dict[str, float]) -> Report:
-    """The report of the study with some keys changed."""
-    return _run(_task(values, path, changes))
-
-
-def _run(task: Task) -> Report:
-    built = build(study(task))
-    return run(built.text.encode(), "the built network", built.units, None, 1, task.program)[1]
+def fitted(calibration: Calibration, most: int = 80, first: int = 16, searches: int = 3) -> Fitted:
+    """What a calibration finds, as `calibrate` has it."""
+    calibration.search(most, first, searches)
+    as_well = calibration.as_well(calibration.best)
+    best = calibration.best
+    return Fitted(calibration.named(best), calibration.off[best], calibration.off[()], calibration.model(best),
+                  calibration.runs, as_well)
 
 
 def by_place(model: pandas.DataFrame, observed: Observed) -> pandas.DataFrame:

@@ -14,7 +14,7 @@ from ..report.comparing import side_by_side
 from ..report.page import table, told
 from ..report.unlike import unlike
 from ..units import Units
-from ..working import working
+from ..working import bar
 from .compare import signed
 
 EPILOG = """\b
@@ -39,8 +39,9 @@ def command(saved: str, sources: tuple[str, ...], output: str | None, jobs: int 
     """Run several futures of one saved moment, and compare their delays with the first one's."""
     moment = read_moment(saved)
     futures = futures_of(moment, saved, sources)
-    with working("ctm is running"):
-        reports = reports_of(moment, futures, jobs, Path(output) if output else None, lambda line: click.echo(line, err=True))
+    with bar(len(futures), "futures") as done:
+        reports = reports_of(moment, futures, jobs, Path(output) if output else None, lambda line: click.echo(line, err=True),
+                             done)
     (name, first), *others = reports.items()
     click.echo(f"{saved}: saved at {_when(moment.steps, first.units)}, {len(reports)} futures")
     for other, report in others:

@@ -9,12 +9,12 @@ import pandas
 
 from ..files import write
 from ..plans.choosing import Choice
-from ..problem import one_line
+from ..problem import Interrupted, one_line
 from ..report.page import table, told
-from ..study.network_text import build
-from ..study.telling import warned
+from ..study.telling import warned_before_runs
 from ..sweeps.task import study
 from ..sweeps.variations import shown, variation
+from ..working import bar
 
 EPILOG = """\b
 Examples:
@@ -24,7 +24,10 @@ Examples:
 Keys and values are those of `ctm-tools sweep`. The program's mode `choose` gets what all plans have as the base and what
 is varied as plans behind it, up to 16 in a call: signals, closures, shares, priorities, limits and demands. What changes
 cells or steps, as roads.m.lanes or step, can't stand behind a base; `sweep` takes it, and has queues and travel times
-too."""
+too.
+
+The delays are kept in STUDY.choose/plans.csv as they come. Called again after it was stopped, it asks for those that are
+missing."""
 
 
 @click.command(epilog=EPILOG)
@@ -38,15 +41,20 @@ def command(source: str, varied: tuple[str, ...], output: str | None, rows: int)
 
     Of equal delays the first combination is the first.
     """
-    choice = Choice(source, [variation(text) for text in varied])
+    choice = Choice(source, [variation(text) for text in varied], Path(Path(source).stem + ".choose"))
     first = next(iter(choice.candidates))
-    for line in warned(build(study(choice.tasks[first]))):
+    for line in warned_before_runs(study(choice.tasks[first])):
         click.echo(line)
-    count = len(choice.candidates)
-    with click.progressbar(length=count, label=f"{count} plans", show_pos=True,
-                           file=click.get_text_stream("stderr")) as bar:
-        for done in choice.run():
-            bar.update(done)
+    count = len(choice.candidates) - choice.earlier
+    if choice.earlier and choice.kept:
+        click.echo(f"{choice.earlier} of {len(choice.candidates)} plans stand in {choice.kept.path} already")
+    try:
+        with bar(count, f"{count} plans") as done:
+            for judged in choice.run():
+                done(judged)
+    except KeyboardInterrupt:
+        left = len(choice.candidates) - len(choice.delays)
+        raise Interrupted(f"stopped with {left} of {len(choice.candidates)} plans left; the same call goes on with them") from None
     _tell(choice, choice.frame(), rows)
     if output:
         frame = choice.frame()

@@ -7,6 +7,7 @@ from collections.abc import Iterator
 import click
 import pandas
 
+from ..assignment.comparing import pair_changes
 from ..files import write
 from ..report.comparing import compare, totals, travel
 from ..report.page import table, told
@@ -19,6 +20,8 @@ Examples:
   ctm-tools compare arterial-0.report arterial-wave.report
   ctm-tools compare plan-a.report plan-b.report --plot difference.png
   ctm-tools compare plan-a.report plan-b.report -o cells.csv --value-of-time 12
+
+Where ways that `assign` wrote stand beside both, it is told by pair who gained and who lost.
 
 With --plot both reports need records, and the cells of the route are those that both have."""
 
@@ -57,7 +60,7 @@ def command(first: str, second: str, rows: int, output: str | None, picture: str
         of = {"delay": f", {unit}", "cost of the delay": ""}.get(str(name), ", vehicles")
         lines.append((f"{name}{of}", told(row["first"]), told(row["second"]), signed(row.rise), change))
     click.echo("\n".join(table(lines, right=(1, 2, 3, 4))))
-    for line in _travel(travel(one, two)):
+    for line in [*_travel(travel(one, two)), *pair_changes(first, second)]:
         click.echo(line)
     changed = frame[(frame.delay_rise.abs() >= 0.005) | (frame.gone_rise.abs() >= 0.005)]
     if changed.empty:

@@ -30,8 +30,8 @@ Example:
 
 A line for each cell, with its road, kilometres and lanes, the vehicles that went out of it and its delay. With --every a
 line for each cell and each such time, with flow, density, speed and delay, and begin and end, by which QGIS's temporal
-controller shows them one after the other. Coordinates are those of the study's points, in metres; a schematic map is in
-kilometres.""")
+controller shows them one after the other. Coordinates are longitude and latitude where the study says its points' crs; else
+they are local, and the file says so.""")
 @click.argument("report", metavar="REPORT", type=click.Path())
 @click.option("-o", "--output", metavar="FILE.geojson", type=click.Path(), help="Where it goes.")
 @click.option("--every", metavar="TIME", help="The state in each such time, as \"15 min\"; it needs records.")
@@ -45,4 +45,5 @@ def geojson(report: str, output: str | None, every: str | None, units: str | Non
         raise Problem(f"{target}: its name ends with .geojson or .json")
     made = collection(read_report(report, units, network), seconds(every, "--every") if every else None)
     write(target, json.dumps(made) + "\n")
-    click.echo(f"{target}: {len(made['features']):,} lines")
+    where = made["units"]["coordinates"]
+    click.echo(f"{target}: {len(made['features']):,} lines" + (f"; coordinates are {where}" if "local" in where else ""))

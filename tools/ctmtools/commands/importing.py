@@ -2,6 +2,7 @@
 
 from __future__ import annotations
 
+import tomllib
 from pathlib import Path
 
 import click
@@ -9,7 +10,9 @@ import click
 from ..files import write
 from ..imports.streets import Streets
 from ..imports.study_file import Terms, study_text
+from ..imports.tally import tally
 from ..imports.traffic import traffic_of
+from ..imports.trip_study import open_traffic, trip_study_text
 from ..problem import Problem
 from ..study.quantities import clock, duration
 
@@ -37,7 +40,11 @@ demand and turning shares by --interval. Streets on which nobody drives are left
 @click.option("--routes", metavar="FILE.rou.xml", type=click.Path(), multiple=True,
               help="A file of vehicles, trips or flows; may be given again.")
 @click.option("--additional", metavar="FILE.add.xml", type=click.Path(), multiple=True,
-              help="A file of which is told what can't be kept, as speed limits by time; may be given again.")
+              help="A file of types, routes, trips or signs that is read before the routes; may be given again.")
+@click.option("--trips", is_flag=True, help="Keep who drives from where to where as trips, for `ctm-tools assign`.")
+@click.option("--taz", metavar="FILE.taz.xml", type=click.Path(), help="With --trips: the districts of matrices.")
+@click.option("--matrix", "matrices", metavar="FILE.od", type=click.Path(), multiple=True,
+              help="With --trips: a matrix of SUMO's, of format O or V; may be given again.")
 @click.option("-o", "--output", metavar="STUDY.toml", type=click.Path(), help="Where the study goes.")
 @click.option("--step", default="2 s", show_default=True, metavar="TIME", help="The length of a step.")
 @click.option("--start", default="00:00", show_default=True, metavar="TIME", help="The clock time of SUMO's second 0.")
@@ -47,24 +54,38 @@ demand and turning shares by --interval. Streets on which nobody drives are left
               help="The spans by which demand and shares change.")
 @click.option("--headway", default=1.4, show_default=True, metavar="SECONDS", type=click.FloatRange(0.5, 5),
               help="Between two vehicles that follow each other; with 7.5 m a vehicle it gives each lane's capacity.")
-def sumo(network: str, routes: tuple[str, ...], additional: tuple[str, ...], output: str | None, step: str, start: str,
-         until: str, after: str, interval: str, headway: float) -> None:
+def sumo(network: str, routes: tuple[str, ...], additional: tuple[str, ...], trips: bool, taz: str | None,
+         matrices: tuple[str, ...], output: str | None, step: str, start: str, until: str, after: str, interval: str,
+         headway: float) -> None:
     """Make a study of a network of SUMO, and of its routes."""
-    from ..imports.sumo import read_network
-    from ..imports.sumo_trips import read_additional, read_trips
+    from ..imports.sumo import drop_idle, read_network
+    from ..imports.sumo_trips import read_trips
+    from ..imports.zones import put_trips, read_districts, read_matrix
+
+    if (matrices or taz) and not (trips and matrices and taz):
+        raise click.UsageError("--matrix: matrices are taken with --trips and --taz, the file of their districts")
 
     clock(start, "--start")
     times = {name: seconds(text, name) for name, text in (("--step", step), ("--until", until), ("--interval", interval))}
     found = read_network(network)
-    for path in routes:
-        read_trips(found, path, times["--until"])
-    for path in additional:
-        read_additional(found, path)
+    if trips:
+        drop_idle(found)  # all choose among the ways of cars
+    read_trips(found, routes, additional, times["--until"])
+    for path in matrices:
+        put_trips(found, read_districts(found, taz or ""), read_matrix(path), path, times["--until"])
     if routes and not found.trips:
-        raise Problem(f"{routes[0]}: no vehicle comes in the first {until}")
+        raise Problem(f"{routes[0]}: {why_none(found, until)}")
+    drop_idle(found)
     lasting = times["--until"] + seconds(after, "--after", least=0)
     terms = Terms(times["--step"], start, lasting, headway=headway)
-    put(found, terms, times["--interval"], times["--until"], output or Path(network).name.split(".")[0] + ".toml")
+    put(found, terms, times["--interval"], times["--until"], output or Path(network).name.split(".")[0] + ".toml", trips)
+
+
+def why_none(found: Streets, until: str) -> str:
+    """Why a network has no trips: what was left out of its files, or that these have none so early."""
+    lost = [note for note in found.notes if "are left out, as" in note or "aren't read" in note]
+    lasting = f"{until} s" if until.replace(".", "", 1).isdigit() else until
+    return f"no vehicle comes in the first {lasting}" + (f"; {'; '.join(lost)}" if lost else "")
 
 
 def seconds(text: str, key: str, least: float = 0.1) -> float:
@@ -78,17 +99,19 @@ def seconds(text: str, key: str, least: float = 0.1) -> float:
     return found
 
 
-def put(found: Streets, terms: Terms, interval: float, until: float, target: str) -> None:
-    """Writes the study, and tells what is in it and what isn't kept."""
+def put(found: Streets, terms: Terms, interval: float, until: float, target: str, trips: bool = False) -> None:
+    """Writes the study, with trips where they are asked for, and tells what is in it and what isn't kept."""
     if Path(target).suffix.lower() != ".toml":
         raise Problem(f"{target}: a study's name ends with .toml")
-    traffic = traffic_of(found, interval, until)
-    text = study_text(found, traffic, terms)
+    traffic = open_traffic(found, until) if trips else traffic_of(found, interval, until)
+    if not traffic.streets:
+        raise Problem(f"{found.title}: has no street for cars")
+    text = trip_study_text(found, traffic, terms, interval, until) if trips else study_text(found, traffic, terms)
     write(target, text)
-    vehicles = sum(trip.vehicles for trip in found.trips)
+    vehicles = sum(one.kept for one in found.said)
     click.echo(f"{target}: {len(traffic.streets)} streets, {len(found.programs)} signals, {vehicles:,.6g} vehicles")
-    for line in text.split("notes = [", 1)[1].split("\n]", 1)[0].splitlines()[1:] if "notes = [" in text else []:
-        click.echo(f"  {line.strip()[1:-2]}")
+    for line in [*tally(found, interval, until, terms.clock), *(f"  {note}" for note in tomllib.loads(text).get("notes", []))]:
+        click.echo(line)
 
 
 @command.command("gmns", epilog="""\b
@@ -96,19 +119,25 @@ Example:
   ctm-tools import gmns town -o town.toml
 
 Of the folder are read node.csv, link.csv, movement.csv, signal_timing_plan.csv, signal_timing_phase.csv,
-signal_phase_mvmt.csv, signal_coordination.csv and the units of config.csv (else km and km/h). Demand is no part of
-GMNS: it comes from demand.csv with the columns link_id, start, end (s) and flow (vehicles/h), turning shares from a
-column `share` of movement.csv, else by lanes.""")
+signal_phase_mvmt.csv, signal_coordination.csv and of config.csv the units (else km and km/h) and the coordinate system.
+Demand is no part of GMNS: it comes from demand.csv with the columns link_id, start, end (s) and flow (vehicles/h), turning
+shares from a column `share` of movement.csv, else by lanes.""")
 @click.argument("folder", metavar="FOLDER", type=click.Path())
 @click.option("-o", "--output", metavar="STUDY.toml", type=click.Path(), help="Where the study goes.")
 @click.option("--step", default="2 s", show_default=True, metavar="TIME", help="The length of a step.")
 @click.option("--start", default="00:00", show_default=True, metavar="TIME", help="The clock time of second 0.")
 @click.option("--until", default="1 h", show_default=True, metavar="TIME", help="How long the study is.")
-def gmns(folder: str, output: str | None, step: str, start: str, until: str) -> None:
+@click.option("--trips", is_flag=True, help="Take demand.csv as DTALite's trips between zones, for `ctm-tools assign`.")
+@click.option("--after", default="0 s", show_default=True, metavar="TIME", help="With --trips: how long it goes on then.")
+def gmns(folder: str, output: str | None, step: str, start: str, until: str, trips: bool, after: str) -> None:
     """Make a study of a network in GMNS, a folder of CSV files."""
     from ..imports.gmns import read_folder
+    from ..imports.zones import read_gmns_trips
 
     clock(start, "--start")
     lasting = seconds(until, "--until")
-    found = read_folder(folder)
-    put(found, Terms(seconds(step, "--step"), start, lasting), lasting, lasting, output or found.title + ".toml")
+    found = read_folder(folder, lasting, links=not trips)
+    if trips:
+        read_gmns_trips(found, folder, lasting)
+    terms = Terms(seconds(step, "--step"), start, lasting + (seconds(after, "--after", least=0) if trips else 0))
+    put(found, terms, lasting, lasting, output or found.title + ".toml", trips)

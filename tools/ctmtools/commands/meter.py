@@ -2,7 +2,8 @@
 
 from __future__ import annotations
 
-from collections.abc import Iterator, Sequence
+from collections.abc import Iterator
+from contextlib import ExitStack
 from dataclasses import replace
 from fractions import Fraction
 from pathlib import Path
@@ -11,22 +12,19 @@ from typing import Any
 import click
 
 from ..files import guard_report, write
-from ..moments.going_on import Runner
-from ..moments.metering import Gauge, Metered, gauge_of, meter
-from ..problem import Problem
+from ..moments.metered_run import MeteredRun, kept_path, metered_run
+from ..problem import Interrupted, Problem
 from ..report.by_road import roads_and_gates
 from ..report.comparing import side_by_side
 from ..report.page import table, told, where
 from ..report.reading import Report
-from ..running import Prepared, placed, run_into
-from ..running import run as run_network
 from ..study.network_text import build
 from ..study.plan import Meter, Study
 from ..study.quantities import duration
 from ..study.reading import read_study
 from ..study.telling import told as told_of
 from ..units import units_path
-from ..working import working
+from ..working import bar
 from .branch import beside_each_other
 from .compare import signed
 
@@ -38,7 +36,10 @@ Examples:
 
 A study's [[meters]] have the keys ramp (a road or a gate), road and at (km) of the detector, gain, occupancy, interval,
 least, most, start and end. Occupancies are in per cent of the jam density. Without a detector's place it is the cell behind
-the merge; without a set point it is the occupancy at which the detector's cell carries the most."""
+the merge; without a set point it is the occupancy at which the detector's cell carries the most.
+
+What was reached stands in NAME-metered.meter.json until the report is written: the same call goes on from there where it was
+ended."""
 MOST_PLACES = 6  # so many roads and gates are told with their change of delay
 
 
@@ -72,25 +73,23 @@ def command(source: str, ramp: str | None, output: str | None, rates: str | None
     for line in told_of(built):
         click.echo(line)
     try:
-        gauges = [gauge_of(one, built.network, built.units) for one in meters]
-        with working("ctm is running"):
-            without = run_network(built.text.encode(), source, built.units, network=built.network)[1]
-            done = meter(built, gauges, Runner(source, news=_news))
-            metered = Prepared(study.path, done.built.text.encode(), done.built.network, done.built.units, [], done.built)
-            report = run_into(target, placed(metered, target), news=_news)
-    except Problem as problem:
-        raise Problem(f"{source}: {str(problem).removeprefix(f'{source}: ')}") from None
+        with ExitStack() as stack:
+            done = metered_run(built, study.path, meters, target, _news,
+                               lambda count: stack.enter_context(bar(count, "intervals")))
+    except KeyboardInterrupt:
+        raise Interrupted("stopped; the same call goes on from the last interval" if kept_path(target).exists() else
+                          "stopped; nothing is kept yet") from None
     click.echo()
-    for line in _page(without, report, gauges, done, value_of_time):
+    for line in _page(done, value_of_time):
         click.echo(line)
     if picture:
         from ..plots.figure import save, target as picture_target
         from ..plots.rates import draw
 
-        save(draw(report, done.rates, gauges), picture_target(report, "rates", picture))
+        save(draw(done.report, done.rates, done.gauges), picture_target(done.report, "rates", picture))
         click.echo(f"\n{picture}")
     if rates:
-        write(rates, _timed(done, report).to_csv(index=False, float_format="%.6g"))
+        write(rates, done.rates.to_csv(index=False, float_format="%.6g"))
     click.echo(f"\nReport {target}, units {units_path(target)}, network {target.with_suffix('.csv')}")
 
 
@@ -111,15 +110,15 @@ def _meters(study: Study, ramp: str | None, figures: dict[str, Any]) -> list[Met
     return [replace(one, **said) for one in (study.meters or [Meter(ramp or "", place="--meter")])]
 
 
-def _page(without: Report, report: Report, gauges: Sequence[Gauge], done: Metered,
-          value_of_time: float | None) -> Iterator[str]:
+def _page(done: MeteredRun, value_of_time: float | None) -> Iterator[str]:
     """What is told of a metered run."""
+    without, report = done.without, done.report
     yield f"{without.title}: ramp meters with feedback, ALINEA"
     yield ""
     heads = ("ramp", "detector", "set point, %", "gain", "rates, vehicles/h", "least set")
     rows = [(gauge.meter.ramp, where(report, gauge.detector), f"{gauge.wanted:.4g}", f"{float(gauge.meter.gain):g}",
              f"{gauge.least:,.6g} to {gauge.most:,.6g}", told(done.rates[done.rates.ramp == gauge.meter.ramp].rate.min()))
-            for gauge in gauges]
+            for gauge in done.gauges]
     yield from table([heads, *rows], right=range(2, 6))
     yield ""
     frame = side_by_side({"without": without, "metered": report}, value_of_time)
@@ -146,10 +145,3 @@ def _places(without: Report, report: Report) -> Iterator[str]:
     rows = [(name, told(one), told(two), signed(two - one)) for _, name, one, two in sorted(changes, reverse=True)]
     if rows:
         yield from table([("delay, vehicle-hours", "without", "metered", ""), *rows[:MOST_PLACES]], right=(1, 2, 3))
-
-
-def _timed(done: Metered, report: Report) -> Any:
-    """The rates with their clock times."""
-    frame = done.rates.copy()
-    frame.insert(0, "time", [report.units.clock(step, True) for step in frame.step])
-    return frame

@@ -8,15 +8,14 @@ from typing import Any
 
 import click
 
-from ..files import write
-from ..plans.searching import Search, moved_to
+from ..plans.searching import BEST, Search, best_study
 from ..plans.timing import Point
-from ..problem import Problem
+from ..problem import Interrupted, Problem
 from ..report.page import kilometre, table, told
 from ..study.quantities import duration
 from ..study.reading import read_values
-from ..study.writing import study_text
 from ..sweeps.task import Task, measure
+from ..working import bar
 
 EPILOG = """\b
 Examples:
@@ -49,14 +48,13 @@ def command(source: str, signals: bool, generations: int, population: int, seed:
     if search.earlier:
         click.echo(f"{search.earlier} plans stand in {search.tried.path} already")
     try:
-        best = search.run(generations, population, seed, lambda generation, runs, hours: click.echo(
-            f"generation {generation} of {generations}: {runs} runs, least delay {told(hours)} vehicle-hours", err=True))
+        with bar(generations, f"{generations} generations") as done:
+            best = search.run(generations, population, seed, lambda generation, runs, hours: done(
+                1, f"{runs} runs, least delay {told(hours)} vehicle-hours"))
     except KeyboardInterrupt:
-        raise Problem(f"stopped after {search.runs} runs; the same call goes on with what is missing") from None
-    target = folder / "best.toml"
-    values = moved_to(search.timing.changed(best), Path(source), target)
-    write(target, study_text(values, f"{source} with the best of {len(search.tried.delays)} plans that were tried"))
-    _tell(search, best, source, target)
+        raise Interrupted(f"stopped after {search.runs} runs; the same call goes on with what is missing") from None
+    best_study(search, best, source, folder)
+    _tell(search, best, source, folder / BEST)
 
 
 def _least(text: str) -> Fraction:

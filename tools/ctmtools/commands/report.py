@@ -16,24 +16,36 @@ Examples:
   ctm-tools report bottleneck.report
   ctm-tools report bottleneck.report bottleneck-staggered.report -o staggered.html
 
-The page is one file that needs no network: the map with a slider of time, density or flow over time and place on a
-road, the curves of the cell that is clicked, and a table of roads and gates that is sorted by a click on its heads. Of
-two reports A and B it shows either or B less A. Both need records; their means are over as many steps as keep the page
-small. It needs Debian's node-d3 when it is made, whose script goes into the page."""
+The page is one file that needs no network: the map with a slider of time, density, flow or speed over time and place on a
+road, the curves of the cell that is clicked, and a table of roads, junctions and gates that is sorted by a click on its
+heads. Of several reports it shows each, or what it has more than the first, and tells what `compare` tells. All need
+records; their means are over as many steps as keep the page small. It needs Debian's node-d3 when it is made, whose script
+goes into the page.
+
+With --map-behind a map of OpenStreetMap stands behind the roads wherever the page is looked at with a network connection:
+the browser fetches it, and tells that server which place is looked at. It needs points of the roads in a system that is
+known, in km, and Debian's python3-pyproj."""
 
 
 @click.command(epilog=EPILOG)
-@click.argument("first", metavar="REPORT", type=click.Path())
-@click.argument("second", metavar="[OTHER]", type=click.Path(), required=False)
+@click.argument("reports", metavar="REPORT..", type=click.Path(), nargs=-1, required=True)
 @click.option("-o", "--output", metavar="FILE.html", type=click.Path(), help="Where the page goes.")
+@click.option("--map-behind", is_flag=True, help="Show a map behind the roads, where the browser has a network.")
+@click.option("--crs", metavar="EPSG:CODE", help="The projected system of the roads' points, where the report doesn't name it.")
+@click.option("--tiles", metavar="URL", help="The server of that map, with {z}, {x} and {y}; by default OpenStreetMap's.")
 @on_reports
-def command(first: str, second: str | None, output: str | None, units: str | None, network: str | None) -> None:
-    """Make a page for a browser of a report, or of two side by side."""
+def command(reports: tuple[str, ...], output: str | None, map_behind: bool, crs: str | None, tiles: str | None,
+            units: str | None, network: str | None) -> None:
+    """Make a page for a browser of a report, or of several side by side."""
+    from ..pages.background import STREETS, Background
     from ..pages.page import page_of
 
-    target = output or Path(first).stem + ".html"
+    target = output or Path(reports[0]).stem + ".html"
     if Path(target).suffix.lower() not in (".html", ".htm"):
         raise Problem(f"{target}: a page's name ends with .html")
-    text = page_of([read_report(path, units, network) for path in (first, second) if path is not None])
+    if (crs or tiles) and not map_behind:
+        raise click.UsageError("--crs and --tiles go with --map-behind")
+    background = Background(crs, tiles or STREETS) if map_behind else None
+    text = page_of([read_report(path, units, network) for path in reports], background=background)
     write(target, text)
     click.echo(f"{target}: {len(text.encode()):,} bytes")

@@ -2,6 +2,7 @@
 
 from __future__ import annotations
 
+from contextlib import ExitStack
 from pathlib import Path
 
 import click
@@ -9,12 +10,12 @@ import click
 from ..files import guard_report, report_target
 from ..moments.moment import Moment
 from ..moments.stretches import kept_moment, kept_path, run_in_stretches, stretch_of
-from ..problem import Problem
+from ..problem import Interrupted
 from ..report.page import page
 from ..report.reading import Report
 from ..running import Prepared, opened, placed, run_into
 from ..units import units_path
-from ..working import working
+from ..working import bar, working
 
 EPILOG = """\b
 Examples:
@@ -23,9 +24,10 @@ Examples:
   ctm-tools run examples/interchange.csv --every 6
   ctm-tools run examples/bottleneck.toml --checkpoint "1 h"
 
-A study is built first; its network and units go beside the report. Without -o the report is written into the folder one
+A study is built first; where streams give way or greens follow traffic, runs beforehand work out what passes. The
+network and units go beside the report. Without -o the report is written into the folder one
 is in. Each step is recorded where the program's limit of 4,000,000 recorded values allows, else each E-th.
-CTM_PROGRAM names another program than ./ctm.
+CTM_PROGRAM names another program than that of the repository or the package.
 
 With --checkpoint the run goes in stretches, and the moment that was reached stands in FILE.saved beside the report. The same
 call goes on from there where the run was ended, by Ctrl-C or otherwise, and takes the file away once the report is written.
@@ -39,7 +41,7 @@ Such a run isn't recorded, so no queues are told; its report is that of --every 
 @click.option("--workers", metavar="N", type=click.IntRange(1, 16), help="Threads; by default as many as processors.")
 @click.option("--checkpoint", metavar="EVERY", help="Keep the run each such time, as \"30 min\", or number of steps.")
 def command(source: str, output: str | None, every: int | None, workers: int | None, checkpoint: str | None) -> None:
-    """Run a study or a network by ./ctm, write its report with records, and print a page.
+    """Run a study or a network by ctm, write its report with records, and print a page.
 
     Before the page stands what `build` tells of the study, or the warnings of `lint` of the network. The page has the
     vehicles served, the delay, for each queue where it began, how far it reached and when, and when it
@@ -50,7 +52,9 @@ def command(source: str, output: str | None, every: int | None, workers: int | N
         raise click.UsageError("--checkpoint: such a run isn't recorded, so it goes without --every")
     if not output:
         guard_report(target)
-    prepared, stretch, begun = opened(source), 0, None
+    with ExitStack() as stack:
+        prepared = opened(source, lambda count: stack.enter_context(bar(count, "giving way and signals")))
+    stretch, begun = 0, None
     if checkpoint is not None:
         stretch = stretch_of(checkpoint, prepared.units)
         begun = kept_moment(kept_path(target), prepared.network, prepared.units)
@@ -76,16 +80,22 @@ def _in_stretches(target: Path, prepared: Prepared, stretch: int, begun: Moment 
     if begun:
         click.echo(f"Goes on from {clock(begun.last)}, which stands in {path}\n")
 
-    def keep(step: int) -> None:
-        nonlocal reached
-        reached = step
-
+    shown = range(stretch, prepared.network.steps, stretch)
     try:
-        with working("ctm is running"):
-            return run_in_stretches(target, prepared, stretch, begun, workers, _news, keep)
+        with bar(len(shown) + 1, "stretches") as done:
+            done(sum(step <= reached for step in shown), f"at {clock(reached)}")
+
+            def keep(step: int) -> None:
+                nonlocal reached
+                reached = step
+                done(1, f"at {clock(step)}")
+
+            report = run_in_stretches(target, prepared, stretch, begun, workers, _news, keep)
+            done()
+            return report
     except KeyboardInterrupt:
         kept = f"the same call goes on from {clock(reached)}" if reached else "nothing is kept yet"
-        raise Problem(f"stopped; {kept}") from None
+        raise Interrupted(f"stopped; {kept}") from None
 
 
 def _news(line: str) -> None:

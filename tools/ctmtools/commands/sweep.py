@@ -8,10 +8,12 @@ from pathlib import Path
 import click
 import pandas
 
-from ..problem import Problem
+from ..files import write
+from ..problem import Interrupted, Problem
 from ..report.page import kilometre, table, told
 from ..sweeps.sweeping import Sweep
 from ..sweeps.variations import Variation, shown, variation
+from ..working import bar
 
 EPILOG = """\b
 Examples:
@@ -81,12 +83,12 @@ def _do(sweep: Sweep, jobs: int | None, address: str | None) -> None:
     count = sweep.side_by_side(jobs)
     where = f"at {address}" if address else f"on {count} process{'es'[:2 * (count > 1)]}"
     try:
-        with click.progressbar(sweep.run(jobs, address), length=missing, label=f"{missing} runs {where}", show_pos=True,
-                               show_eta=True, file=click.get_text_stream("stderr")) as bar:
-            for _ in bar:
-                pass
+        with bar(missing, f"{missing} runs {where}") as done:
+            for _ in sweep.run(jobs, address):
+                done()
     except KeyboardInterrupt:
-        raise Problem(f"stopped with {len(sweep.missing)} runs left; the same call goes on with them") from None
+        raise Interrupted(f"stopped with {len(sweep.missing)} of {len(sweep.tasks)} runs left; the same call goes on with "
+                          "them") from None
 
 
 def _tell(sweep: Sweep, rows: int, folder: Path, drawn: Sequence[str]) -> None:
@@ -106,7 +108,7 @@ def _tell(sweep: Sweep, rows: int, folder: Path, drawn: Sequence[str]) -> None:
     if same:
         click.echo(f"  Rounded in each of them: {same}")
     path = folder / "table.csv"
-    frame.drop(columns="fingerprint").to_csv(path, index=False, float_format="%.6f")
+    write(path, frame.drop(columns="fingerprint").to_csv(index=False, float_format="%.6f"))
     picture = folder / "plot.png"
     failures = int((frame.error != "").sum())
     if failures:
@@ -125,5 +127,10 @@ def _minutes(value: float) -> str:
 
 
 def _remark(row: pandas.Series, same: str) -> str:
-    """What stands behind the figures of a row: why it failed, or what was rounded, where that isn't so in all rows."""
-    return f"failed: {row.error}" if row.error else f"rounded: {row.rounded}" if row.rounded not in ("", same) else ""
+    """What stands behind the figures of a row: why it failed, what was rounded, where that isn't so in all rows, and a queue
+    that reaches the upstream end of the model."""
+    if row.error:
+        return f"failed: {row.error}"
+    upstream = f"a queue reaches the upstream end: {row.waiting_upstream_vehicles:,.0f} wait in a gate behind it" \
+        if row.waiting_upstream_vehicles >= 1 else ""
+    return "; ".join(filter(None, [upstream, f"rounded: {row.rounded}" if row.rounded not in ("", same) else ""]))

@@ -3,12 +3,11 @@
 from __future__ import annotations
 
 import sys
-from contextlib import nullcontext
 from typing import Any
 
 import click
 
-from ..problem import reason
+from ..files import write
 from ..report.by_road import by_road
 from ..report.reading import read_report
 from ..report.states import states, totals
@@ -64,18 +63,12 @@ def command(report: str, output: str | None, ends: bool, by: str, interval: str 
     if len(separator) != 1 or len(decimal) != 1 or separator == decimal:
         raise click.UsageError("the separator and the decimal sign are one character each, and differ")
     if not ends and read.units.known:
-        frame["time"] = frame.step.map(lambda step: read.units.clock(step, True))
+        frame["time"] = read.units.stamps(frame.step)
     named = ", ".join(f"{column} in {unit}" for column, unit in frame.attrs["units"].items() if column != "time")
-    try:
-        with _file(output) as file:
-            frame.to_csv(file, sep=separator, decimal=decimal, index=False, float_format="%.9g", lineterminator="\n")
-    except BrokenPipeError:
-        raise
-    except OSError as error:
-        raise click.UsageError(f"{output}: {reason(error)}") from None
+    terms: dict[str, Any] = {"sep": separator, "decimal": decimal, "index": False, "float_format": "%.9g", "lineterminator": "\n"}
+    if output:
+        write(output, frame.to_csv(**terms))
+    else:
+        frame.to_csv(sys.stdout, **terms)
     if output:
         click.echo(f"{output}: {len(frame)} rows; {named}")
-
-
-def _file(output: str | None) -> Any:
-    return open(output, "w", newline="", encoding="utf-8") if output else nullcontext(sys.stdout)

@@ -2,17 +2,19 @@
 
 from __future__ import annotations
 
-from collections.abc import Iterator
+from collections.abc import Iterator, Mapping
 from typing import Any
 
 import numpy
 
-from ..plots.layout import lay_out
+from ..plots.layout import Line, lay_out
 from ..problem import Problem
 from ..report.reading import Report
 from ..report.states import DAY_ZERO, KNOWN, UNKNOWN
+from ..study.coordinates import DEGREES, METRES, moved
 
 Feature = dict[str, Any]
+DEGREE_DECIMALS = 7  # of a degree, by which a place is known to a centimetre
 
 
 def features(report: Report, every: float | None = None) -> Iterator[Feature]:
@@ -21,11 +23,9 @@ def features(report: Report, every: float | None = None) -> Iterator[Feature]:
     A feature has cell, kind, road, from_km, to_km, lanes, and of the whole run the vehicles that went and the delay; of
     a span the means of density and speed, the flow, the delay, and begin and end as times of 1 January 1900.
     """
-    lines = lay_out(report)
-    metres = 1000 if report.units.points else 1
+    lines = _located(report, lay_out(report))
     for cell in report.cells.index:
-        places = [[round(x * metres, 6), round(y * metres, 6)] for x, y in lines[cell]]
-        shape = {"type": "LineString", "coordinates": places}
+        shape = {"type": "LineString", "coordinates": lines[cell]}
         for terms in [_whole(report, cell)] if every is None else _spans(report, cell, every):
             yield {"type": "Feature", "geometry": shape, "properties": {**_place(report, cell), **terms}}
 
@@ -33,9 +33,31 @@ def features(report: Report, every: float | None = None) -> Iterator[Feature]:
 def collection(report: Report, every: float | None = None) -> dict[str, Any]:
     """The features as a collection, with the units of their properties."""
     known = KNOWN if report.units.known else UNKNOWN
-    named = {"delay": report.units.delay_unit, **{name: known[name] for name in ("flow", "density", "speed")}}
+    named = {"coordinates": coordinates_of(report), "delay": report.units.delay_unit,
+             **{name: known[name] for name in ("flow", "density", "speed")}}
     return {"type": "FeatureCollection", "name": report.title, "units": named,
             "features": list(features(report, every))}
+
+
+def coordinates_of(report: Report) -> str:
+    """What the coordinates of the features are."""
+    units = report.units
+    if units.points and units.crs:
+        return "longitude and latitude"
+    if units.points:
+        return "local, in metres"
+    return f"local, of a schematic map in {'km' if units.known else 'cells'}"
+
+
+def _located(report: Report, lines: Mapping[str, Line]) -> dict[str, list[list[float]]]:
+    """The lines of cells as longitude and latitude where their place on the earth is known, else as they are in metres."""
+    units = report.units
+    scale, decimals = (METRES, 3) if units.points else (1.0, 6)
+    places = [(x * scale, y * scale) for line in lines.values() for x, y in line]
+    if units.points and units.crs:
+        places, decimals = moved(places, units.crs, DEGREES, "crs"), DEGREE_DECIMALS
+    rest = iter(places)
+    return {cell: [[round(value, decimals) for value in next(rest)] for _ in line] for cell, line in lines.items()}
 
 
 def _place(report: Report, cell: str) -> dict[str, Any]:
@@ -56,7 +78,8 @@ def _spans(report: Report, cell: str, every: float) -> Iterator[dict[str, Any]]:
     wanted = every if step is None else every / step
     width = max(1, round(wanted))
     times, held, flow = numpy.asarray(report.times[:-1]), report.held[cell].to_numpy(), report.flow[cell].to_numpy()
-    lasting, length = numpy.diff(report.times), units.length(cell)
+    lasting, length, kind = numpy.diff(report.times), units.length(cell), report.need_network().kinds[cell]
+    waited = report.waited[cell].to_numpy()
     if wanted < lasting[0]:
         raise Problem("--every: is less than the way from record to record")
     hour = 1.0 if step is None else 3600 / step
@@ -68,8 +91,8 @@ def _spans(report: Report, cell: str, every: float) -> Iterator[dict[str, Any]]:
             continue
         begin, end = span * width, min((span + 1) * width, report.steps)
         terms = {"begin": _time(report, begin), "end": _time(report, end), "flow": round(went / steps * hour, 3),
-                 "delay": round(float(units.hours(max(0.0, stood - went))), 6)}
-        if report.need_network().kinds[cell] == "road":
+                 "delay": round(float(units.hours(waited[own].sum())), 6)}
+        if kind == "road":
             terms["density"] = round(stood / steps / (length or 1), 3)
             terms["speed"] = round(min(1.0, went / stood) * (length * hour if length else 1), 3) if stood > 0 else None
         yield terms

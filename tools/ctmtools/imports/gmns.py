@@ -3,30 +3,38 @@
 from __future__ import annotations
 
 import re
+from math import inf
 from pathlib import Path
-from typing import Any
 
-import pandas
-
-from ..problem import Problem, one_line
+from ..problem import Problem
 from ..study.quantities import MILE
-from .streets import BY_TIME, Program, Span, Street, Streets, Way
-from .sumo import always, joined, named
+from .gmns_places import Places
+from .gmns_tables import ZONAL, Row, once, read_table
+from .streets import BY_TIME, Movement, Program, Said, Span, Street, Streets, Way, named
+from .sumo import always, joined
 
-KILOMETRES = {"km": 1.0, "kilometer": 1.0, "kilometers": 1.0, "m": 0.001, "meter": 0.001, "meters": 0.001,
-              "mi": float(MILE), "mile": float(MILE), "miles": float(MILE), "ft": 0.0003048, "feet": 0.0003048}
+KILOMETRES = {"km": 1.0, "kilometer": 1.0, "kilometers": 1.0, "kilometre": 1.0, "kilometres": 1.0, "m": 0.001, "meter": 0.001,
+              "meters": 0.001, "metre": 0.001, "metres": 0.001, "mi": float(MILE), "mile": float(MILE), "miles": float(MILE),
+              "ft": 0.0003048, "foot": 0.0003048, "feet": 0.0003048}
 SPEEDS = {"kph": 1.0, "km/h": 1.0, "kmh": 1.0, "mph": float(MILE), "m/s": 3.6}
 CARS = re.compile(r"(?i)auto|car|all|motor|^\s*$|vehicle")
-Rows = list[dict[str, str]]
+YIELDS = re.compile(r"(?i)yield|stop|\d_stop")  # what controls a movement that gives way
+USUAL = 50.0  # km/h, of a link that doesn't say its speed
+BACK = "_back"  # behind the name of the street against the direction of a link that isn't directed
+MOVED = ("mvmt_id", "ib_link_id", "ob_link_id")
 
 
-def read_folder(folder: str | Path) -> Streets:
-    """The streets of a folder of GMNS files, with the shares of its movements and the demand of its links."""
-    reader = Reader(Path(folder))
+def read_folder(folder: str | Path, until: float = inf, links: bool = True) -> Streets:
+    """The streets of a folder of GMNS files, with the shares of its movements and the demand of its links until a time.
+
+    Where trips between zones take its place, `links` is false.
+    """
+    reader = Reader(Path(folder), until)
     reader.links()
     reader.movements()
     reader.signals()
-    reader.demand()
+    if links:
+        reader.demand()
     reader.by_time()
     return reader.found
 
@@ -34,53 +42,71 @@ def read_folder(folder: str | Path) -> Streets:
 class Reader:
     """Reads the tables one by one."""
 
-    def __init__(self, folder: Path) -> None:
-        self.folder = folder
+    def __init__(self, folder: Path, until: float) -> None:
+        self.folder, self.until = folder, until
         self.found = Streets(folder.resolve().name)
-        config: dict[str, str] = next(iter(self._rows("config", needed=False)), {})
-        self.kilometre = self._unit(config, "long_length", KILOMETRES)
-        self.speed = self._unit(config, "speed", SPEEDS)
-        self.pairs: dict[str, tuple[str, str]] = {}  # the streets of each movement's name
+        config = next(iter(read_table(folder, "config")), Row(folder / "config.csv", 2, {}))
+        self.kilometre = _unit(config, "long_length", KILOMETRES)
+        self.speed = _unit(config, "speed", SPEEDS) or 1.0
+        self.places = Places(config, once(read_table(folder, "node", needed=True), "node_id"))
+        self.pairs: dict[str, Movement | None] = {}  # the streets of each movement's name; none where cars may not use them
+        self.left: set[str] = set()  # links that cars may not use
 
     def links(self) -> None:
         """The links in one direction; one that isn't directed makes two streets."""
-        places = {row["node_id"]: (_number(row, "x_coord", 0), _number(row, "y_coord", 0)) for row in self._rows("node")}
-        left = 0
-        for row in self._rows("link"):
-            if not CARS.search(row.get("allowed_uses", "")):
-                left += 1
+        rows = once(read_table(self.folder, "link", needed=True), "link_id")
+        ways = {name: self.places.line(row) for name, row in rows.items()}
+        lengths = {name: row.number("length", 0.0, 0.0) for name, row in rows.items()}
+        self.places.settle(ways, lengths, self.kilometre)
+        speedless = 0
+        for name, row in rows.items():
+            if not CARS.search(row.text("allowed_uses")):
+                self.left.add(name)
                 continue
-            both = row.get("directed", "1").strip().lower() in ("0", "false", "f", "no")
-            ends = row["from_node_id"], row["to_node_id"]
-            self._street(row, row["link_id"], ends, places)
-            if both:
-                self._street(row, row["link_id"] + "_back", ends[::-1], places)
-        if left:
-            self.found.notes.append(f"{left} links that cars may not use are left out")
+            self._street(row, name, ways[name], lengths[name])
+            speedless += not row.text("free_speed")
+        self.found.crs = self.places.code
+        self.found.notes += self.places.notes
+        for count, says in ((len(self.left), "links that cars may not use are left out"),
+                            (speedless, f"links have no free_speed; {USUAL:g} km/h are taken")):
+            if count:
+                self.found.notes.append(f"{count} {says}")
 
-    def _street(self, row: dict[str, str], name: str, ends: tuple[str, str],
-                places: dict[str, tuple[float, float]]) -> None:
-        lanes, length = round(_number(row, "lanes", 1)), _number(row, "length", 0) * self.kilometre
-        speed = _number(row, "free_speed", 50 / self.speed) * self.speed
-        if lanes < 1 or speed <= 0 or length <= 0:
-            raise Problem(f"{self.folder / 'link.csv'}: link {row['link_id']}: lanes, free_speed and length must be "
-                          "above 0")
-        capacity = _number(row, "capacity", 0) * lanes or None
-        points = [(x / 1000, y / 1000) for x, y in (places[end] for end in ends if end in places)]
-        self.found.streets[name] = Street(name, *ends, length, lanes, speed, points, capacity)
+    def _street(self, row: Row, name: str, way: list[tuple[float, float]], length: float) -> None:
+        lanes = row.number("lanes", 1.0)
+        kilometres = length * (self.kilometre or 1.0) or self.places.kilometres(way)
+        speed = row.number("free_speed", USUAL / self.speed) * self.speed
+        if lanes < 1 or speed <= 0 or kilometres <= 0:
+            raise Problem(f"{row.key()}: link {name}: lanes, free_speed and length must be above 0")
+        if lanes % 1:
+            raise Problem(f"{row.key('lanes')}: expected a whole number, found \"{row.text('lanes')}\"")
+        capacity = row.number("capacity", 0.0, 0.0) * lanes or None
+        ends = row.text("from_node_id"), row.text("to_node_id")
+        points = self.places.points(way)
+        self.found.streets[name] = Street(name, *ends, kilometres, int(lanes), speed, points, capacity)
+        if not row.yes("directed", True):
+            self.found.streets[name + BACK] = Street(name + BACK, *ends[::-1], kilometres, int(lanes), speed, points[::-1],
+                                                     capacity)
 
     def movements(self) -> None:
         """The movements; where there are none, all but the way back is allowed at each node."""
-        rows = self._rows("movement", needed=False)
-        for row in rows:
-            pair = row["ib_link_id"], row["ob_link_id"]
-            if pair[0] in self.found.streets and pair[1] in self.found.streets:
-                lanes = _number(row, "end_ib_lane", 1) - _number(row, "start_ib_lane", 1) + 1
-                yields = row.get("ctrl_type", "").lower() in ("yield", "stop", "2_stop")
-                self.found.ways[pair] = Way(max(1, round(lanes)), max(1, round(lanes)) * (1 if yields else 4))
-                self.pairs[row.get("mvmt_id", "")] = pair
-                if row.get("share", "").strip():
-                    self.found.shares[pair] = _number(row, "share", 0)
+        rows = read_table(self.folder, "movement")
+        yielding = set()
+        for name, row in once(rows, "mvmt_id").items():
+            pair = self.pairs[name] = self._pair(row)
+            if pair is None:
+                continue
+            lanes = max(1, round(row.number("end_ib_lane", 1.0) - row.number("start_ib_lane", 1.0) + 1))
+            yields = bool(YIELDS.match(row.text("ctrl_type")))
+            way = self.found.ways.setdefault(pair, Way(0, 0))  # of several movements by lanes from link to link
+            way.lanes, way.priority = way.lanes + lanes, way.priority + lanes * (1 if yields else 4)
+            if yields:
+                yielding.add(pair)
+            if row.text("share"):
+                self.found.shares[pair] = self.found.shares.get(pair, 0.0) + row.number("share", least=0.0)
+        for pair in yielding:
+            self.found.ways[pair].yields |= self._others(pair) - yielding
+        self._check_shares(rows)
         if not rows:
             self.found.notes.append("there is no movement.csv: at each node all ways but that back are taken")
             for one in self.found.streets.values():
@@ -88,114 +114,147 @@ class Reader:
                     if one.end == two.start and one.start != two.end:
                         self.found.ways[one.name, two.name] = Way(min(one.lanes, two.lanes), one.lanes)
 
+    def _check_shares(self, rows: list[Row]) -> None:
+        """Refuses a movement without a share whose link has others with one, since by lanes it would be another measure."""
+        shared = {pair[0] for pair in self.found.shares}
+        for row in rows:
+            pair = self.pairs[row.text("mvmt_id")]
+            if pair is not None and not row.text("share") and pair[0] in shared:
+                raise Problem(f"{row.key('share')}: is empty, and other movements from link {pair[0]} have one")
+
+    def _pair(self, row: Row) -> Movement | None:
+        """The streets of a movement, which meet at a node; none where cars may not use one of its links."""
+        names = [row.text(column) for column in MOVED[1:]]
+        for column, name in zip(MOVED[1:], names):
+            if name not in self.found.streets and name not in self.left:
+                raise Problem(f"{row.key(column)}: there is no link {name}")
+        if self.left & set(names):
+            return None
+        streets = self.found.streets
+        for one in (names[0], names[0] + BACK):
+            for two in (names[1], names[1] + BACK):
+                if one in streets and two in streets and streets[one].end == streets[two].start and \
+                        row.text("node_id") in ("", streets[one].end):
+                    return one, two
+        where = f"node {row.text('node_id')}" if row.text("node_id") else "a node"
+        raise Problem(f"{row.key()}: link {names[0]} doesn't lead to {where} at which {names[1]} begins")
+
+    def _others(self, pair: Movement) -> set[Movement]:
+        """The movements that come from other streets to the node of one."""
+        node = self.found.streets[pair[0]].end
+        return {other for other in self.found.ways if other[0] != pair[0] and self.found.streets[other[0]].end == node}
+
     def signals(self) -> None:
         """The signals of the first timing plan of each controller, each phase as long as its greatest green."""
-        plans: dict[str, dict[str, str]] = {}
-        for row in self._rows("signal_timing_plan", needed=False):
-            if row.get("controller_id", "") in plans:
-                self.found.notes.append(f"signal {row.get('controller_id')}: plan {row['timing_plan_id']} is left out, "
+        plans: dict[str, Row] = {}
+        for row in read_table(self.folder, "signal_timing_plan"):
+            if row.text("controller_id") in plans:
+                self.found.notes.append(f"signal {row.text('controller_id')}: plan {row.text('timing_plan_id')} is left out, "
                                         "since the first one is kept for the whole time")
-            plans.setdefault(row.get("controller_id", ""), row)
-        offsets = {row.get("timing_plan_id", ""): _number(row, "offset", 0)
-                   for row in self._rows("signal_coordination", needed=False)}
-        phases = self._rows("signal_timing_phase", needed=False)
-        served = self._rows("signal_phase_mvmt", needed=False)
+            plans.setdefault(row.text("controller_id"), row)
+        offsets = {row.text("timing_plan_id"): row.number("offset", 0.0) for row in
+                   read_table(self.folder, "signal_coordination")}
+        phases = read_table(self.folder, "signal_timing_phase")
+        served = read_table(self.folder, "signal_phase_mvmt")
+        if phases and not self.pairs:
+            self.found.notes.append("there is no movement.csv, so the signals aren't kept: all movements are green at all times")
+            return
+        self._check_signals(phases, served)
         for plan in plans.values():
-            own = [row for row in phases if row.get("timing_plan_id") == plan["timing_plan_id"]]
+            own = [row for row in phases if row.text("timing_plan_id") == plan.text("timing_plan_id")]
             if own:
-                self._plan(plan, own, served, offsets.get(plan["timing_plan_id"], 0.0))
+                self._plan(plan, own, served, offsets.get(plan.text("timing_plan_id"), 0.0))
         always(self.found, {pair for pair, way in self.found.ways.items() if way.green})
 
-    def _plan(self, plan: dict[str, str], phases: Rows, served: Rows, offset: float) -> None:
+    def _check_signals(self, phases: list[Row], served: list[Row]) -> None:
+        """Refuses phases of no plan, and what they serve where there is no such phase or movement."""
+        plans = {row.text("timing_plan_id") for row in read_table(self.folder, "signal_timing_plan")}
+        known = {row.text("timing_phase_id") for row in phases}
+        for rows, column, names in ((phases, "timing_plan_id", plans), (served, "timing_phase_id", known),
+                                    (served, "mvmt_id", self.pairs.keys())):
+            for row in rows:
+                if row.text(column) not in names:
+                    raise Problem(f"{row.key(column)}: there is none of this name, \"{row.text(column)}\"")
+
+    def _plan(self, plan: Row, phases: list[Row], served: list[Row], offset: float) -> None:
         spans = phase_spans(phases)
-        cycle = _number(plan, "cycle_length", 0) or max(end + _number(row, "clearance", 0) for row, (_, end) in
-                                                        zip(phases, spans))
-        greens: dict[tuple[str, str], list[Span]] = {}
+        cycle = plan.number("cycle_length", 0.0, 0.0) or max(
+            end + row.number("clearance", 0.0, 0.0) for row, (_, end) in zip(phases, spans))
+        greens: dict[Movement, list[tuple[Span, bool]]] = {}
         for row, span in zip(phases, spans):
             for service in served:
-                same = service.get("timing_phase_id") == row.get("timing_phase_id")
-                pair = self.pairs.get(service.get("mvmt_id", ""))
-                if same and pair:
-                    greens.setdefault(pair, []).append(span)
+                pair = self.pairs.get(service.text("mvmt_id"))
+                if service.text("timing_phase_id") == row.text("timing_phase_id") and pair:
+                    greens.setdefault(pair, []).append((span, service.text("protection").lower() == "permitted"))
         for pair, own in greens.items():
             self.found.programs[self.found.streets[pair[0]].end] = Program(cycle, offset % cycle)
-            self.found.ways[pair].green = joined(own, cycle)
+            self.found.ways[pair].green = joined([span for span, _ in own], cycle)
+            permitted = [span for span, yields in own if yields]
+            self.found.ways[pair].yields |= {other for other in self._others(pair) if any(
+                one[0] < two[1] and two[0] < one[1] for one in permitted for two, _ in greens.get(other, []))}
 
     def demand(self) -> None:
         """The demand of links at which vehicles come in: demand.csv with link_id, start and end in s, and flow."""
-        for row in self._rows("demand", needed=False):
-            if row.get("link_id") not in self.found.streets:
-                raise Problem(f"{self.folder / 'demand.csv'}: there is no link {row.get('link_id')}")
-            span = _number(row, "start", 0), _number(row, "end", 3600), _number(row, "flow", 0)
-            self.found.gates.setdefault(row["link_id"], []).append(span)
+        rows = read_table(self.folder, "demand")
+        if rows and ZONAL[0] in rows[0].fields:
+            self.found.notes.append("demand.csv has trips between zones, which --trips takes, so no vehicle comes")
+            return
+        for row in rows:
+            name = row.text("link_id")
+            if name not in self.found.streets:
+                raise Problem(f"{row.key('link_id')}: " + (f"cars may not use link {name}" if name in self.left else
+                                                            f"there is no link {name}"))
+            start, end, flow = row.number("start", least=0.0), row.number("end", least=0.0), row.number("flow", least=0.0)
+            if end <= start:
+                raise Problem(f"{row.key('end')}: expected a time after the start at {start:g} s, found {end:g}")
+            if start < self.until:
+                self.found.gates.setdefault(name, []).append((start, min(end, self.until), flow))
+            self._say(start, min(end, self.until), flow, 1.0)
+            self._say(max(start, self.until), end, flow, 0.0)
+        if not rows:
+            self.found.notes.append("there is no demand.csv, so no vehicle comes")
+
+    def _say(self, start: float, end: float, flow: float, kept: float) -> None:
+        vehicles = flow * (end - start) / 3600
+        if vehicles > 0:
+            self.found.said.append(Said("all", start, end, vehicles, vehicles * kept))
 
     def by_time(self) -> None:
         """Notes what the tables of links by time of day say, which isn't kept."""
         known = {"", *self.found.streets}
         for name in ("link_tod", "segment_tod"):
-            rows = [row for row in self._rows(name, needed=False) if row.get("link_id", "") in known]
-            limits = [row for row in rows if row.get("free_speed", "").strip()]
+            rows = [row for row in read_table(self.folder, name) if row.text("link_id") in known]
+            limits = [row for row in rows if row.text("free_speed")]
             if limits:
-                links = dict.fromkeys(row["link_id"] for row in limits if row.get("link_id"))
+                links = dict.fromkeys(row.text("link_id") for row in limits if row.text("link_id"))
                 where = f" at links {named(list(links))}" if links else ""
                 self.found.notes.append(f"{BY_TIME}: {len(limits)} of {name}.csv{where} are left out")
             for column in ("lanes", "capacity"):
-                count = sum(bool(row.get(column, "").strip()) for row in rows)
+                count = sum(bool(row.text(column)) for row in rows)
                 if count:
                     self.found.notes.append(f"{name}.csv: {count} rows with {column} by time are left out")
 
-    def _rows(self, name: str, needed: bool = True) -> Rows:
-        """The rows of a table as texts; none where the file isn't there and needn't be."""
-        path = self.folder / f"{name}.csv"
-        if not path.exists():
-            if needed:
-                raise Problem(f"{path}: no such file; a folder of GMNS has node.csv and link.csv")
-            return []
-        try:
-            frame = pandas.read_csv(path, dtype=str, keep_default_na=False)
-        except (OSError, ValueError) as error:
-            raise Problem(f"{path}: {one_line(error)}") from None
-        frame.columns = [column.strip().lower() for column in frame.columns]
-        for column in NEEDED.get(name, ()):
-            if column not in frame.columns:
-                raise Problem(f"{path}: has no column {column}, it has {', '.join(frame.columns)}")
-        rows: Any = frame.to_dict("records")
-        return list(rows)
 
-    def _unit(self, config: dict[str, str], key: str, units: dict[str, float]) -> float:
-        said = config.get(key, "").strip().lower()
-        if said and said not in units:
-            raise Problem(f"{self.folder / 'config.csv'}: {key}: expected {' or '.join(units)}, found {said}")
-        return units[said] if said else 1.0
+def _unit(config: Row, column: str, units: dict[str, float]) -> float | None:
+    said = config.text(column).lower()
+    if said and said not in units:
+        raise Problem(f"{config.path}: {column}: expected {' or '.join(units)}, found {said}")
+    return units[said] if said else None
 
 
-NEEDED = {"node": ("node_id",), "link": ("link_id", "from_node_id", "to_node_id", "length"),
-          "movement": ("ib_link_id", "ob_link_id"), "signal_timing_plan": ("timing_plan_id",)}
-
-
-def phase_spans(phases: Rows) -> list[Span]:
+def phase_spans(phases: list[Row]) -> list[Span]:
     """When in the cycle each phase is green: those of a ring one behind the other, all rings together at each barrier."""
     found: dict[int, Span] = {}
     start = 0.0
-    for barrier in sorted({_number(row, "barrier", 1) for row in phases}):
+    for barrier in sorted({row.number("barrier", 1.0) for row in phases}):
         ends = [start]
-        for ring in sorted({_number(row, "ring", 1) for row in phases}):
+        for ring in sorted({row.number("ring", 1.0) for row in phases}):
             time = start
-            own = [i for i, row in enumerate(phases)
-                   if (_number(row, "barrier", 1), _number(row, "ring", 1)) == (barrier, ring)]
-            for i in sorted(own, key=lambda i: _number(phases[i], "position", 0)):
-                green = _number(phases[i], "max_green", 0) or _number(phases[i], "min_green", 0)
+            own = [i for i, row in enumerate(phases) if (row.number("barrier", 1.0), row.number("ring", 1.0)) == (barrier, ring)]
+            for i in sorted(own, key=lambda i: phases[i].number("position", 0.0)):
+                green = phases[i].number("max_green", 0.0, 0.0) or phases[i].number("min_green", 0.0, 0.0)
                 found[i] = time, time + green
-                time += green + _number(phases[i], "clearance", 0)
+                time += green + phases[i].number("clearance", 0.0, 0.0)
             ends.append(time)
         start = max(ends)
     return [found[i] for i in range(len(phases))]
-
-
-def _number(row: dict[str, str], column: str, otherwise: float) -> float:
-    """The number in a column, or another where there is none."""
-    text = row.get(column, "").strip()
-    try:
-        return float(text) if text else otherwise
-    except ValueError:
-        raise Problem(f"{column}: expected a number, found \"{text}\"") from None

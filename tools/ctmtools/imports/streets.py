@@ -6,14 +6,16 @@ from dataclasses import dataclass, field
 
 Movement = tuple[str, str]  # a street and the one that it leads into
 Span = tuple[float, float]  # from and to, in seconds
+CARS = frozenset({"passenger"})  # the classes of vehicles that may use a street or a movement, where no others are known
 BY_TIME = "speed limits by time are out of the model's reach, since a cell is as long as the way of a step at free flow"
 
 
 @dataclass
 class Street:
-    """A street in one direction between two nodes: km, lanes, km/h, and its points on the map in km.
+    """A street in one direction between two nodes: km, lanes, km/h, and its points on the map.
 
-    `capacity` is that of all lanes in vehicles/h, where it is known.
+    These are in km, or in the coordinate system of the network. `capacity` is that of all lanes in vehicles/h, where it
+    is known; `classes` are those of the vehicles that may use it.
     """
 
     name: str
@@ -24,6 +26,7 @@ class Street:
     speed: float
     points: list[tuple[float, float]] = field(default_factory=list)
     capacity: float | None = None
+    classes: frozenset[str] = CARS
 
     @property
     def seconds(self) -> float:
@@ -33,11 +36,16 @@ class Street:
 
 @dataclass
 class Way:
-    """A movement at a node: its lanes, its priority where it meets others, and when in the cycle it is green."""
+    """A movement at a node: its lanes, its priority where it meets others, and when in the cycle it is green.
+
+    `yields` are the movements to which it has to give way, at a signal those that are green while it is.
+    """
 
     lanes: int
     priority: float
     green: list[Span] = field(default_factory=list)
+    classes: frozenset[str] = CARS
+    yields: set[Movement] = field(default_factory=set)
 
 
 @dataclass
@@ -58,9 +66,27 @@ class Trip:
     vehicles: float
 
 
+@dataclass(frozen=True)
+class Said:
+    """Vehicles that a file says: their class, from when to when in s they come, and how many of them are kept.
+
+    Those without a time of departure have none.
+    """
+
+    kind: str
+    begin: float | None
+    end: float
+    vehicles: float
+    kept: float
+
+
 @dataclass
 class Streets:
-    """The network, the trips over it, and a line for each thing in which what is read can't be kept."""
+    """The network, the trips over it, and a line for each thing in which what is read can't be kept.
+
+    `said` is what the files say of vehicles, whether they are kept or not; `crs` the coordinate system of the streets'
+    points, where that is known.
+    """
 
     title: str
     streets: dict[str, Street] = field(default_factory=dict)
@@ -70,3 +96,11 @@ class Streets:
     notes: list[str] = field(default_factory=list)
     shares: dict[Movement, float] = field(default_factory=dict)  # where these are known and no trips are
     gates: dict[str, list[tuple[float, float, float]]] = field(default_factory=dict)  # from, to, vehicles/h, with them
+    said: list[Said] = field(default_factory=list)
+    crs: str | None = None
+
+
+def named(names: list[str], most: int = 3) -> str:
+    """The first few of some names, and how many more there are."""
+    more = len(names) - most
+    return ", ".join(names[:most]) + (f" and {more} more" if more > 0 else "")

@@ -9,14 +9,17 @@ from math import floor
 
 import networkx
 
+from ..study.coordinates import decimals_of
+from ..study.quantities import clock
 from ..study.rounding import told
 from ..study.writing import quoted
+from . import giving_way
 from .streets import Movement, Street, Streets, Way
 from .traffic import EXIT, GATE, Traffic
 
 LONGEST_NAME = 12  # letters, so that a movement's cell has a name that a network file allows
+LOCAL_DECIMALS = 5  # of a km
 CHANGED = 0.01  # shares of a span that differ by less are those of the whole time
-MOST_ARMS = 16
 
 
 @dataclass(frozen=True)
@@ -41,6 +44,11 @@ class Terms:
         """The vehicles/h that a lane passes at a speed in km/h, just below the top of its triangle."""
         return floor(3600 / (self.headway + self.gap / (speed / 3.6))) - 1
 
+    def clock(self, seconds: float) -> str:
+        """The clock time of a second of the network, past 24:00 on the day behind the first."""
+        whole = int(clock(self.start, "start")) + round(seconds)
+        return f"{whole // 3600:02d}:{whole // 60 % 60:02d}:{whole % 60:02d}"
+
 
 def study_text(found: Streets, traffic: Traffic, terms: Terms) -> str:
     """The text of the study file."""
@@ -60,6 +68,7 @@ class Writer:
         self.joints = self._joints()
         self.chains = self._chains()
         self.names = self._names()
+        self.giving = giving_way.heeded(found, traffic)
 
     def lines(self) -> Iterator[str]:
         """The lines of the study."""
@@ -69,6 +78,8 @@ class Writer:
         yield f"step = {terms.step:g}  # s"
         yield f"start = {quoted(terms.start)}"
         yield f"duration = {terms.duration:g}  # s"
+        if self.found.crs:
+            yield f"crs = {quoted(self.found.crs)}  # of the roads' points"
         if notes:
             yield "notes = [  # what of the network isn't kept"
             yield from (f"  {quoted(note)}," for note in notes)
@@ -146,7 +157,7 @@ class Writer:
         points = [point for street in streets for point in street.points]
         if len(points) > 1:
             kept = [point for i, point in enumerate(points) if not i or point != points[i - 1]]
-            yield f"points = [{', '.join(f'[{x:.4g}, {y:.4g}]' for x, y in kept)}]"
+            yield f"points = [{', '.join(f'[{self._place(x)}, {self._place(y)}]' for x, y in kept)}]"
         sections = list(self._sections(streets))
         if len(sections) == 1:
             yield from (f"{key} = {value}" for key, value in self._lane(streets[0]))
@@ -157,6 +168,11 @@ class Writer:
                 yield f"  {{ from = {start:.6g}, {lane} }},"
             yield "]"
         yield ""
+
+    def _place(self, value: float) -> str:
+        """A coordinate to a centimetre, in km, metres or degrees."""
+        decimals = LOCAL_DECIMALS if self.found.crs is None else decimals_of(self.found.crs)
+        return f"{value:.{decimals}f}".rstrip("0").rstrip(".")
 
     @staticmethod
     def _sections(streets: Sequence[Street]) -> Iterator[tuple[float, Street]]:
@@ -205,16 +221,17 @@ class Writer:
         return found.capacity or found.lanes * self.terms.saturation(found.speed)
 
     def _demand(self, row: tuple[float, float, float]) -> str:
-        return f"{{ start = {self._clock(row[0])}, end = {self._clock(row[1])}, flow = {row[2]:.6g} }}"
+        return f"{{ start = {self._time(row[0])}, end = {self._time(row[1])}, flow = {row[2]:.6g} }}"
 
-    def _clock(self, seconds: float) -> str:
-        hours, minutes = map(int, self.terms.start.split(":")[:2])
-        whole = hours * 3600 + minutes * 60 + round(seconds)
-        return quoted(f"{whole // 3600:02d}:{whole // 60 % 60:02d}:{whole % 60:02d}")
+    def _time(self, seconds: float) -> str:
+        return quoted(self.terms.clock(seconds))
 
     def _node(self, comes: list[str], leaves: list[str]) -> Iterator[str]:
         """What joins roads, gates and exits at a node: nothing, a merge, a diverge or a junction."""
         signal = any(self._signalled(street) for street in comes)
+        yielding = [f"{one} to {two}" for one in comes for two in leaves if (one, two) in self.giving]
+        if yielding:
+            yield f"# Give way to others, and don't wait for them here: {', '.join(yielding)}"
         if len(comes) == len(leaves) == 1:
             yield from self._straight(comes[0], leaves[0])
             return
@@ -314,7 +331,7 @@ class Writer:
             begin, end = (time * self.traffic.interval for time in (span, span + 1))
             if begin < self.terms.duration and any(_differ(row, all_) for row, all_ in zip(own, whole)):
                 shares = _numbers(own[0]) if single else _matrix(_parts(own))
-                ends = f"start = {self._clock(begin)}, end = {self._clock(min(end, self.terms.duration))}"
+                ends = f"start = {self._time(begin)}, end = {self._time(min(end, self.terms.duration))}"
                 rows.append(f"  {{ {ends}, shares = {shares} }},")
         if rows:
             yield from ["turns = [", *rows, "]"]
@@ -330,6 +347,7 @@ class Writer:
         if split:
             notes.append(f"{len(split)} movements are green several times in a cycle, as {split[0][0]} to {split[0][1]}; "
                          "the longest of them is kept")
+        notes += giving_way.told(self.giving)
         dark = [way for way in self.traffic.ways() if self._dark(way)]
         if dark:
             notes.append(f"{len(dark)} movements at signals are never green in their program, as {dark[0][0]} to "

@@ -7,59 +7,98 @@ from collections.abc import Iterator
 from pathlib import Path
 
 from . import sumo_net, sumolib_net
-from .streets import Program, Span, Street, Streets, Way
-from .sumo_net import Link, Logic, Net
+from ..study.coordinates import METRES, coded
+from .streets import Movement, Program, Span, Street, Streets, Way, named
+from .sumo_net import CAR, Edge, Lane, Link, Location, Logic, Net
 
 GREEN = "GgoO"  # a signal that is green, or off
+MINOR = "go"  # one that is green, or off, for who gives way
+SIGNED = "m=sw"  # a connection that gives way: by a sign, from the left, or at a stop
 MAJOR = 4  # times as much passes on a street that others give way to
 YIELDING = ("priority", "right_before_left", "left_before_right", "allway_stop", "priority_stop", "zipper")
 
 
 def read_network(path: str | Path) -> Streets:
     """The streets of a network file of SUMO, without trips, read by sumolib where that is there and can read the file."""
-    return streets_of(sumolib_net.read(path) or sumo_net.read(path))
+    return streets_of(sumolib_net.read(path) or sumo_net.read(path), str(path))
 
 
-def streets_of(net: Net) -> Streets:
-    """The streets of a network of SUMO."""
+def streets_of(net: Net, place: str) -> Streets:
+    """The streets of a network of SUMO, which stands in this place."""
     found = Streets(net.name)
     _edges(net, found)
+    if net.location:
+        _locate(net.location, found, place)
     links = _connections(net, found)
     _programs(net, found, links)
+    _yields(net, found, links)
     _note_junctions(net, found)
     return found
 
 
 def _edges(net: Net, found: Streets) -> None:
-    """Puts the edges for cars among the streets."""
+    """Puts the edges for cars among the streets, and those for other motor vehicles alone."""
     left = 0
     for edge in net.edges:
-        if not edge.lanes:
+        lanes = _lanes(edge)
+        if not lanes:
             left += 1
             continue
-        length = sum(lane.length for lane in edge.lanes) / len(edge.lanes)
-        speed = sum(lane.speed for lane in edge.lanes) / len(edge.lanes)
-        found.streets[edge.name] = Street(edge.name, edge.start, edge.end, max(length, 0.1) / 1000, len(edge.lanes),
-                                          max(speed, 0.1) * 3.6, [(x / 1000, y / 1000) for x, y in edge.shape])
+        length = sum(lane.length for lane in lanes) / len(lanes)
+        speed = sum(lane.speed for lane in lanes) / len(lanes)
+        found.streets[edge.name] = Street(edge.name, edge.start, edge.end, max(length, 0.1) / 1000, len(lanes),
+                                          max(speed, 0.1) * 3.6, [(x / 1000, y / 1000) for x, y in edge.shape],
+                                          classes=frozenset().union(*(lane.classes for lane in edge.lanes)))
     if left:
         found.notes.append(f"{left} edges that cars may not use are left out")
 
 
+def _locate(location: Location, found: Streets, place: str) -> None:
+    """Puts the streets where they lie on the earth: by the code of their projection, or where it has none in degrees."""
+    key = f"{place}: projParameter"
+    for street in found.streets.values():
+        places = [(x * METRES - location.offset[0], y * METRES - location.offset[1]) for x, y in street.points]
+        found.crs, street.points = coded(places, location.projection, key)
+
+
+def drop_idle(found: Streets) -> None:
+    """Leaves out the streets on which cars may not drive and nobody else does; tells which of the others are kept."""
+    driven = {street for trip in found.trips for street in trip.route}
+    others = {name for name, street in found.streets.items() if CAR not in street.classes}
+    for name in others - driven:
+        del found.streets[name]
+    gone = {pair for pair, way in found.ways.items() if not found.streets.keys() >= set(pair) or
+            CAR not in way.classes and not found.trips}
+    for pair in gone:
+        del found.ways[pair]
+    if others & driven:
+        found.notes.append(f"{len(others & driven)} edges that cars may not use are kept, since others drive there "
+                           f"({named(sorted(others & driven))})")
+    if others - driven:
+        found.notes.append(f"{len(others - driven)} edges that only other motor vehicles may use are left out")
+
+
+def _lanes(edge: Edge) -> list[Lane]:
+    """The lanes of an edge that count: those for cars, and where it has none those for other motor vehicles."""
+    return [lane for lane in edge.lanes if CAR in lane.classes] or edge.lanes
+
+
 def _connections(net: Net, found: Streets) -> list[Link]:
-    """Puts the movements for cars among the ways; gives their connections."""
-    lanes = {edge.name: {lane.index for lane in edge.lanes} for edge in net.edges if edge.lanes}
+    """Puts the movements among the ways; gives their connections, those for cars where a movement has some."""
+    classes = {(edge.name, lane.index): lane.classes for edge in net.edges for lane in edge.lanes}
     places = {edge.name: place for place, edge in enumerate(net.edges)}
-    links = []
-    used: dict[tuple[str, str], set[int]] = {}
+    joins: dict[Movement, list[Link]] = {}
     for link in sorted(net.links, key=lambda link: (places.get(link.source, 0), places.get(link.into, 0), link.lane)):
-        pair = link.source, link.into
-        if pair[0] in lanes and pair[1] in lanes and link.lane in lanes[pair[0]]:
-            links.append(link)
-            used.setdefault(pair, set()).add(link.lane)
-            way = found.ways.setdefault(pair, Way(0, 1))
-            way.lanes = len(used[pair])
-            way.priority = way.lanes * (MAJOR if link.state in "M=OG" else 1)
-    return links
+        if link.into in found.streets and (link.source, link.lane) in classes:
+            joins.setdefault((link.source, link.into), []).append(link)
+    kept = []
+    for pair, links in joins.items():
+        own = [link for link in links if CAR in classes[link.source, link.lane]] or links
+        lanes = len({link.lane for link in own})
+        found.ways[pair] = Way(lanes, lanes * (MAJOR if own[-1].state in "M=OG" else 1), classes=frozenset().union(
+            *(classes[link.source, link.lane] for link in links)))
+        kept += own
+    return kept
 
 
 def _programs(net: Net, found: Streets, links: list[Link]) -> None:
@@ -103,6 +142,34 @@ def _greens(logic: Logic, index: int) -> Iterator[Span]:
         time += lasting
 
 
+def _yields(net: Net, found: Streets, links: list[Link]) -> None:
+    """To which movements each gives way: by the rules of its junction, at a signal while both are green."""
+    logics = {logic.name: logic for logic in net.logics}
+    by_via = {link.via: link for link in links if link.via}
+    beside: dict[str, list[Link]] = {}
+    for link in links:
+        beside.setdefault(found.streets[link.source].end, []).append(link)
+    for link in links:
+        name = found.streets[link.source].end
+        if link.via:
+            over = net.nodes[name].yields.get(link.via, frozenset()) if name in net.nodes else frozenset()
+            others = [by_via[lane] for lane in over if lane in by_via]
+        else:  # a network without lanes within junctions says that a link gives way, and not to which
+            others = beside[name] if link.signal in logics or link.state in SIGNED else []
+        logic = logics.get(link.signal)
+        found.ways[link.source, link.into].yields |= {
+            (other.source, other.into) for other in others
+            if other.source != link.source and (logic is None or _together(logic, link, other))}
+
+
+def _together(logic: Logic, link: Link, other: Link) -> bool:
+    """Whether a link of a signal is green for who gives way in a phase in which another one is green too."""
+    def shows(state: str, one: Link, letters: str) -> bool:
+        return one.signal != logic.name or one.index < len(state) and state[one.index] in letters
+
+    return any(shows(state, link, MINOR) and shows(state, other, GREEN) for _, state in logic.phases)
+
+
 def joined(spans: list[Span], cycle: float) -> list[Span]:
     """Spans of a cycle that overlap or touch as one, also over the end of the cycle, where one goes on beyond it."""
     rows: list[list[float]] = []
@@ -125,9 +192,3 @@ def _note_junctions(net: Net, found: Streets) -> None:
                            "priorities; streams that only cross don't heed each other")
     if net.roundabouts:
         found.notes.append(f"{net.roundabouts} roundabouts: who drives round has priority as at other junctions")
-
-
-def named(names: list[str], most: int = 3) -> str:
-    """The first few of some names, and how many more there are."""
-    more = len(names) - most
-    return ", ".join(names[:most]) + (f" and {more} more" if more > 0 else "")

@@ -1,44 +1,63 @@
-"""The trips of SUMO's route files: vehicles, trips and flows, with their routes or the way of the least time."""
+"""The vehicles of SUMO's route files: single ones, trips and flows, with their routes or the way of the least time."""
 
 from __future__ import annotations
 
 from collections import Counter
-from collections.abc import Iterator
+from collections.abc import Iterator, Sequence
 from pathlib import Path
 
-import networkx
+from ..problem import Problem
+from .streets import BY_TIME, Said, Streets, Trip, named
+from .sumo_departures import Departing, Stretch
+from .sumo_kinds import Kinds, parts_of
+from .sumo_net import MOTOR, Element, read_xml
+from .sumo_routes import ANY_STREET, Routes, Weighted
 
-from .streets import BY_TIME, Streets, Trip
-from .sumo import named
-from .sumo_net import Element, read_xml
-
-CHANGING = ("calibrator", "rerouter", "tlLogic", "WAUT", "taz", "trip", "vehicle", "flow")  # elements that change traffic
-
-
-def read_trips(found: Streets, path: str | Path, until: float) -> None:
-    """Puts the trips of a file, until a time, among those of the streets."""
-    root = read_xml(path, "routes", "additional")
-    reader = Reader(found, {route.get("id", ""): route for route in root.iter("route") if route.get("id")}, until)
-    for element in root:
-        if element.tag in ("vehicle", "trip", "flow"):
-            reader.take(element)
-    reader.tell(Path(path).name)
-    _note_lengths(found, root)
-    note_signs(found, root)
+ROOTS = ("routes", "additional", "add", "trips", "flows")
+VEHICLES = ("vehicle", "trip", "flow")
+CHANGING = ("calibrator", "rerouter", "tlLogic", "WAUT", "taz", "person", "personFlow", "container", "containerFlow")
 
 
-def read_additional(found: Streets, path: str | Path) -> None:
-    """Notes what an additional file has that changes traffic and isn't kept."""
-    root = read_xml(path, "additional", "routes")
-    note_signs(found, root)
-    kinds = Counter(element.tag for element in root if element.tag in CHANGING)
-    for kind, count in kinds.items():
-        found.notes.append(f"{Path(path).name}: {count} elements {kind} aren't read")
+def read_trips(found: Streets, routes: Sequence[str | Path], additional: Sequence[str | Path], until: float) -> None:
+    """Puts the trips of files, until a time, among those of the streets.
+
+    What the additional files have is read first, as by SUMO.
+    """
+    reader = Reader(found, until)
+    roots = [(str(path), element) for path in [*additional, *routes] for element in elements(path)]
+    for path, element in roots:
+        if element.tag in ("vType", "vTypeDistribution"):
+            reader.kinds.take(element, path)
+        elif element.tag == "route":
+            reader.routes.take(element, path)
+    for path, element in roots:
+        if element.tag == "routeDistribution":
+            reader.routes.take(element, path)
+    for path, element in roots:
+        inner = list(element) if element.tag == "interval" else [element]
+        for one in (one for one in inner if one.tag in VEHICLES):
+            reader.take(Departing(one, path, element.attrib if element.tag == "interval" else {}))
+    reader.tell()
+    _note_changing(found, roots)
+    _note_lengths(found, reader.kinds)
+    note_signs(found, [element for _, element in roots])
 
 
-def note_signs(found: Streets, root: Element) -> None:
+def elements(path: str | Path, around: tuple[Path, ...] = ()) -> Iterator[Element]:
+    """The elements of a file, and of those that it includes; `around` are the files that include it."""
+    for element in read_xml(path, *ROOTS):
+        if element.tag == "include":
+            inner = Path(path).parent / element.get("href", "")
+            if inner.resolve() in (Path(path).resolve(), *around):
+                raise Problem(f"{path}: includes {element.get('href')}, which includes it")
+            yield from elements(inner, (*around, Path(path).resolve()))
+        else:
+            yield element
+
+
+def note_signs(found: Streets, roots: Sequence[Element]) -> None:
     """Notes the speed limits by time, which a study can't have: the streets have one speed at all times."""
-    signs = list(root.iter("variableSpeedSign"))
+    signs = [element for element in roots if element.tag == "variableSpeedSign"]
     lanes = {lane for sign in signs for lane in [*sign.get("lanes", "").split(), *sign.get("edges", "").split()]}
     streets = sorted({street for lane in lanes for street in (lane, lane.rpartition("_")[0]) if street in found.streets})
     if signs:
@@ -47,104 +66,94 @@ def note_signs(found: Streets, root: Element) -> None:
         found.notes.append(f"{BY_TIME}: {len(signs)} variable speed signs are left out{where}")
 
 
-def _note_lengths(found: Streets, root: Element) -> None:
+def _note_changing(found: Streets, roots: Sequence[tuple[str, Element]]) -> None:
+    """Notes what changes traffic and isn't read."""
+    for (path, kind), count in Counter((path, element.tag) for path, element in roots if element.tag in CHANGING).items():
+        found.notes.append(f"{Path(path).name}: {count} elements {kind} aren't read")
+
+
+def _note_lengths(found: Streets, kinds: Kinds) -> None:
     """Notes vehicles that take another length than the one for all."""
-    other = sorted({float(kind.get("length", 5)) + float(kind.get("minGap", 2.5)) for kind in root.iter("vType")} - {7.5})
+    other = sorted(kinds.lengths - {7.5})
     if other:
         lengths = ", ".join(f"{length:g}" for length in other[:4])
         found.notes.append(f"vehicles that take {lengths} m take as much as the others")
 
 
 class Reader:
-    """Reads the elements of a route file, and counts what can't be kept of them."""
+    """Reads the elements of route files, and counts what can't be kept of them."""
 
-    def __init__(self, found: Streets, routes: dict[str, Element], until: float) -> None:
-        self.found, self.routes, self.until = found, routes, until
-        self.graph = networkx.DiGraph()
-        self.graph.add_nodes_from(found.streets)
-        self.graph.add_edges_from((one, two, {"seconds": found.streets[two].seconds}) for one, two in found.ways)
-        self.ways: dict[tuple[str, str], list[str] | None] = {}
-        self.lost: dict[str, float] = {}
+    def __init__(self, found: Streets, until: float) -> None:
+        self.found, self.until = found, until
+        self.kinds, self.routes = Kinds(), Routes(found)
+        self.lost: dict[tuple[str, str], list[tuple[float, str]]] = {}  # by file and cause
+        self.drawn, self.unsorted = 0.0, 0.0
+        self.seen: set[tuple[bool, str]] = set()
+        self.last: dict[str, float] = {}  # of each file the latest departure so far
 
-    def take(self, element: Element) -> None:
+    def take(self, one: Departing) -> None:
         """Puts the trips of an element among those of the streets."""
-        route = self._route(element)
-        for begin, end, vehicles in self._times(element):
-            if begin >= self.until or vehicles <= 0:
-                continue
-            if not route:
-                self._lose("without a way over the network", vehicles)
+        if one.name and (one.is_flow, one.name) in self.seen:
+            raise Problem(f"{one.key}: another one of this name stands before it")
+        self.seen.add((one.is_flow, one.name))
+        parts, given = self.kinds.parts(one.element, one.key), self.routes.of(one.element, one.key)
+        stretches = list(one.stretches(self.until))
+        self._sort(one, stretches)
+        for stretch in stretches:
+            for kind, part in parts.items():
+                kept = self._kept(one, kind, stretch, stretch.vehicles * part, given)
+                self.found.said.append(Said(kind, stretch.begin, stretch.end, stretch.vehicles * part, kept))
+                self.drawn += kept * stretch.drawn
+
+    def _sort(self, one: Departing, stretches: Sequence[Stretch]) -> None:
+        """Counts the vehicles of an element that stands behind one of a later departure, which SUMO leaves out."""
+        begin = stretches[0].begin
+        if begin is not None:
+            if begin < self.last.get(one.path, 0.0):
+                self.unsorted += sum(stretch.vehicles for stretch in stretches)
+            self.last[one.path] = max(begin, self.last.get(one.path, 0.0))
+
+    def _kept(self, one: Departing, kind: str, stretch: Stretch, vehicles: float, given: Weighted | None) -> float:
+        """Keeps the vehicles of a class, each part of them by its route, or counts why not; gives how many are kept."""
+        if stretch.begin is None:
+            self._lose(one, f"that depart {one.element.get('depart')}", vehicles)
+            return 0.0
+        if stretch.begin >= self.until or not vehicles:
+            return 0.0
+        if kind not in MOTOR and kind != ANY_STREET:
+            self._lose(one, f"of class {kind}, no motor vehicles,", vehicles)
+            return 0.0
+        kept = 0.0
+        for route, part, cause in self._ways(one, kind, given):
+            if cause:
+                self._lose(one, "without a way over the network", vehicles * part, cause)
             else:
-                self.found.trips.append(Trip(route, begin, end, vehicles))
+                kept += vehicles * part
+                self.found.trips.append(Trip(route, stretch.begin, stretch.end, vehicles * part))
+        return kept
 
-    def _lose(self, why: str, vehicles: float) -> None:
-        self.lost[why] = self.lost.get(why, 0) + vehicles
-
-    def tell(self, name: str) -> None:
-        """Notes what wasn't kept."""
-        for why, vehicles in self.lost.items():
-            self.found.notes.append(f"{name}: {vehicles:,.6g} vehicles {why} are left out")
-
-    def _times(self, element: Element) -> Iterator[tuple[float, float, float]]:
-        """When the vehicles of an element depart: from, to, and how many."""
-        if element.tag != "flow":
-            depart = element.get("depart", "0")
-            if _number(depart) is None:
-                self._lose(f"that depart {depart}", 1)
-                return
-            yield float(depart), float(depart), 1
+    def _ways(self, one: Departing, kind: str, given: Weighted | None) -> Iterator[tuple[list[str], float, str]]:
+        """The routes of an element, the part of its vehicles that takes each, and why they can't where they can't."""
+        if given is None:
+            route, cause = self.routes.between(one.element, kind)
+            yield route, 1.0, cause
             return
-        begin, end = _number(element.get("begin", "0")) or 0, _number(element.get("end", "86400")) or 86400
-        number, rate = _number(element.get("number", "")), self._rate(element)
-        if number is not None and element.get("end") is None and rate:
-            end = begin + number / rate
-        vehicles = number if number is not None else rate * (end - begin)
-        kept = min(end, self.until)
-        if kept > begin:
-            yield begin, kept, vehicles * (kept - begin) / (end - begin)
+        parts = parts_of([(str(place), weight) for place, (_, weight) in enumerate(given)], one.key)
+        for place, (route, _) in enumerate(given):
+            if parts[str(place)]:
+                yield route, parts[str(place)], self.routes.why_not(route, kind) or ""
 
-    def _rate(self, element: Element) -> float:
-        """The vehicles in a second of a flow; of one that is drawn at random its mean."""
-        hour = _number(element.get("vehsPerHour", "")) or _number(element.get("perHour", ""))
-        period, part = element.get("period", ""), _number(element.get("probability", ""))
-        if hour is not None:
-            return hour / 3600
-        if period.startswith("exp("):
-            return _number(period[4:-1]) or 0
-        lasting = _number(period)
-        return 1 / lasting if lasting else part or 0
+    def _lose(self, one: Departing, why: str, vehicles: float, cause: str = "") -> None:
+        first = f"{one.element.tag} {one.name} {cause}".strip()
+        self.lost.setdefault((one.path, why), []).append((vehicles, first))
 
-    def _route(self, element: Element) -> list[str] | None:
-        """The streets that a vehicle drives through, those of its route or the way of the least time."""
-        inner = element.find("route")
-        if inner is None and element.find("routeDistribution") is not None:
-            inner = element.find("routeDistribution/route")
-        named = self.routes.get(element.get("route", ""))
-        given = inner if inner is not None else named
-        if given is not None:
-            edges = given.get("edges", "").split()
-            joined = all(pair in self.found.ways for pair in zip(edges, edges[1:]))
-            return edges if edges and joined and all(edge in self.found.streets for edge in edges) else None
-        stops = [element.get("from", ""), *element.get("via", "").split(), element.get("to", "")]
-        whole = stops[:1]
-        for one, two in zip(stops, stops[1:]):
-            way = self._way(one, two)
-            if way is None:
-                return None
-            whole += way[1:]
-        return whole
-
-    def _way(self, one: str, two: str) -> list[str] | None:
-        if (one, two) not in self.ways:
-            try:
-                self.ways[one, two] = networkx.shortest_path(self.graph, one, two, weight="seconds")
-            except (networkx.NetworkXNoPath, networkx.NodeNotFound):
-                self.ways[one, two] = None
-        return self.ways[one, two]
-
-
-def _number(text: str) -> float | None:
-    try:
-        return float(text)
-    except ValueError:
-        return None
+    def tell(self) -> None:
+        """Notes what wasn't kept, and what isn't as in SUMO."""
+        for (path, why), rows in self.lost.items():
+            self.found.notes.append(f"{Path(path).name}: {sum(count for count, _ in rows):,.6g} vehicles {why} are left "
+                                    f"out, as {rows[0][1]}")
+        if self.drawn:
+            self.found.notes.append(f"{self.drawn:,.6g} vehicles come in flows that SUMO draws at random: these are their means")
+        if self.unsorted:
+            self.found.notes.append(f"{self.unsorted:,.6g} vehicles stand behind others of a later departure, where SUMO leaves "
+                                    "them out; they are kept")

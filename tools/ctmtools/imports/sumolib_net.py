@@ -8,7 +8,7 @@ from typing import Any
 from xml.sax import SAXParseException
 
 from ..problem import Problem, one_line
-from .sumo_net import CAR, FUNCTIONS, Edge, Lane, Link, Logic, Net, Node, check_root, name_of
+from .sumo_net import FUNCTIONS, Edge, Lane, Link, Logic, Net, Node, check_root, location, motor, name_of, yields
 
 
 def is_there() -> bool:
@@ -23,7 +23,7 @@ def read(path: str | Path) -> Net | None:
     check_root(path, "net")
     try:
         return _net(path)
-    except (KeyError, IndexError, AttributeError):
+    except (KeyError, IndexError, AttributeError, ValueError):
         return None
     except SAXParseException as error:
         raise Problem(f"{path}: no XML: {one_line(error.getMessage())}") from None
@@ -32,24 +32,37 @@ def read(path: str | Path) -> Net | None:
 def _net(path: str | Path) -> Net:
     import sumolib
 
-    net = sumolib.net.readNet(str(path), withPrograms=True, withMacroConnectors=True)
+    net = sumolib.net.readNet(str(path), withPrograms=True, withMacroConnectors=True,
+                              withInternal=True)  # for the lanes within junctions
     edges = [edge for edge in net.getEdges(withInternal=False) if edge.getFunction() in ("", *FUNCTIONS)]
-    nodes = {node.getID(): Node(node.getCoord()[:2], node.getType()) for node in net.getNodes()}
-    links = [_link(link) for edge in edges for links in edge.getOutgoing().values() for link in links]
+    nodes = {node.getID(): _node(node) for node in net.getNodes()}
+    onward = {link.getFromLane().getID(): link.getViaLaneID() for edge in net.getEdges() for links in
+              edge.getOutgoing().values() for link in links if edge.getFunction() == "internal" and link.getViaLaneID()}
+    links = [_link(link, onward) for edge in edges for links in edge.getOutgoing().values() for link in links]
     logics = [_logic(signal.getID(), program) for signal in net.getTrafficLights() for program in
               signal.getPrograms().values()]
-    return Net(name_of(path), [_edge(edge) for edge in edges], links, logics, nodes, len(net.getRoundabouts()))
+    where = net._location  # whose projection sumolib says by no call
+    return Net(name_of(path), [_edge(edge) for edge in edges], links, logics, nodes, len(net.getRoundabouts()),
+               location(where["netOffset"], where["projParameter"]) if where else None)
+
+
+def _node(node: Any) -> Node:
+    lanes = [lane for lane in node.getInternal() or [] if lane]
+    responses = {int(index): response for index, response in node._prohibits.items()}
+    return Node(node.getCoord()[:2], node.getType(), yields(lanes, responses))
 
 
 def _edge(edge: Any) -> Edge:
-    lanes = [Lane(lane.getIndex(), lane.getLength(), lane.getSpeed()) for lane in edge.getLanes() if lane.allows(CAR)]
+    lanes = [Lane(lane.getIndex(), lane.getLength(), lane.getSpeed(), classes) for lane in edge.getLanes()
+             if (classes := motor(lane.getPermissions()))]
     return Edge(edge.getID(), edge.getFromNode().getID(), edge.getToNode().getID(), lanes,
                 [place[:2] for place in edge.getRawShape()])
 
 
-def _link(link: Any) -> Link:
+def _link(link: Any, onward: dict[str, str]) -> Link:
+    via = link.getViaLaneID() or ""
     return Link(link.getFrom().getID(), link.getTo().getID(), link.getFromLane().getIndex(), link.getTLSID(),
-                max(0, link.getTLLinkIndex()), link.getState())
+                max(0, link.getTLLinkIndex()), link.getState(), onward.get(via, via))
 
 
 def _logic(name: str, program: Any) -> Logic:

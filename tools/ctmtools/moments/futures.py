@@ -2,11 +2,11 @@
 
 from __future__ import annotations
 
-from collections.abc import Sequence
-from concurrent.futures import ThreadPoolExecutor
+from collections.abc import Callable, Sequence
+from concurrent.futures import ThreadPoolExecutor, as_completed
 from pathlib import Path
 
-from ..files import write
+from ..interrupt import INTERRUPTS
 from ..network_file.naming import Naming
 from ..network_file.network import network_of
 from ..problem import Problem
@@ -47,17 +47,31 @@ def _short_names(sources: Sequence[str]) -> list[str]:
 
 
 def reports_of(moment: Moment, futures: dict[str, Prepared], jobs: int | None = None, folder: Path | None = None,
-               news: News | None = None) -> dict[str, Report]:
-    """The reports of some futures, so many of them run side by side; with a folder they are written there too."""
+               news: News | None = None, done: Callable[[], object] | None = None) -> dict[str, Report]:
+    """The reports of some futures, so many of them run side by side; with a folder they are written there too.
+
+    `done` is called as each of them is.
+    """
     count = min(jobs or processors(), len(futures))
     threads = min(16, max(1, processors() // count))
 
     def run(future: Prepared) -> bytes:
         return Runner(str(future.path), workers=threads, news=news).report(moment.of(future.content))
 
-    with ThreadPoolExecutor(count) as pool:
-        texts = list(pool.map(run, futures.values()))
-    return {name: _report(name, future, text, folder) for (name, future), text in zip(futures.items(), texts)}
+    pool = ThreadPoolExecutor(count)
+    try:
+        begun = {pool.submit(run, future): name for name, future in futures.items()}
+        texts = {}
+        for ended in as_completed(begun):
+            texts[begun[ended]] = ended.result()
+            if done:
+                done()
+    except BaseException:
+        pool.shutdown(wait=False, cancel_futures=True)
+        INTERRUPTS.end_groups()
+        raise
+    pool.shutdown()
+    return {name: _report(name, future, texts[name], folder) for name, future in futures.items()}
 
 
 def _report(name: str, future: Prepared, text: bytes, folder: Path | None) -> Report:
@@ -70,6 +84,4 @@ def _report(name: str, future: Prepared, text: bytes, folder: Path | None) -> Re
         folder.mkdir(parents=True, exist_ok=True)
     except OSError as error:
         raise Problem(f"{folder}: {error.strerror}") from None
-    future = placed(future, target)
-    write(target, text)
-    return kept(target, future, report)
+    return kept(target, placed(future, target), text, report)

@@ -9,23 +9,27 @@ feedback control law for on-ramp metering", Transportation Research Record 1320,
 
 from __future__ import annotations
 
-from collections.abc import Iterator, Sequence
+import json
+from collections.abc import Callable, Iterator, Sequence
 from dataclasses import dataclass, replace
 from fractions import Fraction
 from itertools import groupby
+from pathlib import Path
 
 import pandas
 
 from ..amounts import PARTS, amount_text, rounded_parts
+from ..files import write
 from ..network_file.editing import with_records
 from ..network_file.network import Network
 from ..problem import Problem
 from ..study.network_text import Built
 from ..study.plan import Meter
+from ..ties import checksum
 from ..units import Units
 from .agreement import Plan, last_of, plan_of
 from .going_on import Runner
-from .moment import Moment
+from .moment import Moment, moment_of
 
 HOUR = 3600
 
@@ -106,20 +110,31 @@ class Metered:
     moment: Moment
 
 
-def meter(built: Built, gauges: Sequence[Gauge], runner: Runner) -> Metered:
-    """Runs a built network from interval to interval, and sets the rates of its meters in each."""
-    return Metering(built, gauges, runner).run()
+def meter(built: Built, gauges: Sequence[Gauge], runner: Runner, kept: Path | None = None,
+          done: Callable[[], object] | None = None) -> Metered:
+    """Runs a built network from interval to interval, and sets the rates of its meters in each.
+
+    With a file what was reached is kept there, and is taken up again; `done` is called after each interval.
+    """
+    return Metering(built, gauges, runner, kept).run(done)
+
+
+def intervals(built: Built, gauges: Sequence[Gauge]) -> range:
+    """The steps at which the intervals of meters begin."""
+    width = max(1, round(float(gauges[0].meter.interval) / (built.units.step or 1.0)))
+    return range(min(gauge.begin for gauge in gauges), max(gauge.end for gauge in gauges), width)
 
 
 class Metering:
     """The network so far: the limits that were set, and the moment that was reached."""
 
-    def __init__(self, built: Built, gauges: Sequence[Gauge], runner: Runner) -> None:
+    def __init__(self, built: Built, gauges: Sequence[Gauge], runner: Runner, kept: Path | None = None) -> None:
         self.own, self.network, self.step = built.text.encode(), built.network, built.units.step or 1.0
-        self.built, self.gauges, self.runner = built, gauges, runner
-        self.width = max(1, round(float(gauges[0].meter.interval) / self.step))
-        if any(gauge.meter.interval != gauges[0].meter.interval for gauge in gauges):
-            raise Problem(f"{gauges[-1].meter.place}.interval: all meters of a study have one interval")
+        self.built, self.gauges, self.runner, self.kept = built, gauges, runner, kept
+        self.times = intervals(built, gauges)
+        odd = next((gauge for gauge in gauges if gauge.meter.interval != gauges[0].meter.interval), None)
+        if odd:
+            raise Problem(f"{odd.meter.place}.interval: all meters of a study have one interval")
         cells = [gauge.cell for gauge in gauges]
         twice = next((gauge for i, gauge in enumerate(gauges) if gauge.cell in cells[:i]), None)
         if twice:
@@ -128,30 +143,65 @@ class Metering:
         self.places = {name: place for place, name in enumerate(self.network.cells.index)}
         self.limits: list[str] = []
         self.rows: list[tuple[int, str, float, float]] = []
+        self.seen: dict[str, float] = {}
+        self.moment: Moment | None = None
+        self.reached = self.times.start
+        # By which what was kept of another network or of other meters is told apart.
+        self.mark = checksum(self.own + repr(list(gauges)).encode())
 
     @property
     def content(self) -> bytes:
         """The network's bytes with the limits that were set."""
         return with_records(self.own, self.limits)
 
-    def run(self) -> Metered:
-        """Goes through all intervals."""
-        begin, end = min(gauge.begin for gauge in self.gauges), max(gauge.end for gauge in self.gauges)
-        if begin >= end:
+    def run(self, done: Callable[[], object] | None = None) -> Metered:
+        """Goes through all intervals, from the one on that was reached by an earlier call."""
+        if not self.times:
             raise Problem(f"{self.gauges[0].meter.place}: no interval lies in the study's time")
-        moment = self.runner.moment(self.own, begin) if begin else None
-        seen: dict[str, float] = {}
-        for time in range(begin, end, self.width):
-            until = min(time + self.width, end)
-            for gauge in self.gauges:
-                if gauge.begin <= time < gauge.end:
-                    self._set(gauge, time, until, seen.get(gauge.detector))
-            before, moment = moment, self._go_on(moment, until)
-            seen = {gauge.detector: self._occupancy(gauge.detector, before, moment, until - time) for gauge in self.gauges}
-        assert moment is not None  # there is an interval
+        self._take_up()
+        if self.moment is None and self.times.start:
+            self.moment = self.runner.moment(self.own, self.times.start)
+        for time in self.times:
+            if time >= self.reached:
+                self._interval(time, min(time + self.times.step, self.times.stop))
+            if done:
+                done()
+        assert self.moment is not None  # there is an interval
         rates = pandas.DataFrame(self.rows, columns=["step", "ramp", "occupancy", "rate"])
         units = replace(self.built.units, title=f"{self.built.units.title}, metered")
-        return Metered(replace(self.built, text=self.content.decode(), units=units), rates, moment)
+        return Metered(replace(self.built, text=self.content.decode(), units=units), rates, self.moment)
+
+    def _interval(self, time: int, until: int) -> None:
+        """Sets the rates of an interval, and goes to its end."""
+        for gauge in self.gauges:
+            if gauge.begin <= time < gauge.end:
+                self._set(gauge, time, until, self.seen.get(gauge.detector))
+        before, self.moment = self.moment, self._go_on(self.moment, until)
+        self.seen = {gauge.detector: self._occupancy(gauge.detector, before, self.moment, until - time) for gauge in self.gauges}
+        self.reached = until
+        if self.kept:
+            write(self.kept, self._state())
+
+    def _state(self) -> str:
+        """What was reached, as text."""
+        assert self.moment is not None
+        return json.dumps({"of": self.mark, "reached": self.reached, "limits": self.limits, "rows": self.rows,
+                           "seen": self.seen, "rates": [gauge.rate for gauge in self.gauges],
+                           "moment": self.moment.of(b"").text.decode()})
+
+    def _take_up(self) -> None:
+        """Takes up what an earlier call has kept of the same network and meters."""
+        try:
+            state = json.loads(self.kept.read_text()) if self.kept and self.kept.exists() else {}
+        except (OSError, ValueError):
+            state = {}
+        if not isinstance(state, dict) or state.get("of") != self.mark:
+            return
+        self.reached, self.limits, self.seen = state["reached"], state["limits"], state["seen"]
+        self.rows = [(step, ramp, occupancy, rate) for step, ramp, occupancy, rate in state["rows"]]
+        for gauge, rate in zip(self.gauges, state["rates"]):
+            gauge.rate = rate
+        self.moment = moment_of(state["moment"].encode(), str(self.kept)).of(self.content)
 
     def _set(self, gauge: Gauge, time: int, until: int, occupancy: float | None) -> None:
         """Sets the rate of a meter for an interval."""

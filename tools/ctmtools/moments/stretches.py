@@ -79,8 +79,7 @@ def run_in_stretches(target: Path, prepared: Prepared, stretch: int, begun: Mome
         if reached:
             reached(step)
     text = runner.report(moment) if moment else runner.whole(prepared.content)
-    report = kept(target, prepared, report_of(text, str(prepared.path)))
-    replace(target, text)
+    report = kept(target, prepared, text, report_of(text, str(prepared.path)))
     path.unlink(missing_ok=True)
     return report
 

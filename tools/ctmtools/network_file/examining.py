@@ -7,7 +7,8 @@ from dataclasses import dataclass, field
 
 from ..problem import Problem
 from ..program import News, ask
-from ..units import Units
+from ..ties import check_network
+from ..units import Units, units_path
 from .faults import Fault, first_fault
 from .kinds import NUMBERS
 from .network import clipped, network_of, told
@@ -31,7 +32,9 @@ def examine(content: bytes, name: str, news: News | None = None, units: Units | 
     """The findings on the bytes of a network file; `units` are those of the network, where they are known."""
     answer = ask(("check",), content, news=news)
     if answer.status == 0:
-        return Findings(answer.out.decode().strip(), warnings=warnings_of(network_of(content, name), units))
+        network = network_of(content, name)
+        check_network(network, units or Units(), name, units_path(name))
+        return Findings(answer.out.decode().strip(), warnings=warnings_of(network, units))
     if answer.status != 3:
         raise Problem(f"{name}: {answer.line or f'ctm ended with status {answer.status}'}")
     records = read_records(content)

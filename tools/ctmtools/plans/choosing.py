@@ -3,24 +3,33 @@
 from __future__ import annotations
 
 from collections.abc import Iterator, Sequence
+from dataclasses import replace
 from fractions import Fraction
 from pathlib import Path
 from typing import Any
 
 import pandas
 
+from ..kept_rows import KeptRows
 from ..problem import Problem
 from ..program import program_path
+from ..running import settled_by_runs
 from ..study.reading import read_values
-from ..sweeps.task import Task, rounded, study
+from ..sweeps.task import Task, fingerprint, rounded, study
 from ..sweeps.variations import Variation, combinations
 from .candidates import Candidate, beyond_a_plan, candidate, judged
 
+FILE = "plans.csv"
+COLUMNS = ["of", "plan", "delay_vehicle_steps"]
+
 
 class Choice:
-    """The plans of a study over varied values, and their delays as the program answers them."""
+    """The plans of a study over varied values, and their delays as the program answers them.
 
-    def __init__(self, source: str | Path, variations: Sequence[Variation]) -> None:
+    With a folder the delays are kept there as they come, and a plan whose delay stands there isn't asked for again.
+    """
+
+    def __init__(self, source: str | Path, variations: Sequence[Variation], folder: Path | None = None) -> None:
         values, program = read_values(source), str(program_path())
         self.keys = [one.key for one in variations]
         self.tasks = [Task(values, str(source), changes, program) for changes in combinations(variations)]
@@ -31,11 +40,16 @@ class Choice:
         if not self.candidates:
             raise Problem(f"no plan can be built; the first: {self.errors[0]}")
         self._check()
+        self.marks = {number: fingerprint(self.tasks[number]) for number in self.candidates}
+        self.kept = None if folder is None else KeptRows(folder / FILE, "choose", COLUMNS)
+        known = {} if self.kept is None else self.kept.values
+        self.delays = {number: Fraction(known[mark]) for number, mark in self.marks.items() if mark in known}
+        self.earlier = len(self.delays)
 
     def _built(self) -> Iterator[tuple[int, Candidate]]:
         for i, task in enumerate(self.tasks):
             try:
-                yield i, candidate(study(task))
+                yield i, candidate(settled_by_runs(replace(study(task), actuated=[]), 1, task.program).study)
             except Problem as problem:
                 self.errors[i] = str(problem)
 
@@ -58,10 +72,13 @@ class Choice:
         return ", ".join(key for key in self.keys if self.tasks[other].changes[key] != base[key])
 
     def run(self) -> Iterator[int]:
-        """Has the program judge the plans, and gives how many each of its calls judged."""
-        numbers = list(self.candidates)
-        for found in judged(list(self.candidates.values())):
-            self.delays.update(zip(numbers[len(self.delays):], found))
+        """Has the program judge the plans that are missing, and gives how many each of its calls judged."""
+        numbers = iter([number for number in self.candidates if number not in self.delays])
+        for found in judged([one for number, one in self.candidates.items() if number not in self.delays]):
+            for delay, number in zip(found, numbers):
+                self.delays[number] = delay
+                if self.kept:
+                    self.kept.put(self.marks[number], f"{delay.numerator}/{delay.denominator}")
             yield len(found)
 
     def frame(self) -> pandas.DataFrame:

@@ -4,32 +4,39 @@ from __future__ import annotations
 
 import os
 from collections.abc import Callable, Sequence
+from dataclasses import replace
 from fractions import Fraction
 from pathlib import Path
 from typing import Any
 
 import numpy
 
+from ..files import write
 from ..program import program_path
+from ..running import settled_by_runs
 from ..study.reading import read_values, study_of
+from ..study.writing import study_text
 from ..sweeps.task import Task, fingerprint
 from .candidates import MOST_PLANS, candidate, judged
 from .timing import Point, Timing
 from .tried import Tried
 
-FILE = "tried.csv"
+FILE, BEST = "tried.csv", "best.toml"
 News = Callable[[int, int, float], object]  # takes the generation, the runs so far, and the least delay in vehicle-hours
 
 
 class Search:
-    """A search over the timing of a study's signals, the program its judge; what was tried isn't run again."""
+    """A search over the timing of a study's signals, the program its judge; what was tried isn't run again.
 
-    def __init__(self, source: str | Path, folder: Path, least_green: Fraction = Fraction(10)) -> None:
+    With a folder it is kept there.
+    """
+
+    def __init__(self, source: str | Path, folder: Path | None = None, least_green: Fraction = Fraction(10)) -> None:
         self.path, values = Path(source), read_values(source)
         self.timing = Timing(values, self.path, least_green)
         mark = fingerprint(Task(values, str(source), {"least green": least_green}, ""))
         self.program, self.runs = program_path(), 0
-        self.tried = Tried(folder / FILE, mark)
+        self.tried = Tried(folder / FILE if folder else None, mark)
         self.earlier = len(self.tried.delays)
 
     def hours(self, point: Point) -> float:
@@ -71,7 +78,8 @@ class Search:
         new = [point for point in dict.fromkeys(points) if point not in self.tried.delays]
         for begin in range(0, len(new), MOST_PLANS):
             group = new[begin:begin + MOST_PLANS]
-            candidates = [candidate(study_of(self.timing.changed(point), self.path)) for point in group]
+            studies = [study_of(self.timing.changed(point), self.path) for point in group]
+            candidates = [candidate(settled_by_runs(replace(one, actuated=[]), 1, str(self.program)).study) for one in studies]
             found = [delay for part in judged(candidates, self.program) for delay in part]
             for point, delay in zip(group, found):
                 self.tried.put(point, delay)
@@ -86,3 +94,13 @@ def moved_to(values: dict[str, Any], source: Path, target: Path) -> dict[str, An
         if isinstance(demand, dict) and "counts" in demand:
             demand["counts"] = os.path.relpath(source.parent / demand["counts"], target.parent)
     return values
+
+
+def best_study(search: Search, best: Point, source: str | Path, folder: Path | None) -> str:
+    """The text of the study with the best timing, which is written into a folder where one is given."""
+    target = (folder or Path()) / BEST
+    values = moved_to(search.timing.changed(best), Path(source), target)
+    text = study_text(values, f"{source} with the best of {len(search.tried.delays)} plans that were tried")
+    if folder:
+        write(target, text)
+    return text

@@ -7,7 +7,7 @@ from matplotlib.figure import Figure
 
 from ..calibration.diagram import Triangle
 from ..calibration.observed import Observed
-from .figure import SHADES, beside, drawing, figure, head, style
+from .figure import SHADES, beside, drawing, figure, head, legend_below, named, style
 
 MARKS = "osD^vP"
 
@@ -27,7 +27,7 @@ def against(model: pandas.DataFrame, observed: Observed, title: str) -> Figure:
     axes.set_xlabel("Observed flow (vehicles/h)")
     beside(axes, "Modelled flow (vehicles/h)")
     head(axes, title)
-    axes.legend(loc="best")
+    legend_below(drawn, named(axes))
     return drawn
 
 
@@ -42,5 +42,5 @@ def triangle(states: pandas.DataFrame, found: Triangle, title: str) -> Figure:
     axes.set_xlim(left=0)
     axes.set_ylim(bottom=0)
     head(axes, title)
-    axes.legend(loc="best")
+    legend_below(drawn, named(axes))
     return drawn

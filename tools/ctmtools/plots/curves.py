@@ -11,7 +11,7 @@ from matplotlib.figure import Figure
 from ..problem import Problem
 from ..report.reading import Report
 from ..report.routes import main_route
-from .figure import beside, drawing, figure, head, moments, span_of, style, time_axis
+from .figure import beside, drawing, figure, head, legend_below, moments, named, span_of, style, time_axis
 
 
 @drawing
@@ -45,7 +45,7 @@ def draw(report: Report, cells: Sequence[str] = (), background: float | None = N
     if background is None:
         axes.set_ylim(bottom=0)
     head(axes, f"{report.title}: cumulative curves" + (", shifted by the free-flow time" if shifted else ""))
-    axes.legend(loc="best")
+    legend_below(drawn, named(axes))
     return drawn
 
 

@@ -3,7 +3,6 @@
 from __future__ import annotations
 
 from collections.abc import Sequence
-from pathlib import Path
 
 import numpy
 from matplotlib.axes import Axes
@@ -11,6 +10,7 @@ from matplotlib.figure import Figure
 from matplotlib.lines import Line2D
 
 from ..problem import Problem
+from ..report.names import names_of
 from ..report.queues import queues_in, standing
 from ..report.reading import Report
 from ..report.routes import kilometres, route_of
@@ -48,7 +48,7 @@ def draw(first: Report, second: Report, road: str | None = None) -> Figure:
     axes.set_ylim(bounds[0], bounds[-1])
     time_axis(axes, second, 0, ends[-1])
     beside(axes, "Place, direction of travel upward (km)" if known else "Cell, direction of travel upward")
-    head(axes, "Density: “{1}” less “{0}”".format(*_names(first, second)))
+    head(axes, "Density: “{1}” less “{0}”".format(*names_of([first, second])))
     bar = drawn.colorbar(mesh, ax=axes, pad=0.02)
     bar.set_label("Rise of density (vehicles/km)" if known else "Rise of density (vehicles in a cell)")
     bar.outline.set_visible(False)
@@ -57,17 +57,11 @@ def draw(first: Report, second: Report, road: str | None = None) -> Figure:
     return drawn
 
 
-def _names(first: Report, second: Report) -> tuple[str, str]:
-    """What two reports are called: their titles, or where these are the same their files' names."""
-    titles = first.title, second.title
-    return titles if titles[0] != titles[1] else (Path(first.name).stem, Path(second.name).stem)
-
-
 def _outlines(axes: Axes, first: Report, second: Report, cells: Sequence[str],
               bounds: Sequence[float]) -> list[Line2D]:
     """Outlines the queues of both reports, where they are few, and gives what the legend says of them."""
     handles = []
-    for report, name, (dashes, shade) in zip((first, second), _names(first, second), LOOKS):
+    for report, name, (dashes, shade) in zip((first, second), names_of([first, second]), LOOKS):
         if report.network is None or sum(queue.spells for queue in queues_in(report)) > MOST_OUTLINED:
             continue
         if not standing(report)[cells].to_numpy().any():

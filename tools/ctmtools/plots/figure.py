@@ -4,6 +4,7 @@ from __future__ import annotations
 
 from collections.abc import Callable, Iterable, Sequence
 from functools import wraps
+from io import BytesIO
 from pathlib import Path
 from textwrap import wrap
 from typing import Any, ParamSpec
@@ -17,12 +18,13 @@ from matplotlib.colors import LinearSegmentedColormap
 from matplotlib.figure import Figure
 from matplotlib.ticker import FuncFormatter, MultipleLocator
 
-from ..problem import Problem, reason
+from ..files import write
+from ..problem import Problem
 from ..report.reading import Report
 from ..study.quantities import clock
-from ..units import DAY, clock_text
+from ..units import DAY, time_text
 
-LOOK = {"font.size": 9.5, "axes.titlesize": 11, "axes.titlelocation": "left", "axes.spines.top": False,
+LOOK: dict[str, Any] = {"font.size": 9.5, "axes.titlesize": 11, "axes.titlelocation": "left", "axes.spines.top": False,
         "axes.spines.right": False, "axes.grid": True, "grid.color": "#dddddd", "grid.linewidth": 0.6,
         "axes.axisbelow": True, "legend.frameon": False, "figure.constrained_layout.use": True, "svg.fonttype": "none",
         "legend.fontsize": 9}
@@ -33,10 +35,14 @@ SPEED = "magma"  # darker is slower
 # A rise is dark and a fall light, so that they differ in grey too.
 RISE = LinearSegmentedColormap.from_list("rise", ["#3f8fc9", "#9cc9e8", "#ffffff", "#e58a3a", "#4d1400"])
 DOTS = 120  # an inch
-LETTERS = 115  # of a legend in a row
 LETTERS_IN_TITLE = 85  # in a line
 LETTERS_BELOW = 105  # in a line below axes
 LETTERS_BESIDE = 48  # in a line beside an axis
+LETTERS_IN_LEGEND = 100  # in a line
+LEGEND_ROOM = 0.3  # inches that a picture has below its axes for a legend; for a larger one it grows
+LEGEND_APART = 0.08  # inches between axes and legend
+FEWEST_LETTERS = 20  # in a line, however wide they are
+ROOM_ACROSS = 0.86  # of the width of a picture for the lines over axes and below them
 SPANS = (10, 20, 30, 60, 120, 300, 600, 900, 1200, 1800, 3600, 7200, 10800, 14400, 21600, 43200, 86400)  # seconds
 ENDINGS = (".png", ".svg", ".pdf")
 
@@ -62,7 +68,7 @@ def figure(rows: int = 1, size: tuple[float, float] = (8, 4.3), **named: Any) ->
 
 def head(axes: Axes, text: str) -> None:
     """Puts a title over axes, in as many lines as it needs."""
-    axes.set_title("\n".join(wrap(text, LETTERS_IN_TITLE)))
+    axes.set_title(_wrapped(axes, text, LOOK["axes.titlesize"], LETTERS_IN_TITLE))
 
 
 def beside(axes: Axes, text: str) -> None:
@@ -72,7 +78,21 @@ def beside(axes: Axes, text: str) -> None:
 
 def note(axes: Axes, text: str) -> None:
     """Adds to what stands below axes."""
-    axes.set_xlabel("\n".join(filter(None, [axes.get_xlabel(), *wrap(text, LETTERS_BELOW)])))
+    lines = _wrapped(axes, text, LOOK["font.size"], LETTERS_BELOW)
+    axes.set_xlabel("\n".join(filter(None, [axes.get_xlabel(), lines])))
+
+
+def _wrapped(axes: Axes, text: str, size: float, letters: int) -> str:
+    """A text in lines of so many letters, or of fewer where these are too wide for the picture."""
+    room = ROOM_ACROSS * axes.figure.bbox.width
+    while True:
+        lines = "\n".join(wrap(text, letters))
+        probe = axes.figure.text(0, 0, lines, fontsize=size)
+        width = probe.get_window_extent(axes.figure.canvas.get_renderer()).width
+        probe.remove()
+        if width <= room or letters <= FEWEST_LETTERS:
+            return lines
+        letters = max(FEWEST_LETTERS, int(letters * room / width))
 
 
 def target(report: Report, kind: str, output: str | Path | None) -> Path:
@@ -85,11 +105,10 @@ def target(report: Report, kind: str, output: str | Path | None) -> Path:
 
 def save(drawn: Figure, path: Path) -> None:
     """Writes a figure to its file."""
-    try:
-        with rc_context(LOOK):
-            drawn.savefig(path)
-    except OSError as error:
-        raise Problem(f"{path}: {reason(error)}") from None
+    content = BytesIO()
+    with rc_context(LOOK):
+        drawn.savefig(content, format=path.suffix[1:].lower())
+    write(path, content.getvalue())
 
 
 def moments(report: Report, steps: Iterable[float]) -> list[float]:
@@ -113,7 +132,7 @@ def clock_axis(axis: Axis, first: float, last: float) -> int:
     """Gives an axis from one second of the day to another round clock times, and gives the seconds between them."""
     width = next((span for span in SPANS if (last - first) / span <= 10), SPANS[-1])
     axis.set_major_locator(MultipleLocator(width))
-    axis.set_major_formatter(FuncFormatter(lambda value, _: clock_text(value)))
+    axis.set_major_formatter(FuncFormatter(lambda value, _: time_text(value if value <= DAY else value % DAY)))
     return width
 
 
@@ -138,13 +157,27 @@ def moment(report: Report, text: str) -> float:
 
 
 def legend_below(drawn: Figure, handles: Sequence[Artist]) -> None:
-    """Puts a legend below the axes, in as many rows as its texts need."""
-    letters = sum(len(handle.get_label()) + 8 for handle in handles)
-    rows = -(-letters // LETTERS)
-    height = (0.1 + 0.2 * rows) / drawn.get_size_inches()[1]
-    drawn.set_layout_engine("constrained", rect=(0, height, 1, 1 - height))
-    legend = drawn.legend(handles=handles, loc="lower center", ncol=-(-len(handles) // rows), borderaxespad=0.1)
+    """Puts a legend below the axes, in as many rows as its texts need, for which the picture grows."""
+    labels = ["\n".join(wrap(handle.get_label(), LETTERS_IN_LEGEND)) for handle in handles]
+    renderer = FigureCanvasAgg(drawn).get_renderer()
+    for columns in range(len(handles), 0, -1):
+        legend = drawn.legend(handles=handles, labels=labels, loc="lower center", ncol=columns, borderaxespad=0.1)
+        box = legend.get_window_extent(renderer)
+        if box.width <= drawn.bbox.width or columns == 1:
+            break
+        legend.remove()
+    width, height = drawn.get_size_inches()
+    below = box.height / drawn.dpi + LEGEND_APART
+    height += max(0.0, below - LEGEND_ROOM)
+    drawn.set_size_inches(width, height)
+    drawn.set_layout_engine("constrained", rect=(0, below / height, 1, 1 - below / height))
     legend.set_in_layout(False)
+
+
+def named(*axes: Axes) -> list[Artist]:
+    """What axes have drawn that has a name, in the order in which it was drawn; each name once."""
+    found = {label: handle for one in axes for handle, label in zip(*one.get_legend_handles_labels())}
+    return list(found.values())
 
 
 def style(i: int) -> dict[str, Any]:

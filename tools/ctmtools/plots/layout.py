@@ -42,7 +42,8 @@ class Map:
         self._place_ends()
         self._settle()
         self.given = set(self.places)  # the joints that the points of the study place
-        self._place_chain(main_route(self.network), (0.0, 0.0), 0.0)
+        if not self.places:
+            self._place_chain(main_route(self.network), (0.0, 0.0), 0.0)
         self._grow()
 
     def _length(self, cell: str) -> float:
@@ -176,8 +177,9 @@ class Map:
                 self.side = -self.side
                 self._place_back(chain, self.places[tail], self.side * TURN)
             elif stuck > len(waiting):
-                low = min((place[1] for place in self.places.values()), default=0)
-                self._place_chain(chain, (0.0, low - 3 * self.stub - 1), 0.0)
+                left = min(x for x, _ in self.places.values()) if self.given else 0.0
+                low = min(y for _, y in self.places.values())
+                self._place_chain(chain, (left, low - 3 * self.stub - 1), 0.0)
             else:
                 waiting.append(chain)
                 stuck += 1

@@ -10,11 +10,12 @@ import pandas
 from matplotlib.axes import Axes
 from matplotlib.figure import Figure
 
-from ..report.page import length, told, where
+from ..report.page import length, spilled, told, where
 from ..report.queues import SLOW, Queue, course, cycle_of, is_short, queues_in, reach_of_part
 from ..report.reading import Report
 from ..report.routes import road_of
-from .figure import drawing, figure, head, moments, note, span_of, style, time_axis
+from ..report.upstream import spills
+from .figure import drawing, figure, head, legend_below, moments, named, note, span_of, style, time_axis
 
 MOST_LINES = 5
 
@@ -44,13 +45,11 @@ def draw(report: Report, roads: Sequence[str] = (), begin: str | None = None, un
     head(upper, f"{report.title}: queues")
     for axes in (upper, lower):
         axes.set_ylim(bottom=0)
-    if queues:
-        lower.legend(loc="best")
-    if any(line.get_label().endswith("joined it") for line in upper.lines):
-        upper.legend(loc="best")
     time_axis(lower, report, first, last)
     for line in _notes(report, queues, rest):
         note(lower, line)
+    if queues:
+        legend_below(drawn, named(lower, upper))
     return drawn
 
 
@@ -84,6 +83,9 @@ def _notes(report: Report, queues: list[Queue], rest: list[Queue]) -> Iterator[s
     """What stands below the axes: how queues are seen, and what isn't drawn."""
     cycles = ", the most in each cycle of a signal" if any(queue.spells > 1 for queue in queues) else ""
     yield f"Reach in whole cells, slower than {SLOW:.0%} of free flow{cycles}"
+    for queue in queues:
+        for spill in spills(report, queue):
+            yield spilled(report, queue, spill)
     if rest:
         far = max(rest, key=lambda queue: queue.reach)
         yield (f"Not drawn: {len(rest)} more, the longest {length(report, far.reach)} from {where(report, far.origin)}; "

@@ -9,7 +9,7 @@ from matplotlib.figure import Figure
 
 from ..moments.metering import Gauge
 from ..report.reading import Report
-from .figure import beside, drawing, figure, head, moments, style, time_axis
+from .figure import beside, drawing, figure, head, legend_below, moments, named, style, time_axis
 
 
 @drawing
@@ -23,13 +23,12 @@ def draw(report: Report, rates: pandas.DataFrame, gauges: Sequence[Gauge]) -> Fi
         above.stairs(seen, moments(report, steps), baseline=None, label=f"{gauge.meter.ramp}: at {gauge.detector}", **style(i))
         above.plot(moments(report, [gauge.begin, gauge.end]), [gauge.wanted] * 2, color=style(i)["color"], linewidth=0.8,
                    label=f"{gauge.meter.ramp}: set point")
-        below.stairs(own.rate, moments(report, steps), baseline=None, label=gauge.meter.ramp, **style(i))
+        below.stairs(own.rate, moments(report, steps), baseline=None, **style(i))
     time_axis(below, report)
     above.set_ylim(bottom=0)
     below.set_ylim(bottom=0)
     beside(above, "Occupancy (% of the jam density)")
     beside(below, "Rate (vehicles/h)")
     head(above, report.title)
-    above.legend(loc="best")
-    below.legend(loc="best")
+    legend_below(drawn, named(above, below))
     return drawn

@@ -8,12 +8,13 @@ import numpy
 import pandas
 from matplotlib.figure import Figure
 
-from .figure import DENSITY, beside, drawing, figure, head, style
+from .figure import DENSITY, SHADES, beside, drawing, figure, head, note, style
 
 UNITS = {"offset": "s", "first_green": "s", "cycle": "s", "green": "s", "step": "s", "length": "km", "from": "km",
          "to": "km", "at": "km",
          "free_flow_speed": "km/h", "wave_speed": "km/h", "jam_density": "vehicles/km in a lane",
          "saturation_flow": "vehicles/h in a lane", "capacity": "vehicles/h", "lanes": "lanes"}
+BEYOND = "{}: a queue reaches the upstream end of the model, behind which vehicles wait in a gate"
 NAMES = {"delay_vehicle_hours": "Delay (vehicle-hours)", "longest_queue_km": "Longest queue (km)"}
 
 
@@ -37,8 +38,14 @@ def _lines(frame: pandas.DataFrame, key: str, title: str) -> Figure:
                  markersize=4, **style(0))
         one.set_ylabel(NAMES[name])
         one.set_ylim(bottom=0)
+    beyond = frame[frame.waiting_upstream_vehicles >= 1]
+    if len(beyond):
+        axes[1].plot(beyond[key].astype(str) if frame[key].dtype == object else beyond[key], beyond.longest_queue_km, "o",
+                     markersize=7, fillstyle="none", color=SHADES[1])
     head(axes[0], f"{title}: over {key}")
     axes[1].set_xlabel(_axis(key))
+    if len(beyond):
+        note(axes[1], BEYOND.format("In a ring"))
     return drawn
 
 
@@ -60,6 +67,12 @@ def _shades(frame: pandas.DataFrame, keys: Sequence[str], title: str) -> Figure:
     axes.set_xlabel(_axis(across))
     beside(axes, _axis(down))
     head(axes, f"{title}: delay over {down} and {across}")
+    beyond = frame[frame.waiting_upstream_vehicles >= 1]
+    if len(beyond):
+        places = [(table.columns.get_loc(row[across]), table.index.get_loc(row[down])) for _, row in beyond.iterrows()]
+        axes.plot([x + 0.4 for x, _ in places], [y + 0.4 for _, y in places], "o", markersize=4, color="white",
+                  markeredgecolor="black", clip_on=False)
+        note(axes, BEYOND.format("With a dot"))
     bar = drawn.colorbar(mesh, ax=axes, pad=0.02)
     bar.set_label(NAMES["delay_vehicle_hours"])
     bar.outline.set_visible(False)

@@ -13,10 +13,12 @@ from matplotlib.lines import Line2D
 from matplotlib.patches import Patch
 
 from ..problem import Problem
+from ..report.page import spilled
 from ..report.queues import SLOW, standing
 from ..report.reading import Report
 from ..report.routes import kilometres, route_of
-from .figure import DENSITY, SPEED, beside, drawing, figure, head, legend_below, moments, span_of, time_axis
+from ..report.upstream import spilled_queues
+from .figure import DENSITY, SPEED, beside, drawing, figure, head, legend_below, moments, note, span_of, time_axis
 from .lines import draw_lines
 from .roadside import RED, draw_junctions, draw_limits, draw_signals
 
@@ -49,6 +51,9 @@ def draw(report: Report, road: str | None = None, first: str | None = None, last
     handles += draw_lines(axes, report, lines)
     finish(axes, report, cells, bounds, known, begins, ends, of)
     draw_junctions(axes, report, cells, bounds)
+    for queue, spill in spilled_queues(report):
+        if queue.spans.keys() & set(cells):
+            note(axes, spilled(report, queue, spill))
     bar = drawn.colorbar(mesh, ax=axes, pad=0.02)
     bar.set_label(f"{of.capitalize()} ({SHADED[of][0 if known else 1]})")
     bar.outline.set_visible(False)

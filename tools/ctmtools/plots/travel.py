@@ -6,7 +6,7 @@ from matplotlib.figure import Figure
 
 from ..report.reading import Report
 from ..report.travel import chain_of, trips
-from .figure import beside, drawing, figure, head, moments, note, span_of, style, time_axis
+from .figure import beside, drawing, figure, head, legend_below, moments, named, note, span_of, style, time_axis
 
 
 @drawing
@@ -28,7 +28,7 @@ def draw(report: Report, first: str | None = None, last: str | None = None, road
     beside(axes, "Travel time (min)" if report.units.known else "Travel time (steps)")
     axes.set_ylim(bottom=0)
     head(axes, f"{report.title}: travel time")
-    axes.legend(loc="best")
+    legend_below(drawn, named(axes))
     return drawn
 
 

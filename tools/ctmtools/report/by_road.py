@@ -17,6 +17,7 @@ from .states import times
 # The Highway Capacity Manual's levels of service of a motorway: for each the most vehicles per mile in a lane.
 LEVELS = (("A", 11), ("B", 18), ("C", 26), ("D", 35), ("E", 45))
 
+DIGITS = 9  # behind the point, beyond which is what sums of numbers leave of nothing
 COLUMNS = ("vehicles", "flow", "density", "speed", "delay", "delay_each", "queue")
 
 
@@ -81,7 +82,7 @@ def by_road(report: Report, every: float | None = None, value_of_time: float | N
     """
     bounds = bounds_of(report, every)
     units, parts, rows = report.units, PARTS[by](report), []
-    stands, held, flow = standing(report), report.held, report.flow
+    stands, held, flow, waited = standing(report), report.held, report.flow, report.waited
     lasting = numpy.diff(report.times)
     for begin, end in zip(bounds, bounds[1:]):
         inside = (report.times[:-1] >= begin) & (report.times[:-1] < end)
@@ -89,8 +90,9 @@ def by_road(report: Report, every: float | None = None, value_of_time: float | N
             weights = lasting[inside][:, None]
             stood, went = held[cells].to_numpy()[inside] * weights, flow[cells].to_numpy()[inside] * weights
             queued = stands[cells].to_numpy()[inside]
-            rows.append((begin, name, *_figures(report, cells, stood, went, queued, end - begin)))
-    frame = pandas.DataFrame(rows, columns=["step", by, *COLUMNS])
+            delay = float(waited[cells].to_numpy()[inside].sum())
+            rows.append((begin, name, *_figures(report, cells, stood, went, queued, delay, end - begin)))
+    frame = pandas.DataFrame(rows, columns=["step", by, *COLUMNS]).round(DIGITS)
     frame.insert(0, "time", times(units, frame["step"].to_numpy()))
     frame.insert(6, "level", [level(density) for density in frame.density] if units.known else "")
     if value_of_time is not None:
@@ -104,12 +106,12 @@ def by_road(report: Report, every: float | None = None, value_of_time: float | N
 
 
 def _figures(report: Report, cells: Sequence[str], stood: numpy.ndarray, went: numpy.ndarray, queued: numpy.ndarray,
-             steps: int) -> tuple[float, ...]:
-    """Vehicles, flow, density, speed, delay, delay of each and queue of some cells in a span."""
+             delay: float, steps: int) -> tuple[float, ...]:
+    """Vehicles, flow, density, speed, delay, delay of each and queue of some cells in a span, of their delay in vehicle-steps."""
     units = report.units
     hour, second = (3600 / units.step, units.step) if units.step is not None else (1.0, 1.0)
     lengths = numpy.array([units.length(cell) or numpy.nan for cell in cells]) if units.known else numpy.ones(len(cells))
-    vehicles, delay = float(went[:, -1].sum()), float(numpy.clip(stood - went, 0, None).sum())
+    vehicles = float(went[:, -1].sum())
     roads = ~numpy.isnan(lengths)
     lanes = numpy.array([(units.cells.get(cell) or {}).get("lanes", 1) for cell in cells])
     lengths, lanes, stood, went, queued = lengths[roads], lanes[roads], stood[:, roads], went[:, roads], queued[:, roads]

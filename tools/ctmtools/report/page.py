@@ -7,6 +7,7 @@ from collections.abc import Container, Iterator, Sequence
 from .queues import CYCLES, SHORT, SHORT_STEPS, SLOW, Queue, is_short, queues_in
 from .reading import Report
 from .travel import road_times
+from .upstream import Spill, spills
 
 MOST_QUEUES = 12  # so many queues have a row, the most costly
 MOST_JOINED = 3  # of the parts that joined a queue so many are told
@@ -68,6 +69,15 @@ def _queues(report: Report, queues: list[Queue]) -> Iterator[str]:
         yield "  clearing, as far as it ever reached, with all of its delay."
     for queue in rows:
         yield from _joined(report, queue)
+    for queue in queues:
+        for spill in spills(report, queue):
+            yield f"  {spilled(report, queue, spill)}, at {clock(report, spill.most_at)}, so it is longer than told."
+
+
+def spilled(report: Report, queue: Queue, spill: Spill) -> str:
+    """That a queue reaches the upstream end of the model, and who wait behind it."""
+    return (f"The queue of {where(report, queue.origin)} reaches the upstream end of the model at {clock(report, spill.start)}: up "
+            f"to {spill.most:,.0f} vehicles wait in the gate {spill.gate}")
 
 
 def _travel(report: Report) -> Iterator[str]:

@@ -37,7 +37,8 @@ class Queue:
 
     `start`, `end` and `reached` are steps; `end` is None where the queue still stands at the last step. `reach` is in
     km where lengths are known, else in cells; gates count nothing. `delay` is in vehicle-steps, `most` in vehicles.
-    `spells` tells how often it came, as at a signal in each cycle.
+    `spells` tells how often it came, as at a signal in each cycle. `reach` is that of the cells to which it grew from its
+    origin, and `longest_reach` that from any of its origins through what stood there before and what it touched.
     """
 
     origin: str
@@ -50,13 +51,9 @@ class Queue:
     most: float
     most_at: int
     spells: int
+    longest_reach: float
     spans: Spans = field(repr=False)
     others: list[Origin] = field(default_factory=list)
-
-    @property
-    def longest_reach(self) -> float:
-        """The farthest that it, or a part that began elsewhere and joined it, reached back, in the unit of `reach`."""
-        return max([self.reach, *(other.reach for other in self.others)])
 
 
 def standing(report: Report) -> pandas.DataFrame:
@@ -118,36 +115,48 @@ def course(report: Report, queue: Queue) -> pandas.DataFrame:
     `reach` is in the unit of the queue's, `waiting` in vehicles.
     """
     times = report.times[:-1]
-    reach, waiting = numpy.zeros(len(times)), numpy.zeros(len(times))
-    ways, waits = _ways(report, queue.origin, queue.spans), _waits(report)
+    waiting, waits = numpy.zeros(len(times)), _waits(report)
     for cell, spans in queue.spans.items():
         waits_here = waits[cell].to_numpy()
         for begin, end in spans:
             waiting[begin:end] += waits_here[begin:end]
-            if cell in ways and report.need_network().kinds[cell] == "road":
-                reach[begin:end] = numpy.maximum(reach[begin:end], ways[cell])
-    return pandas.DataFrame({"reach": reach, "waiting": waiting}, index=times)
+    return pandas.DataFrame({"reach": _reach_over_time(report, queue.origin, queue.spans, 0), "waiting": waiting}, index=times)
 
 
 def reach_of_part(report: Report, queue: Queue, part: Origin) -> pandas.Series:
-    """How far a part that joined a queue reaches back from its own origin, from each recorded step on.
+    """How far a part that joined a queue reaches back from its own origin, from each recorded step on."""
+    return pandas.Series(_reach_over_time(report, part.cell, queue.spans, part.start), index=report.times[:-1])
 
-    Of the part are the cells to which it grew: each stood in the queue no sooner than one behind it.
+
+def _reach_over_time(report: Report, origin: str, spans: Spans, start: int) -> numpy.ndarray:
+    """How far the cells to which a queue grew from an origin reach back, from each recorded step on."""
+    reach, ways = numpy.zeros(len(report.times) - 1), _ways(report, origin, spans)
+    for cell, own in _grown(report, origin, spans, start).items():
+        if report.need_network().kinds[cell] == "road":
+            for begin, end in own:
+                reach[begin:end] = numpy.maximum(reach[begin:end], ways[cell])
+    return reach
+
+
+def _grown(report: Report, origin: str, spans: Spans, start: int) -> dict[str, list[Span]]:
+    """The spans of the cells to which a queue grew from an origin, from a step on: each began no sooner than one behind it.
+
+    What stood there before it came is another's, which began elsewhere.
     """
-    graph, kinds, spans = report.need_network().graph, report.need_network().kinds, queue.spans
-    reach, ways = numpy.zeros(len(report.times) - 1), _ways(report, part.cell, queue.spans)
-    waiting = [(part.cell, span) for span in spans[part.cell] if report.times[span[1]] >= part.start]
+    graph = report.need_network().graph
+    waiting = [(origin, span) for span in spans[origin] if report.times[span[1]] >= start]
     seen = set(waiting)
     while waiting:
         cell, (begin, end) = waiting.pop()
-        if kinds[cell] == "road":
-            reach[begin:end] = numpy.maximum(reach[begin:end], ways[cell])
         for up in graph.predecessors(cell):
             for span in spans.get(up, ()):
                 if begin <= span[0] <= end and (up, span) not in seen:
                     seen.add((up, span))
                     waiting.append((up, span))
-    return pandas.Series(reach, index=report.times[:-1])
+    found: dict[str, list[Span]] = {}
+    for cell, span in sorted(seen, key=lambda node: node[1]):
+        found.setdefault(cell, []).append(span)
+    return found
 
 
 def _waits(report: Report) -> pandas.DataFrame:
@@ -222,17 +231,17 @@ def _queue(report: Report, spans: Spans, waits: pandas.DataFrame, spells: int) -
     times = report.times
     origins = heads(report, spans)
     (begin, origin), end = origins[0], _end(spans)
-    farthest, reach = _reach(report, origin, spans)
+    farthest, reach, reached = _reach(report, origin, spans, 0)
     sums = numpy.zeros(end - begin)
     for cell, own in spans.items():
         waits_here = waits[cell].to_numpy()
         for first, last in own:
             sums[first - begin:last - begin] += waits_here[first:last]
     most = int(sums.argmax())
+    others = [Origin(cell, int(times[first]), _reach(report, cell, spans, int(times[first]))[1]) for first, cell in origins[1:]]
     return Queue(origin, int(times[begin]), None if end == len(times) - 1 else int(times[end]), farthest, reach,
-                 int(times[spans[farthest][0][0]]), float((sums * numpy.diff(times)[begin:end]).sum()),
-                 float(sums[most]), int(times[begin + most]), spells, spans,
-                 [Origin(cell, int(times[first]), _reach(report, cell, spans)[1]) for first, cell in origins[1:]])
+                 int(times[reached]), float((sums * numpy.diff(times)[begin:end]).sum()), float(sums[most]),
+                 int(times[begin + most]), spells, max(_longest(report, cell, spans) for _, cell in origins), spans, others)
 
 
 def _ways(report: Report, origin: str, spans: Spans) -> dict[str, float]:
@@ -255,8 +264,14 @@ def _ways(report: Report, origin: str, spans: Spans) -> dict[str, float]:
     return ways
 
 
-def _reach(report: Report, origin: str, spans: Spans) -> tuple[str, float]:
-    """The cell of the queue that lies farthest upstream of its origin, and the way to that cell's upstream end."""
-    ways, kinds = _ways(report, origin, spans), report.need_network().kinds
-    farthest = max((cell for cell in ways if kinds[cell] == "road"), key=lambda cell: ways[cell], default=origin)
-    return farthest, ways[farthest]
+def _reach(report: Report, origin: str, spans: Spans, start: int) -> tuple[str, float, int]:
+    """The cell that lies farthest upstream of those to which a queue grew, the way to its upstream end, and when it came."""
+    ways, kinds, grown = _ways(report, origin, spans), report.need_network().kinds, _grown(report, origin, spans, start)
+    farthest = max((cell for cell in grown if kinds[cell] == "road"), key=lambda cell: ways[cell], default=origin)
+    return farthest, ways[farthest], grown[farthest][0][0]
+
+
+def _longest(report: Report, origin: str, spans: Spans) -> float:
+    """The way from an origin to the upstream end of the farthest cell of the queue upstream of it."""
+    kinds = report.need_network().kinds
+    return max((way for cell, way in _ways(report, origin, spans).items() if kinds[cell] == "road"), default=0.0)

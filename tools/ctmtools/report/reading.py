@@ -13,6 +13,7 @@ import pandas
 
 from ..network_file.network import Network, read_bytes, read_network
 from ..problem import Problem
+from ..ties import ADVICE, check_network, check_report, units_of, unlike_network
 from ..units import Units, read_units, units_path
 
 
@@ -23,7 +24,7 @@ class Report:
     `cells` is indexed by the cell's name and has n, come, gone (vehicles) and wait (vehicle-steps) at the last step.
     `times` are the recorded steps; `occupancy` and `departed` are frames with a row for each of them and a column for
     each cell: the vehicles that it holds then, and all that have gone out of it until then.
-    `total` has inside, entered, left (vehicles) and delay (vehicle-steps).
+    `total` has inside, entered, left (vehicles) and delay (vehicle-steps), which `delay_vehicle_hours` has in vehicle-hours.
     """
 
     steps: int
@@ -40,6 +41,13 @@ class Report:
     def recorded(self) -> bool:
         """Whether the report has records, which a run with --every gives."""
         return len(self.times) > 1
+
+    @property
+    def delay_vehicle_hours(self) -> float:
+        """The delay of all cells in vehicle-hours, or the problem that the seconds of a step aren't known."""
+        if not self.units.known:
+            raise Problem(f"{self.name}: the units aren't known, so the delay is {self.total.delay:g} vehicle-steps")
+        return float(self.units.hours(self.total.delay))
 
     @property
     def title(self) -> str:
@@ -64,6 +72,19 @@ class Report:
         mean = numpy.where(each[:, None], n[:-1], (n[:-1] + n[1:]) / 2)
         return pandas.DataFrame(mean, index=self.times[:-1], columns=self.occupancy.columns)
 
+    @cached_property
+    def waited(self) -> pandas.DataFrame:
+        """Vehicle-steps that each cell's vehicles wait between a recorded step and the next, indexed as `flow`.
+
+        Those of a cell add up to what the program says of it, `wait`. Where not each step is recorded it is divided by
+        what the cell holds beyond what leaves it, and where that is nowhere anything evenly.
+        """
+        lasting = numpy.diff(self.times)[:, None]
+        beyond = numpy.clip((self.held.to_numpy() - self.flow.to_numpy()) * lasting, 0, None)
+        whole = beyond.sum(axis=0)
+        parts = numpy.where(whole > 0, beyond / numpy.where(whole > 0, whole, 1), lasting / lasting.sum())
+        return pandas.DataFrame(parts * self.cells.wait.to_numpy(), index=self.times[:-1], columns=self.departed.columns)
+
     def need_records(self) -> None:
         """The problem of a report without records, where there are none."""
         if not self.recorded:
@@ -83,11 +104,13 @@ def read_report(path: str | Path, units: str | Path | None = None, network: str 
     its name with the ending .csv.
     """
     path = Path(path)
-    report = report_of(read_bytes(path), str(path))
+    content = read_bytes(path)
+    report = report_of(content, str(path))
     units_file = Path(units) if units else units_path(path)
     if units and not units_file.exists():
         raise Problem(f"{units_file}: no such file or directory")
     report.units = read_units(units_file)
+    check_report(report, content, path, units_file)
     report.network = _network_beside(path, units_file, report, network)
     if report.network is not None and not report.units.known and not units:
         report.units = _units_of_network(report, network)
@@ -96,26 +119,30 @@ def read_report(path: str | Path, units: str | Path | None = None, network: str 
 
 def _units_of_network(report: Report, network: str | Path | None) -> Units:
     """The units that stand beside the network's file, where the report has none of its own."""
-    return read_units(units_path(network)) if network else report.units
+    return units_of(report.need_network(), network) if network else report.units
 
 
 def _network_beside(path: Path, units_file: Path, report: Report, network: str | Path | None) -> Network | None:
     if network:
-        return _fitting(read_network(network), report, network, True)
+        found = read_network(network)
+        what = unlike_network(report, found)
+        if what:
+            raise Problem(f"{path}: isn't of the network {network}: {what}")
+        return found
     names = [units_file.parent / report.units.network] if report.units.network else []
     for name in [*names, path.with_suffix(".csv")]:
         if name.exists() and name != path:
-            return _fitting(read_network(name), report, name, False)
+            return _fitting(read_network(name), report, name, units_file)
     return None
 
 
-def _fitting(network: Network, report: Report, name: str | Path, asked: bool) -> Network | None:
-    """The network where it has the report's cells; where it hasn't, none, or the problem where it was asked for."""
-    if list(network.cells.index) == list(report.cells.index):
-        return network
-    if asked:
-        raise Problem(f"{name}: has other cells than the report")
-    return None
+def _fitting(network: Network, report: Report, name: Path, units_file: Path) -> Network | None:
+    """The network where the report may be of it. Where it can't be, the problem, or none where no units name a network."""
+    check_network(network, report.units, name, units_file)
+    what = unlike_network(report, network)
+    if what and report.units.known:
+        raise Problem(f"{report.name}: isn't of the network {name}: {what}; {ADVICE}")
+    return None if what else network
 
 
 def report_of(content: bytes, name: str = "the report") -> Report:

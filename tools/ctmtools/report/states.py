@@ -11,11 +11,13 @@ from ..problem import Problem
 from ..units import Units
 from .queues import queues_in
 from .reading import Report
+from .upstream import waiting_upstream
 
 KNOWN = {"time": "time of day", "occupancy": "vehicles", "flow": "vehicles/h", "density": "vehicles/km",
          "speed": "km/h"}
 UNKNOWN = {"time": "step", "occupancy": "vehicles", "flow": "vehicles in a step", "density": "vehicles in a cell",
            "speed": "cells in a step"}
+DIGITS = 9  # behind the point of a flow, beyond which is what differences leave of nothing
 DAY_ZERO = pandas.Timestamp("1900-01-01")  # of a time without a date, as Python's own strptime has it
 
 
@@ -38,7 +40,7 @@ def states(report: Report) -> pandas.DataFrame:
         "time": numpy.repeat(times(units, report.times).to_numpy(), len(cells)),
         "cell": numpy.tile(cells, len(report.times)),
         "occupancy": report.occupancy.to_numpy().ravel(),
-        "flow": _padded(flow * scale[:, 0]).ravel(),
+        "flow": _padded(flow * scale[:, 0]).ravel().round(DIGITS),
         "density": _padded(held * scale[:, 1]).ravel(),
         "speed": _padded(speed).ravel(),
         "step": numpy.repeat(report.times, len(cells)),
@@ -74,7 +76,8 @@ def queues_of(report: Report) -> pandas.DataFrame:
     `cell`, `road` and `km` say where it `began`; `reach` is the way from there back to the upstream end of the cell
     `farthest`, which first queued at `reached`; `most_waiting` are the vehicles that waited in it at `most_at`;
     `cleared` is lacking where it still stands at the end; `spells` tells how often it came, as at a signal in each
-    cycle; `longest_reach` is that of all parts that joined it. Reach is in km, delay in vehicle-hours and times are
+    cycle; `longest_reach` is that of all parts that joined it, `waiting_upstream` the vehicles that waited in a gate behind it,
+    where it reached the upstream end of the model. Reach is in km, delay in vehicle-hours and times are
     datetimes, or in cells, vehicle-steps and steps where the units aren't known (`frame.attrs["units"]`).
     """
     report.need_records()
@@ -93,6 +96,7 @@ def queues_of(report: Report) -> pandas.DataFrame:
         "delay": [units.hours(queue.delay) for queue in queues],
         "spells": [queue.spells for queue in queues],
         "longest_reach": [queue.longest_reach for queue in queues],
+        "waiting_upstream": [waiting_upstream(report, [queue]) for queue in queues],
     })
     reach = "km" if units.known else "cells"
     frame.attrs["units"] = {"reach": reach, "longest_reach": reach, "most_waiting": "vehicles",

@@ -19,6 +19,7 @@ from .routes import main_route, road_of
 from .states import times
 
 LEAST = 0.01  # vehicles; a recorded step in which fewer enter counts for nothing
+DIGITS = 9  # behind the point of a delay, beyond which is what differences leave of nothing
 DUST = 1e-6  # vehicles, a part: what rounding may leave
 
 Numbers = numpy.ndarray
@@ -72,16 +73,21 @@ def _left(report: Report, cell: str, entered: Numbers) -> Numbers:
     recorded = numpy.asarray(report.times, dtype=float)
     departed = report.departed[cell].to_numpy()
     numbers = numpy.interp(entered, recorded, _arrivals(report, cell)) - DUST
+    left = left_at(recorded, departed, numbers)
+    # Nobody passes a cell in less than a step, and no moment is known behind the last one.
+    soonest = entered + 1
+    return numpy.where(soonest > recorded[-1], numpy.nan, numpy.fmax(left, soonest) + 0 * left)
+
+
+def left_at(recorded: Numbers, departed: Numbers, numbers: Numbers) -> Numbers:
+    """When so many have left, by the curve of departures at the recorded steps; lacking where they haven't."""
     behind = numpy.searchsorted(departed, numbers)
     found = numpy.clip(behind, 1, len(departed) - 1)
     before, after = departed[found - 1], departed[found]
     with numpy.errstate(invalid="ignore", divide="ignore"):
         part = numpy.clip((numbers - before) / (after - before), 0, 1)
     left = numpy.where(behind == 0, recorded[0], recorded[found - 1] + part * numpy.diff(recorded)[found - 1])
-    left = numpy.where(behind == len(departed), numpy.nan, left)
-    # Nobody passes a cell in less than a step, and no moment is known behind the last one.
-    soonest = entered + 1
-    return numpy.where(soonest > recorded[-1], numpy.nan, numpy.fmax(left, soonest) + 0 * left)
+    return numpy.where(behind == len(departed), numpy.nan, left)
 
 
 def travel_times(report: Report, cells: Sequence[str], every: float | None = None) -> pandas.DataFrame:
@@ -108,7 +114,7 @@ def travel_times(report: Report, cells: Sequence[str], every: float | None = Non
         rows.append((span * width, own.vehicles.sum(), own.mean * scale, bounds[0] * scale, bounds[1] * scale))
     frame = pandas.DataFrame(rows, columns=["entered", "vehicles", "mean", "least", "most"])
     frame["free"] = len(cells) * scale
-    frame["delay"] = frame["mean"] - frame["free"]
+    frame["delay"] = (frame["mean"] - frame["free"]).round(DIGITS) + 0.0  # and no -0
     frame["speed"] = length / (frame["mean"] / 60) if step is not None else numpy.nan
     frame["step"] = frame["entered"]
     frame["entered"] = times(units, frame["step"].to_numpy())

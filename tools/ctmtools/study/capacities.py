@@ -15,7 +15,7 @@ class Change:
     """What changes the capacity of a cell from a step to another: lanes closed or opened, or a most in vehicles/h.
 
     `saturation_flow`, in vehicles/h, is that of each lane left open by a closure, or of each lane of an opening, where
-    it is less than the road's. In a red light nothing passes. `place` is where the study says it.
+    it is less than the road's. In a red light nothing passes. `place` is where the study says it. Who gives way passes `by_gaps`.
     """
 
     begin: int
@@ -26,6 +26,7 @@ class Change:
     saturation_flow: Fraction | None = None
     capacity: Fraction | None = None
     red: bool = False
+    by_gaps: bool = False
 
 
 def spans(changes: Sequence[Change]) -> Iterator[tuple[int, int, list[Change]]]:

@@ -68,10 +68,17 @@ def _table(path: Path, separator: str) -> tuple[Table, list[str]]:
     text = read_bytes(path).decode("utf-8-sig", "replace")
     reader = csv.DictReader(text.splitlines(), delimiter=separator, skipinitialspace=True)
     names = [name.strip() for name in reader.fieldnames or []]
+    while names and not names[-1]:
+        names.pop()
     reader.fieldnames = names
     rows = [(reader.line_num, row) for row in reader]
     if not rows:
         raise Problem(f"{path}: has no rows of counts")
+    for line, row in rows:
+        beyond = row.pop(None, [])
+        if any(field.strip() for field in beyond):
+            raise Problem(f"{path}: line {line} has {len(names) + len(beyond)} fields, and line 1 has {len(names)}; is a comma "
+                          "of thousands or a decimal comma among them? leave out the first, and quote a number with the second")
     return rows, names
 
 

@@ -4,6 +4,7 @@ from __future__ import annotations
 
 import datetime
 import re
+from collections import Counter
 from collections.abc import Iterator, Sequence
 from dataclasses import dataclass
 from fractions import Fraction
@@ -63,7 +64,7 @@ def flows_of_counts(table: Entries, times: Times) -> list[Flow]:
     if len(separator) != 1:
         raise Problem(f"{table.key('separator')}: expected one character")
     rows, dated, zoned = rows_of(path, separator, choice, times.passes_midnight)
-    interval = _interval(path, rows, reading.interval)
+    interval = _interval(path, rows, reading)
     placed = [(row.seconds - times.start, row) for row in rows] if dated else _on_days(rows, interval, times)
     counts = _counts(path, choice.column, placed, reading, interval)
     flows, missed = _filled(path, counts, interval, reading.missing, times)
@@ -91,26 +92,43 @@ def _date(value: Any, key: str) -> Day:
     return day(value.isoformat() if isinstance(value, datetime.date) else word(value, key), key)
 
 
-def _interval(path: Path, rows: Sequence[Row], said: Fraction | None) -> Fraction:
-    """The seconds of an interval: those that are said, else the way from row to row where all rows agree on it.
+def _interval(path: Path, rows: Sequence[Row], reading: Reading) -> Fraction:
+    """The seconds of an interval: those that are said, else the way from row to row on which most rows agree.
 
     A row may be missing, so a way may also be several intervals.
     """
     ways = [(Fraction(behind.seconds - row.seconds), row.line) for row, behind in zip(rows, rows[1:])]
-    if said is None and not ways:
+    if reading.interval is None and not ways:
         raise Problem(f"{path}: with one row alone, say interval in the study")
-    interval = min(ways)[0] if said is None else said
+    interval = _usual(ways) if reading.interval is None else reading.interval
     if not 0 < interval <= DAY:
         raise Problem(f"{path}: an interval is above 0 and at most a day, found {_lasting(interval)}")
     least, line = min(ways, default=(interval, 0))
     if least < interval:
         raise Problem(f"{path}: from line {line} to the next row are {_lasting(least)}, less than the interval of "
                       f"{_lasting(interval)}")
-    odd = next((way for way in ways if way[0] % interval), None)
-    if odd and said is None:
-        raise Problem(f"{path}: the rows don't agree on the interval: {_lasting(least)} from line {line} on, "
-                      f"{_lasting(odd[0])} from line {odd[1]} on; say interval in the study")
+    if reading.interval is None:
+        _check_agreement(path, ways, interval, reading.missing)
     return interval
+
+
+def _usual(ways: Sequence[tuple[Fraction, int]]) -> Fraction:
+    """The most frequent way from row to row, of several the shortest."""
+    counts = Counter(way for way, _ in ways)
+    return min(counts, key=lambda way: (-counts[way], way))
+
+
+def _check_agreement(path: Path, ways: Sequence[tuple[Fraction, int]], interval: Fraction, missing: str) -> None:
+    """Refuses rows that don't tell the interval: a way that isn't some of it, and where gaps are filled any doubt."""
+    line = next(line for way, line in ways if way == interval)
+    odd = next(((way, at) for way, at in ways if way % interval), None)
+    if odd is None and missing != "error":
+        longer = [(way, at) for way, at in ways if way > interval]
+        again = next((one for one, two in zip(ways, ways[1:]) if one[0] == two[0] > interval), None)
+        odd = again or (longer[0] if len(longer) * 2 > len(ways) else None)
+    if odd:
+        raise Problem(f"{path}: the rows don't agree on the interval: {_lasting(interval)} from line {line} on, "
+                      f"{_lasting(odd[0])} from line {odd[1]} on; say interval in the study")
 
 
 def _on_days(rows: Sequence[Row], interval: Fraction, times: Times) -> Placed:

@@ -12,12 +12,13 @@ from dataclasses import replace
 from fractions import Fraction
 
 from ..problem import Problem
-from .crossings import green, movements
-from .plan import Crossing, Diverge, Matrix, Merge, Road, Section, Signal, Study, Turn
+from .crossings import green
+from .plan import (ActuatedJunction, ActuatedPhase, Crossing, Diverge, Matrix, Merge, Permission, Precedence, Road, Section,
+                   Signal, Stream, Study, Turn, Way, Yield)
 from .rounding import told
+from .ways import movements, named
 
 HOUR = 3600
-Movement = tuple[int, int]
 
 
 def expand(study: Study) -> None:
@@ -48,6 +49,9 @@ class Expansion:
         for j in range(len(self.crossing.into)):
             self._join(j, [movement for movement in self.movements if movement[1] == j])
         self._signals()
+        if any(phase.actuation for phase in self.crossing.phases):
+            self.study.actuated.append(self._actuated())
+        self.study.yields += [self._yield(one) for one in self.crossing.yields]
         if self.crossing.within:
             self._take_off()
         self._tell()
@@ -56,7 +60,7 @@ class Expansion:
         if name not in names:
             raise Problem(f"{self.crossing.place}.{key}: {name} isn't {what} of the study")
 
-    def _name(self, movement: Movement) -> str:
+    def _name(self, movement: Way) -> str:
         return f"{self.crossing.sources[movement[0]]}-{self.crossing.into[movement[1]]}"
 
     def _approach(self, i: int) -> Section | None:
@@ -69,7 +73,7 @@ class Expansion:
         road = self.study.roads.get(self.crossing.into[j])
         return road.sections[0] if road else None
 
-    def _lane(self, movement: Movement) -> tuple[Section, int]:
+    def _lane(self, movement: Way) -> tuple[Section, int]:
         """The section whose lane a movement's cell has, the approach's where it has one, and the fewest lanes of both."""
         found = [section for section in (self._approach(movement[0]), self._way_out(movement[1])) if section]
         if not found:
@@ -77,7 +81,7 @@ class Expansion:
                           f"{self.crossing.into[movement[1]]} there is no road of which a cell could be made")
         return found[0], min(section.lanes for section in found)
 
-    def _lanes_of(self, movement: Movement) -> Fraction | None:
+    def _lanes_of(self, movement: Way) -> Fraction | None:
         lanes = self.crossing.lanes
         return lanes[movement[0]][movement[1]] if lanes else None
 
@@ -94,7 +98,7 @@ class Expansion:
         self.made.append(name)
         return name
 
-    def _part(self, i: int, ways: list[Movement]) -> None:
+    def _part(self, i: int, ways: list[Way]) -> None:
         """Parts an approach into the cells of its movements."""
         source, number = self.crossing.sources[i], 0
         while len(ways) > 2:
@@ -110,20 +114,21 @@ class Expansion:
         else:
             self.study.links.append((source, self._name(ways[0]), self.crossing.place))
 
-    def _diverge(self, source: str, into: list[str], ways: Sequence[Movement]) -> None:
+    def _diverge(self, source: str, into: list[str], ways: Sequence[Way]) -> None:
         """Parts the first of the movements from the others, by their shares at all times."""
         turns = [Turn(begin, end, shares) for begin, end, table in self.crossing.turns
                  for shares in [self._shares(table, ways)] if any(shares)]
         shares = self._shares(self.crossing.shares, ways)
         shares = shares if any(shares) else turns[0].shares  # nobody comes there before
-        self.study.diverges.append(Diverge(source, into, shares, turns, place=self.crossing.place))
+        self.study.diverges.append(Diverge(source, into, shares, turns, place=self.crossing.place,
+                                           by_trips=self.crossing.by_trips))
 
     @staticmethod
-    def _shares(table: Matrix, ways: Sequence[Movement]) -> list[Fraction]:
+    def _shares(table: Matrix, ways: Sequence[Way]) -> list[Fraction]:
         (i, j), *others = ways
         return [table[i][j], sum((table[k][m] for k, m in others), Fraction(0))]
 
-    def _join(self, j: int, ways: list[Movement]) -> None:
+    def _join(self, j: int, ways: list[Way]) -> None:
         """Joins the cells of the movements that lead to a way out."""
         target = self.crossing.into[j]
         first, priority = self._name(ways[0]), self._priority(ways[0])
@@ -139,7 +144,7 @@ class Expansion:
         if len(ways) == 1:
             self.study.links.append((first, target, self.crossing.place))
 
-    def _priority(self, way: Movement) -> Fraction:
+    def _priority(self, way: Way) -> Fraction:
         """The priority of a movement; where none is said, the lanes of its cell."""
         if self.crossing.priorities:
             return self.crossing.priorities[way[0]][way[1]]
@@ -150,14 +155,49 @@ class Expansion:
         cycle = self.crossing.cycle
         if cycle is None:
             return
-        for i, source in enumerate(self.crossing.sources):
-            own = [movement for movement in self.movements if movement[0] == i]
-            greens = {movement: green(self.crossing, movement) for movement in own}
-            together = len(set(greens.values())) == 1
-            for place, movement in [(source, own[0])] if together else [(self._name(way), way) for way in own]:
-                begin, end = greens[movement]
-                self.study.signals.append(Signal(place, None, Fraction(0), self.study.duration, cycle, end - begin,
-                                                 begin + self.crossing.offset, self.crossing.place))
+        placed: dict[str, Way] = {}
+        for movement in self.movements:
+            placed.setdefault(self._stop_line(movement), movement)
+        for place, movement in placed.items():
+            begin, end = green(self.crossing, movement)
+            self.study.signals.append(Signal(place, None, Fraction(0), self.study.duration, cycle, end - begin,
+                                             begin + self.crossing.offset, self.crossing.place))
+
+    def _actuated(self) -> ActuatedJunction:
+        """The greens of the junction where some of them follow traffic."""
+        crossing, cycle = self.crossing, self.crossing.cycle or Fraction(0)
+        apart = next((way for way in self.movements if self._stop_line(way) != crossing.sources[way[0]]), None)
+        if apart:
+            raise Problem(f"{crossing.place}.phases: greens that follow traffic are of all movements of an approach; "
+                          f"{named(crossing, apart)} has one of its own, and needs an approach of its own")
+        found = []
+        for i, phase in enumerate(crossing.phases):
+            behind = crossing.phases[(i + 1) % len(crossing.phases)].start + cycle * (i + 1 == len(crossing.phases))
+            pause = behind - phase.start - phase.green
+            if pause < 0:
+                raise Problem(f"{crossing.place}.phases[{i + 1}]: greens that follow traffic stand one behind the other")
+            roads = list(dict.fromkeys(crossing.sources[i] for i, _ in phase.movements))
+            found.append(ActuatedPhase(roads, phase.green, phase.actuation, pause))
+        return ActuatedJunction(found, crossing.offset + crossing.phases[0].start, crossing.place)
+
+    def _stop_line(self, movement: Way) -> str:
+        """The road at whose end a movement's signal stands: its approach, where all of that is green together."""
+        if not self.crossing.phases:
+            return self._name(movement)
+        greens = {green(self.crossing, way) for way in self.movements if way[0] == movement[0]}
+        return self.crossing.sources[movement[0]] if len(greens) == 1 else self._name(movement)
+
+    def _yield(self, one: Precedence) -> Yield:
+        """Who gives way in the cell of a movement to those in the cells of others."""
+        crossing = self.crossing
+        streams = [Stream(self._name(way), None, part, one.holds > 0 and way not in one.first,
+                          green(crossing, way) if crossing.phases else None, self._stop_line(way)) for way, part in one.others]
+        found = Yield(self._name(one.way), f"{one.place}, {named(crossing, one.way)}", streams, one.gaps, one.place, one.holds,
+                      one.stage if one.holds else None)
+        if crossing.cycle is not None:
+            spans = [(phase.start, phase.start + phase.green) for phase in crossing.phases if one.way in phase.permitted]
+            found.permission = Permission(crossing.cycle, crossing.offset, green(crossing, one.way), spans, one.sneakers)
+        return found
 
     def _take_off(self) -> None:
         """Takes the fewest cells that one of an approach's movements drives through off its length."""

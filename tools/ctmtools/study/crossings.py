@@ -8,25 +8,31 @@ from typing import Any
 
 from ..problem import Problem
 from .entries import Entries, Reader, list_of
-from .plan import Crossing, Matrix, Phase
+from .plan import Actuation, Crossing, Matrix, Phase
 from .quantities import duration, number, shown, word
+from .precedences import check_precedence, precedence
 from .times import Times
+from .ways import movements, named, taken_ways
 
 MOST_ARMS = 16
 
 
-def crossing(table: Entries, times: Times) -> Crossing:
-    """The junction that a table says."""
+def crossing(table: Entries, times: Times, trips: bool = False) -> Crossing:
+    """The junction that a table says; in a study with trips its shares may be left out."""
     sources, into = _arms(table, "from"), _arms(table, "into")
     matrix = _matrix(len(sources), len(into))
-    shares, turns = table.take("shares", matrix), _turns(table, times, matrix)
+    turns = _turns(table, times, matrix)
     priorities = table.take("priorities", _priorities(len(sources), len(into)), None)
     lanes = table.take("lanes", matrix, None)
+    by_trips = trips and not table.has("shares")
+    shares = table.take("shares", matrix, _allowed(table, sources, into, lanes, priorities)) if by_trips else \
+        table.take("shares", matrix)
     cycle, offset = table.take("cycle", duration, None), table.take("offset", duration, Fraction(0))
     pause = table.take("intergreen", duration, Fraction(0))
     found = Crossing(sources, into, shares, turns, priorities, lanes, cycle, offset, [],
-                     table.take("within", _truth, False), table.place)
+                     table.take("within", _truth, False), table.place, by_trips)
     phases = table.list("phases")
+    found.yields = [precedence(row, found) for row in table.list("yields")]
     table.done()
     if bool(phases) != (cycle is not None):
         raise Problem(f"{table.key('phases' if cycle is not None else 'cycle')}: is missing; phases and a cycle go "
@@ -36,19 +42,18 @@ def crossing(table: Entries, times: Times) -> Crossing:
         found.phases.append(_phase(phase, found, pause))
     found.phases.sort(key=lambda phase: phase.start)
     _check_phases(table, found)
+    check_precedence(found)
     return found
 
 
-def movements(found: Crossing) -> list[tuple[int, int]]:
-    """The movements of a junction: those that have a share at some time."""
-    tables = [found.shares, *(shares for _, _, shares in found.turns)]
-    return [(i, j) for i in range(len(found.sources)) for j in range(len(found.into))
-            if any(shares[i][j] for shares in tables)]
-
-
-def named(found: Crossing, movement: tuple[int, int]) -> str:
-    """A movement as messages say it."""
-    return f"{found.sources[movement[0]]} to {found.into[movement[1]]}"
+def _allowed(table: Entries, sources: Sequence[str], into: Sequence[str], lanes: Matrix | None,
+             priorities: Matrix | None) -> Matrix:
+    """A share of 1 for each movement that a junction without shares has: all but those to which a table gives 0."""
+    if table.has("turns"):
+        raise Problem(f"{table.key('turns')}: shares by time stand without shares; leave both out, and the junction goes by "
+                      "the trips")
+    tables = [one for one in (lanes, priorities) if one]
+    return [[Fraction(all(one[i][j] for one in tables)) for j in range(len(into))] for i in range(len(sources))]
 
 
 def _arms(table: Entries, name: str) -> list[str]:
@@ -120,6 +125,8 @@ def _phase(table: Entries, found: Crossing, pause: Fraction) -> Phase:
     start = table.take("start", duration, before.start + before.green + pause if before else Fraction(0))
     green = table.take("green", duration)
     ways = _ways(table, found)
+    permitted = taken_ways(table, "permitted", found)
+    actuation = table.take("actuated", _actuation, None)
     table.done()
     cycle = found.cycle or Fraction(0)
     said = table.has("start")
@@ -128,7 +135,19 @@ def _phase(table: Entries, found: Crossing, pause: Fraction) -> Phase:
                       f"cycle of {float(cycle):g} s")
     if not ways:
         raise Problem(f"{table.place}: no movement is green in it")
-    return Phase(start, green, ways)
+    red = next((way for way in permitted if way not in ways), None)
+    if red:
+        raise Problem(f"{table.key('permitted')}: the movement {named(found, red)} isn't green in it")
+    return Phase(start, green, ways, permitted, actuation)
+
+
+def _actuation(value: Any, key: str) -> Actuation:
+    table = Entries(value, key)
+    found = Actuation(table.take("least", duration), table.take("most", duration), table.take("gap", duration))
+    table.done()
+    if not 0 < found.least <= found.most:
+        raise Problem(f"{table.key('least')}: must be above 0 s and at most the most, {float(found.most):g} s")
+    return found
 
 
 def _ways(table: Entries, found: Crossing) -> list[tuple[int, int]]:
@@ -166,6 +185,14 @@ def green(found: Crossing, movement: tuple[int, int]) -> tuple[Fraction, Fractio
     start, cycle = own[first].start, found.cycle or Fraction(0)
     ends = [phase.start + phase.green + (cycle if phase.start < start else 0) for phase in own]
     return (Fraction(0), cycle) if len(own) == len(found.phases) > 1 else (start, max(ends))
+
+
+def common_green(first: Phase, second: Phase, cycle: Fraction) -> Fraction:
+    """For how many seconds of a cycle two phases are both green."""
+    def shared(shift: Fraction) -> Fraction:
+        return min(first.start + first.green, second.start + shift + second.green) - max(first.start, second.start + shift)
+
+    return sum((max(Fraction(0), shared(shift)) for shift in (-cycle, Fraction(0), cycle)), Fraction(0))
 
 
 def _follow(places: Sequence[int], count: int) -> bool:

@@ -89,7 +89,7 @@ class Junctions:
         self.note_place(signal.road, signal.at, boundary, what)
         return cells[boundary - 1].name
 
-    def _source(self, name: str, place: str) -> str:
+    def end_of(self, name: str, place: str) -> str:
         """The cell that a road or a gate ends in."""
         return name if name in self.study.gates else self.road_cells(name, place)[-1].name
 
@@ -125,19 +125,19 @@ class Junctions:
         for exit_ in self.study.exits.values():
             if exit_.source:
                 place = f"exits.{exit_.name}.from"
-                self._put("link", [self._source(exit_.source, place)], [exit_.name], [], place)
+                self._put("link", [self.end_of(exit_.source, place)], [exit_.name], [], place)
         for source, into, place in self.study.links:
-            self._put("link", [self._source(source, place)], [self._target(into, place)], [], place)
+            self._put("link", [self.end_of(source, place)], [self._target(into, place)], [], place)
 
     def _joints(self) -> None:
         """Puts the merges and diverges at the ends of roads."""
         for diverge in self.study.diverges:
             if diverge.at is None:
-                self._put_diverge(diverge, self._source(diverge.source, diverge.place),
+                self._put_diverge(diverge, self.end_of(diverge.source, diverge.place),
                                   [self._target(name, diverge.place) for name in diverge.into])
         for merge in self.study.merges:
             if merge.at is None:
-                self._put_merge(merge, [self._source(name, merge.place) for name in merge.sources],
+                self._put_merge(merge, [self.end_of(name, merge.place) for name in merge.sources],
                                 self._target(merge.into, merge.place))
 
     def _ramps(self) -> dict[Boundary, str]:
@@ -158,7 +158,7 @@ class Junctions:
             cut[road, boundary] = ramp.place
             before, behind = cells[boundary - 1].name, cells[boundary].name
             if isinstance(ramp, Merge):
-                self._put_merge(ramp, [before, self._source(ramp.sources[1], ramp.place)], behind)
+                self._put_merge(ramp, [before, self.end_of(ramp.sources[1], ramp.place)], behind)
             else:
                 self._put_diverge(ramp, before, [behind, self._target(ramp.into[1], ramp.place)])
         return cut

@@ -13,7 +13,7 @@ from ..units import clock_text
 from .capacities import Change, flow_left, lanes_left, least, most_opened, spans
 from .junctions import Junctions
 from .layout import HOUR, RoadCell
-from .plan import Closure, Exit, Gate, Opening, Study
+from .plan import Closure, Exit, Gate, Opening, Study, Yield
 from .rounding import told
 from .scale import Scale
 
@@ -38,6 +38,8 @@ class Limits:
             self._on_cells(closure, closed=closure.lanes or Fraction(0), capacity=closure.capacity)
         for opening in study.openings:
             self._on_cells(opening, opened=opening.lanes)
+        for one in study.yields:
+            self._gives_way(one)
         for cell in self._cells():
             self._widen(cell)
 
@@ -75,6 +77,13 @@ class Limits:
                 what = f"{place}.limits[{i}]"
                 self.add(node.name, Change(*self.scale.span(what, limit.start, limit.end), what, capacity=limit.flow))
 
+    def _gives_way(self, one: Yield) -> None:
+        """Puts what passes of those who give way on the cell that they leave."""
+        name = self.junctions.end_of(one.road, one.place)
+        for limit in one.capacities or ():
+            span = self.scale.span(one.place, limit.start, limit.end)
+            self.add(name, Change(*span, one.place, capacity=limit.flow, by_gaps=True))
+
     def _on_cells(self, work: Closure | Opening, **terms: Any) -> None:
         """Puts what a closure or an opening changes on each cell of its part of the road."""
         part = work.part
@@ -111,8 +120,8 @@ class Limits:
             yield _record(name, *last)
 
     def _overlapping(self, name: str) -> list[Span]:
-        """The spans of a cell in which several closures, openings or limits hold; red lights aren't told."""
-        works = [change for change in self.changes.get(name, ()) if not change.red]
+        """The spans of a cell in which several closures, openings or limits hold; red lights and gaps aren't told."""
+        works = [change for change in self.changes.get(name, ()) if not change.red and not change.by_gaps]
         return [span for span in spans(works) if len(span[2]) > 1]
 
     def _overlapping_cells(self) -> Overlaps:

@@ -27,6 +27,7 @@ from .scale import Scale
 from .signals import Signals
 
 MADE = "# Made by ctm-tools build"
+FIXED = "are as long as `green` says in this network"
 
 
 @dataclass
@@ -48,9 +49,12 @@ class Built:
         return network_of(self.text.encode())
 
 
-def build(study: Study) -> Built:
-    """The network of a study."""
+def build(study: Study, shares_follow: bool = False) -> Built:
+    """The network of a study. Shares that go by trips are even in it, and refused where they aren't said to follow."""
     try:
+        if study.by_trips and not shares_follow:
+            raise Problem(f"{study.by_trips[0]}.shares: are left out, so they follow from the trips; `ctm-tools assign` finds "
+                          "them")
         return Builder(study).build()
     except Problem as problem:
         raise Problem(f"{study.path}: {problem}") from None
@@ -96,10 +100,16 @@ class Builder:
         return 2 if self.junctions.turns or _is_large(records) else 1
 
     def _left_out(self) -> Iterator[str]:
-        """What of the study isn't in the network: meters with feedback, and speed limits by time."""
+        """What of the study isn't in the network: meters with feedback, who gives way, and speed limits by time."""
         for meter in self.study.meters:
             yield (f"{meter.place}: a meter with feedback is run by `ctm-tools meter` alone; ramp {meter.ramp} isn't "
                    "metered here")
+        for junction in self.study.actuated:
+            yield f"{junction.place}: its greens {FIXED}; `ctm-tools run` has them follow traffic"
+        for one in self.study.yields:
+            if one.capacities is None:
+                yield (f"{one.name}: nobody gives way in this network; `ctm-tools run` works out what passes, and writes the "
+                       "network with it")
         for limit in self.study.speed_limits:
             part, cells = limit.part, self.junctions.cells_of(limit.part)
             kept = sorted({float(cell.section.free_flow_speed) for cell in cells})
@@ -175,7 +185,8 @@ class Builder:
             yield f"exit,{exit_.name},{amount_text(capacity)}"
 
     def _units(self) -> Units:
-        units = Units(self.study.title, float(self.study.step), float(self.study.start), cycles=self.signals.cycles)
+        units = Units(self.study.title, float(self.study.step), float(self.study.start), cycles=self.signals.cycles,
+                      crs=self.study.crs)
         for road, row in self.layout.cells.items():
             units.roads[road] = [cell.name for cell in row]
             if self.study.roads[road].points:

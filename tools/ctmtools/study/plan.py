@@ -5,6 +5,10 @@ from __future__ import annotations
 from dataclasses import dataclass, field
 from fractions import Fraction
 from pathlib import Path
+from typing import TYPE_CHECKING
+
+if TYPE_CHECKING:
+    from ..uncertainty.uncertainty import Uncertainty
 
 
 @dataclass
@@ -26,7 +30,7 @@ class Section:
 
 @dataclass
 class Road:
-    """A road in one direction: its length in km, its sections in the direction of travel, its points on the map."""
+    """A road in one direction: its length in km, its sections in the direction of travel, its points on the map in km."""
 
     name: str
     length: Fraction
@@ -45,7 +49,10 @@ class Flow:
 
 @dataclass
 class Gate:
-    """Where vehicles come in: the road that it leads into, its demand, its capacity in vehicles/h where it is said."""
+    """Where vehicles come in: the road that it leads into, its demand, its capacity in vehicles/h where it is said.
+
+    Where the demand is `counted` its gaps are told with the counts.
+    """
 
     name: str
     into: str | None = None
@@ -53,6 +60,7 @@ class Gate:
     capacity: Fraction | None = None
     limits: list[Flow] = field(default_factory=list)
     first: Fraction = Fraction(0)
+    counted: bool = False
 
 
 @dataclass
@@ -67,13 +75,18 @@ class Exit:
 
 @dataclass
 class Merge:
-    """Two streams into one, with what passes of each where both queue. `at` is the km of a road that a ramp joins."""
+    """Two streams into one, with what passes of each where both queue. `at` is the km of a road that a ramp joins.
+
+    Where it says `yields_to`, the other of both gives way to that one, by `gaps`.
+    """
 
     sources: list[str]
     into: str
     priorities: list[Fraction]
     at: Fraction | None = None
     place: str = ""
+    yields_to: str | None = None
+    gaps: Gaps | None = None
 
 
 @dataclass
@@ -87,7 +100,10 @@ class Turn:
 
 @dataclass
 class Diverge:
-    """One stream into two, with turning shares and those by time. `at` is the km of a road that a ramp leaves."""
+    """One stream into two, with turning shares and those by time. `at` is the km of a road that a ramp leaves.
+
+    Where it goes `by_trips` the study leaves its shares out, and those here say nothing.
+    """
 
     source: str
     into: list[str]
@@ -95,6 +111,7 @@ class Diverge:
     turns: list[Turn] = field(default_factory=list)
     at: Fraction | None = None
     place: str = ""
+    by_trips: bool = False
 
 
 @dataclass
@@ -115,18 +132,131 @@ class Signal:
 
 
 Matrix = list[list[Fraction]]  # a row for each approach, with a number for each way out
+Way = tuple[int, int]  # a movement of a junction: the numbers of its approach and of its way out
+
+
+@dataclass(frozen=True)
+class Gaps:
+    """How drivers take gaps: the critical and the follow-up gap in s, the formula, and whether they only give way.
+
+    Who stops does so where nobody comes too, so the follow-up gap bounds what passes then; who gives way is unbounded then.
+    """
+
+    critical: Fraction
+    follow_up: Fraction
+    formula: str
+    give_way: bool = False
+
+
+@dataclass(frozen=True)
+class Precedence:
+    """That a movement of a junction gives way to others, each with the part of its flow that counts.
+
+    `holds` is how many vehicles the median has room for, 0 without one; `first` are those of the others that are crossed
+    before it, and `stage` the gaps of each of both stages. `sneakers` are the vehicles that turn at the end of a green.
+    """
+
+    way: Way
+    others: list[tuple[Way, Fraction]]
+    gaps: Gaps
+    holds: int
+    first: list[Way]
+    stage: Gaps
+    sneakers: Fraction
+    place: str
+
+
+@dataclass(frozen=True)
+class Stream:
+    """A stream with priority: the road or the gate that it leaves, at a km or at its end, and the part that counts.
+
+    In the second stage it is crossed behind the median. At a signal it is green from and to some seconds of the cycle, and waits
+    at the end of the road `queue`.
+    """
+
+    road: str
+    at: Fraction | None = None
+    part: Fraction = Fraction(1)
+    second: bool = False
+    green: tuple[Fraction, Fraction] | None = None
+    queue: str = ""
+
+
+@dataclass(frozen=True)
+class Permission:
+    """When a movement that gives way is green: the cycle and its offset in s, and seconds of the cycle.
+
+    It gives way in the `permitted` spans, and is alone in the others of its `green`; `sneakers` turn at the end of each.
+    """
+
+    cycle: Fraction
+    offset: Fraction
+    green: tuple[Fraction, Fraction]
+    permitted: list[tuple[Fraction, Fraction]]
+    sneakers: Fraction
+
+
+@dataclass
+class Yield:
+    """Who leaves a road at its end, or a gate, gives way to some streams, and what passes by time, once that is known.
+
+    `holds` and `stage` are those of a median, as of a `Precedence`.
+    """
+
+    road: str
+    name: str
+    streams: list[Stream]
+    gaps: Gaps
+    place: str
+    holds: int = 0
+    stage: Gaps | None = None
+    permission: Permission | None = None
+    capacities: list[Flow] | None = None
+
+
+@dataclass(frozen=True)
+class Actuation:
+    """How a green follows traffic: its least and most, and how long it goes on behind those who waited, in s."""
+
+    least: Fraction
+    most: Fraction
+    gap: Fraction
+
+
+@dataclass(frozen=True)
+class ActuatedPhase:
+    """A green of a junction that follows traffic: the roads or gates that have it, and the seconds from it to the next.
+
+    Where it doesn't follow traffic it lasts `green` s.
+    """
+
+    roads: list[str]
+    green: Fraction
+    actuation: Actuation | None
+    pause: Fraction
+
+
+@dataclass(frozen=True)
+class ActuatedJunction:
+    """The greens of a junction in their order, and the seconds after the study's start at which the first begins."""
+
+    phases: list[ActuatedPhase]
+    offset: Fraction
+    place: str
 
 
 @dataclass
 class Phase:
     """A green of a junction: its start after that of the cycle and its length in s, and the movements that have it.
 
-    A movement is the numbers of its approach and of its way out.
+    A movement is the numbers of its approach and of its way out. Those that are `permitted` give way in it.
     """
 
     start: Fraction
     green: Fraction
-    movements: list[tuple[int, int]]
+    movements: list[Way]
+    permitted: list[Way] = field(default_factory=list)
+    actuation: Actuation | None = None
 
 
 @dataclass
@@ -135,6 +265,7 @@ class Crossing:
 
     `priorities` and `lanes` are those of each movement, where they are said. The cycle begins `offset` s after the
     study's start; with a cycle of None there is no signal. Where `within` is true its cells are taken off the approaches.
+    Where it goes `by_trips` the study leaves its shares out, and those here say which movements there are.
     """
 
     sources: list[str]
@@ -148,6 +279,8 @@ class Crossing:
     phases: list[Phase]
     within: bool
     place: str
+    by_trips: bool = False
+    yields: list[Precedence] = field(default_factory=list)
 
 
 @dataclass
@@ -212,10 +345,50 @@ class SpeedLimit:
 
 
 @dataclass
+class Trips:
+    """Who wants to drive from a gate to an exit: flows by time, as a gate's demand, and the place in the study."""
+
+    source: str
+    into: str
+    demand: list[Flow]
+    place: str
+
+
+@dataclass
+class Share:
+    """A route's share of its pair from a time to another, in seconds after the study's start."""
+
+    start: Fraction
+    end: Fraction
+    share: Fraction
+
+
+@dataclass
+class Route:
+    """A way that is given from a gate by some roads to an exit; without shares its pair's drivers choose."""
+
+    source: str
+    into: str
+    roads: list[str]
+    shares: list[Share]
+    place: str
+
+
+@dataclass
+class Routing:
+    """How drivers choose: the most ways of a pair, the interval of choice in s, and the part of those who are informed."""
+
+    ways: int = 5
+    interval: Fraction = Fraction(300)
+    informed: Fraction = Fraction(1)
+
+
+@dataclass
 class Study:
     """A study: its step in s, the clock time of its start in s after midnight, its duration in s, and its parts.
 
-    `remarks` are lines on what was read beside its file.
+    `remarks` are lines on what was read beside its file. `crs` is the coordinate system in metres in which the points of
+    its roads lie, where that is known. What is `uncertain` of it only draws heed.
     """
 
     title: str
@@ -236,3 +409,18 @@ class Study:
     remarks: list[str] = field(default_factory=list)
     meters: list[Meter] = field(default_factory=list)
     speed_limits: list[SpeedLimit] = field(default_factory=list)
+    crs: str | None = None
+    uncertain: Uncertainty | None = None
+    trips: list[Trips] = field(default_factory=list)
+    routes: list[Route] = field(default_factory=list)
+    routing: Routing = field(default_factory=Routing)
+    ways: str | None = None  # the file of ways of a study that `assign` made
+    actuated: list[ActuatedJunction] = field(default_factory=list)
+    yields: list[Yield] = field(default_factory=list)
+    yield_interval: Fraction = Fraction(300)  # s for which what passes of those who give way is worked out
+
+    @property
+    def by_trips(self) -> list[str]:
+        """The places of the diverges and junctions whose shares follow from the trips."""
+        joints: list[Diverge | Crossing] = [*self.diverges, *self.crossings]
+        return list(dict.fromkeys(joint.place for joint in joints if joint.by_trips))

@@ -1,12 +1,19 @@
-"""What in a study can hardly be meant: lengths, speeds, densities and flows that no road has."""
+"""What in a study can hardly be meant: lengths, speeds, densities and flows that no road has, holes in demand, and phases of
+a junction in whose common green movements conflict."""
 
 from __future__ import annotations
 
 from collections.abc import Iterator
+from fractions import Fraction
+from itertools import combinations
 
+from ..network_file.warnings import MOST_OF_A_KIND
+from ..units import clock_text
+from .crossings import common_green
 from .layout import Layout
-from .plan import Section, Study
+from .plan import Crossing, Gate, Section, Study
 from .rounding import told
+from .ways import named
 
 LONGEST = 200  # km of a road
 MOST_CELLS = 20_000
@@ -31,10 +38,41 @@ def implausible(study: Study, layout: Layout) -> Iterator[str]:
             for line in _lanes(section):
                 lines[f"roads.{road.name}.{line}"] = None
         yield from lines
+    yield from _first_few([line for gate in study.gates.values() for line in _holes(study, gate)], "holes in demand")
+    for crossing in study.crossings:
+        yield from _first_few(list(_conflicts(crossing)), f"conflicts of phases at {crossing.place}")
     count = sum(map(len, layout.cells.values()))
     if count > MOST_CELLS:
         yield (f"the study has {count:,} cells, which take long; a longer step gives fewer: with {told(study.step)} s "
                "a cell is as long as the way of that time at the free-flow speed")
+
+
+def _first_few(lines: list[str], what: str) -> list[str]:
+    """The first few lines, and how many more there are of their kind."""
+    more = len(lines) - MOST_OF_A_KIND
+    return lines[:MOST_OF_A_KIND] + ([f"and {more} more {what}"] if more > 0 else [])
+
+
+def _holes(study: Study, gate: Gate) -> Iterator[str]:
+    """The times between the rows of a gate's demand in which nobody comes; where that is meant a row says 0."""
+    end = None
+    for row in sorted(gate.demand, key=lambda row: row.start) if not gate.counted else ():
+        if end is not None and row.start > end:
+            begin, behind = (clock_text(float(study.start + time)) for time in (end, row.start))
+            yield f"gates.{gate.name}.demand: nobody comes from {begin} to {behind}, a hole between its rows; is a row missing?"
+        end = max(row.end, end or row.end)
+
+
+def _conflicts(found: Crossing) -> Iterator[str]:
+    """The phases that are green together for some time, with two movements that no phase has together on purpose."""
+    together = {(one, two) for phase in found.phases for one in phase.movements for two in phase.movements}
+    for (i, first), (j, second) in combinations(enumerate(found.phases, 1), 2):
+        seconds = common_green(first, second, found.cycle or Fraction(0))
+        pair = next(((one, two) for one in first.movements for two in second.movements
+                     if one[0] != two[0] and (one, two) not in together), None)
+        if seconds and pair:
+            yield (f"{found.place}.phases: phases {i} and {j} by their start are both green for {told(seconds)} s of each cycle, with "
+                   f"{named(found, pair[0])} and {named(found, pair[1])}, which no phase has together")
 
 
 def _lanes(section: Section) -> Iterator[str]:

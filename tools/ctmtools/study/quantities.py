@@ -77,6 +77,14 @@ def whole(value: Any, key: str) -> int:
     return int(result)
 
 
+def lanes(value: Any, key: str) -> Fraction:
+    """A number of lanes, which needn't be whole."""
+    result = number(value, key)
+    if result < 0:
+        raise Problem(f"{key}: a number of lanes isn't negative, found {shown(value)}")
+    return result
+
+
 def word(value: Any, key: str) -> str:
     """A text that isn't empty."""
     if not isinstance(value, str) or not value:

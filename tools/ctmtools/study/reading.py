@@ -9,16 +9,20 @@ from typing import Any
 
 from ..given import read_as
 from ..problem import Problem, one_line
+from ..uncertainty.uncertainty import uncertainty_of
 from ..units import DAY
+from .coordinates import check_degrees, code, flat
 from .counts import flows_of_counts
 from .crossing_cells import expand
 from .crossings import crossing
 from .entries import Entries, Reader, list_of
 from .plan import (Closure, Diverge, Exit, Flow, Gate, Merge, Meter, Opening, Road, RoadPart, Section, Signal, SpeedLimit,
                    Study, Turn)
-from .quantities import clock, density, duration, flow, length, number, shown, speed, title, whole, word
+from .precedences import put_merges, take_precedence
+from .quantities import clock, density, duration, flow, lanes, length, number, shown, speed, title, whole, word
 from .slips import slip_hint
 from .times import Times
+from .trips import put_demand, read_trips
 
 LANE = ("free_flow_speed", "wave_speed", "jam_density", "saturation_flow")
 BY_TIME = ("speed limits by time are out of the model's reach: a cell is as long as the way of a step at the free-flow speed, "
@@ -72,9 +76,11 @@ def _study(entries: Entries, path: Path) -> Study:
     if study.step == 0:
         raise Problem("step: must be above 0")
     times = Times(study)
+    read_trips(entries, study, times, _flows(times, "demand"))
     lane: dict[str, Fraction] = entries.take("lane", lambda value, key: _lane(Entries(value, key)), {})
     for name, table in entries.tables("roads"):
         study.roads[name] = _road(name, table, lane)
+    _locate(study, entries.take("crs", code, None))
     for name, table in entries.tables("gates"):
         study.gates[name] = _gate(name, table, times)
     for name, table in entries.tables("exits"):
@@ -82,20 +88,42 @@ def _study(entries: Entries, path: Path) -> Study:
     study.links = [_link(table) for table in entries.list("links")]
     study.merges = [_merge(table) for table in entries.list("merges")]
     study.merges += [_on_ramp(table) for table in entries.list("on_ramps")]
-    study.diverges = [_diverge(table, times) for table in entries.list("diverges")]
-    study.diverges += [_off_ramp(table, times) for table in entries.list("off_ramps")]
+    study.diverges = [_diverge(table, times, bool(study.trips)) for table in entries.list("diverges")]
+    study.diverges += [_off_ramp(table, times, bool(study.trips)) for table in entries.list("off_ramps")]
     study.signals = [signal for table in entries.list("signals") for signal in _signals(table, times)]
     study.closures = [_closure(table, times) for table in entries.list("closures")]
     study.openings = [_opening(table, times) for table in entries.list("openings")]
     study.remarks += entries.take("notes", list_of(title), [])
     study.meters = [_meter(table, times) for table in entries.list("meters")]
     study.speed_limits = [_speed_limit(table, times) for table in entries.list("speed_limits")]
-    study.crossings = [crossing(table, times) for table in entries.list("junctions")]
+    study.crossings = [crossing(table, times, bool(study.trips)) for table in entries.list("junctions")]
+    study.uncertain = uncertainty_of(entries.list("uncertain"), times)
+    study.yield_interval = entries.take("yield_interval", duration, Study.yield_interval)
+    if study.yield_interval < study.step:
+        raise Problem("yield_interval: must be a step or more")
     entries.done()
     if not study.roads and not study.gates:
         raise Problem("roads: is missing")
+    put_demand(study)
+    put_merges(study)
     expand(study)
+    if study.actuated and study.yields:
+        raise Problem(f"{study.actuated[0].place}.phases: greens that follow traffic and `yields` don't stand in one study")
     return study
+
+
+def _locate(study: Study, crs: str | None) -> None:
+    """Takes the points of roads from a coordinate system into km of one in metres; without one they are in km."""
+    roads = [road for road in study.roads.values() if road.points] if crs else []
+    points = [(x, y) for road in roads for x, y in road.points]
+    if crs is None or not points:
+        return
+    for road in roads:
+        check_degrees([(x, y) for x, y in road.points], crs, f"roads.{road.name}.points")
+    study.crs, places = flat(points, crs, "crs")
+    rest = iter(places)
+    for road in roads:
+        road.points = [list(next(rest)) for _ in road.points]
 
 
 def _duration_of(entries: Entries, start: Fraction) -> Fraction:
@@ -192,9 +220,10 @@ def _flow_row(row: Any, key: str, times: Times) -> Flow:
 
 
 def _gate(name: str, table: Entries, times: Times) -> Gate:
+    counted = isinstance(table.values.get("demand"), dict)
     gate = Gate(name, table.take("into", word, None), table.take("demand", _flows(times, "demand"), []),
                 table.take("capacity", flow, None), table.take("limits", _flows(times, "limits"), []),
-                table.take("first", number, Fraction(0)))
+                table.take("first", number, Fraction(0)), counted)
     table.done()
     return gate
 
@@ -222,6 +251,7 @@ def _weights(value: Any, key: str) -> list[Fraction]:
 def _merge(table: Entries) -> Merge:
     merge = Merge(table.take("from", list_of(word, 2)), table.take("into", word), table.take("priorities", _weights),
                   place=table.place)
+    take_precedence(table, merge)
     table.done()
     return merge
 
@@ -230,6 +260,7 @@ def _on_ramp(table: Entries) -> Merge:
     road = table.take("road", word)
     merge = Merge([road, table.take("ramp", word)], road, table.take("priorities", _weights), table.take("at", length),
                   table.place)
+    take_precedence(table, merge)
     table.done()
     return merge
 
@@ -243,19 +274,29 @@ def _turns(table: Entries, times: Times) -> list[Turn]:
     return turns
 
 
-def _diverge(table: Entries, times: Times) -> Diverge:
-    diverge = Diverge(table.take("from", word), table.take("into", list_of(word, 2)), table.take("shares", _weights),
-                      _turns(table, times), place=table.place)
+def _diverge(table: Entries, times: Times, trips: bool) -> Diverge:
+    diverge = Diverge(table.take("from", word), table.take("into", list_of(word, 2)), _shares(table, trips),
+                      _turns(table, times), place=table.place, by_trips=not table.has("shares"))
     table.done()
     return diverge
 
 
-def _off_ramp(table: Entries, times: Times) -> Diverge:
+def _off_ramp(table: Entries, times: Times, trips: bool) -> Diverge:
     road = table.take("road", word)
-    diverge = Diverge(road, [road, table.take("ramp", word)], table.take("shares", _weights), _turns(table, times),
-                      table.take("at", length), table.place)
+    diverge = Diverge(road, [road, table.take("ramp", word)], _shares(table, trips), _turns(table, times),
+                      table.take("at", length), table.place, not table.has("shares"))
     table.done()
     return diverge
+
+
+def _shares(table: Entries, trips: bool) -> list[Fraction]:
+    """The shares of a diverge; where the study has trips they may be left out, with those by time."""
+    if not trips or table.has("shares"):
+        return table.take("shares", _weights)
+    if table.has("turns"):
+        raise Problem(f"{table.key('turns')}: shares by time stand without shares; leave both out, and the diverge goes by "
+                      "the trips")
+    return table.take("shares", _weights, [Fraction(1), Fraction(1)])
 
 
 def _signals(table: Entries, times: Times) -> list[Signal]:
@@ -284,15 +325,8 @@ def _part(table: Entries, times: Times) -> RoadPart:
                     *times.span(table), table.place)
 
 
-def _lanes(value: Any, key: str) -> Fraction:
-    lanes = number(value, key)
-    if lanes < 0:
-        raise Problem(f"{key}: a number of lanes isn't negative, found {shown(value)}")
-    return lanes
-
-
 def _closure(table: Entries, times: Times) -> Closure:
-    closure = Closure(_part(table, times), table.take("lanes", _lanes, None), table.take("capacity", flow, None),
+    closure = Closure(_part(table, times), table.take("lanes", lanes, None), table.take("capacity", flow, None),
                       table.take("saturation_flow", flow, None))
     table.done()
     if (closure.lanes is None) == (closure.capacity is None):
@@ -301,7 +335,7 @@ def _closure(table: Entries, times: Times) -> Closure:
 
 
 def _opening(table: Entries, times: Times) -> Opening:
-    opening = Opening(_part(table, times), table.take("lanes", _lanes), table.take("saturation_flow", flow, None))
+    opening = Opening(_part(table, times), table.take("lanes", lanes), table.take("saturation_flow", flow, None))
     table.done()
     if opening.lanes == 0:
         raise Problem(f"{table.key('lanes')}: must be above 0")

@@ -3,9 +3,11 @@
 from __future__ import annotations
 
 from collections.abc import Iterator
+from dataclasses import replace
 
 from ..network_file.warnings import shortened, warnings_of
-from .network_text import Built
+from .network_text import Built, build
+from .plan import Study
 
 
 def told(built: Built) -> Iterator[str]:
@@ -22,3 +24,8 @@ def warned(built: Built) -> Iterator[str]:
     """The warnings of a built study: what in it can hardly be meant."""
     for line in [*built.warnings, *shortened(warnings_of(built.network, built.units), lines=False)]:
         yield f"warning: {line}"
+
+
+def warned_before_runs(study: Study) -> Iterator[str]:
+    """The warnings of a study of which each run works out what passes by giving way."""
+    yield from warned(build(replace(study, yields=[replace(one, capacities=[]) for one in study.yields])))

@@ -10,7 +10,8 @@ from typing import Any
 
 import pandas
 
-from ..problem import Problem, reason
+from ..files import begun_anew
+from ..problem import Problem
 from .task import MEASURES
 from .variations import shown
 
@@ -30,7 +31,8 @@ class Results:
         self.rows: dict[str, dict[str, Any]] = {}
         if path is not None:
             self.rows = {row["fingerprint"]: row for row in self._read(path) if not row["error"]}
-        self.file = io.StringIO() if path is None else self._begun_anew(path)
+        self.file = io.StringIO() if path is None else \
+            begun_anew(path, self.columns, ([str(row[name]) for name in self.columns] for row in self.rows.values()))
         self.writer = csv.DictWriter(self.file, self.columns)
 
     @property
@@ -45,6 +47,9 @@ class Results:
         with open(path, newline="") as file:
             reader = csv.DictReader(file)
             if reader.fieldnames and reader.fieldnames != self.columns:
+                if self._keys(reader.fieldnames) == self._keys(self.columns):
+                    raise Problem(f"{path}: has other measures, as another version of these tools wrote it; name another folder "
+                                  "with -o")
                 raise Problem(f"{path}: has the results of a sweep over {self._keys(reader.fieldnames)}; name "
                               "another folder with -o")
             for row in reader:
@@ -54,21 +59,6 @@ class Results:
     @staticmethod
     def _keys(columns: Sequence[str]) -> str:
         return ", ".join(column for column in columns if column not in BEHIND) or "nothing"
-
-    def _begun_anew(self, path: Path) -> io.TextIOBase:
-        """Writes the whole rows anew, into the file's place at once, and gives the file, open for those to come."""
-        anew = path.with_suffix(".new")
-        try:
-            path.parent.mkdir(parents=True, exist_ok=True)
-            file = open(anew, "w", newline="")
-            writer = csv.DictWriter(file, self.columns)
-            writer.writeheader()
-            writer.writerows(self.rows.values())
-            file.flush()
-            anew.replace(path)
-        except OSError as error:
-            raise Problem(f"{path}: {reason(error)}") from None
-        return file
 
     def put(self, changes: Mapping[str, Any], measured: Mapping[str, Any], mark: str) -> None:
         """Adds the row of a run, and writes it at once."""

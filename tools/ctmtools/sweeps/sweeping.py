@@ -4,6 +4,7 @@ from __future__ import annotations
 
 from collections.abc import Iterator, Sequence
 from contextlib import closing
+from dataclasses import replace
 from pathlib import Path
 
 import pandas
@@ -11,9 +12,8 @@ import pandas
 from ..problem import NoSuchKey, Problem
 from ..program import program_path, takes
 from ..running import processors
-from ..study.network_text import build
 from ..study.reading import read_values
-from ..study.telling import warned
+from ..study.telling import warned_before_runs
 from .results import Results
 from .task import Task, fingerprint, study
 from .variations import Variation, combinations
@@ -48,7 +48,7 @@ class Sweep:
     def warnings(self) -> list[str]:
         """The warnings of the first run's study; none where it can't be built, since its row says why."""
         try:
-            return list(warned(build(study(self.tasks[0]))))
+            return list(warned_before_runs(replace(study(self.tasks[0]), actuated=[])))  # each run has its greens follow traffic
         except Problem:
             return []
 

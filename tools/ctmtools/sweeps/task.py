@@ -3,6 +3,7 @@
 from __future__ import annotations
 
 import hashlib
+from collections.abc import Sequence
 from dataclasses import dataclass
 from fractions import Fraction
 from pathlib import Path
@@ -11,18 +12,18 @@ from typing import Any
 import numpy
 
 from ..problem import NoSuchKey, Problem, one_line
-from ..report.queues import queues_in
+from ..report.queues import Queue, queues_in
 from ..report.reading import Report
 from ..report.travel import chain_of, trips
-from ..running import run
-from ..study.network_text import build
+from ..report.upstream import waiting_upstream
+from ..running import run, settled_by_runs
 from ..study.plan import Study
 from ..study.reading import study_of
 from ..study.rounding import Rounding
 from .variations import changed
 
 MEASURES = ("delay_vehicle_hours", "longest_queue_km", "most_waiting_vehicles", "served_vehicles", "inside_vehicles",
-            "travel_time_min")
+            "travel_time_min", "waiting_upstream_vehicles")
 
 
 @dataclass(frozen=True)
@@ -41,16 +42,20 @@ def measure(task: Task) -> dict[str, Any]:
 
     Delay is in vehicle-hours, the longest queue in km of whole cells, most waiting are the vehicles that waited at once
     in one queue, on roads and in gates, the travel time is the mean of the longest route from a gate, with the wait in
-    it, of those who have arrived, and the rest is in vehicles at the end.
+    it, of those who have arrived. Waiting upstream are the most vehicles in a gate behind a queue that reached the upstream end
+    of the model, which is longer than told. The rest is in vehicles at the end.
     """
     try:
         if not Path(task.program).exists():
             raise Problem(f"there is no program {task.program} on this machine")
-        built = build(study(task))
+        found = settled_by_runs(study(task), 1, task.program)
+        built = found.built
         _, report = run(built.text.encode(), "the built network", built.units, task.every, 1, task.program)
-        values = (report.units.hours(report.total.delay), *_greatest(report), report.total.left, report.total.inside,
-                  _travel_time(report))
-        return {**dict(zip(MEASURES, map(float, values))), "rounded": rounded(built.rounding), "error": ""}
+        queues = queues_in(report)
+        values = (report.units.hours(report.total.delay), *_greatest(queues), report.total.left, report.total.inside,
+                  _travel_time(report), waiting_upstream(report, queues))
+        return {**dict(zip(MEASURES, map(float, values))), "rounded": "; ".join(filter(None, [rounded(built.rounding), found.doubt])),
+                "error": ""}
     except Problem as problem:
         return failed(problem)
     except Exception as error:  # whatever it is, it is this run's, and the other runs go on
@@ -69,9 +74,8 @@ def rounded(rounding: Rounding) -> str:
     return f"{notes[0]}{more}" if notes else ""
 
 
-def _greatest(report: Report) -> tuple[float, float]:
+def _greatest(queues: Sequence[Queue]) -> tuple[float, float]:
     """The way that the longest queue reached back, in km, and the most vehicles that waited in one queue."""
-    queues = queues_in(report)
     return (max((queue.longest_reach for queue in queues), default=0.0),
             max((queue.most for queue in queues), default=0.0))
 

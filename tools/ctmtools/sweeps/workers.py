@@ -3,15 +3,18 @@
 from __future__ import annotations
 
 import io
-import signal
+import logging
 import tempfile
+import time
 import zipfile
 from collections.abc import Callable, Generator, Sequence
 from concurrent.futures import ProcessPoolExecutor, as_completed
 from concurrent.futures.process import BrokenProcessPool
+from contextlib import suppress
 from pathlib import Path
 from typing import TYPE_CHECKING, Any
 
+from ..interrupt import INTERRUPTS, check, end_group, later, leave_to_the_first
 from ..problem import Problem, one_line
 from .task import failed, measure
 
@@ -21,6 +24,8 @@ if TYPE_CHECKING:
 PACKAGE = Path(__file__).resolve().parents[1]
 TRIES = 3  # so often processes are begun anew where one was ended from outside
 PATIENCE = 15  # seconds until a cluster has to answer
+PAUSE = 0.05  # seconds between looks at what a cluster has done
+LEAVE = 1  # seconds until a cluster that is left has to have said so
 
 Work = Callable[[Any], dict[str, Any]]  # what is done with each task; it gives what it measured
 Done = Generator[tuple[int, dict[str, Any]], None, None]  # the place of each task and what it measured, as they come
@@ -29,57 +34,94 @@ Done = Generator[tuple[int, dict[str, Any]], None, None]  # the place of each ta
 def here(tasks: Sequence[Any], work: Work = measure) -> Done:
     """Runs the tasks one by one, and gives the place of each and what it measured."""
     for i, task in enumerate(tasks):
-        yield i, work(task)
+        measured = work(task)
+        check()  # a run that was interrupted may have been taken for one that failed
+        yield i, measured
 
 
 def beside(tasks: Sequence[Any], count: int, work: Work = measure) -> Done:
     """Runs the tasks on so many processes; where one is ended from outside, what is missing is given out again."""
     missing = dict(enumerate(tasks))
     for _ in range(TRIES):
-        pool = ProcessPoolExecutor(max_workers=count, initializer=_leave_interrupts)
+        pool = ProcessPoolExecutor(max_workers=count, initializer=leave_to_the_first)
         try:
-            futures = {pool.submit(work, task): i for i, task in missing.items()}
+            with later():  # the processes are begun at the first task that is given out
+                futures = {pool.submit(work, task): i for i, task in missing.items()}
+            INTERRUPTS.groups |= _processes(pool)
             for future in as_completed(futures):
                 result = future.result()
                 del missing[futures[future]]
                 yield futures[future], result
+            pool.shutdown()  # whoever ends right behind this leaves no thread of it at work
             return
         except BrokenProcessPool:
             continue
         finally:
-            pool.shutdown(wait=False, cancel_futures=True)
+            _end(pool, at_once=bool(missing))
     for i in missing:
         yield i, failed(f"its process was ended from outside {TRIES} times")
 
 
-def _leave_interrupts() -> None:
-    """An interrupt from the keyboard is the first process's alone to answer."""
-    signal.signal(signal.SIGINT, signal.SIG_IGN)
+def _processes(pool: ProcessPoolExecutor) -> set[int]:
+    """The process groups of a pool, which each of its processes begins."""
+    return set(pool._processes or ())
+
+
+def _end(pool: ProcessPoolExecutor, at_once: bool) -> None:
+    """Ends the processes of a pool, those that are at work too where nobody waits for them any more."""
+    groups = _processes(pool)
+    if at_once:
+        for group in groups:
+            end_group(group)
+    INTERRUPTS.groups -= groups
+    pool.shutdown(wait=False, cancel_futures=True)
 
 
 def cluster(tasks: Sequence[Any], address: str, work: Work = measure) -> Done:
     """Runs the tasks on the workers of the Dask cluster at an address; a lost worker's are given to the others."""
     from distributed import Client
 
+    _be_quiet()
     try:
         client = Client(address, timeout=PATIENCE)
     except (OSError, TimeoutError, ValueError) as error:
         raise Problem(f"--dask {address}: no scheduler answers there: {one_line(error)}") from None
     _send_package(client)
-    return _gathered(client, tasks, work)
+    return _gathered(client, tasks, address, work)
 
 
-def _gathered(client: Client, tasks: Sequence[Any], work: Work = measure) -> Done:
+def _be_quiet() -> None:
+    """Has Dask write nothing of its own: what is wrong is told here, in one line."""
+    for name in list(logging.root.manager.loggerDict):
+        if name.partition(".")[0] == "distributed":
+            logging.getLogger(name).setLevel(logging.CRITICAL)
+
+
+def _gathered(client: Client, tasks: Sequence[Any], address: str, work: Work = measure) -> Done:
     """Gives the tasks to a cluster, and what they measured as it comes."""
     from distributed import as_completed as completed
 
-    with client:
+    try:
         futures = {client.submit(work, task, pure=False): i for i, task in enumerate(tasks)}
-        for future in completed(list(futures)):
-            if future.status == "finished":
-                yield futures[future], future.result()
-            else:
-                yield futures[future], failed(f"{type(future.exception()).__name__}: {future.exception()}")
+        waiting = completed(list(futures))
+        while not waiting.is_empty():
+            batch = waiting.next_batch(block=False)
+            if _is_lost(client) or any(future.status in ("cancelled", "lost") for future in batch):
+                raise Problem(f"--dask {address}: the scheduler doesn't answer any more; begin it and its workers again, and the "
+                              "same call goes on with what is missing")
+            for future in batch:
+                yield futures[future], future.result() if future.status == "finished" else \
+                    failed(f"{type(future.exception()).__name__}: {future.exception()}")
+            if not batch:
+                time.sleep(PAUSE)
+    finally:
+        with suppress(Exception):  # a client that has lost its scheduler can't take leave of it
+            client.close(timeout=LEAVE)
+
+
+def _is_lost(client: Client) -> bool:
+    """Whether a client has lost its scheduler, to which it may try to come back in vain."""
+    return client.status != "running" or client.scheduler_comm is None or client.scheduler_comm.closed()
 
 
 def _send_package(client: Client) -> None:

@@ -1,0 +1,29 @@
+use Rattle.std.specs.Prelude.{slice_index}
+use Rattle.std.proofs.Common.{◌≡◌, ℕ, List, ap, ◌∙◌, arith}
+use Rattle.network_file.specs.Network.{Network}
+use Rattle.region_cut.specs.Cuttings.{region_count}
+use Rattle.region_step.specs.Start.{zero_start}
+use Rattle.region_step.proofs.Steps.{zero_start-at}
+use Rattle.snapshot.specs.Rooms.{RoomValue}
+use Rattle.snapshot.specs.Snapshots.{IsSnapshot}
+use Rattle.border_rows.specs.declared.view.Terms.{Terms}
+use Rattle.network_run.proofs.run.Run.show_near.Goals as goal
+
+pub returns-clause-near : goal.returns-clause-near
+returns-clause-near g c =
+    let net : Network = c.args.net.now in
+    let terms : Terms = c.args.self.now.terms in
+    let cut : List ℕ = terms.chart.now.cut in
+    let room : RoomValue = c.show_on_the_way.new.room in
+    let steps : c.net.inside.steps ≡ net.steps = ap (λ n. n.steps) c.net.view_is in
+    let same = c.take_to.ensures.terms in
+    let shows : IsSnapshot net cut (zero_start net cut) room = rw (same, c.requires.network, c.requires.start) at c.show_on_the_way.ensures.snapshot in
+    let count : region_count c.take_to.new.self.terms.chart.now.cut ≡ region_count cut = ap (λ (t : Terms). region_count t.chart.now.cut) same in
+    let zero : (r : ℕ) → slice_index c.take_to.new.self.terms.start.now.steps r ≡ 0 =
+    λ r. ap (λ (t : Terms). slice_index t.start.now.steps r) same ∙ ap (λ start. slice_index start.steps r) c.requires.start ∙ zero_start-at net cut r in
+    record {
+      lawful = shows.lawful;
+      between = λ r there.
+          let between = c.show_on_the_way.ensures.between r (omega (arith, there, count)) in
+          (omega (arith, c.take_to.ensures.done r there, between.0), omega (arith, between.1, zero r, steps, c.requires.in_time));
+    }

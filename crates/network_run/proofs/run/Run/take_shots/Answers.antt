@@ -1,0 +1,51 @@
+use Rattle.std.specs.Prelude.{slice_index}
+use Rattle.std.proofs.Common.{◌≡◌, ◌+◌, ◌++◌, ℕ, List, ap, subst, sym, ◌∙◌, arith}
+use Rattle.network_file.specs.Network.{IsNetwork, Network}
+use Rattle.flow_model.specs.declared.row.Row.{Row}
+use Rattle.region_cut.specs.Cuttings.{region_count}
+use Rattle.region_step.specs.Start.{zero_start}
+use Rattle.region_step.proofs.Steps.{zero_start-at}
+use Rattle.snapshot.specs.Rooms.{IsRoomFor, RoomValue}
+use Rattle.shot_lines.specs.ShotText.{shot_lines}
+use Rattle.snapshot.specs.Shots.{IsShotBetween, goal_of, rows_at}
+use Rattle.snapshot.specs.Snapshots.{IsSnapshot}
+use Rattle.snapshot.proofs.ShotLaws.{shot-between, shown-rows}
+use Rattle.shot_lines.proofs.ManyShots.{AreFirstShots, shots-more}
+use Rattle.worker_claim.proofs.Telling.{told-more}
+use Rattle.border_rows.specs.declared.view.Terms.{Terms}
+use Rattle.network_run.proofs.run.Run.take_shots.Goals as goal
+
+pub loop-i-preserved : goal.loop-i-preserved
+loop-i-preserved g c =
+    let net : Network = c.args.net.now in
+    let cut : List ℕ = c.args.chart.now.cut in
+    let i : ℕ = c.loop-i.i in
+    let inv = c.loop-i.invariant in
+    let came = c.show_on_the_way.ensures in
+    let room : RoomValue = c.show_on_the_way.new.room in
+    let sound : IsNetwork net = subst IsNetwork c.net.view_is c.net.invariant in
+    let same = inv.0 in
+    let terms : Terms = c.args.self.now.terms in
+    let same_net = ap (λ (t : Terms). t.net.now) same ∙ c.requires.network.0 in
+    let same_chart = ap (λ (t : Terms). t.chart.now) same ∙ c.requires.network.1 in
+    let same_start = ap (λ (t : Terms). t.start.now) same ∙ c.requires.start in
+    let goal : c.goal_at-goal.result ≡ goal_of net.steps c.args.shots (i + 1) = c.goal_at-goal.ensures.goal in
+    let fits : IsRoomFor c.args.chart.now room = subst (λ chart. IsRoomFor chart room) same_chart came.room in
+    let shows : IsSnapshot net cut (zero_start net cut) room = rw (same_net, same_chart, same_start) at came.snapshot in
+    let count : region_count c.loop-i.self.terms.chart.now.cut ≡ region_count cut = ap (λ chart. region_count chart.cut) same_chart in
+    let zero : (r : ℕ) → slice_index c.loop-i.self.terms.start.now.steps r ≡ 0 = λ r. ap (λ start. slice_index start.steps r) same_start ∙ zero_start-at net cut r in
+    let shot : IsShotBetween net cut (goal_of net.steps c.args.shots i) (goal_of net.steps c.args.shots (i + 1)) room.steps =
+    shot-between net cut (goal_of net.steps c.args.shots i) (goal_of net.steps c.args.shots (i + 1)) room.steps sound shows.lawful
+    (λ r there.
+    let between = came.between r (omega (arith, there, count)) in
+    (omega (arith, inv.3 r there, between.0), omega (arith, between.1, zero r, goal))) in
+    let rows : room.rows ≡ rows_at net cut room.steps = shown-rows net c.args.chart.now room sound c.requires.one_each fits shows in
+    let text : c.shot_text.new.text.items ≡ c.loop-i.text.items ++ shot_lines net cut (i + 1) room.steps (rows_at net cut room.steps) =
+    c.in_ok-shot_text.ensures.text ∙ ap (λ (shown : List Row). c.loop-i.text.items ++ shot_lines net cut (i + 1) room.steps shown) rows in (
+      came.terms ∙ same,
+      fits,
+      omega (arith, came.reach, goal),
+      (λ r there. omega (arith, came.done r (omega (arith, there, count)), goal)),
+      subst (AreFirstShots net cut c.args.shots (i + 1)) (sym text) (shots-more net cut c.args.shots i c.loop-i.text.items room.steps inv.4 shot),
+      told-more (g.G.Gate.told_held c.args.gate.now) (g.G.Gate.told_freed c.args.gate.now) c.args.self.now.knows.log c.loop-i.self.knows.log c.show_on_the_way.new.self.knows.log inv.5 came.told,
+    )

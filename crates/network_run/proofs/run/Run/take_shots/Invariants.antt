@@ -1,0 +1,15 @@
+use Rattle.std.proofs.Common.{◌≡◌, ◌≤◌}
+use Rattle.region_cut.specs.Cuttings.{region_count}
+use Rattle.snapshot.specs.Rooms.{IsRoomFor}
+use Rattle.snapshot.specs.Shots.{goal_of}
+use Rattle.shot_lines.proofs.ManyShots.{AreFirstShots}
+use Rattle.worker_claim.specs.Driving.{AllReach}
+use Rattle.worker_claim.specs.Telling.{AreTold}
+use Rattle.network_run.proofs.run.Run.take_shots.Given as goal
+
+-- so many shots are taken, and the run has come to the last one's goal
+abbrev pub invariant-loop-i : goal.invariant-loop-i
+invariant-loop-i g l = (l.self.terms ≡ l.initial.self.terms) × IsRoomFor l.chart l.room ×
+    (l.self.knows.reach ≤ goal_of l.net.steps l.shots l.i) × AllReach (region_count l.chart.cut) (goal_of l.net.steps l.shots l.i) l.self.knows ×
+    AreFirstShots l.net l.chart.cut l.shots l.i l.text.items ×
+    AreTold (g.G.Gate.told_held l.gate) (g.G.Gate.told_freed l.gate) l.initial.self.knows.log l.self.knows.log

@@ -1,0 +1,32 @@
+-- What contracts see of a run.
+use Rattle.std.specs.Prelude.{ℕ, ◌+◌, ◌<◌, ◌≤◌, List, replicate, slice_index}
+use Rattle.std.specs.List.{Contains}
+use Rattle.region_cut.specs.Cuttings.{region_count}
+use Rattle.region_step.specs.Region.{RegionValue}
+use Rattle.region_step.specs.Standing.{AllStand}
+use Rattle.border_rows.specs.declared.view.PublishedStep.{PublishedStep}
+use Rattle.border_rows.specs.declared.view.Terms.{Terms}
+use Rattle.border_rows.specs.declared.view.View.{View}
+use Rattle.worker_claim.specs.Driving.{AllReach}
+
+-- what it was opened with, and what its pass knows
+pub record RunValue : Type 0 where
+  pub terms : Terms
+  pub knows : View
+
+-- a log that has each step which so many regions make from where they start to a goal
+abbrev pub HasLogged : (count : ℕ) → (starts : List ℕ) → (goal : ℕ) → List PublishedStep → Type 0
+HasLogged count starts goal log =
+    (r s : ℕ) → r < count → slice_index starts r ≤ s → s < goal → Contains log (record { region = r; step = s + 1 })
+
+-- its regions stand at any goal that all have come to, where none started or went past it
+abbrev pub StandWhereTheyCame : RunValue → List RegionValue → Type 0
+StandWhereTheyCame run regions =
+    (goal : ℕ) → AllReach (region_count run.terms.chart.now.cut) goal run.knows → run.knows.reach ≤ goal →
+    ((r : ℕ) → r < region_count run.terms.chart.now.cut → slice_index run.terms.start.now.steps r ≤ goal) →
+    AllStand run.terms.net.now run.terms.chart.now run.terms.start.now run.terms.every (replicate (region_count run.terms.chart.now.cut) goal) regions
+
+-- and up to such a goal its log is whole
+abbrev pub IsLoggedWhereTheyCame : RunValue → Type 0
+IsLoggedWhereTheyCame run =
+    (goal : ℕ) → AllReach (region_count run.terms.chart.now.cut) goal run.knows → HasLogged (region_count run.terms.chart.now.cut) run.terms.start.now.steps goal run.knows.log

@@ -1,0 +1,65 @@
+"""The tree that is installed: which files it has, and where each comes from."""
+
+import shutil
+from pathlib import Path
+
+import completions
+from built import PROGRAMS, TOP, Built
+from word_table import read_table
+
+DOCUMENTS = ("README.md", "CHANGELOG.md", "docs/*.md", "docs/pictures/*", "examples/README.md", "examples/*.csv",
+             "examples/*.toml", "examples/*.plans", "examples/*.report", "examples/validation/*")
+TOOLS_DOCUMENTS = ("tools/README.md", "tools/docs/*.md")
+LICENSES = ("LICENSE-*",)
+
+
+def lay_programs(folder: Path, built: Built) -> None:
+    """The programs, their commands, manual pages and completions."""
+    for name, path in zip(PROGRAMS, (built.program, built.waiting_program)):
+        copy(path, folder / "lib/ctm" / name, 0o755)
+    for name in ("words", "words.table", "waiting"):
+        copy(TOP / "launcher" / name, folder / "lib/ctm" / name)
+    put(folder / "lib/ctm/BUILD", built.note)
+    for name in ("ctm", "ctm-wait"):
+        copy(TOP / "launcher/installed" / name, folder / "bin" / name, 0o755)
+        copy(TOP / f"docs/{name}.1", folder / f"share/man/man1/{name}.1")
+    table = read_table()
+    put(folder / "share/bash-completion/completions/ctm", completions.bash_completion(table))
+    put(folder / "share/zsh/site-functions/_ctm", completions.zsh_completion(table))
+    put(folder / "share/fish/vendor_completions.d/ctm.fish", completions.fish_completion(table))
+
+
+def lay_documents(folder: Path, patterns: tuple[str, ...] = DOCUMENTS) -> None:
+    """The documents and examples, beside each other as in the repository."""
+    for pattern in patterns:
+        for path in sorted(TOP.glob(pattern)):
+            copy(path, folder / "share/doc/ctm" / path.relative_to(TOP))
+
+
+def lay_tools(folder: Path, python: str, command: Path) -> None:
+    """The engineers' tools, in this folder of Python's packages, with this command, their manual page and documents."""
+    lay_package(folder / python)
+    copy(command, folder / "bin/ctm-tools", 0o755)
+    copy(TOP / "docs/ctm-tools.1", folder / "share/man/man1/ctm-tools.1")
+    lay_documents(folder, TOOLS_DOCUMENTS)
+
+
+def lay_package(folder: Path) -> None:
+    """The Python package ctmtools."""
+    for path in sorted((TOP / "tools/ctmtools").rglob("*")):
+        if path.is_file() and path.suffix != ".pyc":
+            copy(path, folder / path.relative_to(TOP / "tools"))
+
+
+def copy(source: Path, target: Path, mode: int = 0o644) -> None:
+    """Copies a file, whose mode is then this one."""
+    target.parent.mkdir(parents=True, exist_ok=True)
+    shutil.copyfile(source, target)
+    target.chmod(mode)
+
+
+def put(target: Path, text: str, mode: int = 0o644) -> None:
+    """Writes a file."""
+    target.parent.mkdir(parents=True, exist_ok=True)
+    target.write_text(text)
+    target.chmod(mode)

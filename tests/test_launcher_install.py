@@ -1,0 +1,248 @@
+"""./ctm --install and --uninstall: what stands under the prefix before, after, and where a call is broken off."""
+
+import itertools
+import os
+import re
+import shutil
+import subprocess
+import sys
+from pathlib import Path
+
+import pytest
+from conftest import TOP
+
+sys.path[:0] = [str(TOP / "launcher"), str(TOP / "packaging")]
+from prefix import Prefix
+
+PLAIN = {"PATH": "/usr/bin:/bin", "HOME": "/nonexistent"}
+# What changes a file system, by the names under which Python tells it.
+CHANGES = {"os.mkdir", "os.symlink", "os.rename", "os.remove", "os.rmdir", "os.chmod", "shutil.copyfile"}
+KILLED = 9
+
+
+@pytest.fixture
+def installing(built):
+    """A repository whose program is built, with all that ./ctm --install takes from it."""
+    for folder in ("packaging", "docs", "examples"):
+        shutil.copytree(TOP / folder, built.top / folder, ignore=shutil.ignore_patterns("__pycache__"))
+    shutil.copytree(TOP / "tools/ctmtools", built.top / "tools/ctmtools", ignore=shutil.ignore_patterns("__pycache__"))
+    for path in ("README.md", "CHANGELOG.md", "LICENSE-MIT", "tools/README.md", "tools/find-python"):
+        shutil.copy(TOP / path, built.top / path)
+    return built
+
+
+def standing(folder):
+    """All that stands in a folder: of each file its bytes, of each link where it leads."""
+    def what(path):
+        return os.readlink(path) if path.is_symlink() else path.read_bytes() if path.is_file() else None
+    return {str(path.relative_to(folder)): what(path) for path in sorted(Path(folder).rglob("*"))}
+
+
+def run(command, *words, given=b"a\n"):
+    """The status of an installed command and what it wrote, as it is called without anything of the repository."""
+    ended = subprocess.run([command, *words], input=given, env=PLAIN, cwd="/", stdout=subprocess.PIPE, stderr=subprocess.PIPE)
+    return ended.returncode, ended.stdout.decode(), ended.stderr.decode()
+
+
+def test_a_prefix_gets_the_programs_once_and_is_left_as_it_was(installing, tmp_path):
+    prefix = tmp_path / "prefix"
+    (prefix / "bin").mkdir(parents=True)
+    (prefix / "bin/other").write_text("other\n")
+    (prefix / "share/man/man1").mkdir(parents=True)
+    before = standing(prefix)
+    status, out, err = installing.call("--install", str(prefix))
+    told = f"ctm 1.0, commit unknown is installed under {prefix}; its commands are in {prefix}/bin, which isn't on the path\n"
+    assert status == 0 and out == told
+    assert "5 of 5: ctm_wait" in err, "what isn't built yet is built"
+    assert run(prefix / "bin/ctm", "run") == (0, "a\ndone\n", "")
+    assert run(prefix / "bin/ctm-wait", "2") == (0, "a\nby 2\n", "")
+    assert run(prefix / "bin/ctm-tools", "--version")[1].endswith("/lib/ctm/ctm_program, the packaged one\n")
+    assert set(standing(prefix / "share/man/man1")) == {"ctm.1", "ctm-wait.1", "ctm-tools.1"}
+    assert (prefix / "share/doc/ctm/examples/bottleneck.toml").is_file()
+    whole = standing(prefix)
+    elsewhere = "lib", "share/bash-completion", "share/zsh", "share/fish"
+    assert {path for path in whole if path not in before and not path.startswith(elsewhere)} == \
+        {"bin/ctm", "bin/ctm-wait", "bin/ctm-tools", "share/man/man1/ctm.1", "share/man/man1/ctm-wait.1",
+         "share/man/man1/ctm-tools.1", "share/doc", "share/doc/ctm"}
+
+    seen = {path: os.lstat(prefix / path).st_mtime_ns for path in whole}
+    status, out, err = installing.call("--install", str(prefix))
+    assert (status, err) == (0, "") and out.endswith(f"is installed under {prefix} already; nothing was changed\n")
+    assert {path: os.lstat(prefix / path).st_mtime_ns for path in standing(prefix)} == seen
+
+    assert installing.call("--uninstall", str(prefix)) == (0, f"what ./ctm installed under {prefix} is taken away\n", "")
+    assert standing(prefix) == before
+    assert installing.call("--uninstall", str(prefix)) == \
+        (0, f"./ctm has installed nothing under {prefix}; nothing was changed\n", "")
+
+
+def test_the_prefix_is_that_of_the_user_where_none_is_named(installing):
+    assert installing.call("--install")[0] == 0
+    assert run(installing.top / ".local/bin/ctm", "run") == (0, "a\ndone\n", "")
+    lost = subprocess.run([installing.top / ".local/bin/ctm-tools", "lint"], env={"PATH": "/nonexistent"}, stdout=subprocess.PIPE,
+                          stderr=subprocess.PIPE, text=True)
+    assert (lost.returncode, lost.stdout, lost.stderr.count("\n")) == (2, "", 1)
+    assert installing.call("--uninstall")[0] == 0
+    assert not (installing.top / ".local").exists(), "it was made for what is gone"
+
+
+def test_what_has_changed_takes_the_place_of_the_old(installing, tmp_path):
+    installing.call("--install", str(tmp_path / "prefix"))
+    source = installing.top / "crates/ctm_program/src/program.sh"
+    source.write_text(source.read_text().replace("done", "changed"))
+    installing.edit("ctm_program")
+    (installing.top / "docs/FIELD.md").unlink()
+    assert installing.call("--install", str(tmp_path / "prefix"))[0] == 0
+    assert run(tmp_path / "prefix/bin/ctm", "run") == (0, "a\nchanged\n", "")
+    assert not (tmp_path / "prefix/share/doc/ctm/docs/FIELD.md").exists()
+    assert len(list((tmp_path / "prefix/lib/ctm").glob("tree-*"))) == 1
+
+
+def test_what_another_put_there_is_not_touched(installing, tmp_path):
+    (tmp_path / "prefix/bin").mkdir(parents=True)
+    (tmp_path / "prefix/bin/ctm").write_text("another\n")
+    before = standing(tmp_path / "prefix")
+    status, out, err = installing.call("--install", str(tmp_path / "prefix"))
+    assert (status, out) == (2, "")
+    assert err.splitlines()[-1] == \
+        f"./ctm: {tmp_path}/prefix/bin/ctm is there already, and wasn't installed by ./ctm; nothing was changed"
+    assert standing(tmp_path / "prefix") == before
+
+
+def test_a_folder_of_commands_that_is_a_link_gets_commands_that_run(tmp_path):
+    """As ~/.local/bin where it leads to ~/bin, from which other paths lead to the tree than from the link."""
+    (tmp_path / "home/bin").mkdir(parents=True)
+    (tmp_path / "home/.local").mkdir()
+    (tmp_path / "home/.local/bin").symlink_to("../bin")
+    before = standing(tmp_path / "home")
+    prefix, tree = Prefix(tmp_path / "home/.local"), small_tree(tmp_path / "tree", "new")
+    prefix.install(tree)
+    assert says(prefix.folder) == "new" and prefix.has(tree)
+    prefix.uninstall()
+    assert standing(tmp_path / "home") == before
+
+
+def test_nothing_is_written_where_git_keeps_the_repository(installing, tmp_path):
+    """Not even the index of a file that was touched, whose lock a call that is broken off would leave."""
+    for words in (["init", "-q"], ["add", "."], ["-c", "user.name=a", "-c", "user.email=a@b", "commit", "-q", "-m", "a"]):
+        subprocess.run(["git", *words], cwd=installing.top, check=True)
+    os.utime(installing.top / "crates.txt", (1, 1))
+    before = standing(installing.top / ".git")
+    assert installing.call("--version")[0] == installing.call("--install", str(tmp_path / "prefix"))[0] == 0
+    assert standing(installing.top / ".git") == before
+
+
+def test_the_name_of_a_prefix_may_be_any_bytes(installing, tmp_path):
+    prefix = os.fsencode(tmp_path) + b"/a\xff\nb"
+    for word, told in (("--install", b" is installed under %s; its"), ("--uninstall", b" under %s is taken away\n")):
+        ended = subprocess.run([installing.top / "ctm", word, prefix], env=installing.environment, stdout=subprocess.PIPE)
+        assert ended.returncode == 0 and told % prefix in ended.stdout
+    assert not os.path.lexists(prefix)
+
+
+def test_where_standard_output_is_full_what_was_done_is_told_in_the_line_of_the_fault(installing, tmp_path):
+    with open("/dev/full", "wb") as full:
+        ended = subprocess.run([installing.top / "ctm", "--uninstall", tmp_path], env=installing.environment, stdout=full,
+                               stderr=subprocess.PIPE, text=True)
+    assert ended.returncode == 2
+    assert ended.stderr == ("./ctm: standard output: no space left on device; ./ctm has installed nothing under "
+                            f"{tmp_path}; nothing was changed\n")
+
+
+def small_tree(folder, says):
+    """A tree of one program, a file that this version alone has, and all folders of a tree."""
+    for path in ("bin/ctm", f"bin/{says}", f"lib/ctm/{says}", "share/man/man1/ctm.1", "share/doc/ctm/README.md",
+                 "share/bash-completion/completions/ctm", "share/zsh/site-functions/_ctm",
+                 "share/fish/vendor_completions.d/ctm.fish"):
+        (folder / path).parent.mkdir(parents=True, exist_ok=True)
+        (folder / path).write_text(f"#!/bin/sh\necho {says}\n")
+        (folder / path).chmod(0o755)
+    return folder
+
+
+def broken_off(changes, does):
+    """Whether what a process of its own does was ended, as by the system, before its change of this number."""
+    child = os.fork()
+    if child == 0:
+        left = itertools.count(changes, -1)
+        sys.addaudithook(lambda event, _: os._exit(KILLED) if event in CHANGES and next(left) == 0 else None)
+        does()
+        os._exit(0)
+    return os.waitstatus_to_exitcode(os.waitpid(child, 0)[1]) == KILLED
+
+
+def says(prefix):
+    """What the installed program says, or nothing where there is none."""
+    return run(prefix / "bin/ctm")[1].strip() if (prefix / "bin/ctm").exists() else None
+
+
+@pytest.mark.parametrize("before, after", [(None, "new"), ("old", "new"), ("old", None)])
+def test_a_call_that_is_killed_at_any_moment_leaves_the_old_or_the_new(tmp_path, before, after):
+    trees = {it: small_tree(tmp_path / it, it) for it in ("old", "new")}
+    left = set()
+    for changes in itertools.count():
+        prefix = Prefix(tmp_path / f"prefix-{changes}")
+        if before:
+            prefix.install(trees[before])
+        killed = broken_off(changes, lambda: prefix.install(trees[after]) if after else prefix.uninstall())
+        left.add(says(prefix.folder))
+        # The next call does the whole, and what is left of this one is gone.
+        prefix.install(trees["new"])
+        assert says(prefix.folder) == "new"
+        assert len(list(prefix.home.glob("tree-*"))) == 1
+        assert [it for it in prefix.folder.rglob("*") if it.is_symlink() and not it.exists()] == []
+        assert not (prefix.folder / "bin/old").exists()
+        prefix.uninstall()
+        assert [it for it in prefix.folder.rglob("*") if not it.is_dir()] == []
+        if not killed:
+            break
+    assert changes > 10
+    assert left == {before, after}
+
+
+@pytest.mark.parametrize("prefix", ["/dev/null/prefix", "/proc/prefix"])
+def test_a_prefix_that_cannot_be_written_to_is_told_in_one_line(installing, prefix):
+    assert installing.call("--path", command="ctm-wait")[0] == 0
+    status, out, err = installing.call("--install", prefix)
+    assert (status, out, err.count("\n")) == (2, "", 1)
+    assert re.fullmatch(r"\./ctm: /(dev/null|proc)\S*: (can't be written to|no such file or directory); nothing was (built or "
+                        r"installed|changed)\n", err)
+
+
+def test_a_full_disk_is_told_in_one_line_and_nothing_is_left(installing, tmp_path):
+    """On a file system of 256 KiB, in a name space of its own where this isn't root."""
+    disk = tmp_path / "disk"
+    disk.mkdir()
+    assert installing.call("--path", command="ctm-wait")[0] == 0
+    fills = (f"mount -t tmpfs -o size=256k tmpfs {disk} && "
+             f"{{ {installing.top}/ctm --install {disk}/prefix; echo $?; ls -A {disk}; }}")
+    apart = ["unshare", "-m"] if os.getuid() == 0 else ["unshare", "-rm"]
+    ended = subprocess.run([*apart, "bash", "-c", fills], env=installing.environment, stdout=subprocess.PIPE,
+                           stderr=subprocess.PIPE, text=True)
+    assert ended.stdout == "2\n"
+    assert re.fullmatch(rf"\./ctm: {disk}/\S+: no space left on device; nothing was changed\n", ended.stderr)
+
+
+def test_a_path_without_python_is_told_in_one_line(installing, tmp_path):
+    lacking = tmp_path / "lacking"
+    lacking.mkdir()
+    for command in ("bash", "readlink", "dirname"):
+        (lacking / command).symlink_to(shutil.which(command))
+    ended = subprocess.run([installing.top / "ctm", "--install", tmp_path / "prefix"], env={"PATH": str(lacking), "HOME": "/"},
+                           stdout=subprocess.PIPE, stderr=subprocess.PIPE, text=True)
+    assert (ended.returncode, ended.stdout) == (2, "")
+    assert ended.stderr == "./ctm: python3 isn't on the path; nothing was changed\n"
+
+
+@pytest.mark.parametrize("words", [("--install", "a", "b"), ("--install", "--quiet"), ("--uninstall", "")])
+def test_words_that_name_no_prefix_are_refused(repository, words):
+    status, out, err = repository.call(*words)
+    assert (status, out, err.count("\n")) == (2, "", 1)
+    assert "takes one word, the folder under which things stand" in err
+
+
+def test_without_a_home_the_prefix_has_to_be_named(repository):
+    ended = subprocess.run([repository.top / "ctm", "--install"], env={"PATH": "/usr/bin:/bin"}, stdout=subprocess.PIPE,
+                           stderr=subprocess.PIPE, text=True)
+    assert (ended.returncode, ended.stdout) == (2, "")
+    assert "takes one word, the folder under which things stand" in ended.stderr

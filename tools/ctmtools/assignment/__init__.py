@@ -1,0 +1,1 @@
+"""Drivers who choose their way: trips, ways, travel times along them, and the turning shares that follow."""

@@ -1,0 +1,148 @@
+"""An assignment: rounds of loading, running and moving, until hardly anybody would gain by another way."""
+
+from __future__ import annotations
+
+from collections.abc import Iterator
+from dataclasses import dataclass
+
+import numpy
+
+from ..network_file.network import Network
+from ..problem import Problem
+from ..program import recording_step
+from ..report.reading import Report
+from ..running import run
+from ..study.network_text import Builder
+from ..study.plan import Study
+from .choices import Choice
+from .departures import Departures, departures_of
+from .forks import Rounded, exits_ahead, forks_of, parts_of, refuse_shares
+from .given_ways import given_choice
+from .legs import Legs
+from .loading import loaded, moved, share_bounds
+from .passing import Passing, Passings
+from .searching import Search
+from .shared_network import SharedNetwork
+from .swapping import Pace, swap
+from .times import Gap, gap_of, times_of
+from .trickle import let_through
+from .ways_file import WayRow, rows_of
+
+RECORDED = 6  # so often in an interval of choice the runs are recorded, where steps and the program allow it
+
+Numbers = numpy.ndarray
+
+
+@dataclass(frozen=True)
+class Round:
+    """What a round came to: its gap, how far the loads of branches moved, delay in vehicle-hours, who changed before it."""
+
+    number: int
+    gap: Gap
+    moved: float
+    delay: float
+    changed: float
+
+    def settled(self, gap: float) -> bool:
+        """Whether hardly anybody would gain by another way, and shares are those of the times that they lead to."""
+        return self.gap.relative < gap and self.moved < gap
+
+
+class Assignment:
+    """A study's trips on their ways. `forks` have the shares that follow, `report` is that of the last round's run."""
+
+    def __init__(self, study: Study, workers: int | None = None, program: str | None = None) -> None:
+        if not study.trips:
+            raise Problem(f"{study.path}: trips: are missing; without them nobody chooses a way")
+        self.study, self.workers, self.program = study, workers, program
+        self.let_through = let_through(study)
+        builder = Builder(study)
+        self.shared = SharedNetwork(builder)
+        self.network: Network = self.shared.built.network
+        self.legs = Legs(self.network)
+        self.passings = Passings(self.legs)
+        self.passing: Passing = self.passings.free()
+        self.departures: Departures = departures_of(study, self.network.steps)
+        self.forks = forks_of(builder, self.legs)
+        refuse_shares(builder, self.legs)
+        self.ahead = exits_ahead(self.legs, list(dict.fromkeys(trips.into for trips in study.trips)))
+        self.bounds = share_bounds(self.departures.width, self.network.steps, sum(len(fork.cells) for fork in self.forks))
+        self.choices: list[Choice] = [given_choice(study, self.legs, self.shared.built.units, trips, self.departures)
+                                      for trips in study.trips]
+        self.every = max(recording_step(self.network.steps, len(self.network.cells)),
+                         self.departures.width // RECORDED)
+        self.times: list[Numbers] = []
+        self.parts: list[Numbers] = []
+        self.report: Report | None = None
+        self.text = b""
+
+    def start(self) -> None:
+        """Finds the first ways, at free flow, and has who has none yet part evenly among the best of them."""
+        self._find()
+        self._measure()
+        for choice, steps in zip(self.choices, self.times):
+            if choice.chosen.any():
+                continue
+            best = steps <= steps.min(axis=0) + 1e-6
+            choice.keep(best / best.sum(axis=0), choice.informed)
+
+    def rounds(self, gap: float, iterations: int) -> Iterator[Round]:
+        """Goes from round to round, until the gap is below the given one or there were so many."""
+        pace, changed = Pace(), 0.0
+        counts = self._loaded()
+        for number in range(1, iterations + 1):
+            self._run(counts)
+            self._find()
+            self._measure()
+            found, again = gap_of(self.choices, self.departures, self.times), self._loaded()
+            assert self.report is not None  # the run gave it
+            shifted = moved(counts, again, self.bounds, self.departures.width)
+            done = Round(number, found, shifted, self.report.units.hours(self.report.total.delay), changed)
+            yield done
+            if done.settled(gap) or number == iterations:
+                return
+            changed = swap(self.choices, self.departures, self.times, pace.next(found.relative))
+            counts = self._loaded()
+
+    def _loaded(self) -> Numbers:
+        return loaded(self.choices, self.departures, self.passing, self.bounds)
+
+    def _run(self, counts: Numbers) -> None:
+        """Runs the network with the shares of what comes to the branches."""
+        self.counts = counts
+        self.parts = [parts_of(fork, counts, self.ahead) for fork in self.forks]
+        content = self.shared.content(self.forks, self.parts, self.bounds)
+        self.text, self.report = run(content, self.study.path.name, self.shared.built.units, self.every, self.workers,
+                                     self.program, network=self.network)
+        self.passing = self.passings.of(self.report)
+
+    def _find(self) -> None:
+        """Adds to each pair that seeks ways those of the least time in each interval."""
+        seeking = [choice for choice in self.choices if not choice.closed]
+        search = Search(self.passing, self.network.steps)
+        middles = [self.departures.begins(i) + self.departures.width / 2 for i in range(self.departures.intervals)]
+        by_exit: dict[str, list[Choice]] = {}
+        for choice in seeking:
+            by_exit.setdefault(choice.into, []).append(choice)
+        wanted = [(into, [(choice.source, middle) for choice in own for middle in middles])
+                  for into, own in by_exit.items()]
+        for (into, _), found in zip(wanted, search.ways(wanted)):
+            for place, choice in enumerate(by_exit[into]):
+                for way in dict.fromkeys(found[place * len(middles):(place + 1) * len(middles)]):
+                    if way is not None:
+                        choice.put(way)
+
+    def _measure(self) -> None:
+        self.times = [times_of(choice, vehicles, self.departures, self.passing)
+                      for choice, vehicles in zip(self.choices, self.departures.vehicles)]
+
+    def rows(self) -> list[WayRow]:
+        """The ways by pair and interval, with who set out on them and what they took."""
+        return list(rows_of(self.choices, self.times, self.departures, self.legs, self.shared.built.units))
+
+    def rounded(self) -> Rounded:
+        """What the rounding of the shares does."""
+        found = Rounded()
+        for fork, parts in zip(self.forks, self.parts):
+            found.note(fork, self.counts, parts)
+        return found

@@ -1,0 +1,50 @@
+"""Two assignments side by side: for each pair who gained and who lost."""
+
+from __future__ import annotations
+
+from collections.abc import Iterator, Sequence
+from pathlib import Path
+
+import pandas
+
+from ..report.page import table, told
+from .ways_file import WayRow, read_ways, ways_path
+
+MOST_PAIRS = 10  # so many pairs are told, those with the greatest changes
+LEAST = 0.005  # minutes; a pair whose mean changes by less neither gains nor loses
+
+
+def pairs_of(rows: Sequence[WayRow]) -> pandas.DataFrame:
+    """For each pair its vehicles and the mean of their minutes."""
+    frame = pandas.DataFrame([(row.source, row.into, row.vehicles, row.vehicles * row.minutes) for row in rows],
+                             columns=["from", "to", "vehicles", "minutes"])
+    sums = frame.groupby(["from", "to"], sort=False).sum()
+    sums["minutes"] /= sums.vehicles
+    return sums
+
+
+def compare_pairs(first: Sequence[WayRow], second: Sequence[WayRow]) -> pandas.DataFrame:
+    """A row for each pair of both: the means of each in minutes, their rise, and that of all its drivers in vehicle-hours."""
+    frame = pairs_of(first).join(pairs_of(second), lsuffix="_first", rsuffix="_second", how="inner")
+    frame["rise"] = frame.minutes_second - frame.minutes_first
+    frame["hours"] = (frame.vehicles_second * frame.minutes_second - frame.vehicles_first * frame.minutes_first) / 60
+    return frame.loc[frame.hours.abs().sort_values(ascending=False, kind="stable").index]
+
+
+def pair_changes(first: str | Path, second: str | Path) -> Iterator[str]:
+    """What is told of the pairs of two reports beside which ways stand; nothing where they don't."""
+    paths = [ways_path(Path(report)) for report in (first, second)]
+    if not all(path.exists() for path in paths):
+        return
+    frame = compare_pairs(*map(read_ways, paths))
+    gained, lost = int((frame.rise <= -LEAST).sum()), int((frame.rise >= LEAST).sum())
+    yield (f"\nOf {len(frame)} pairs {gained} gained and {lost} lost; the mean from gate to exit in min, the greatest "
+           "changes:\n")
+    rows = [(source, into, told(row.vehicles_second), told(row.minutes_first), told(row.minutes_second), _signed(row.rise),
+             _signed(row.hours)) for (source, into), row in frame[:MOST_PAIRS].iterrows()]
+    yield from table([("from", "to", "vehicles", "A", "B", "B - A", "vehicle-hours"), *rows], right=range(2, 7))
+
+
+def _signed(value: float) -> str:
+    text = told(abs(value))
+    return "0" if text == "0" else ("+" if value > 0 else "-") + text

@@ -1,0 +1,72 @@
+"""Diversion: drivers who have their ways from an earlier assignment, of whom a part chooses anew."""
+
+from __future__ import annotations
+
+from collections.abc import Sequence
+from pathlib import Path
+
+import numpy
+
+from ..problem import Problem
+from ..study.plan import Route
+from ..study.reading import read_study
+from ..units import clock_text
+from .assigning import Assignment
+from .choices import Choice
+from .given_ways import way_of
+from .ways_file import WayRow, read_ways
+
+Numbers = numpy.ndarray
+
+
+def ways_of_study(path: str | Path) -> list[WayRow]:
+    """The ways of a study that `assign` made."""
+    study = read_study(path)
+    if study.ways is None:
+        raise Problem(f"{path}: has no ways; `ctm-tools assign` makes a study that has them")
+    return read_ways(Path(path).parent / study.ways)
+
+
+def divert(assignment: Assignment, rows: Sequence[WayRow], informed: float, after: float | None = None) -> None:
+    """Gives all drivers their ways; so many of those who set out from a step on, else of all, choose anew."""
+    departures = assignment.departures
+    begins = numpy.array([departures.begins(i) for i in range(departures.intervals)], dtype=float)
+    parts = numpy.where(begins >= (0 if after is None else after), informed, 0.0)
+    by_pair: dict[tuple[str, str], list[WayRow]] = {}
+    for row in rows:
+        by_pair.setdefault((row.source, row.into), []).append(row)
+    for choice, vehicles in zip(assignment.choices, departures.by_interval):
+        own = by_pair.get((choice.source, choice.into), [])
+        _keep(assignment, choice, own)
+        kept = _parts(assignment, choice, own, vehicles)
+        choice.keep(kept, parts)
+
+
+def _keep(assignment: Assignment, choice: Choice, rows: Sequence[WayRow]) -> None:
+    """Adds the ways of a pair's rows to its choice."""
+    for roads in dict.fromkeys(row.roads for row in rows):
+        choice.most += 1
+        choice.put(_way(assignment, choice, roads))
+
+
+def _way(assignment: Assignment, choice: Choice, roads: tuple[str, ...]) -> tuple[int, ...]:
+    place = f"ways from {choice.source} to {choice.into}"
+    return way_of(Route(choice.source, choice.into, list(roads), [], place), assignment.study, assignment.legs,
+                  assignment.shared.built.units)
+
+
+def _parts(assignment: Assignment, choice: Choice, rows: Sequence[WayRow], vehicles: Numbers) -> Numbers:
+    """The part of a pair's drivers on each way in each interval."""
+    departures, study = assignment.departures, assignment.study
+    clocks = [clock_text(float(study.start + departures.begins(i) * study.step), always=True)
+              for i in range(departures.intervals)]
+    taken = numpy.zeros((len(choice.ways), departures.intervals))
+    for row in rows:
+        if row.start in clocks:
+            taken[choice.ways.index(_way(assignment, choice, row.roads)), clocks.index(row.start)] += row.vehicles
+    totals = taken.sum(axis=0)
+    lost = numpy.flatnonzero((vehicles > 0) & (totals == 0))
+    if len(lost):
+        raise Problem(f"{study.path}: the earlier assignment has nobody from {choice.source} to {choice.into} who sets out at "
+                      f"{clocks[lost[0]]}; trips and the interval of choice have to be the same")
+    return taken / numpy.where(totals > 0, totals, 1)

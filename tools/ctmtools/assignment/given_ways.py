@@ -1,0 +1,86 @@
+"""The ways with which a pair begins: those that the study gives by their roads, else the shortest at free flow."""
+
+from __future__ import annotations
+
+from collections.abc import Sequence
+
+import networkx
+import numpy
+
+from ..problem import Problem
+from ..study.plan import Route, Study, Trips
+from ..units import Units, clock_text
+from .choices import Choice
+from .departures import Departures
+from .legs import Legs, Way
+
+Numbers = numpy.ndarray
+
+
+def given_choice(study: Study, legs: Legs, units: Units, trips: Trips, departures: Departures) -> Choice:
+    """The choice of a pair with its first ways, or the problem that there is none."""
+    choice = Choice(trips.source, trips.into, numpy.full(departures.intervals, float(study.routing.informed)),
+                    study.routing.ways)
+    routes = [route for route in study.routes if (route.source, route.into) == (trips.source, trips.into)]
+    if routes:
+        ways = [way_of(route, study, legs, units) for route in routes]
+        choice.most = max(choice.most, len(ways))
+        for way in ways:
+            choice.put(way)
+        choice.closed = True
+        if routes[0].shares:
+            _share(choice, list(zip(routes, ways)), study, departures)
+        return choice
+    for way in legs.free_ways(trips.source, trips.into, study.routing.ways):
+        choice.put(way)
+    if not choice.ways:
+        last = legs.farthest(trips.source)
+        raise Problem(f"{study.path}: {trips.place}: no way leads from {trips.source} to {trips.into}; the last road that is "
+                      f"reached is {road_of(units, last)}")
+    return choice
+
+
+def _share(choice: Choice, routes: Sequence[tuple[Route, Way]], study: Study, departures: Departures) -> None:
+    """Parts the drivers of a pair as its routes say; in each interval the share at its middle counts."""
+    choice.given = True
+    step, width = float(study.step), departures.width
+    for interval in range(departures.intervals):
+        middle = (interval + 0.5) * width * step
+        parts = numpy.zeros(len(choice.ways))
+        for route, way in routes:
+            parts[choice.ways.index(way)] += sum(float(share.share) for share in route.shares
+                                                 if share.start <= middle < share.end)
+        if not parts.any():
+            clock = clock_text(float(study.start) + middle)
+            raise Problem(f"{study.path}: {routes[0][0].place}.share: no route from {choice.source} to {choice.into} has a "
+                          f"share at {clock}, when drivers set out")
+        choice.chosen[:, interval] = parts / parts.sum()
+    choice.kept = choice.chosen.copy()
+
+
+def way_of(route: Route, study: Study, legs: Legs, units: Units) -> Way:
+    """The way that a study gives: by the nearest cell of each of its roads in turn, and on to the exit."""
+    graph, cells = legs.network.graph, [route.source]
+    for road in route.roads:
+        if road not in units.roads:
+            raise Problem(f"{study.path}: {route.place}.roads: there is no road {road}")
+        cells += _on(graph, cells[-1], units.roads[road], f"{study.path}: {route.place}.roads", f"road {road}")
+    cells += _on(graph, cells[-1], [route.into], f"{study.path}: {route.place}.roads", route.into)
+    return legs.along(cells)
+
+
+def _on(graph: networkx.DiGraph, start: str, targets: Sequence[str], place: str, name: str) -> list[str]:
+    """The cells behind one, on the way to the nearest of some others."""
+    if start in targets:
+        return []
+    paths = networkx.single_source_shortest_path(graph, start)
+    reached = [cell for cell in targets if cell in paths]
+    if not reached:
+        raise Problem(f"{place}: no way leads from {start} to {name}")
+    path: list[str] = paths[min(reached, key=lambda cell: len(paths[cell]))]
+    return path[1:]
+
+
+def road_of(units: Units, cell: str) -> str:
+    """The road of a cell; a gate is its own."""
+    return str(units.cells[cell]["road"]) if cell in units.cells else cell

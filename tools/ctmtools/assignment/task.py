@@ -1,0 +1,91 @@
+"""One assignment of several that are made side by side, as for several shares of informed drivers."""
+
+from __future__ import annotations
+
+from collections.abc import Sequence
+from dataclasses import dataclass
+from pathlib import Path
+from typing import Any
+
+import pandas
+
+from ..problem import Problem, one_line
+from ..program import program_path
+from ..study.plan import Study
+from ..study.reading import read_values, study_of
+from ..study.times import Times
+from .assigning import Assignment, Round
+from .diversion import divert, ways_of_study
+from .ways_file import WayRow
+from .writing import Places, written
+
+MEASURES = ("rounds", "gap", "delay_vehicle_hours", "travel_vehicle_hours", "mean_minutes", "served_vehicles",
+            "inside_vehicles")
+
+
+@dataclass(frozen=True)
+class AssignTask:
+    """A study's values and path, the ways that drivers have, who may choose anew from which step on, and when to end."""
+
+    values: dict[str, Any]
+    path: str
+    program: str
+    rows: Sequence[WayRow] | None
+    informed: float | None
+    after: float | None
+    gap: float
+    iterations: int
+
+
+def begun(task: AssignTask, workers: int | None = None) -> Assignment:
+    """The assignment of a task, before its first round."""
+    assignment = Assignment(study_of(task.values, Path(task.path)), workers, task.program)
+    if task.rows is not None:
+        divert(assignment, task.rows, 1.0 if task.informed is None else task.informed, task.after)
+    elif task.informed is not None:
+        for choice in assignment.choices:
+            choice.informed[:] = task.informed
+    assignment.start()
+    return assignment
+
+
+def measure_assigned(task: AssignTask) -> dict[str, Any]:
+    """The measures of a task's last round, by name, and what went wrong, an empty text where nothing did."""
+    try:
+        assignment = begun(task, 1)
+        *_, last = assignment.rounds(task.gap, task.iterations)
+        return {**measures(assignment, last), "error": ""}
+    except Problem as problem:
+        return {**dict.fromkeys(MEASURES, float("nan")), "error": one_line(problem)}
+
+
+def assigned_frame(source: str | Path, output: str | Path | None, earlier: str | Path | None, informed: float | None,
+                   after: str | None, gap: float, iterations: int) -> pandas.DataFrame:
+    """The ways of a study's assignment as a frame, whose attributes are the measures; with a place for it, it is written."""
+    values = read_values(source)
+    study = study_of(values, Path(source))
+    task = AssignTask(values, str(source), str(program_path()), ways_of_study(earlier) if earlier else None, informed,
+                      step_of(after, study), gap, iterations)
+    assignment = begun(task)
+    *_, last = assignment.rounds(gap, iterations)
+    if output is not None:
+        written(assignment, values, Places(Path(output)))
+    frame = pandas.DataFrame(assignment.rows()).rename(columns={"source": "from", "into": "to"})
+    frame.attrs.update(measures(assignment, last))
+    return frame
+
+
+def step_of(after: str | None, study: Study) -> float | None:
+    """The step of a clock time from which on drivers choose anew."""
+    return None if after is None else float(Times(study).after_start(after, "--after") / study.step)
+
+
+def measures(assignment: Assignment, last: Round) -> dict[str, float]:
+    """What an assignment came to."""
+    report = assignment.report
+    assert report is not None  # a round was made
+    step = report.units.step or 0
+    vehicles = float(assignment.departures.vehicles.sum())
+    hours = last.gap.all_ * step / 3600
+    return dict(zip(MEASURES, (last.number, last.gap.relative, last.delay, hours, 60 * hours / vehicles if vehicles else 0.0,
+                               float(report.total.left), float(report.total.inside))))

@@ -1,0 +1,91 @@
+"""The ways of an assignment as a CSV file: for each pair, interval and way its vehicles, its minutes and its roads."""
+
+from __future__ import annotations
+
+import csv
+import io
+from collections.abc import Iterator, Sequence
+from dataclasses import dataclass
+from pathlib import Path
+
+import numpy
+
+from ..network_file.network import read_bytes
+from ..problem import Problem
+from ..units import Units, clock_text
+from .choices import Choice
+from .departures import Departures
+from .given_ways import road_of
+from .legs import Legs, Way
+
+COLUMNS = ("from", "to", "start", "way", "vehicles", "minutes", "roads")
+THEN = " > "  # between two roads
+LEAST = 5e-7  # vehicles; fewer aren't written
+
+Numbers = numpy.ndarray
+
+
+@dataclass(frozen=True)
+class WayRow:
+    """A row of the file: a pair, the clock time at which its interval begins, and a way with who set out on it then."""
+
+    source: str
+    into: str
+    start: str
+    way: int
+    vehicles: float
+    minutes: float
+    roads: tuple[str, ...]
+
+
+def roads_of(legs: Legs, units: Units, way: Way) -> tuple[str, ...]:
+    """The roads of a way in their order, without its gate."""
+    roads = [road_of(units, cell) for cell in legs.cells(way)[1:]]
+    return tuple(road for place, road in enumerate(roads) if not place or road != roads[place - 1])
+
+
+def rows_of(choices: Sequence[Choice], times: Sequence[Numbers], departures: Departures, legs: Legs,
+            units: Units) -> Iterator[WayRow]:
+    """The rows of an assignment: pair by pair, interval by interval, the ways that anybody takes."""
+    step, start = units.step or 0, units.start or 0
+    for choice, vehicles, steps in zip(choices, departures.by_interval, times):
+        roads = [roads_of(legs, units, way) for way in choice.ways]
+        parts = choice.parts
+        for interval in range(departures.intervals):
+            clock = clock_text(start + departures.begins(interval) * step, always=True)
+            for way, own in enumerate(roads):
+                taken = float(parts[way, interval] * vehicles[interval])
+                if taken >= LEAST:
+                    yield WayRow(choice.source, choice.into, clock, way + 1, taken, float(steps[way, interval] * step / 60),
+                                 own)
+
+
+def ways_text(rows: Sequence[WayRow]) -> str:
+    """The text of the file."""
+    text = io.StringIO()
+    writer = csv.writer(text, lineterminator="\n")
+    writer.writerow(COLUMNS)
+    for row in rows:
+        writer.writerow([row.source, row.into, row.start, row.way, f"{row.vehicles:.6f}", f"{row.minutes:.4f}",
+                         THEN.join(row.roads)])
+    return text.getvalue()
+
+
+def read_ways(path: Path) -> list[WayRow]:
+    """The rows of a file."""
+    reader = csv.DictReader(read_bytes(path).decode("utf-8", "replace").splitlines())
+    if tuple(reader.fieldnames or ()) != COLUMNS:
+        raise Problem(f"{path}: expected the columns {','.join(COLUMNS)}; `ctm-tools assign` writes such a file")
+    rows = []
+    for row in reader:
+        try:
+            rows.append(WayRow(row["from"], row["to"], row["start"], int(row["way"]), float(row["vehicles"]),
+                               float(row["minutes"]), tuple(row["roads"].split(THEN)) if row["roads"] else ()))
+        except (TypeError, ValueError):
+            raise Problem(f"{path}: line {reader.line_num} isn't one that `ctm-tools assign` writes") from None
+    return rows
+
+
+def ways_path(report: Path) -> Path:
+    """Where the ways of a report stand: beside it, under its name."""
+    return report.with_suffix(".ways.csv")

@@ -1,0 +1,75 @@
+"""What an assignment is written as: the study with its shares, its network, its report, its ways and its pictures."""
+
+from __future__ import annotations
+
+from collections.abc import Sequence
+from dataclasses import dataclass
+from pathlib import Path
+from typing import Any
+
+from ..files import guard_network, guard_report, write
+from ..plans.searching import moved_to
+from ..problem import Problem
+from ..report.reading import Report
+from ..running import opened, placed, run_into
+from ..study.writing import study_text
+from .assigned_study import AssignedStudy
+from .assigning import Assignment, Round
+from .ways_file import WayRow, ways_path, ways_text
+
+
+@dataclass(frozen=True)
+class Places:
+    """Where all of it goes: beside the study, under its name."""
+
+    study: Path
+
+    @property
+    def report(self) -> Path:
+        """The report; the network and the units go beside it."""
+        return self.study.with_suffix(".report")
+
+    @property
+    def ways(self) -> Path:
+        """The ways."""
+        return ways_path(self.report)
+
+    @property
+    def pictures(self) -> tuple[Path, Path]:
+        """The pictures of the gap and of the ways."""
+        return self.study.with_suffix(".gap.png"), self.study.with_suffix(".ways.png")
+
+    def guard(self, source: Path) -> None:
+        """Refuses to write over the study that is assigned, or over what these tools haven't made."""
+        if self.study.suffix != ".toml":
+            raise Problem(f"{self.study}: a study's name ends with .toml")
+        if self.study.resolve() == source.resolve():
+            raise Problem(f"{self.study}: is the study that is assigned; name another file with -o")
+        guard_network(self.report.with_suffix(".csv"))
+        guard_report(self.report)
+
+
+def places_of(source: str | Path, output: str | Path | None = None) -> Places:
+    """Where an assignment goes: where it is asked for, else the study's name with .assigned.toml in this folder."""
+    return Places(Path(output) if output else Path(Path(source).stem + ".assigned.toml"))
+
+
+def written(assignment: Assignment, values: dict[str, Any], places: Places) -> tuple[Report, list[WayRow]]:
+    """Writes the study, runs it, and writes its network, its report and its ways; the pictures aren't drawn."""
+    source = assignment.study.path
+    made = AssignedStudy(assignment.study, values, assignment.forks, assignment.parts, assignment.bounds)
+    values = moved_to(made.made(places.ways.name, assignment.let_through), source, places.study)
+    rows = assignment.rows()
+    write(places.ways, ways_text(rows))
+    write(places.study, study_text(values, f"{source.name} with the shares that ctm-tools assign found"))
+    return run_into(places.report, placed(opened(places.study), places.report), None, assignment.workers), rows
+
+
+def drawn(rounds: Sequence[Round], rows: Sequence[WayRow], report: Report, width: float, places: Places) -> None:
+    """Draws the gap of each round, and who sets out on the ways over time; an interval of choice is so many steps."""
+    from ..plots.assignment import draw_gap, draw_ways
+    from ..plots.figure import save
+
+    gap, ways = places.pictures
+    save(draw_gap(rounds, report.title), gap)
+    save(draw_ways(rows, report, width), ways)

@@ -1,0 +1,156 @@
+"""ctm-tools assign"""
+
+from __future__ import annotations
+
+from collections.abc import Iterator, Sequence
+from contextlib import closing
+from fractions import Fraction
+from pathlib import Path
+from typing import Any
+
+import click
+import pandas
+
+from ..assignment.assigning import Assignment, Round
+from ..assignment.diversion import ways_of_study
+from ..assignment.task import MEASURES, AssignTask, begun, measure_assigned, measures, step_of
+from ..assignment.told import not_settled, pair_lines, rounded_lines
+from ..assignment.writing import drawn, places_of, written
+from ..files import write
+from ..problem import Problem
+from ..program import program_path
+from ..report.page import table, told
+from ..running import processors
+from ..study.reading import read_values, study_of
+from ..study.telling import told as told_of_study
+from ..study.trips import part_of_drivers
+from ..sweeps.workers import beside, cluster, here
+
+EPILOG = """\b
+Examples:
+  ctm-tools assign examples/bypass.toml
+  ctm-tools assign examples/bypass-closed.toml --from bypass.assigned.toml --informed 0.3
+  ctm-tools assign examples/bypass-closed.toml --from bypass.assigned.toml --informed 0,0.3,1 --after 07:40
+
+Written are the study with the shares that came out, NAME.assigned.toml, which `run`, `sweep`, `optimise` and `branch` take,
+its network, its report, the ways of each pair and interval as NAME.assigned.ways.csv, and pictures of the gap and of the ways.
+With several shares of informed drivers a table is told, and written where -o names a CSV file.
+
+The traffic is the program's: one run a round. tools/docs/routes.md has the method, its limits and its sources."""
+
+
+@click.command(epilog=EPILOG)
+@click.argument("source", metavar="STUDY.toml", type=click.Path())
+@click.option("--from", "earlier", metavar="OPEN.assigned.toml", type=click.Path(),
+              help="An earlier assignment, whose ways the drivers have.")
+@click.option("--informed", metavar="PART[,PART..]", help="The part of the drivers who choose; else the study's.")
+@click.option("--after", metavar="TIME", help="Only who set out then or later choose anew.")
+@click.option("--gap", default=0.01, show_default=True, type=click.FloatRange(0, min_open=True),
+              help="The relative gap below which it ends.")
+@click.option("--iterations", default=50, show_default=True, type=click.IntRange(1, 10_000), help="The most rounds.")
+@click.option("-o", "--output", metavar="FILE.toml", type=click.Path(), help="Where the study goes; the rest beside it.")
+@click.option("--workers", metavar="N", type=click.IntRange(1, 16), help="Threads of a run; else as many as processors.")
+@click.option("-j", "--jobs", metavar="N", type=click.IntRange(1, 256), help="Of several shares, how many side by side.")
+@click.option("--dask", "address", metavar="ADDRESS", help="Of several shares: the scheduler of a Dask cluster.")
+def command(source: str, earlier: str | None, informed: str | None, after: str | None, gap: float, iterations: int,
+            output: str | None, workers: int | None, jobs: int | None, address: str | None) -> None:
+    """Let the trips of a study choose their ways, until hardly anybody would gain by another one."""
+    values = read_values(source)
+    study = study_of(values, Path(source))
+    if after is not None and earlier is None:
+        raise click.UsageError("--after: without --from nobody has a way yet")
+    rows = ways_of_study(earlier) if earlier else None
+    tasks = [AssignTask(values, source, str(program_path()), rows, part, step_of(after, study), gap, iterations)
+             for part in _parts(informed)]
+    if len(tasks) > 1:
+        _tell_table(tasks, _done(tasks, jobs, address), output)
+        return
+    places = places_of(source, output)
+    if output is None:
+        places.guard(Path(source))
+    elif places.study.suffix != ".toml":
+        raise Problem(f"{output}: a study's name ends with .toml")
+    assignment = begun(tasks[0], workers)
+    for line in told_of_study(assignment.shared.built):
+        click.echo(line)
+    rounds = _rounds(assignment, gap, iterations)
+    report, ways = written(assignment, values, places)
+    drawn(rounds, ways, report, assignment.departures.width, places)
+    _tell(assignment, rounds, gap, ways)
+    click.echo(f"\n{places.study}, {places.report}, {places.ways}, {', '.join(map(str, places.pictures))}")
+
+
+def _parts(text: str | None) -> list[float | None]:
+    """The parts of the drivers who are informed."""
+    if text is None:
+        return [None]
+    found: list[float | None] = []
+    for one in text.split(","):
+        try:
+            value: Any = Fraction(one.strip())
+        except (ValueError, ZeroDivisionError):
+            value = one
+        found.append(float(part_of_drivers(value, "--informed")))
+    return found
+
+
+def _rounds(assignment: Assignment, gap: float, iterations: int) -> list[Round]:
+    """Goes from round to round, with a bar on a terminal, and tells what each came to."""
+    rounds: list[Round] = []
+    shown = click.get_text_stream("stderr")
+    with click.progressbar(assignment.rounds(gap, iterations), length=iterations, label="rounds", show_pos=True,
+                           show_eta=False, file=shown, item_show_func=_shown) as bar:
+        rounds += bar
+    heads = ("round", "gap", "delay (vehicle-hours)", "changed", "moved between branches")
+    lines = [(f"{done.number}", f"{done.gap.relative:.5f}", told(done.delay), f"{done.changed:,.1f}", f"{done.moved:.2%}")
+             for done in rounds]
+    click.echo("\n" + "\n".join(table([heads, *lines], right=range(5))))
+    return rounds
+
+
+def _shown(done: Round | None) -> str | None:
+    """What stands behind the bar."""
+    return f"gap {done.gap.relative:.4f}" if done else None
+
+
+def _tell(assignment: Assignment, rounds: Sequence[Round], gap: float, ways: Sequence[Any]) -> None:
+    """Tells how it ended: the gap, what rounding did, and the ways of the pairs."""
+    found = measures(assignment, rounds[-1])
+    click.echo(f"\nVehicles  {told(found['served_vehicles'])} were served, {told(found['inside_vehicles'])} are still "
+               "inside")
+    click.echo(f"Time      {told(found['travel_vehicle_hours'])} vehicle-hours, {told(found['mean_minutes'])} min for each, of "
+               f"which the delay is {told(found['delay_vehicle_hours'])} vehicle-hours\n")
+    for line in [*not_settled(assignment, rounds, gap), *rounded_lines(assignment)]:
+        click.echo(line)
+    for line in pair_lines(ways):
+        click.echo(line)
+
+
+def _done(tasks: Sequence[AssignTask], jobs: int | None, address: str | None) -> Iterator[tuple[int, dict[str, Any]]]:
+    """What each task measured, as it comes, with a bar on a terminal."""
+    count = min(jobs or processors(), len(tasks))
+    done = cluster(tasks, address, measure_assigned) if address else here(tasks, measure_assigned) if count == 1 else \
+        beside(tasks, count, measure_assigned)
+    with closing(done), click.progressbar(done, length=len(tasks), label=f"{len(tasks)} assignments",
+                                          file=click.get_text_stream("stderr")) as bar:
+        yield from bar
+
+
+def _tell_table(tasks: Sequence[AssignTask], done: Iterator[tuple[int, dict[str, Any]]], output: str | None) -> None:
+    """Tells a row for each share of informed drivers."""
+    if output is not None and Path(output).suffix != ".csv":
+        raise Problem(f"{output}: the table of several shares is a CSV file, whose name ends with .csv")
+    found = dict(done)
+    frame = pandas.DataFrame([{"informed": tasks[i].informed, **found[i]} for i in sorted(found)])
+    lines: list[tuple[str, ...]] = [("informed", "rounds", "gap", "delay (vehicle-hours)", "all time (vehicle-hours)",
+                                     "mean (min)", "served", "inside", "")]
+    for _, row in frame.iterrows():
+        figures = [f"{row.rounds:.0f}", f"{row.gap:.5f}", *(told(row[name]) for name in MEASURES[2:])] if not row.error else \
+            [""] * len(MEASURES)
+        lines.append((f"{row.informed:g}", *figures, f"failed: {row.error}" if row.error else ""))
+    click.echo("\n".join(table(lines, right=range(8))))
+    if output is not None:
+        write(output, frame.to_csv(index=False, float_format="%.6f"))
+        click.echo(f"\n{output}")
+    if (frame.error != "").all():
+        raise Problem(f"no assignment succeeded; the first: {frame.error.iloc[0]}")

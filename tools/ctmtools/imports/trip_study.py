@@ -1,0 +1,79 @@
+"""The study that a street network becomes whose vehicles choose their ways: trips in place of demand and turning shares."""
+
+from __future__ import annotations
+
+import tomllib
+from fractions import Fraction
+from typing import Any
+
+import networkx
+
+from ..problem import Problem
+from ..study.writing import study_text
+from .streets import Movement, Streets, Trip
+from .study_file import Terms, Writer
+from .traffic import EXIT, GATE, Traffic
+
+ROUTES = "vehicles have no routes of their own"  # of the note of a study with shares
+
+
+def trip_study_text(found: Streets, traffic: Traffic, terms: Terms, interval: float, until: float) -> str:
+    """The text of a study of open traffic, with a gate and an exit where trips begin and end, and the trips by interval."""
+    writer = Writer(found, traffic, terms)
+    values = tomllib.loads("\n".join(writer.lines()), parse_float=Fraction)
+    for joint in [*values.get("diverges", []), *values.get("junctions", [])]:
+        joint.pop("shares", None)
+        joint.pop("turns", None)
+    for gate in values["gates"].values():
+        gate.pop("demand", None)
+    values["notes"] = [note for note in values.get("notes", []) if not note.startswith(ROUTES)]
+    values["routing"] = {"interval": round(interval)}
+    values["trips"] = [_pair(pair, rows, terms, interval, writer.names)
+                       for pair, rows in _by_pair(found.trips, interval, until).items()]
+    return study_text(values, f"Made by ctm-tools import of {found.title}, with its trips")
+
+
+def open_traffic(found: Streets, until: float) -> Traffic:
+    """Traffic on all streets that lie on some way of trips, and on all movements between them, so that each way may be taken."""
+    if not found.trips:
+        raise Problem(f"{found.title}: there are no trips")
+    graph = networkx.DiGraph(list(found.ways))
+    graph.add_edges_from(end for trip in found.trips for end in _ends(trip))
+    kept = _reached(graph, {GATE + trip.route[0] for trip in found.trips}) & \
+        _reached(graph.reverse(), {EXIT + trip.route[-1] for trip in found.trips})
+    made = Traffic(until, 1, [street for street in found.streets if street in kept])
+    for movement in graph.edges:
+        if kept.issuperset(movement):
+            made.moved[movement] = [1.0]
+    return made
+
+
+def _ends(trip: Trip) -> tuple[Movement, Movement]:
+    """The movements from the gate at which a trip begins, and to the exit at which it ends."""
+    return (GATE + trip.route[0], trip.route[0]), (trip.route[-1], EXIT + trip.route[-1])
+
+
+def _reached(graph: networkx.DiGraph, starts: set[str]) -> set[str]:
+    """What is reached from some starts, with these."""
+    return {place for layer in networkx.bfs_layers(graph, starts) for place in layer}
+
+
+def _by_pair(trips: list[Trip], interval: float, until: float) -> dict[tuple[str, str], dict[int, float]]:
+    """For each pair of streets the vehicles that set out in each interval."""
+    pairs: dict[tuple[str, str], dict[int, float]] = {}
+    for trip in trips:
+        rows = pairs.setdefault((trip.route[0], trip.route[-1]), {})
+        begin, end = trip.begin, min(max(trip.end, trip.begin), until)
+        for number in range(int(begin // interval), int(end // interval) + 1):
+            low, high = max(begin, number * interval), min(end, (number + 1) * interval)
+            part = 1.0 if end <= begin else (high - low) / (end - begin)
+            if part > 0:
+                rows[number] = rows.get(number, 0.0) + trip.vehicles * part
+    return pairs
+
+
+def _pair(pair: tuple[str, str], rows: dict[int, float], terms: Terms, interval: float, names: dict[str, str]) -> dict[str, Any]:
+    """The trips of a pair as the study has them; what sets out in an interval does so evenly."""
+    demand = [[terms.clock(number * interval), terms.clock((number + 1) * interval), Fraction(f"{vehicles * 3600 / interval:.6f}")]
+              for number, vehicles in sorted(rows.items())]
+    return {"from": names[GATE + pair[0]], "to": names[EXIT + pair[1]], "demand": demand}

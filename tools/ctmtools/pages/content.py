@@ -1,0 +1,113 @@
+"""What a page shows of its reports, as the data that its script reads."""
+
+from __future__ import annotations
+
+from collections.abc import Sequence
+from typing import Any
+
+import numpy
+
+from ..problem import Problem
+from ..report.names import listed, names_of
+from ..report.page import told
+from ..report.queues import SLOW
+from ..report.reading import Report
+from .background import Background
+from .frames import Frames, bounds_of, steps_an_hour
+from .networks import is_measured, network_of, roads_of
+from .provenance import provenance
+from .tables import differing, reports_of, table_of, unlike_lines
+
+NEAR = 0.99  # of the greatest density, from which on a frame counts as one of the densest
+SHOWN = {"density": ("vehicles/km", "vehicles in a cell"), "flow": ("vehicles/h", "vehicles in a step"),
+         "speed": ("km/h", "cells in a step"), "place": ("km", "cell")}
+
+
+def data_of(reports: Sequence[Report], background: Background | None = None) -> dict[str, Any]:
+    """What the page shows: networks, and for each report its frames, the tables, and where the page opens."""
+    first, names = reports[0], names_of(reports)
+    _need_alike(reports)
+    bounds, measured = bounds_of(reports), all(map(is_measured, reports))
+    frames = [Frames(report, bounds, measured) for report in reports]
+    place = background.place_of(first) if background else lambda line: line
+    networks: list[dict[str, Any]] = []
+    shown = []
+    for report, own in zip(reports, frames):
+        network = network_of(report, measured, place)
+        if network not in networks:
+            networks.append(network)
+        shown.append({"network": networks.index(network), **own.told()})
+    return {"title": listed(list(dict.fromkeys(report.title for report in reports))), "subtitle": _subtitle(reports),
+            "provenance": provenance(reports), "notes": _notes(reports, bounds), "names": names, "slow": SLOW,
+            "measured": measured, "hour": steps_an_hour(first), "units": _units(first, measured),
+            "schematic": not first.units.points, "times": _labels(first, bounds), "clock": _clock(first, bounds),
+            "networks": networks, "reports": shown, "opening": opening(frames),
+            "tables": {"roads": table_of(reports), "cells": differing(reports, names), "told": unlike_lines(reports, names),
+                       "reports": reports_of(reports, names) if len(reports) > 1 else None},
+            "background": background.told() if background else None}
+
+
+def _need_alike(reports: Sequence[Report]) -> None:
+    first = reports[0]
+    for report in reports:
+        report.need_records()
+        if "road" not in report.need_network().kinds.values():
+            raise Problem(f"{report.name}: its network has no road, of which a page could tell")
+        if report.steps != first.steps or (report.units.step, report.units.start) != (first.units.step, first.units.start):
+            raise Problem(f"{report.name}: is of other times than {first.name}, so they can't stand side by side; "
+                          "`ctm-tools compare` tells their totals")
+
+
+def opening(frames: Sequence[Frames]) -> dict[str, Any]:
+    """Where the page opens: on the road with the greatest delay in any of the reports, at the time of its greatest density.
+
+    Of several such times it is the one at which most vehicles are on the road; its cell is that with the most delay. Of roads
+    without delay it is the one to whose cells most vehicles came.
+    """
+    roads = [(i, road, cells) for i, own in enumerate(frames) for road, cells in roads_of(own.report).items()]
+    i, road, cells = max(roads, key=lambda row: tuple(frames[row[0]].report.cells.loc[row[2], ["wait", "come"]].sum()))
+    own, waits = frames[i], frames[i].report.cells.wait
+    density = own.density[:, own.report.cells.index.get_indexer(cells)]
+    lengths = numpy.array([(own.report.units.length(cell) if own.measured else None) or 1.0 for cell in cells])
+    dense = density.max(axis=1) >= NEAR * density.max()
+    return {"report": i, "road": road, "cell": waits[cells].idxmax(),
+            "frame": int(numpy.where(dense, density @ lengths, -1).argmax())}
+
+
+def _units(report: Report, measured: bool) -> dict[str, str]:
+    known = {"density": measured, "place": measured, "flow": report.units.known, "speed": measured and report.units.known}
+    return {name: SHOWN[name][0 if known[name] else 1] for name in SHOWN}
+
+
+def _subtitle(reports: Sequence[Report]) -> str:
+    """The time of the study, and the vehicles and the delay of a report that stands alone."""
+    units, total = reports[0].units, reports[0].total
+    time = f"{units.clock(0)} to {units.clock(reports[0].steps)}" if units.known else f"{reports[0].steps} steps"
+    if len(reports) > 1:
+        return time
+    return (f"{time}. {told(total.entered)} vehicles came, {told(total.left)} were served, {told(total.inside)} are still "
+            f"inside, delay {told(units.hours(total.delay))} {units.delay_unit}")
+
+
+def _notes(reports: Sequence[Report], bounds: Sequence[int]) -> str:
+    step, every = reports[0].units.step, max(int(report.times[1] - report.times[0]) for report in reports)
+    seen = f" Queues and travel times are seen every {_lasting(step, every)}, as the run is recorded." if every > 1 else ""
+    return (f"Density, flow and speed are means over {_lasting(step, bounds[1] - bounds[0])}.{seen} A cell stands in a queue "
+            f"where its traffic moves slower than {SLOW:.0%} of the free-flow speed. Delay is the program's: the time beyond one "
+            "step in each cell.")
+
+
+def _lasting(step: float | None, steps: int) -> str:
+    return f"{steps} step{'s'[:steps > 1]}" if step is None else f"{steps * step:g} s"
+
+
+def _labels(report: Report, bounds: Sequence[int]) -> list[str]:
+    units = report.units
+    seconds = units.step is not None and any(bound * units.step % 60 for bound in bounds)
+    return [units.clock(bound, seconds) for bound in bounds]
+
+
+def _clock(report: Report, bounds: Sequence[int]) -> dict[str, Any]:
+    """The bounds of the frames on the axes of time: seconds after midnight, or steps where these aren't known."""
+    step, start = report.units.step, report.units.start or 0
+    return {"known": step is not None, "bounds": [bound if step is None else start + bound * step for bound in bounds]}

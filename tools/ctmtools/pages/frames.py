@@ -1,0 +1,79 @@
+"""The frames of a page: the recorded steps between which means are shown, and the means of a report's cells over them."""
+
+from __future__ import annotations
+
+import base64
+from collections.abc import Sequence
+from functools import cached_property
+from typing import Any
+
+import numpy
+
+from ..report.queues import standing
+from ..report.reading import Report
+
+MOST_DATA = 3_200_000  # bytes of all reports together, which are a third more as text
+EACH = 2 + 2 + 1 / 8  # bytes of a cell in a frame: density, flow, and whether it stands in a queue
+TIME = 24  # bytes of the time of a frame
+MOST = 65535  # the number that stands for the most of a cell
+
+
+def bounds_of(reports: Sequence[Report]) -> list[int]:
+    """The bounds of the frames: steps that are recorded in each report, as many as the page has room for."""
+    shared = sorted(set.intersection(*({int(step) for step in report.times} for report in reports)))
+    room = max(1, int(MOST_DATA / (EACH * sum(len(report.cells) for report in reports) + TIME)))
+    each = -(-(len(shared) - 1) // room)
+    return [*shared[:-1:each], shared[-1]]
+
+
+class Frames:
+    """What each cell holds, passes and is in from frame to frame: a row for each frame, a column for each cell.
+
+    Density is in vehicles/km, or in vehicles where lengths aren't known, and in a gate or an exit; flow is in vehicles/h,
+    or in vehicles a step.
+    """
+
+    def __init__(self, report: Report, bounds: Sequence[int], measured: bool) -> None:
+        self.report, self.bounds, self.measured = report, bounds, measured
+
+    def _means(self, values: numpy.ndarray) -> numpy.ndarray:
+        times, lasting = self.report.times, numpy.diff(self.report.times)[:, None]
+        means: numpy.ndarray = numpy.add.reduceat(values * lasting, numpy.searchsorted(times, self.bounds[:-1]), axis=0)
+        return means / numpy.diff(self.bounds)[:, None]
+
+    @cached_property
+    def density(self) -> numpy.ndarray:
+        """The mean density in each frame."""
+        units = self.report.units
+        lengths = numpy.array([(units.length(cell) if self.measured else None) or 1.0 for cell in self.report.cells.index])
+        return self._means(self.report.held.to_numpy()) / lengths
+
+    @cached_property
+    def flow(self) -> numpy.ndarray:
+        """The mean flow out of each cell in each frame."""
+        return self._means(self.report.flow.to_numpy()) * steps_an_hour(self.report)
+
+    @cached_property
+    def queued(self) -> numpy.ndarray:
+        """Whether each cell stands in a queue for half of the frame or longer."""
+        return self._means(standing(self.report).to_numpy().astype(float)) >= 0.5
+
+    def told(self) -> dict[str, Any]:
+        """The frames for the page: of each cell the most, and numbers of 16 bits in parts of it; queues as bits."""
+        bits = numpy.packbits(self.queued.T.ravel()).tobytes()
+        return {"density": _numbers(self.density), "flow": _numbers(self.flow), "queued": _text(bits)}
+
+
+def steps_an_hour(report: Report) -> float:
+    """What a vehicle in a step is in vehicles/h; 1 where the step isn't known."""
+    return 1.0 if report.units.step is None else 3600 / report.units.step
+
+
+def _numbers(rows: numpy.ndarray) -> dict[str, Any]:
+    most = rows.max(axis=0)
+    parts = numpy.rint(rows.T / numpy.where(most > 0, most, 1)[:, None] * MOST)
+    return {"most": [round(float(value), 6) for value in most], "text": _text(parts.astype("<u2").tobytes())}
+
+
+def _text(content: bytes) -> str:
+    return base64.b64encode(content).decode()

@@ -1,0 +1,40 @@
+// In print: A4, two pages, in the colours of paper; the first has the drawings, the second the cell and the table.
+const MILLIMETRE = 96 / 25.4, PAGE = (297 - 28) * MILLIMETRE - 8;  // px of a page within its margins
+const MOST_SPACE = 480, LINE = 30;  // px
+
+function height(element) { return element.getBoundingClientRect().height; }
+const topOf = name => byId(name).getBoundingClientRect().top;
+// By how much the second page is too long.
+const tooLong = () => byId("notes").getBoundingClientRect().bottom - topOf("of-cell") - PAGE + LINE;
+// Has the diagram fill the first page, and leaves out what finds no room on the second: the cells, and then rows of roads.
+function fitPages() {
+  const over = topOf("of-cell") - document.body.getBoundingClientRect().top - PAGE;
+  byId("space").style.height = `${Math.max(90, Math.min(MOST_SPACE, height(byId("space")) - over))}px`;
+  byId("differing").classList.toggle("late", tooLong() > 0);
+  leaveOut([...document.querySelectorAll("#roads tbody tr")]);
+}
+// Leaves the last rows out, as many as the page is too long, and tells how many.
+function leaveOut(rows) {
+  let late = 0;
+  for (let over = tooLong(); over > 0 && late < rows.length - 1; over = tooLong()) {
+    const wanted = Math.min(rows.length - 1, late + Math.ceil(over / height(rows[0])));
+    for (; late < wanted; late++) rows[rows.length - 1 - late].classList.add("late");
+    byId("more").textContent = `${late} more rows are left out here.`;
+  }
+}
+function toPaper() {
+  state.printing = true;
+  document.documentElement.classList.add("printing");
+  show();
+  fitPages();
+  drawSpace();
+  mark();
+}
+function toScreen() {
+  state.printing = false;
+  document.documentElement.classList.remove("printing");
+  byId("space").style.height = "";
+  byId("more").textContent = "";
+  document.querySelectorAll("#roads tr.late, #differing").forEach(row => row.classList.remove("late"));
+  show();
+}

@@ -1,0 +1,136 @@
+"""The tables of a page: its roads, junctions and gates, its reports side by side, and the cells that differ most."""
+
+from __future__ import annotations
+
+from collections.abc import Sequence
+from typing import Any
+
+import numpy
+import pandas
+
+from ..report.comparing import compare, side_by_side
+from ..report.queues import standing
+from ..report.reading import Report
+from ..report.travel import road_times
+from ..report.unlike import otherwise, unlike
+from .junctions import junctions_of
+from .networks import is_measured, roads_of
+
+MOST_CELLS = 10  # of those that differ so many are told
+LEAST_CHANGE = 0.005  # of delay or of vehicles gone, from which on a cell is one that differs, as `compare` has it
+
+Figures = list[float | None]
+
+
+def table_of(reports: Sequence[Report]) -> dict[str, Any]:
+    """A row for each road, junction and gate of any of the reports, with the figures of each report that has it.
+
+    The delays of the rows of a report add up to `total`, which is the program's.
+    """
+    rows = [_rows(report) for report in reports]
+    names = list(dict.fromkeys(name for own in rows for name in own))
+    units = reports[0].units
+    way, time = ("km", "s") if all(map(is_measured, reports)) else ("cells", "s" if units.known else "steps")
+    measures = [{"name": "length", "unit": way}, {"name": "delay", "unit": units.delay_unit},
+                {"name": "vehicles that left", "unit": ""}, {"name": "delay of each", "unit": time},
+                {"name": "most in queues at once", "unit": way},
+                {"name": "mean travel time", "unit": "min" if units.known else "steps"}]
+    return {"measures": measures, "rows": [{"name": name, "of": [own.get(name) for own in rows]} for name in names],
+            "total": [_total(report) for report in reports]}
+
+
+def parts_of(report: Report) -> dict[str, list[str]]:
+    """The cells of each road, junction and gate, and of what belongs to none of them, each cell once."""
+    kinds = report.need_network().kinds
+    gates = {f"gate {cell}": [cell] for cell, kind in kinds.items() if kind == "gate"}
+    parts = {**roads_of(report), **junctions_of(report), **gates}
+    told = {cell for cells in parts.values() for cell in cells}
+    rest = [cell for cell, kind in kinds.items() if cell not in told and (kind != "exit" or report.cells.wait[cell] > 0)]
+    return {**parts, **({"other cells": rest} if rest else {})}
+
+
+def _rows(report: Report) -> dict[str, Figures]:
+    network, queued, travel = report.need_network(), _queued(report), _travel(report)
+    within, found = junctions_of(report), {}
+    for name, cells in parts_of(report).items():
+        own = set(cells)
+        ends = [cell for cell in cells if not own.intersection(network.graph.successors(cell))] or cells[-1:]
+        gate = all(network.kinds[cell] != "road" for cell in cells)
+        gone = float(report.cells.gone[ends].sum())
+        length = None if gate or name in within else _length(report, cells)
+        found[name] = _figures(report, float(report.cells.wait[cells].sum()), gone, length,
+                               None if gate else queued[cells], travel.get(name))
+    return found
+
+
+def _total(report: Report) -> Figures:
+    """The figures of the whole network: its delay by who came, and vehicles that were served."""
+    roads = [cell for cells in roads_of(report).values() for cell in cells]
+    units, total = report.units, report.total
+    figures = _figures(report, float(total.delay), float(total.left), _length(report, roads), _queued(report), None)
+    each = total.delay * (units.step or 1) / total.entered if total.entered else None
+    return [*figures[:3], _rounded(each), *figures[4:]]
+
+
+def _figures(report: Report, wait: float, gone: float, length: float | None, queued: pandas.DataFrame | None,
+             travel: float | None) -> Figures:
+    """Length, delay, vehicles, delay of each, most in queues, travel time; what there isn't is None."""
+    units = report.units
+    each = wait * (units.step if units.step is not None else 1.0) / gone if gone > 0 else None
+    reach = None if queued is None else float(queued.sum(axis=1).max())
+    return [_rounded(value) for value in (length, float(units.hours(wait)), gone, each, reach, travel)]
+
+
+def _rounded(value: float | None) -> float | None:
+    return None if value is None else round(float(value), 6)
+
+
+def _length(report: Report, cells: Sequence[str]) -> float:
+    return sum((report.units.length(cell) or 0.0) if is_measured(report) else 1.0 for cell in cells)
+
+
+def _queued(report: Report) -> pandas.DataFrame:
+    """What of each road cell stands in a queue, in km or cells, from each recorded step on."""
+    stands, kinds = standing(report), report.need_network().kinds
+    lengths = [_length(report, [cell]) if kinds[cell] == "road" else 0.0 for cell in stands.columns]
+    return stands * numpy.array(lengths)
+
+
+def _travel(report: Report) -> dict[str, float]:
+    """The mean travel time of each road on which somebody arrived, in minutes, or in steps."""
+    step = report.units.step
+    return {time.road: time.mean * (step / 60 if step is not None else 1) for time in road_times(report)}
+
+
+def reports_of(reports: Sequence[Report], names: Sequence[str]) -> dict[str, Any]:
+    """A row for each report, as `compare` has them: came, served, inside, delay, and its rise over the first one's."""
+    frame = side_by_side(dict(zip(names, reports)))
+    unit = frame.attrs["units"]["delay"]
+    columns = ["report", "came", "served", "inside at the end", f"delay, {unit}", f"more than {names[0]}", "in %"]
+    rows = [[str(name), row.came, row.served, row.inside, row.delay, *((row.rise, 100 * row.part) if i else (None, None))]
+            for i, (name, row) in enumerate(frame.iterrows())]
+    return {"columns": columns, "rows": [[name, *(None if value != value else value for value in values)]
+                                         for name, *values in rows]}
+
+
+def differing(reports: Sequence[Report], names: Sequence[str]) -> dict[str, Any] | None:
+    """The cells of two reports whose delay differs most, as `compare` has them; None of any other number of reports."""
+    if len(reports) != 2:
+        return None
+    frame = compare(*reports)
+    changed = frame[(frame.delay_rise.abs() >= LEAST_CHANGE) | (frame.gone_rise.abs() >= LEAST_CHANGE)]
+    unit = frame.attrs["units"]["delay"]
+    heads = [f"{what}, {of}" for what in (f"delay, {unit}", "vehicles gone") for of in (*names, "rise")]
+    rows = [[str(cell), *(None if value != value else round(float(value), 6) for value in row)]
+            for cell, row in changed[:MOST_CELLS].iterrows()]
+    return {"columns": ["cell", *heads], "rows": rows, "count": len(changed)}
+
+
+def unlike_lines(reports: Sequence[Report], names: Sequence[str]) -> list[str]:
+    """What `compare` tells of networks and times in which another report differs from the first."""
+    lines = []
+    for report, name in zip(reports[1:], names[1:]):
+        told = [*(f"Mind: {line}." for line in unlike(reports[0], report)), *(f"{line}." for line in otherwise(reports[0], report))]
+        if told:
+            lines += [f"A is “{names[0]}”, B is “{name}”:", *told]
+    return lines

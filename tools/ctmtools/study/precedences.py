@@ -1,0 +1,115 @@
+"""Who gives way to whom, as a study file says it of junctions, merges and on-ramps."""
+
+from __future__ import annotations
+
+from dataclasses import replace
+from fractions import Fraction
+from typing import Any
+
+from ..problem import Problem
+from .entries import Entries, list_of
+from .gap_kinds import A_STAGE, KINDS, THREE_LEGS, GapKind
+from .plan import Crossing, Gaps, Merge, Precedence, Stream, Study, Way, Yield
+from .quantities import duration, number, shown, whole, word
+from .ways import named, taken_ways, way_of
+
+SNEAKERS = Fraction(2)  # vehicles that turn at the end of a green, HCM 2010, chapter 31
+CONTROLS = ("stop", "give_way")
+MERGE_KIND = "minor-right"
+
+
+def precedence(table: Entries, found: Crossing) -> Precedence:
+    """To whom a movement of a junction gives way, and by which gaps."""
+    way = table.take("movement", lambda value, key: way_of(value, key, found))
+    others = table.take("yields_to", list_of(lambda value, key: _other(value, key, found)))
+    if not others or way in [other for other, _ in others]:
+        raise Problem(f"{table.key('yields_to')}: expected other movements than its own, one or more")
+    gaps = _gaps(table, "permitted-left" if found.cycle is not None else None)
+    holds, first = table.take("median", whole, 0), taken_ways(table, "first", found)
+    stage = replace(gaps, critical=table.take("stage_gap", duration, gaps.critical - A_STAGE * bool(holds)))
+    sneakers = table.take("sneakers", number, SNEAKERS)
+    table.done()
+    if bool(holds) != bool(first) or not set(first) < {other for other, _ in others}:
+        raise Problem(f"{table.key('first')}: with a median, first are those of yields_to that are crossed before it, and "
+                      "some are crossed behind it")
+    if sneakers < 0:
+        raise Problem(f"{table.key('sneakers')}: expected 0 or more")
+    return Precedence(way, others, gaps, holds, first, stage, sneakers, table.place)
+
+
+def _other(value: Any, key: str, found: Crossing) -> tuple[Way, Fraction]:
+    """A movement with priority, and the part of its flow that counts, 1 where no third entry says it."""
+    if not isinstance(value, list) or len(value) not in (2, 3):
+        raise Problem(f"{key}: expected [from, into] or [from, into, part], found {shown(value)}")
+    part = number(value[2], f"{key}[3]") if len(value) == 3 else Fraction(1)
+    if part <= 0:
+        raise Problem(f"{key}[3]: the part of a flow that counts is above 0")
+    return way_of(value[:2], key, found), part
+
+
+def _gaps(table: Entries, usual: str | None) -> Gaps:
+    """The gaps that a table says, or those of its kind."""
+    name = table.take("kind", word, usual)
+    if name is not None and name not in KINDS:
+        raise Problem(f"{table.key('kind')}: expected one of {', '.join(KINDS)}, found {name}")
+    lanes, legs = table.take("priority_lanes", whole, 2), table.take("legs", whole, 4)
+    if lanes not in (2, 4, 6) or legs not in (3, 4):
+        raise Problem(f"{table.key('priority_lanes')}: expected 2, 4 or 6 lanes, of both directions, and 3 or 4 legs")
+    kind = KINDS[name] if name else GapKind({}, {})
+    critical, follow_up = table.take("critical_gap", duration, None), table.take("follow_up", duration, None)
+    if name is None and None in (critical, follow_up):
+        raise Problem(f"{table.key('kind')}: is missing; say one of {', '.join(KINDS)}, or critical_gap and follow_up")
+    if critical is None:
+        critical = kind.critical[lanes] - THREE_LEGS * (name == "minor-left" and legs == 3)
+    follow_up = kind.follow_up[lanes] if follow_up is None else follow_up
+    if not 0 < follow_up or critical < 0:
+        raise Problem(f"{table.key('follow_up')}: must be above 0 s")
+    return Gaps(critical, follow_up, kind.formula, _gives_way(table, name))
+
+
+def _gives_way(table: Entries, kind: str | None) -> bool:
+    """Whether who comes only gives way, and needn't stop."""
+    usual = "stop" if kind in ("minor-right", "minor-through", "minor-left") else "give_way"
+    control = table.take("control", word, usual)
+    if control not in CONTROLS:
+        raise Problem(f"{table.key('control')}: expected stop or give_way, found {control}")
+    return control == "give_way"
+
+
+def check_precedence(found: Crossing) -> None:
+    """Refuses a movement that gives way twice, and one whose phases don't say in which greens it does."""
+    ways = [one.way for one in found.yields]
+    for i, one in enumerate(found.yields):
+        if one.way in ways[:i]:
+            raise Problem(f"{one.place}.movement: {named(found, one.way)} gives way already")
+        if found.phases and not any(one.way in phase.permitted for phase in found.phases):
+            raise Problem(f"{one.place}.movement: {named(found, one.way)} is permitted in no phase; phases with signals say "
+                          "in which greens it gives way, permitted = [[from, into], ..]")
+    for i, phase in enumerate(found.phases, 1):
+        strange = next((way for way in phase.permitted if way not in ways), None)
+        if strange:
+            raise Problem(f"{found.place}.phases[{i}].permitted: {named(found, strange)} gives way to nobody; `yields` says to "
+                          "whom it does")
+
+
+def take_precedence(table: Entries, merge: Merge) -> None:
+    """Takes to whom the other of two streams that merge gives way."""
+    merge.yields_to = table.take("yields_to", word, None)
+    gaps = _gaps(table, MERGE_KIND)
+    if merge.yields_to is None:
+        return
+    if merge.yields_to not in merge.sources:
+        raise Problem(f"{table.key('yields_to')}: expected {' or '.join(merge.sources)}, found {merge.yields_to}")
+    if merge.at is not None and merge.yields_to != merge.sources[0]:
+        raise Problem(f"{table.key('yields_to')}: a ramp gives way to its road, {merge.sources[0]}")
+    merge.gaps = gaps
+
+
+def put_merges(study: Study) -> None:
+    """Puts those who give way at merges and on-ramps among those of the study."""
+    for merge in study.merges:
+        if merge.yields_to is not None and merge.gaps is not None:
+            first = merge.sources.index(merge.yields_to)
+            own = merge.sources[1 - first]
+            study.yields.append(Yield(own, f"{merge.place}, {own}", [Stream(merge.yields_to, merge.at)], merge.gaps,
+                                      merge.place))

@@ -1,0 +1,1 @@
+"""A study whose demand, capacity and incidents aren't known for sure: what is uncertain, its draws and what they tell."""

@@ -1,0 +1,119 @@
+"""One run of a draw: a plan with what was drawn, run and measured."""
+
+from __future__ import annotations
+
+from dataclasses import dataclass
+from pathlib import Path
+from typing import Any
+
+import numpy
+
+from ..problem import Problem, one_line
+from ..report.by_road import roads_and_gates
+from ..report.queues import standing
+from ..report.reading import Report
+from ..report.travel import cell_before, chain_of, trips
+from ..running import run
+from ..study.network_text import build
+from ..study.plan import Closure, Study
+from ..sweeps.task import Task, rounded, study
+from .incident import happened
+from .reliability import DELAY
+from .uncertainty import Incidents
+
+LONGEST = "longest route"
+
+
+@dataclass(frozen=True)
+class Asked:
+    """What is measured of each run beside its delay: travel times of routes, and whether a queue passes some places."""
+
+    routes: tuple[tuple[str, str], ...] = ()
+    places: tuple[str, ...] = ()
+
+
+@dataclass(frozen=True)
+class DrawTask:
+    """A run to be made: a plan with its draw, and the incidents that it may have, by the vehicle-km of the first plan."""
+
+    plan: Task
+    first: Task | None
+    incidents: tuple[Incidents, ...]
+    seed: int
+    number: int
+    asked: Asked
+
+
+def measure(task: DrawTask) -> dict[str, Any]:
+    """What a run comes to, and what went wrong in `error`, which is an empty text where nothing did.
+
+    Delay is in vehicle-hours, `last_queue_s` when the last queue cleared, in s after the start, or None without one;
+    `delays` are those of each road and gate, `travel` and `free` the mean travel time of those who arrive and that at free flow,
+    in min, by road and route; `past` tells whether a queue stood before each place.
+    """
+    try:
+        if not Path(task.plan.program).exists():
+            raise Problem(f"there is no program {task.plan.program} on this machine")
+        made = study(task.plan)
+        closures = _closures(task, task.first) if task.first else []
+        made.closures += closures
+        report, differing = _ran(made, task.plan)
+        return {**figures(report, task.asked), "incidents": len(closures), "rounded": differing, "error": ""}
+    except Problem as problem:
+        return {"error": one_line(problem)}
+    except Exception as error:  # whatever it is, it is this run's, and the other runs go on
+        return {"error": one_line(f"{type(error).__name__}: {error}")}
+
+
+def _closures(task: DrawTask, first: Task) -> list[Closure]:
+    """The closures of a draw's incidents, the same for each plan."""
+    made = study(first)
+    report, _ = _ran(made, first)
+    return happened(task.incidents, report, made, task.seed, task.number)
+
+
+def _ran(made: Study, task: Task) -> tuple[Report, str]:
+    """The report of a study, and what was rounded."""
+    built = build(made)
+    _, report = run(built.text.encode(), "the built network", built.units, task.every, 1, task.program, network=built.network)
+    report.need_records()
+    return report, rounded(built.rounding)
+
+
+def figures(report: Report, asked: Asked) -> dict[str, Any]:
+    """The figures of a report."""
+    travel, free = {}, {}
+    for name, cells in _ways(report, asked).items():
+        found = trips(report, cells)
+        minutes = (report.units.step or 0) / 60
+        travel[name] = _told(found.of(~numpy.isnan(found.steps)).mean * minutes)
+        free[name] = len(cells) * minutes
+    stands = standing(report)
+    rows = numpy.flatnonzero(stands.to_numpy().any(axis=1))
+    last = float(report.times[rows[-1] + 1] * (report.units.step or 0)) if len(rows) else None
+    past = {place: bool(stands[_cell_before(report, place)].any()) for place in asked.places}
+    delays = {name: float(report.units.hours(report.cells.wait[cells].sum())) for name, cells in roads_and_gates(report).items()}
+    return {DELAY: report.delay_vehicle_hours, "served_vehicles": float(report.total.left),
+            "inside_vehicles": float(report.total.inside), "last_queue_s": last, "delays": delays, "travel": travel,
+            "free": free, "past": past}
+
+
+def _ways(report: Report, asked: Asked) -> dict[str, list[str]]:
+    """The cells of each road, of the longest route, and of the routes that are asked for."""
+    ways = {road: list(cells) for road, cells in report.units.roads.items()}
+    ways[LONGEST] = chain_of(report)
+    for begin, end in asked.routes:
+        ways[f"{begin} to {end}"] = chain_of(report, begin, end)
+    return ways
+
+
+def _cell_before(report: Report, place: str) -> str:
+    """The cell that a queue stands in once it has passed a place."""
+    try:
+        return cell_before(report, place)
+    except Problem as problem:
+        raise Problem(f"--queue-past{str(problem).removeprefix('--to')}") from None
+
+
+def _told(value: float) -> float | None:
+    return None if numpy.isnan(value) else float(value)

@@ -1,0 +1,1 @@
+"""Who gives way: what passes by the gaps of those with priority, worked out by runs of the program."""

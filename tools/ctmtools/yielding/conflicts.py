@@ -1,0 +1,50 @@
+"""The flows that a run had where streams meet: of each stream with priority and of each that gives way, by interval."""
+
+from __future__ import annotations
+
+from collections.abc import Sequence
+
+import numpy
+import numpy.typing
+
+from ..report.reading import Report
+from ..study.plan import Stream, Yield
+from ..units import Units
+
+HOUR = 3600
+Numbers = numpy.typing.NDArray[numpy.float64]
+
+
+def cell_of(road: str, units: Units, at: float | None = None) -> str:
+    """The cell at the end of a road, or that before the boundary nearest to a km of it; a gate is its own."""
+    cells = units.roads.get(road)
+    if cells is None:
+        return road
+    if at is None:
+        return cells[-1]
+    return min(cells, key=lambda name: abs(units.cells[name]["to_km"] - at))
+
+
+def flow_of(report: Report, cell: str, bounds: Numbers) -> Numbers:
+    """The vehicles/h that left a cell between each of some steps and the next."""
+    gone = numpy.interp(bounds, report.times, report.departed[cell].to_numpy())
+    return numpy.diff(gone) / numpy.diff(bounds) * (HOUR / (report.units.step or 1.0))
+
+
+def streams_of(report: Report, one: Yield, bounds: Numbers) -> list[Numbers]:
+    """The flows of the streams that have priority, each counted as far as it counts."""
+    return [float(stream.part) * flow_of(report, _cell(stream, report.units), bounds) for stream in one.streams]
+
+
+def own_flow(report: Report, one: Yield, bounds: Numbers) -> Numbers:
+    """The flow of the stream that gives way."""
+    return flow_of(report, cell_of(one.road, report.units), bounds)
+
+
+def _cell(stream: Stream, units: Units) -> str:
+    return cell_of(stream.road, units, None if stream.at is None else float(stream.at))
+
+
+def total(flows: Sequence[Numbers], bounds: Numbers) -> Numbers:
+    """The sum of flows, 0 where there are none."""
+    return sum(flows, numpy.zeros(len(bounds) - 1))

@@ -1,0 +1,52 @@
+"""What passes through the gaps of a stream with priority, whose vehicles come at random, in vehicles/h.
+
+Harders, 1968, as the Highway Capacity Manual has it for two-way stops (2010, chapter 19), and Siegloch, 1973, whose form its
+roundabouts have. With `v` vehicles/h of priority, a critical gap `t_c` and a follow-up gap `t_f` in s:
+
+    Harders   v · exp(-v·t_c/3600) / (1 - exp(-v·t_f/3600))
+    Siegloch  3600/t_f · exp(-v·(t_c - t_f/2)/3600)
+"""
+
+from __future__ import annotations
+
+from math import exp, isclose, sqrt
+
+from ..study.gap_kinds import SIEGLOCH
+from ..study.plan import Gaps
+
+HOUR = 3600
+
+
+def harders(priority: float, critical: float, follow_up: float) -> float:
+    """What passes where each gap lets whole vehicles through: one from the critical gap on, one more for each follow-up gap."""
+    if priority <= 0:
+        return HOUR / follow_up
+    return priority * exp(-priority * critical / HOUR) / (1 - exp(-priority * follow_up / HOUR))
+
+
+def siegloch(priority: float, critical: float, follow_up: float) -> float:
+    """What passes where a gap lets the more through the longer it is, from half a follow-up gap below the critical one on."""
+    return HOUR / follow_up * exp(-max(0.0, priority) * (critical - follow_up / 2) / HOUR)
+
+
+def passing(priority: float, gaps: Gaps) -> float:
+    """What passes of a stream through the gaps of so many vehicles/h; no bound where nobody comes and nobody need stop."""
+    if priority <= 0 and gaps.give_way:
+        return float("inf")
+    formula = siegloch if gaps.formula == SIEGLOCH else harders
+    return formula(priority, float(gaps.critical), float(gaps.follow_up))
+
+
+def in_two_stages(holds: int, first: float, second: float, at_once: float) -> float:
+    """What passes in two stages, where the median between them holds so many vehicles (HCM 2010, chapter 19).
+
+    `first` and `second` are what passes of each stage, `at_once` what passes where both are crossed in one go.
+    """
+    part = 1 - 0.32 * exp(-1.3 * sqrt(holds))
+    if second <= at_once:
+        return at_once
+    ratio = (first - at_once) / (second - at_once)
+    if isclose(ratio, 1, rel_tol=1e-9):
+        return part / (holds + 1) * (holds * second + at_once)
+    power = ratio ** holds
+    return part / (power * ratio - 1) * (ratio * (power - 1) * second + (ratio - 1) * at_once)

@@ -1,0 +1,84 @@
+"""What passes of those who give way, as a fixed point: a run has the flows with priority, and limits by these another run.
+
+The first limits are those of a run in which nobody gives way. From the second time on they go half way to what the run before
+makes of them, so that streams that give way to each other don't swing. It is settled once no limit would move by more than 1 %.
+"""
+
+from __future__ import annotations
+
+from collections.abc import Callable, Sequence
+from dataclasses import dataclass, replace
+from math import gcd
+
+from ..program import recording_step
+from ..report.reading import Report
+from ..study.network_text import Built, build
+from ..study.plan import Study
+from .conflicts import Numbers
+from .told import told_of
+from .yielding import Yielding
+
+MOST_RUNS = 20
+LEAST_MOVE = 0.01  # by which a limit moves, as a part of it, below which it is settled
+DAMPING = 0.5
+
+Run = Callable[[Built, int], Report]  # runs what was built, and records it each so many steps
+Done = Callable[..., object]  # is called after each run, with how many it counts and a text
+
+
+@dataclass(frozen=True)
+class Settled:
+    """A study with what passes of those who give way, its network, and after how many runs how far limits still moved."""
+
+    study: Study
+    built: Built
+    runs: int
+    moved: float
+
+    @property
+    def is_settled(self) -> bool:
+        """Whether no limit would move by more than is let."""
+        return self.moved <= LEAST_MOVE
+
+    @property
+    def doubt(self) -> str:
+        """In a few words that limits still move, or an empty text."""
+        return "" if self.is_settled else f"who gives way isn't settled after {self.runs} runs, a limit moves by {self.moved:.1%}"
+
+
+def settled(study: Study, run: Run, done: Done | None = None, shares_follow: bool = False) -> Settled:
+    """The network of a study in which those give way who do; without any it is built as it stands."""
+    built = build(study, shares_follow)
+    if not study.yields:
+        return Settled(study, built, 0, 0.0)
+    ones = [Yielding(one, study, built) for one in study.yields]
+    every = max(recording_step(built.network.steps, len(built.network.cells)), gcd(*(one.width for one in ones)))
+    runs, moves = 0, [float("inf")]
+    while True:
+        report, runs = run(built, every), runs + 1
+        wanted = _wanted(ones, report)
+        moves = [one.move(rates) for one, rates in zip(ones, wanted)]
+        if done:
+            done(1, f"limits move by {max(moves):.1%}" if runs > 1 else "without giving way")
+        if max(moves) <= LEAST_MOVE or runs == MOST_RUNS:
+            break
+        for one, rates in zip(ones, wanted):
+            one.take(rates, 1.0 if runs == 1 else DAMPING)
+        study = replace(study, yields=[replace(one.of, capacities=one.capacities()) for one in ones])
+        built = build(study, shares_follow)
+    if done:
+        done(MOST_RUNS - runs, "")
+    return Settled(study, _with_told(built, ones, moves, runs), runs, max(moves))
+
+
+def _wanted(ones: Sequence[Yielding], report: Report) -> list[Numbers]:
+    """What passes of each by the flows of a run. Who gives way in turn to one that gives way is held up by its queue too."""
+    potential = {one.cell: one.potential(report) for one in ones}
+    unsignalled = {one.cell: one for one in ones if one.green is None}
+    return [potential[one.cell] * one.unimpeded(report, unsignalled, potential) for one in ones]
+
+
+def _with_told(built: Built, ones: Sequence[Yielding], moves: Sequence[float], runs: int) -> Built:
+    """What was built, with lines on what passes, and on what doesn't settle."""
+    remarks, warnings = told_of(ones, moves, runs, LEAST_MOVE)
+    return replace(built, remarks=[*built.remarks, *remarks], warnings=[*built.warnings, *warnings])

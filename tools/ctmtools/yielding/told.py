@@ -1,0 +1,30 @@
+"""What is told of those who give way: what passes, and what doesn't settle."""
+
+from __future__ import annotations
+
+from collections.abc import Sequence
+
+from .yielding import Yielding
+
+MOST_TOLD = 8
+
+
+def told_of(ones: Sequence[Yielding], moves: Sequence[float], runs: int, least: float) -> tuple[list[str], list[str]]:
+    """Remarks on what passes of each, and warnings of those whose limits still move."""
+    lines = [_passes(one) for one in ones[:MOST_TOLD]]
+    if len(ones) > MOST_TOLD:
+        lines.append(f"and {len(ones) - MOST_TOLD} more who give way")
+    if max(moves) <= least:
+        lines.append(f"what passes by giving way is settled after {runs} runs: no limit would move by more than {least:.0%}")
+    warnings = [f"{one.of.name}: after {runs} runs what passes isn't settled; a limit would still move by {moved:.1%}"
+                for one, moved in zip(ones, moves) if moved > least]
+    return lines, warnings
+
+
+def _passes(one: Yielding) -> str:
+    """What gaps let pass of a stream, in the cycle's mean where it has a signal."""
+    rates = (one.rates * one.green.permitted if one.green else one.rates).mean(axis=1)
+    low, high = (f"{value:,.0f}" for value in (rates.min(), rates.max()))
+    span = low if low == high else f"{low} to {high}"
+    signal = " in permitted greens, sneakers among them" if one.green else " through gaps"
+    return f"{one.of.name}: {span} vehicles/h may pass{signal}"

@@ -1,0 +1,133 @@
+"""Drivers who choose their way, where it is known on paper which they take: docs/VALIDATION.md has the working."""
+
+from pathlib import Path
+
+import numpy
+import pytest
+
+from ctmtools import read_report
+from ctmtools.assignment.assigning import Assignment
+from ctmtools.assignment.ways_file import read_ways
+from ctmtools.study.reading import read_study, read_values
+
+from .grids import grid_study
+from .trips import TWO_PAIRS, TWO_WAYS, eight_ways
+
+
+def assigned(folder, text, gap=0.01, rounds=50):
+    """An assignment of a study of this text, and its rounds."""
+    path = Path(folder) / "study.toml"
+    path.write_text(text)
+    made = Assignment(read_study(path))
+    made.start()
+    return made, list(made.rounds(gap, rounds))
+
+
+def shares_of(made):
+    """The part that goes into the first branch of the first diverge, in each step."""
+    first, second = made.parts[0][:2]
+    return numpy.repeat(first / (first + second), numpy.diff(made.bounds).astype(int))
+
+
+@pytest.fixture(scope="module")
+def two_ways(recording_program, tmp_path_factory):
+    return assigned(tmp_path_factory.mktemp("two"), TWO_WAYS, 0.002)
+
+
+def test_all_take_the_short_way_until_its_queue_costs_as_much(two_ways):
+    made, _ = two_ways
+    (choice,), (vehicles,) = made.choices, made.departures.by_interval
+    short = next(place for place, way in enumerate(choice.ways) if "short01" in made.legs.cells(way))
+    taken = choice.parts[short] * vehicles
+    # 3,000 vehicles/h come, 2,000 pass: 5 min of queue after 10 min, two intervals of 5 min; then 2,000 of 3,000 go on so.
+    assert taken[:2] == pytest.approx([250, 250]) and taken[2] < 200
+    assert taken[2:].sum() == pytest.approx(2000 * 50 / 60, rel=0.03)
+    times = made.times[0][:, 3:9] * 10 / 60
+    assert times == pytest.approx(made.times[0][1 - short, 0] * 10 / 60, abs=0.35)
+
+
+def test_the_delay_of_two_ways_is_the_one_on_paper(two_ways):
+    made, rounds = two_ways
+    # Waiting: 0 to 166.7 in 10 min, so for 50 min, and back to 0 in 5 min: 9,583 vehicle-minutes.
+    assert rounds[-1].delay == pytest.approx((166.67 * 5 + 166.67 * 50 + 166.67 * 2.5) / 60, rel=0.02)
+    assert rounds[-1].settled(0.002)
+    assert made.report.total.left == pytest.approx(3000, abs=1)
+
+
+def test_the_study_that_is_written_has_the_report_of_the_last_round(tool, two_ways, tmp_path, recording_program):
+    (tmp_path / "two.toml").write_text(TWO_WAYS)
+    status, out, err = tool("assign", "two.toml", "--gap", "0.2")
+    assert status == 0, err
+    report = read_report("two.assigned.report")
+    delay = float(out.split("of which the delay is ")[1].split()[0])
+    assert report.units.hours(report.total.delay) == pytest.approx(delay, rel=1e-3)
+    rows = read_ways(Path("two.assigned.ways.csv"))
+    assert sum(row.vehicles for row in rows) == pytest.approx(3000, abs=1e-3)
+    assert {row.roads for row in rows} == {("a", "short", "b"), ("a", "long", "b")}
+    for name in ("two.assigned.gap.png", "two.assigned.ways.png"):
+        assert (tmp_path / name).read_bytes().startswith(b"\x89PNG")
+    assert "trips" not in read_values("two.assigned.toml")
+    assert tool("run", "two.assigned.toml", "-o", "again.report")[0] == 0
+    assert (tmp_path / "again.report").read_bytes() == (tmp_path / "two.assigned.report").read_bytes()
+    status, out, err = tool("sweep", "two.assigned.toml", "--vary", "demand=0.5", "-j", "1")
+    assert status == 0 and " 1,500 " in out, err  # half of the trips, by the same shares
+
+
+def test_one_way_for_each_pair_is_the_study_with_demand_by_gate(tool, tmp_path, recording_program):
+    roads = TWO_PAIRS.split("[[trips]]")[0]
+    trips = "".join(f'[[trips]]\nfrom = "g"\nto = "{exit_}"\ndemand = {flow}\n' for exit_, flow in (("x", 600), ("y", 300)))
+    (tmp_path / "trips.toml").write_text(roads + trips)
+    by_hand = roads.replace('into = ["x", "y"]', 'into = ["x", "y"]\nshares = [2, 1]').replace(
+        'into = "m"', 'into = "m"\ndemand = 900').split("[routing]")
+    (tmp_path / "hand.toml").write_text(by_hand[0] + "[roads]" + by_hand[1].split("[roads]")[1])
+    assert tool("assign", "trips.toml")[0] == 0
+    assert tool("run", "hand.toml")[0] == 0
+    assert (tmp_path / "trips.assigned.report").read_bytes() == (tmp_path / "hand.report").read_bytes()
+
+
+def test_two_pairs_leave_a_queue_as_they_came_into_it(tmp_path, recording_program):
+    made, rounds = assigned(tmp_path, TWO_PAIRS, 0.002)
+    # 1,200 vehicles/h come and 900 pass, so who came in the first 10 min passes in 13 min 20 s, from 07:05 on: 3 of 4 to x,
+    # until 07:18:20, step 110; then 1 of 4. Curves are recorded every 5 steps.
+    shares = shares_of(made)
+    assert shares[30:105] == pytest.approx(0.75, abs=0.001) and shares[115:180] == pytest.approx(0.25, abs=0.001)
+    assert shares[90:120].mean() == pytest.approx((200 * 0.75 + 100 * 0.25) / 300, abs=0.006)
+    assert rounds[-1].settled(0.002) and rounds[-1].gap.relative == 0
+    assert made.report.cells.come[["x", "y"]].tolist() == pytest.approx([200, 200], abs=1)
+
+
+CLOSED = """[[closures]]
+road = "long"
+from = {begin}
+lanes = 2
+"""
+
+
+@pytest.mark.parametrize("begin", [0, 5])
+def test_closing_a_road_that_nobody_uses_changes_nothing(begin, tmp_path, recording_program):
+    text = TWO_WAYS.replace("3000]]", "1800]]")
+    (open_, _), (closed, _) = (assigned(tmp_path, one) for one in (text, text + CLOSED.format(begin=begin)))
+    assert closed.text == open_.text and closed.let_through == {"closures[1]": 4}
+    assert closed.report.total.left == pytest.approx(1800, abs=1)
+
+
+def test_eight_ways_that_are_alike_are_taken_alike(tmp_path, recording_program):
+    made, rounds = assigned(tmp_path, eight_ways(), 0.001)
+    assert len(made.choices[0].ways) == 8 and rounds[-1].gap.relative < 0.001
+    assert made.choices[0].parts == pytest.approx(numpy.full(made.choices[0].parts.shape, 0.125), abs=1e-9)
+    assert made.report.total.left == pytest.approx(1800, abs=1)
+
+
+def near_the_best(made):
+    """Whether each way that at least 5 vehicles take in an interval takes at most 5 % longer than its pair's best."""
+    return all(numpy.all(steps <= numpy.where(choice.parts * vehicles >= 5, 1.05 * steps.min(axis=0), numpy.inf))
+               for choice, steps, vehicles in zip(made.choices, made.times, made.departures.by_interval))
+
+
+@pytest.mark.parametrize("seed", range(1, 21))
+def test_a_made_grid_comes_to_rest_within_50_rounds(seed, tmp_path, recording_program):
+    (tmp_path / "grid.toml").write_text(grid_study(seed, demand=(100, 300)))
+    made = Assignment(read_study(tmp_path / "grid.toml"))
+    made.start()
+    assert any(done.settled(0.02) and near_the_best(made) for done in made.rounds(1e-9, 50))
+    assert made.report.total.left == pytest.approx(made.departures.vehicles.sum(), abs=1)

@@ -1,0 +1,61 @@
+"""A bridge that is closed: who has a way already and keeps it, and who goes round. examples/README.md has the paper."""
+
+import pytest
+
+from ctmtools import assign, read_report
+from ctmtools.assignment.ways_file import read_ways
+
+from .examples import EXAMPLES
+
+OPEN, CLOSED = EXAMPLES / "bypass.toml", EXAMPLES / "bypass-closed.toml"
+
+
+@pytest.fixture
+def opened(tool, recording_program):
+    """An assignment of the town with its bridge open, in the folder of the test."""
+    assert tool("assign", OPEN)[0] == 0
+    return "bypass.assigned.toml"
+
+
+@pytest.mark.parametrize("informed, delay, back", [(0, 1796, None), (0.3, 1167.8, "09:35:00"), (1, 3.56, "09:15:00")])
+def test_the_delay_at_a_closed_bridge_is_the_one_on_paper(opened, informed, delay, back):
+    frame = assign(CLOSED, earlier=opened, informed=informed, gap=5e-5)
+    assert frame.attrs["delay_vehicle_hours"] == pytest.approx(delay, rel=0.002, abs=0.3)
+    assert frame.attrs["served_vehicles"] == pytest.approx(2520, abs=1)
+    round_ = frame[frame.roads.apply(lambda roads: "bypass" in roads)]
+    if back is None:
+        assert round_.empty
+    else:
+        all_ = round_[round_.vehicles > 59 * informed]
+        # From the first interval on in which anybody comes to the closed bridge, to that before who sets out at `back`.
+        assert all_.start.min() == "07:20:00" and (round_.start[round_.start >= back].index == round_.index[-1:]).all()
+        assert round_[round_.start < back].vehicles.tolist() == pytest.approx([60 * informed] * len(all_), abs=1e-6)
+
+
+def test_only_who_sets_out_later_chooses_anew(opened):
+    frame = assign(CLOSED, earlier=opened, informed=1, after="08:00", gap=0.001)
+    round_ = frame[frame.roads.apply(lambda roads: "bypass" in roads)]
+    assert round_.start.min() == "08:00:00"
+
+
+def test_several_shares_are_one_table(tool, opened, tmp_path):
+    status, out, err = tool("assign", CLOSED, "--from", opened, "--informed", "0,1", "-o", "table.csv", "-j", "2",
+                            "--gap", "0.0001")
+    assert status == 0, err
+    rows = (tmp_path / "table.csv").read_text().splitlines()
+    assert rows[0].startswith("informed,rounds,gap,delay_vehicle_hours") and len(rows) == 3
+    assert [float(row.split(",")[3]) for row in rows[1:]] == pytest.approx([1796, 3.5], rel=0.01, abs=1.5)
+
+
+def test_compare_tells_by_pair_who_lost(tool, opened):
+    assert tool("assign", CLOSED, "--from", opened, "--informed", "0", "-o", "closed.assigned.toml")[0] == 0
+    status, out, err = tool("compare", "bypass.assigned.report", "closed.assigned.report")
+    assert status == 0 and "Of 1 pairs 0 gained and 1 lost" in out
+    row = next(line for line in out.splitlines() if line.strip().startswith("from-west"))
+    # 1,796 vehicle-hours for 2,520 vehicles.
+    assert float(row.split()[-1].replace(",", "")) == pytest.approx(1796, rel=0.005)
+
+
+def test_without_a_bridge_that_is_closed_all_drive_through_the_town(tool, opened):
+    assert read_report("bypass.assigned.report").total.delay < 1
+    assert {row.roads for row in read_ways("bypass.assigned.ways.csv")} == {("west", "town", "east")}

@@ -1,0 +1,50 @@
+"""What gaps let pass: the formulas against figures that were worked out by hand from the Highway Capacity Manual's gaps."""
+
+from fractions import Fraction
+
+import pytest
+
+from ctmtools.study.gap_kinds import KINDS
+from ctmtools.study.plan import Gaps
+from ctmtools.yielding.gaps import harders, in_two_stages, passing, siegloch
+from ctmtools.yielding.permitted import Opposing
+
+
+@pytest.mark.parametrize("priority, passes", [(300, 744.3), (600, 504.6), (900, 340.0), (1200, 227.7)])
+def test_a_right_turn_out_of_a_side_street_by_harders(priority, passes):
+    # As 600·exp(-600·6.2/3600)/(1 - exp(-600·3.3/3600)) = 600·0.35582/0.42305.
+    assert harders(priority, 6.2, 3.3) == pytest.approx(passes, abs=0.1)
+
+
+@pytest.mark.parametrize("circulating, passes", [(0, 1380), (500, 828.7), (1000, 497.6)])
+def test_an_entry_of_a_roundabout_is_that_of_the_manual(circulating, passes):
+    # 1,380·exp(-0.00102·v), Highway Capacity Manual 2016.
+    kind = KINDS["roundabout"]
+    assert siegloch(circulating, float(kind.critical[2]), float(kind.follow_up[2])) == pytest.approx(passes, rel=5e-4)
+
+
+@pytest.mark.parametrize("opposing, passes", [(400, 1000.3), (800, 690.5)])
+def test_a_permitted_left_turn_beside_a_queue_that_is_gone(opposing, passes):
+    # 400·exp(-0.5)/(1 - exp(-0.27778)) = 400·0.60653/0.24254.
+    kind = KINDS["permitted-left"]
+    assert harders(opposing, float(kind.critical[2]), float(kind.follow_up[2])) == pytest.approx(passes, abs=0.1)
+
+
+def test_the_queue_of_those_who_come_towards_clears_as_it_does_by_hand():
+    # 30 s of red at 400 vehicles/h are gone at 1,800 - 400 vehicles/h: 400·30/1,400 s.
+    assert Opposing((0, 30), 400, 400, 1800).cleared(60) == pytest.approx(8.571, abs=0.001)
+    assert Opposing((0, 30), 900, 900, 1800).cleared(60) == 30
+
+
+def test_a_median_of_one_vehicle_by_hand():
+    # a = 1 - 0.32·exp(-1.3) = 0.91279, y = (500 - 300)/(600 - 300) = 2/3:
+    # 0.91279/(4/9 - 1)·(2/3·(2/3 - 1)·600 + (2/3 - 1)·300).
+    assert in_two_stages(1, 500, 600, 300) == pytest.approx(383.4, abs=0.1)
+    # Where both stages pass alike y is 1: 0.91279/2·(500 + 300).
+    assert in_two_stages(1, 500, 500, 300) == pytest.approx(365.1, abs=0.1)
+
+
+def test_who_stops_follows_at_a_distance_where_nobody_comes_and_who_gives_way_is_unbounded():
+    stops = Gaps(Fraction(62, 10), Fraction(33, 10), "harders")
+    assert passing(0, stops) == pytest.approx(3600 / 3.3)
+    assert passing(0, Gaps(stops.critical, stops.follow_up, "harders", give_way=True)) == float("inf")

@@ -1,0 +1,136 @@
+"""Trips of other programs: where vehicles of SUMO begin and end, its matrices, and DTALite's demand between zones."""
+
+import pytest
+
+from ctmtools import assign, import_sumo, read_study
+from ctmtools.assignment.assigning import Assignment
+
+NET = """<net version="1.9">
+<edge id="in" from="a" to="b"><lane id="in_0" index="0" speed="13.89" length="400"/></edge>
+<edge id="up" from="b" to="c"><lane id="up_0" index="0" speed="13.89" length="600"/></edge>
+<edge id="low" from="b" to="c"><lane id="low_0" index="0" speed="13.89" length="500"/></edge>
+<edge id="out" from="c" to="d"><lane id="out_0" index="0" speed="13.89" length="400"/></edge>
+<junction id="a" type="dead_end" x="0" y="0"/><junction id="b" type="priority" x="400" y="0"/>
+<junction id="c" type="priority" x="900" y="0"/><junction id="d" type="dead_end" x="1300" y="0"/>
+<connection from="in" to="up" fromLane="0" toLane="0" dir="s" state="M"/>
+<connection from="in" to="low" fromLane="0" toLane="0" dir="s" state="M"/>
+<connection from="up" to="out" fromLane="0" toLane="0" dir="s" state="M"/>
+<connection from="low" to="out" fromLane="0" toLane="0" dir="s" state="m"/>
+</net>"""
+TAZ = """<additional><taz id="1" edges="in"/><taz id="2"><tazSource id="in" weight="1"/><tazSink id="out" weight="1"/></taz>
+</additional>"""
+
+
+def demands(path):
+    return [(trips.source, trips.into, [(float(flow.start), float(flow.end), float(flow.flow)) for flow in trips.demand])
+            for trips in read_study(path).trips]
+
+
+@pytest.fixture
+def net(tmp_path):
+    (tmp_path / "n.net.xml").write_text(NET)
+    return tmp_path
+
+
+@pytest.mark.parametrize("name, route", [("t.trips.xml", 'from="in" to="out"'), ("t.rou.xml", "")])
+def test_vehicles_of_sumo_become_trips_and_choose_their_way(tool, net, name, route):
+    inner = "" if route else '<route edges="in up out"/>'
+    kind = "trip" if route else "vehicle"
+    rows = "".join(f'<{kind} id="{i}" depart="{6 * i}" {route}>{inner}</{kind}>' for i in range(150))
+    (net / name).write_text(f"<routes>{rows}</routes>")
+    status, _, err = tool("import", "sumo", "n.net.xml", "--routes", name, "--trips", "--until", "900", "--interval", "450",
+                          "-o", "n.toml")
+    assert status == 0, err
+    # A vehicle each 6 s: 600 vehicles/h.
+    assert demands(net / "n.toml") == [("in-in", "out-out", [(0, 450, 600), (450, 900, 600)])]
+    made = Assignment(read_study(net / "n.toml"))
+    made.start()
+    roads = {road for row in made.rows() for road in row.roads}
+    assert "low" in roads and "up" not in roads
+
+
+@pytest.mark.parametrize("matrix", ["$OR;D2\n0.00 0.15\n1.00\n* a comment\n1 2 100\n2 2 50\n",
+                                    "$VMR;D2\n0.00 0.15\n* factor\n1.00\n2\n1 2\n0 100\n0 50\n"])
+def test_a_matrix_of_sumo_becomes_trips(tool, net, matrix):
+    (net / "t.taz.xml").write_text(TAZ)
+    (net / "m.od").write_text(matrix)
+    status, _, err = tool("import", "sumo", "n.net.xml", "--trips", "--taz", "t.taz.xml", "--matrix", "m.od", "--until", "900",
+                          "-o", "n.toml")
+    assert status == 0, err
+    # 150 vehicles in a quarter of an hour.
+    assert demands(net / "n.toml") == [("in-in", "out-out", [(0, 900, 600)])]
+
+
+@pytest.mark.parametrize("matrix, told", [
+    ("$VMR;D2\n0.00 0.15\n1\n2\n1 2\n0 100 0\n", "2 districts need as many names and 4 numbers"),
+    ("$OR;D2\n0.00 0.15\n1\n1 2 -5\n", "line 4: expected 1 numbers that aren't negative"),
+    ("$OR;D2\n0.00 0.15\n1\n1 7 5\n", "there is no zone 7"), ("1 2 3\n", "no matrix of SUMO")])
+def test_a_matrix_that_is_none_is_refused(tool, net, matrix, told):
+    (net / "t.taz.xml").write_text(TAZ)
+    (net / "m.od").write_text(matrix)
+    status, _, err = tool("import", "sumo", "n.net.xml", "--trips", "--taz", "t.taz.xml", "--matrix", "m.od", "-o", "n.toml")
+    assert status == 2 and "m.od" in err and told in err and not (net / "n.toml").exists()
+
+
+def test_demand_of_dtalite_becomes_trips(tool, tmp_path):
+    folder = tmp_path / "town"
+    folder.mkdir()
+    (folder / "node.csv").write_text("node_id,zone_id,x_coord,y_coord\n1,1,0,0\n2,,500,0\n3,2,1000,0\n")
+    (folder / "link.csv").write_text("link_id,from_node_id,to_node_id,length,lanes,free_speed,directed\n"
+                                     "a,1,2,0.5,1,50,1\nb,2,3,0.5,1,50,1\n")
+    (folder / "demand.csv").write_text("o_zone_id,d_zone_id,volume\n1,2,300\n")
+    status, _, err = tool("import", "gmns", "town", "--trips", "--until", "1800", "-o", "town.toml")
+    assert status == 0, err
+    assert demands(tmp_path / "town.toml") == [("in-a", "out-a", [(0, 1800, 600)])]
+
+
+# A street for buses alone and a dead end beside the way.
+BESIDE = NET.replace('<edge id="out"', '<edge id="bus" from="A" to="B"><lane index="0" speed="13.89" length="50" '
+                     'allow="bus"/></edge><edge id="dead" from="A" to="Z"><lane index="0" speed="13.89" length="50"/></edge>'
+                     '<edge id="out"').replace("</net>", "".join(
+                         f'<connection from="{one}" to="{two}" fromLane="0" toLane="0" dir="s" state="M"/>' for one, two in
+                         (("in", "bus"), ("bus", "out"), ("in", "dead"))) + "</net>")
+
+
+def test_the_ways_are_those_of_cars_from_end_to_end(tool, net):
+    (net / "n.net.xml").write_text(BESIDE)
+    (net / "n.rou.xml").write_text('<routes><vType id="b" vClass="bus"/><flow id="1" begin="0" end="900" number="90" from="in" '
+                                   'to="out"/><vehicle id="2" type="b" depart="5"><route edges="in bus out"/></vehicle></routes>')
+    status, out, err = tool("import", "sumo", "n.net.xml", "--routes", "n.rou.xml", "--trips", "--until", "900", "-o", "n.toml")
+    assert status == 0, err
+    assert set(read_study(net / "n.toml").roads) == {"in", "up", "low", "out"}
+    assert out.startswith("n.toml: 4 streets, 0 signals, 90 vehicles\n")
+    assert "1 vehicles without a way over the network are left out, as vehicle 2 over bus" in out
+
+
+def test_a_matrix_is_cut_where_the_demand_ends(net):
+    (net / "t.taz.xml").write_text(TAZ)
+    (net / "m.od").write_text("$OR;D2\n0.00 0.30\n1.00\n1 2 100\n")
+    study = import_sumo(net / "n.net.xml", net / "n.toml", trips=True, taz=net / "t.taz.xml", matrix=net / "m.od", until="15 min")
+    # 100 vehicles in half an hour are 200 vehicles/h.
+    assert [[(flow.start, flow.end, flow.flow) for flow in trips.demand] for trips in study.trips] == [[(0, 900, 200)]]
+
+
+def test_an_imported_study_is_assigned_from_python_with_the_columns_of_its_file(net, program, monkeypatch):
+    monkeypatch.setenv("CTM_PROGRAM", program)
+    (net / "n.rou.xml").write_text('<routes><flow id="1" begin="0" end="900" number="90" from="in" to="out"/></routes>')
+    import_sumo(net / "n.net.xml", net / "n.toml", trips=True, routes=net / "n.rou.xml", until=900, interval=900)
+    ways = assign(net / "n.toml", net / "a.toml")
+    assert list(ways.columns) == (net / "a.ways.csv").read_text().splitlines()[0].split(",")
+    assert ways[["from", "to"]].drop_duplicates().values.tolist() == [["in-in", "out-out"]]
+    assert ways.vehicles.sum() == pytest.approx(90)
+
+
+@pytest.mark.parametrize("demand, words, wanted", [
+    ("o_zone_id,d_zone_id,volume\n1,2,-3\n", ["--trips"], (2, "demand.csv: line 2, volume: expected a number of 0 or more")),
+    ("o_zone_id,d_zone_id,volume\n1,7,3\n", ["--trips"], (2, "demand.csv: line 2, d_zone_id: there is no zone 7")),
+    ("link_id,start,end,flow\na,0,60,3\n", ["--trips"], (2, "demand.csv: has no trips between zones")),
+    ("o_zone_id,d_zone_id,volume\n1,2,3\n", [], (0, "demand.csv has trips between zones, which --trips takes"))])
+def test_demand_of_gmns_of_the_other_kind_is_told(tool, tmp_path, demand, words, wanted):
+    folder = tmp_path / "town"
+    folder.mkdir()
+    (folder / "node.csv").write_text("node_id,zone_id,x_coord,y_coord\n1,1,0,0\n2,2,1000,0\n")
+    (folder / "link.csv").write_text("link_id,from_node_id,to_node_id,length,lanes,free_speed,directed\na,1,2,1,1,50,1\n")
+    (folder / "demand.csv").write_text(demand)
+    status, out, err = tool("import", "gmns", "town", *words, "-o", "town.toml")
+    assert status == wanted[0] and wanted[1] in (err or out)

@@ -1,0 +1,260 @@
+"""Ctrl-C and bars: whatever a command is at, it ends soon with one line and status 130, what was done is kept, and only a
+terminal sees how much is left."""
+
+import os
+import pty
+import re
+import select
+import signal
+import subprocess
+import sys
+import time
+
+import pytest
+
+from .examples import EXAMPLES, TOOLS
+
+SOON = 2.0  # seconds; the machine may be busy, so several tries have to be slow before it is a fault
+STREET = str(EXAMPLES / "arterial-0.toml")
+OFFSETS = ["--vary", "signals.offset=0:110:10"]
+DETECTORS = "place,start,end,flow\nc.1,07:15,07:45,800\n"
+CALIBRATE = ["calibrate", STREET, "--observed", "seen.csv", "--vary", "demand=0.7:1.1"]
+
+
+def heeds_an_interrupt():
+    """Also where these tests run behind a shell that has interrupts ignored."""
+    signal.signal(signal.SIGINT, signal.default_int_handler)
+
+
+def stand_in(folder, program, call, does):
+    """A program that is the built one, but does something else from one of its calls on: it makes `reached` and sleeps."""
+    path = folder / "stand-in"
+    path.write_text(f"#!/bin/bash\necho x >> {folder}/count\nif [ $(wc -l < {folder}/count) -ge {call} ]; then touch {folder}/reached; "
+                    f"{does}; fi\nexec {program} \"$@\"\n")
+    path.chmod(0o755)
+    return str(path)
+
+
+def started(folder, words, program, **streams):
+    return subprocess.Popen([sys.executable, "-m", "ctmtools", *map(str, words)], cwd=folder, text=True,
+                            env={**os.environ, "PYTHONPATH": str(TOOLS), "CTM_PROGRAM": program, "COLUMNS": "100"},
+                            preexec_fn=heeds_an_interrupt, start_new_session=True, **streams)
+
+
+def wait_for(path, process, seconds=120):
+    end = time.monotonic() + seconds
+    while not path.exists():
+        assert process.poll() is None and time.monotonic() < end, process.communicate()
+        time.sleep(0.02)
+
+
+def interrupted(folder, words, program):
+    """Interrupts a command, and all of its group as a terminal does; gives status, errors and the seconds until its end."""
+    process = started(folder, words, program, stdout=subprocess.PIPE, stderr=subprocess.PIPE)
+    wait_for(folder / "reached", process)
+    begun = time.monotonic()
+    os.killpg(process.pid, signal.SIGINT)
+    _, err = process.communicate(timeout=60)
+    return process.returncode, err, time.monotonic() - begun
+
+
+def sleepers(folder):
+    """Whether a process of the stand-in in a folder still lives after a while."""
+    for _ in range(50):
+        if subprocess.run(["pgrep", "-f", f"{folder}/stand-in"], capture_output=True).stdout == b"":
+            return False
+        time.sleep(0.1)
+    return True
+
+
+# What each command is at when it is interrupted, after so many calls of the program, and what it says.
+CASES = {
+    "run": (["run", STREET], 2, "interrupted"),
+    "run in stretches": (["run", STREET, "--checkpoint", "20 min"], 4, "stopped; the same call goes on from 07:40"),
+    "lint": (["lint", EXAMPLES / "event.csv"], 1, "interrupted"),
+    "sweep": (["sweep", STREET, *OFFSETS, "-j", "1"], 8, r"stopped with \d+ of 12 runs left; the same call goes on with them"),
+    "sweep on processes": (["sweep", STREET, *OFFSETS, "-j", "2"], 8, r"stopped with \d+ of 12 runs left; the same call goes on"),
+    "choose": (["choose", STREET, "--vary", "signals.offset=0:110:5"], 2, "stopped with 7 of 23 plans left; the same call goes on"),
+    "optimise": (["optimise", EXAMPLES / "arterial-ten.toml", "--signals"], 3, "stopped after 32 runs; the same call goes on"),
+    "meter": (["meter", EXAMPLES / "feedback.toml"], 12, "stopped; the same call goes on from the last interval"),
+    "calibrate": (CALIBRATE, 6, r"stopped after \d+ runs; the same call goes on"),
+    "branch": (["branch", TOOLS / "tests/studies/corridor.saved", "corridor.csv", "corridor.csv"], 1, "interrupted"),
+}
+
+
+@pytest.mark.parametrize("case", CASES)
+def test_an_interrupt_ends_it_soon_with_one_line(tmp_path, program, case):
+    words, call, line = CASES[case]
+    (tmp_path / "seen.csv").write_text(DETECTORS)
+    saved = (TOOLS / "tests/studies/corridor.saved").read_bytes()
+    (tmp_path / "corridor.csv").write_bytes(saved.partition(b"\nnet\n")[2])
+    before = {path.name for path in tmp_path.iterdir()}
+    took = []
+    for _ in range(3):
+        (tmp_path / "count").unlink(missing_ok=True)
+        (tmp_path / "reached").unlink(missing_ok=True)
+        status, err, seconds = interrupted(tmp_path, words, stand_in(tmp_path, program, call, f"exec -a {tmp_path}/stand-in sleep 100"))
+        assert status == 130 and err.count("\n") == 1 and re.match(f"ctm-tools: {line}", err), (status, err)
+        took.append(seconds)
+        if seconds < SOON:
+            break
+        subprocess.run(["rm", "-rf", *(str(path) for path in tmp_path.iterdir() if path.name not in before)])
+    assert min(took) < SOON, took
+    assert not sleepers(tmp_path) and not list(tmp_path.glob("*.report")) and not list(tmp_path.glob("*.part"))
+
+
+@pytest.mark.parametrize("words, call, done", [
+    (["choose", STREET, "--vary", "signals.offset=0:110:5"], 2, "16 of 23 plans stand in arterial-0.choose/plans.csv already"),
+    (CALIBRATE, 6, r"\d+ runs stand in arterial-0.calibrate/tried.csv already"),
+    (["sweep", STREET, *OFFSETS, "-j", "1"], 8, r"\d+ of 12 runs stand in")], ids=["choose", "calibrate", "sweep"])
+def test_what_was_done_is_kept_and_the_same_call_goes_on(tool, tmp_path, program, words, call, done):
+    (tmp_path / "seen.csv").write_text(DETECTORS)
+    assert interrupted(tmp_path, words, stand_in(tmp_path, program, call, "exec sleep 100"))[0] == 130
+    status, out, err = tool(*words)
+    assert status == 0 and re.match(done, out) and not err
+    for path in tmp_path.glob("arterial-0.*/"):
+        subprocess.run(["rm", "-r", path])
+    whole = tool(*words)[1]
+    assert [line for line in whole.splitlines() if "runs" not in line] == \
+        [line for line in out.splitlines()[len(out.splitlines()) - len(whole.splitlines()):] if "runs" not in line]
+
+
+def test_a_metered_run_goes_on_to_the_same_rates(tool, tmp_path, program):
+    words = ["meter", EXAMPLES / "feedback.toml", "--rates", "rates.csv"]
+    assert interrupted(tmp_path, words, stand_in(tmp_path, program, 12, "exec sleep 100"))[0] == 130
+    assert (tmp_path / "feedback-metered.meter.json").exists()
+    assert tool(*words)[0] == 0
+    gone_on = [(tmp_path / name).read_bytes() for name in ("rates.csv", "feedback-metered.report", "feedback-metered.csv")]
+    assert not (tmp_path / "feedback-metered.meter.json").exists()
+    assert tool(*words)[0] == 0
+    assert gone_on == [(tmp_path / name).read_bytes() for name in ("rates.csv", "feedback-metered.report", "feedback-metered.csv")]
+
+
+@pytest.mark.parametrize("case", ["run", "sweep on processes", "branch"])
+@pytest.mark.parametrize("number", [signal.SIGTERM, signal.SIGHUP])
+def test_what_ends_a_command_from_outside_ends_the_program_too(tmp_path, program, case, number):
+    words, call, _ = CASES[case]
+    (tmp_path / "corridor.csv").write_bytes((TOOLS / "tests/studies/corridor.saved").read_bytes().partition(b"\nnet\n")[2])
+    process = started(tmp_path, words, stand_in(tmp_path, program, call, f"exec -a {tmp_path}/stand-in sleep 100"),
+                      stdout=subprocess.DEVNULL, stderr=subprocess.DEVNULL)
+    wait_for(tmp_path / "reached", process)
+    process.send_signal(number)
+    assert process.wait(60) == -number
+    assert not sleepers(tmp_path)
+
+
+def test_a_program_that_builds_has_time_to_end_what_it_began(tmp_path):
+    # As ./ctm does: it ends the processes that it began in groups of their own, and says so.
+    path = tmp_path / "stand-in"
+    path.write_text(f"""#!/bin/bash
+setsid bash -c 'exec -a {tmp_path}/stand-in-began sleep 100' &
+began=$!
+trap 'kill $began; echo "./ctm: interrupted, so nothing was run" >&2; exit 125' TERM
+echo './ctm: building' >&2
+touch {tmp_path}/reached
+wait
+""")
+    path.chmod(0o755)
+    status, err, _ = interrupted(tmp_path, ["lint", EXAMPLES / "event.csv"], str(path))
+    assert (status, err) == (130, "./ctm: building\nctm-tools: interrupted\n") and not sleepers(tmp_path)
+
+
+def test_an_interrupt_that_a_library_takes_for_a_fault_of_the_file(tmp_path, reports):
+    # pandas makes of an interrupt while it reads the fault that the text can't be read, which would blame the report.
+    code = f"""
+import os, signal, sys
+import pandas
+from ctmtools.command_line import main
+def read_csv(*words, **named):
+    try:
+        os.kill(os.getpid(), signal.SIGINT)
+        import time; time.sleep(5)
+    except KeyboardInterrupt:
+        raise pandas.errors.ParserError("Calling read(nbytes) on source failed")
+pandas.read_csv = read_csv
+main(["table", {str(reports("bottleneck"))!r}])"""
+    ended = subprocess.run([sys.executable, "-c", code], capture_output=True, text=True, preexec_fn=heeds_an_interrupt,
+                           env={**os.environ, "PYTHONPATH": str(TOOLS)})
+    assert (ended.returncode, ended.stderr, ended.stdout) == (130, "ctm-tools: interrupted\n", "")
+
+
+def test_what_does_not_heed_an_interrupt_is_ended(tmp_path, reports):
+    code = f"""
+import os, signal, time
+from ctmtools.command_line import main
+from ctmtools.report import reading
+def report_of(*words):
+    os.kill(os.getpid(), signal.SIGINT)
+    while True:
+        try:
+            time.sleep(60)
+        except KeyboardInterrupt:
+            pass
+reading.report_of = report_of
+try:
+    main(["table", {str(reports("bottleneck"))!r}])
+except BaseException as error:
+    print(error)"""
+    code = code.replace("    os.kill(", "    try:\n        os.kill(").replace("SIGINT)\n    while", "SIGINT)\n    except KeyboardInterrupt:\n        pass\n    while")
+    ended = subprocess.run([sys.executable, "-c", code], capture_output=True, text=True, preexec_fn=heeds_an_interrupt,
+                           timeout=60, env={**os.environ, "PYTHONPATH": str(TOOLS)})
+    assert (ended.returncode, ended.stderr) == (130, "ctm-tools: interrupted\n")
+
+
+@pytest.mark.parametrize("words, where, name", [
+    (["table", "REPORT", "-o", "t.csv"], "pandas.DataFrame.to_csv", "t.csv"),
+    (["plot", "delay", "REPORT", "-o", "p.png"], "matplotlib.figure.Figure.savefig", "p.png"),
+    (["plot", "delay", "REPORT", "-o", "p.png"], "os.replace", "p.png")], ids=["table", "plot", "replaced"])
+def test_an_interrupt_leaves_what_stood_there(tool, reports, tmp_path, monkeypatch, words, where, name):
+    def stopped(*_, **__):
+        raise KeyboardInterrupt
+    (tmp_path / name).write_text("old")
+    path = reports("arterial-0")
+    monkeypatch.setattr(where, stopped)
+    status, out, err = tool(*(path if word == "REPORT" else word for word in words))
+    assert (status, err) == (130, "ctm-tools: interrupted\n")
+    assert (tmp_path / name).read_text() == "old" and os.listdir(tmp_path) == [name]
+
+
+def on_terminal(folder, words, program):
+    """What a terminal shows on standard error of a command that goes to its end."""
+    first, second = pty.openpty()
+    process = started(folder, words, program, stdout=subprocess.DEVNULL, stderr=second)
+    os.close(second)
+    shown, end = b"", time.monotonic() + 240
+    while time.monotonic() < end:
+        if not select.select([first], [], [], 0.5)[0]:
+            continue
+        try:
+            part = os.read(first, 4096)
+        except OSError:  # its other end is closed
+            break
+        shown += part
+        if not part:
+            break
+    os.close(first)
+    assert process.wait(60) == 0, shown
+    return shown.decode()
+
+
+LEFT = r"(  \d\d:\d\d:\d\d)?"  # how long the rest takes, which is known after a second
+
+
+@pytest.mark.parametrize("words, bar", [
+    (["sweep", STREET, "--vary", "signals.offset=0:30:10", "-j", "1"], r"4 runs on 1 process  \[#+-+\]  [1-3]/4  \d\d:\d\d:\d\d"),
+    (["run", STREET, "--checkpoint", "20 min"], rf"stretches  \[#+-+\]  2/4{LEFT}  at 07:40"),
+    (["choose", STREET, "--vary", "signals.offset=0:110:5"], rf"23 plans  \[#+-+\]  16/23{LEFT}"),
+    (["optimise", STREET, "--signals", "--generations", "2", "--population", "5"],
+     rf"2 generations  \[#+-+\]  1/2{LEFT}  10 runs, least delay [\d.]+ vehicle-hours"),
+    ([*CALIBRATE, "--runs", "6", "--first", "4"], rf"runs at most  \[#+-+\]  \d+/19{LEFT}  distance"),
+    (["meter", EXAMPLES / "feedback.toml"], rf"intervals  \[#+-+\]  \d+/\d+{LEFT}")],
+    ids=lambda value: value[0] if isinstance(value, list) else "")
+def test_a_terminal_sees_what_is_left_and_nothing_else_does(tmp_path, program, words, bar):
+    (tmp_path / "seen.csv").write_text(DETECTORS)
+    slow = stand_in(tmp_path, program, 1, "sleep 0.6") if words[0] == "sweep" else program
+    shown = on_terminal(tmp_path, words, slow)
+    assert re.search(bar, shown), shown
+    for path in tmp_path.glob("arterial-0.*/"):
+        subprocess.run(["rm", "-r", path])
+    process = started(tmp_path, words, program, stdout=subprocess.DEVNULL, stderr=subprocess.PIPE)
+    assert process.communicate(timeout=240)[1] == "" and process.returncode == 0

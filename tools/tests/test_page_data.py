@@ -1,0 +1,100 @@
+"""The numbers of the page for a browser: frames, means, tables and times, of queues worked out step by step."""
+
+from types import SimpleNamespace as Some
+
+import pytest
+
+from ctmtools import Problem
+from ctmtools.network_file.network import network_of
+from ctmtools.pages import frames
+from ctmtools.pages.content import data_of
+from ctmtools.pages.frames import bounds_of
+from ctmtools.pages.page import page_of
+from ctmtools.pages.tables import table_of
+from ctmtools.report.reading import report_of
+from ctmtools.units import Units
+
+from .corridor import corridor
+from .page_data import cells_of, decoded, figures
+from .test_lines import corridors
+from .test_travel import at_a_light, reported
+
+
+# In 3,200,000 bytes each cell has in a frame two of density, two of flow and a bit of its queue, and each frame 24 for its time.
+@pytest.mark.parametrize("cells, count, steps, each", [(2000, 1, 386, 1), (2000, 1, 387, 2), (2000, 1, 1440, 4), (2000, 2, 1440, 8), (10, 1, 1440, 1),
+                                                       (4_000_000, 1, 9, 9)])
+def test_as_many_frames_as_there_is_room_for(cells, count, steps, each):
+    found = bounds_of([Some(cells=range(cells), times=range(steps + 1))] * count)
+    assert found == [*range(0, steps, each), steps]
+
+
+def test_the_data_of_a_light():
+    data = data_of([at_a_light(0, 3, 7)])
+    assert decoded(data, "density")["a"][:11] == pytest.approx([0, 0, 1, 0, 0, 1, 1, 1, 1, 2, 2], abs=0.001)
+    assert decoded(data, "flow")["a"][[2, 5, 10, 11]] == pytest.approx([1, 0, 2, 0], abs=0.001)
+    assert [data["reports"][0][name]["most"][1] for name in ("density", "flow")] == [2, 2]
+    assert data["units"] == {"density": "vehicles in a cell", "flow": "vehicles in a step", "speed": "cells in a step", "place": "cell"}
+    assert data["times"] == [f"step {step}" for step in range(41)] and data["clock"] == {"known": False, "bounds": [*range(41)]}
+    assert data["subtitle"] == "40 steps. 3 vehicles came, 3 were served, 0 are still inside, delay 6 vehicle-steps"
+    assert data["notes"].startswith("Density, flow and speed are means over 1 step. A cell") and data["title"] == "light"
+    assert data["networks"][0]["roads"] == {"all": [1]} and data["opening"] == {"report": 0, "road": "all", "cell": "a", "frame": 9}
+    cell = cells_of(data)[1]
+    assert (cell["name"], cell["kind"], cell["from"], cell["to"]) == ("a", "road", 0, 1)
+
+
+def test_means_of_frames_of_several_steps(monkeypatch):
+    monkeypatch.setattr(frames, "MOST_DATA", 10 * (3 * 4.125 + 24))  # ten frames of three cells
+    data = data_of([at_a_light(0, 3, 7)])
+    assert decoded(data, "density")["a"] == pytest.approx([0.25, 0.75, 1.25, *[0] * 7], abs=0.001) and len(data["times"]) == 11
+    assert decoded(data, "flow")["a"] == pytest.approx([0.25, 0, 0.5, *[0] * 7], abs=0.001) and "means over 4 steps" in data["notes"]
+
+
+def test_means_of_records_that_stand_apart():
+    text = b"report,10,1\n" + b"".join(b"at,%d,c,%d,%d\n" % row for row in ((0, 0, 0), (4, 8, 4), (5, 6, 7), (10, 2, 12))) + \
+        b"cell,c,2,14,12,20\ntotal,2,14,12,20\n"
+    report = report_of(text, "c")
+    report.network = network_of(b"ctm,1\nsteps,10\nroad,c,60,9,1,5,0\n")
+    data = data_of([report])
+    # Held are 4, 8 and 4 in the mean, and 1, 3 and 1 go out in a step.
+    assert decoded(data, "density")["c"] == pytest.approx([4, 8, 4], abs=0.001)
+    assert decoded(data, "flow")["c"] == pytest.approx([1, 3, 1], abs=0.001)
+
+
+def test_two_reports_side_by_side():
+    one, two = corridors(60, a=20), corridors(60, a=10)
+    two.name = "other.report"
+    data = data_of([one, two])
+    assert "<title>made and other</title>" in page_of([one, two], library="// d3") and data["names"] == ["made", "other"]
+    assert (data["title"], data["subtitle"]) == ("made and other", "60 steps")
+    # Length, delay, vehicles, delay of each and most in queues; a gate has neither length nor queue.
+    table = table_of([one, two])
+    assert [figures(table, i)["all"][:5] for i in (0, 1)] == [[1, 400, 40, 10, 1], [1, 100, 20, 5, 1]]
+    assert [figures(table, i)["gate ga"][:5] for i in (0, 1)] == [[None, 0, 40, 0, None], [None, 0, 20, 0, None]]
+    # Came, served, still inside, delay, and how much more than the first.
+    assert data["tables"]["reports"]["rows"] == [["made", 40, 40, 0, 400, None, None], ["other", 20, 20, 0, 100, -300, -75]]
+    assert data["tables"]["cells"]["rows"][0] == ["a", 400, 100, -300, 40, 20, -20]
+
+
+def test_a_gate_in_which_somebody_waits_has_a_delay_of_its_own(tmp_path):
+    report = reported(corridor(tmp_path, lanes=1, demand='[["06:00", "06:10", 3240]]'))
+    own = figures(table_of([report]))
+    # Of 9 in each of 60 steps 6 pass: 3 more wait after each, and from then on 6 fewer, 90 steps in all.
+    delay = (180 * 60 / 2 + 180 * 30 / 2) / 360
+    assert own["gate g"][:4] == [None, pytest.approx(delay, abs=0.01), 540, pytest.approx(delay * 3600 / 540, abs=0.1)]
+    assert own["m"][1] == pytest.approx(0, abs=0.001)
+
+
+def test_steps_of_other_length_are_of_other_times():
+    one, two = corridors(9, a=1), corridors(9, a=1)
+    two.units = Units(step=5)
+    with pytest.raises(Problem, match="is of other times than"):
+        data_of([one, two])
+
+
+@pytest.mark.parametrize("step, times", [(60, ["00:10", "00:11"]), (120, ["00:10", "00:12"]), (90, ["00:10:00", "00:11:30"]),
+                                         (10, ["00:10:00", "00:10:10"])])
+def test_seconds_are_told_where_frames_are_no_whole_minutes(step, times):
+    report = corridors(9, a=1)
+    report.units = Units(step=step, start=600)
+    data = data_of([report])
+    assert data["times"][:2] == times and data["clock"] == {"known": True, "bounds": [600 + step * i for i in range(10)]}

@@ -1,0 +1,72 @@
+"""How often a run is recorded, against a search over all it could be, and the sign of life while it runs."""
+
+import io
+import time
+
+import pytest
+
+from ctmtools import Problem, program, working
+from ctmtools.command_line import main
+from ctmtools.moments import going_on
+
+
+def least(steps, cells):
+    """The least number of steps between records with which 4,000,000 values are enough, of 0 up to the steps; 0 for none."""
+    for every in range(1, steps + 2):
+        recorded = len({*range(0, steps + 1, every), steps})
+        if recorded * cells <= 4_000_000:
+            return every
+    return 0
+
+
+@pytest.mark.parametrize("steps, cells", [(1440, 30), (10, 1), (1440, 2777), (1440, 2776), (1440, 5000), (3, 1_000_000), (4, 1_000_000), (2, 1_333_334),
+                                          (7, 2_000_000), (7, 2_000_001), (1, 2_000_000), (1, 2_000_001), (100, 200_000), (99, 199_999), (50, 1_333_333)])
+def test_a_run_is_recorded_as_often_as_the_program_allows(steps, cells):
+    assert program.recording_step(steps, cells) == least(steps, cells)
+
+
+@pytest.mark.parametrize("workers, regions", [(1, "1"), (2, "16"), (64, "512"), (100, "512")])
+def test_regions_for_workers_where_the_program_takes_no_word_for_it(monkeypatch, workers, regions):
+    monkeypatch.setattr(program, "takes", lambda *_: False)
+    assert program.regions_for(workers) == regions
+
+
+class Terminal(io.StringIO):
+    def isatty(self):
+        return True
+
+
+def test_a_terminal_shows_a_sign_and_the_seconds(monkeypatch):
+    monkeypatch.setattr(working, "BLINK", 0.01)
+    shown = Terminal()
+    with working.working("ctm is running", shown):
+        time.sleep(0.5)
+    first, second, *_, last = shown.getvalue().split("\r")[1:]
+    assert (first, second) == ("| ctm is running, 0 s ", "/ ctm is running, 0 s ") and last == "\x1b[K"
+
+
+def test_another_stream_gets_nothing(monkeypatch):
+    monkeypatch.setattr(working, "BLINK", 0.01)
+    stream = io.StringIO()
+    with working.working("ctm is running", stream):
+        time.sleep(0.3)
+    assert stream.getvalue() == ""
+
+
+@pytest.mark.parametrize("missing, package", [("scipy.optimize", "python3-scipy"), ("distributed", "python3-distributed")])
+def test_a_module_of_a_missing_package_names_the_package(monkeypatch, capsys, missing, package):
+    def fails(*_, **__):
+        raise ModuleNotFoundError(f"No module named {missing}", name=missing)
+    monkeypatch.setattr("ctmtools.command_line.tools.main", fails)
+    with pytest.raises(SystemExit):
+        main(["lint"])
+    assert capsys.readouterr().err == f"ctm-tools: the Python package {missing} is missing; Debian has it as {package}: apt install {package}\n"
+
+
+def test_a_program_without_a_mode_is_told(monkeypatch):
+    for status, line, told in ((2, going_on.REFUSED, "this ctm has no mode save, so a run can't be saved"), (8, "ctm: why", "made: ctm: why"),
+                               (7, "", "made: ctm ended with status 7")):
+        monkeypatch.setattr(going_on, "ask", lambda *_, **__: program.Answer(status, b"", line.encode()))
+        with pytest.raises(Problem) as found:
+            going_on.Runner("made")._ask(("save", "--until", "5"), b"")
+        assert str(found.value).startswith(told)

@@ -1,0 +1,74 @@
+"""Tables of comparisons line by line: heads, figures and what stands at the right."""
+
+import numpy
+import pandas
+import pytest
+
+from ctmtools.commands.branch import beside_each_other
+from ctmtools.problem import Problem
+from ctmtools.report.comparing import compare, side_by_side, totals, travel
+from ctmtools.units import Units
+
+from .test_lines import corridors
+
+
+def test_reports_beside_each_other():
+    one, two = corridors(60, a=20), corridors(60, a=19)
+    # The queue of 20 waits 400 vehicle-steps, that of 19 waits 361: 39 less, which are 9.75 in a hundred.
+    assert list(beside_each_other(side_by_side({"now": one, "then": two}), "future")) == [
+        "  future  came  served  inside  delay, vehicle-steps  against now", "  now       40      40       0                   400",
+        "  then      38      38       0                   361          -39  -9.8%"]
+    for report in (one, two):
+        report.units = Units(step=1800)
+    lines = list(beside_each_other(side_by_side({"now": one, "then": two}, 10), ""))
+    assert lines[0].split() == ["came", "served", "inside", "delay,", "vehicle-hours", "against", "now", "cost"]
+    assert lines[1].split() == ["now", "40", "40", "0", "200", "2,000"] and lines[2].split()[-3:] == ["-19.5", "-9.8%", "1,805"]
+    assert lines[0].endswith("    cost") and lines[1].endswith("   2,000") and lines[2].endswith("  1,805")
+
+
+def test_a_change_below_a_twentieth_of_a_per_cent_has_no_share():
+    frame = side_by_side({"now": corridors(60, a=20), "then": corridors(60, a=20)})
+    for part, shown in ((0.0004, False), (0.0006, True), (-0.0006, True)):
+        frame.loc["then", "part"] = part
+        assert (list(beside_each_other(frame, ""))[2].split()[-1] == f"{part:+.1%}") == shown
+
+
+def test_the_sums_of_two_reports():
+    one, two = corridors(30, a=20), corridors(60, a=19)
+    frame = totals(one, two)
+    # At step 30 28 of 40 have gone out.
+    assert frame.index.tolist() == ["came", "served", "inside at the end", "delay"] and frame["first"].tolist()[:3] == [40, 28, 12]
+    assert frame["second"].tolist()[:3] == [38, 38, 0] and frame["rise"].tolist()[:3] == [-2, 10, -12]
+    with pytest.raises(Problem, match="--value-of-time: the units aren't known"):
+        totals(one, two, 5)
+    for report in (one, two):
+        report.units = Units(step=3600)
+    frame = totals(one, two, 5)
+    assert frame.loc["cost of the delay", "second"] == 5 * 361 and frame.loc["delay", "second"] == 361
+
+
+def test_cells_of_two_reports():
+    frame = compare(corridors(60, a=20, b=5), corridors(60, b=6, a=18))
+    # 400 and 324 of a, 25 and 36 of b; of the exits what came to them.
+    assert frame.index.tolist()[:2] == ["a", "b"] and frame.delay_rise.tolist()[:2] == [-76, 11]
+    assert frame.loc["a"].tolist() == [400, 324, -76, 40, 36, -4] and frame.loc["xb", "gone_rise"] == 2 and frame.loc["xb", "gone_first"] == 10
+    alone = compare(corridors(60, a=20), corridors(60, b=6))
+    assert alone.loc["a", "delay_rise"] == -400 and alone.loc["b", "delay_rise"] == 36 and numpy.isnan(alone.loc["b", "delay_first"])
+    assert alone.loc["a", "gone_rise"] == -40 and alone.loc["b", "gone_rise"] == 12
+
+
+def test_the_rise_as_a_part_of_the_first_delay():
+    frame = side_by_side({"now": corridors(9, a=1), "then": corridors(60, a=20)})
+    assert frame.loc["now", "delay"] == 1 and frame.loc["then", "part"] == 399
+
+
+def test_mean_travel_times_of_two_reports():
+    one, two = corridors(60, a=20), corridors(60, a=10)
+    for report in (one, two):
+        report.units = Units(step=120, roads={"a": ["a"]})
+    frame = travel(one, two)
+    # Those who enter in pairs wait for those before them: 1 in the mean of the first pair, and half more for each pair.
+    assert list(frame.columns) == ["first", "second", "rise"] and frame.rise["a"] == pytest.approx(frame.second["a"] - frame["first"]["a"])
+    assert frame["first"]["a"] - frame.second["a"] == pytest.approx(2 * (10 - 5), abs=0.01)
+    one.units.step = None
+    assert travel(one, two).empty and isinstance(travel(one, two), pandas.DataFrame)

@@ -1,0 +1,89 @@
+"""Trips in studies: tables, lists and matrices of them, given routes, and what is refused."""
+
+import pytest
+
+from ctmtools import read_study
+from ctmtools.problem import Problem
+from ctmtools.study.plan import Flow
+
+from .test_assign import assigned
+from .trips import TWO_PAIRS, TWO_WAYS
+
+ROADS = TWO_PAIRS.split("[[trips]]")[0]
+
+
+def study_of(folder, text, **files):
+    for name, content in files.items():
+        (folder / f"{name}.csv").write_text(content)
+    (folder / "s.toml").write_text(text)
+    return read_study(folder / "s.toml")
+
+
+def flows(study):
+    return {(trips.source, trips.into): [(flow.start, flow.end, flow.flow) for flow in trips.demand]
+            for trips in study.trips}
+
+
+def test_a_list_and_matrices_say_the_same(tmp_path):
+    listed = study_of(tmp_path, ROADS + '[trips]\nfile = "od.csv"\n', od=(
+        "from,to,start,end,vehicles\ng,x,07:00,07:15,100\ng,y,07:00,07:15,25\ng,x,07:15,07:30,50\n"))
+    assert flows(listed) == {("g", "x"): [(0, 900, 400), (900, 1800, 200)], ("g", "y"): [(0, 900, 100)]}
+    squares = study_of(tmp_path, ROADS + '[trips]\nmatrices = [{ file = "a.csv", start = "07:00", end = "07:15" }, '
+                       '{ file = "b.csv", start = "07:15", end = "07:30" }]\n', a=",x,y\ng,100,25\n", b="from,x,y\ng,50,0\n")
+    assert flows(squares) == flows(listed)
+    # A gate has the demand that its trips are together.
+    assert listed.gates["g"].demand == [Flow(0, 900, 500), Flow(900, 1800, 200)]
+
+
+@pytest.mark.parametrize("text, told", [
+    ('[[trips]]\nfrom = "h"\nto = "x"\ndemand = 1\n', "trips[1]: from h: is no gate of the study, which has g"),
+    ('[[trips]]\nfrom = "g"\nto = "z"\ndemand = 1\n', "trips[1]: to z: is no exit of the study, which has x, y"),
+    ('[[trips]]\nfrom = "g"\nto = "x"\ndemand = -1\n', "trips[1].demand: a flow isn't negative"),
+    ('[[trips]]\nfrom = "g"\nto = "x"\ndemand = "many"\n', "trips[1].demand: expected a flow"),
+    ('[trips]\nfile = "none.csv"\n', "none.csv: no such file"),
+    ('[trips]\n', "trips.file: say either file"),
+    ('[trips]\nmatrices = [{ file = "short.csv" }]\n', "short.csv: line 2: the row of g has 1 numbers for 2 exits"),
+    ('[trips]\nmatrices = [{ file = "minus.csv" }]\n', "minus.csv: line 2, x: a number of vehicles isn't negative"),
+    ('[trips]\nmatrices = [{ file = "word.csv" }]\n', "word.csv: line 2, y: expected a number of vehicles"),
+    ('[trips]\nfile = "short.csv"\n', "short.csv: line 1 has no column from"),
+    ('[[routes]]\nfrom = "g"\nto = "x"\nroads = ["m"]\n', "routes: there are no trips"),
+    ('[[trips]]\nfrom = "g"\nto = "x"\ndemand = 1\n[[routes]]\nfrom = "g"\nto = "y"\nroads = ["m"]\n',
+     "routes[1]: there are no trips from g to y")])
+def test_trips_that_cannot_be_are_refused(tmp_path, text, told):
+    with pytest.raises(Problem) as found:
+        study_of(tmp_path, ROADS + text, short=",x,y\ng,1\n", minus=",x,y\ng,-1,0\n", word=",x,y\ng,1,two\n")
+    assert told in str(found.value)
+
+
+@pytest.mark.parametrize("change, told", [
+    (lambda text: text.replace('into = "m"', 'into = "m"\ndemand = 10'), "gates.g.demand: trips come from this gate"),
+    (lambda text: text.replace('into = ["x", "y"]', 'into = ["x", "y"]\nshares = [1, 1]'),
+     "diverges[1].shares: trips part here, as those from g of trips[1]"),
+    (lambda text: text.replace('into = ["x", "y"]', 'into = ["x", "y"]\nturns = [{ shares = [1, 1] }]'),
+     "diverges[1].turns: shares by time stand without shares"),
+    (lambda text: text.replace("y = {}", "y = {}\nz = { capacity = 900 }").replace('to = "y"', 'to = "z"'),
+     "trips[2]: no way leads from g to z; the last road that is reached is m")])
+def test_a_network_on_which_trips_cannot_be_is_refused(tool, tmp_path, change, told):
+    (tmp_path / "s.toml").write_text(change(TWO_PAIRS))
+    status, _, err = tool("assign", "s.toml")
+    assert status == 2 and told in err and err.count("\n") == 1
+    assert sorted(path.name for path in tmp_path.iterdir()) == ["s.toml"]
+
+
+def test_shares_that_are_left_out_need_trips_and_an_assignment(tool, tmp_path):
+    (tmp_path / "s.toml").write_text(TWO_PAIRS)
+    assert "`ctm-tools assign` finds them" in tool("build", "s.toml")[2]
+    (tmp_path / "s.toml").write_text(ROADS)
+    assert "diverges[1].shares: is missing" in tool("build", "s.toml")[2]
+    (tmp_path / "s.toml").write_text(ROADS.replace('into = ["x", "y"]', 'into = ["x", "y"]\nshares = [1, 1]'))
+    assert "trips: are missing" in tool("assign", "s.toml")[2]
+
+
+def test_given_routes_are_taken_as_they_say(tmp_path, recording_program):
+    routes = "".join(f'[[routes]]\nfrom = "home"\nto = "work"\nroads = ["{road}"]\nshare = {share}\n' for road, share in
+                     (("short", '[["07:00", "07:30", 1], ["07:30", "09:00", 3]]'), ("long", 1)))
+    made, rounds = assigned(tmp_path, TWO_WAYS + routes)
+    (choice,) = made.choices
+    assert len(choice.ways) == 2 and rounds[-1].gap.relative == 0
+    assert choice.parts[0, :6] == pytest.approx(0.5) and choice.parts[0, 6:] == pytest.approx(0.75)
+    assert made.report.cells.gone["long01"] == pytest.approx(1125, abs=5)

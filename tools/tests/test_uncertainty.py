@@ -1,0 +1,151 @@
+"""What is uncertain: distributions against scipy's, draws that depend on seed, number and key alone, and entries that are refused."""
+
+from fractions import Fraction
+
+import numpy
+import pytest
+from scipy import stats
+
+from ctmtools.problem import Problem
+from ctmtools.study.reading import read_study, read_values
+from ctmtools.uncertainty.distribution import Given, Lognormal, Normal, Triangular, Uniform
+from ctmtools.uncertainty.draw import drawn
+from ctmtools.uncertainty.incident import happened
+from ctmtools.uncertainty.interval import of_mean, of_percentile, of_probability, within
+from ctmtools.uncertainty.key import with_drawn
+from ctmtools.uncertainty.reliability import buffer_index, planning_time_index, spread
+
+from .examples import EXAMPLES
+
+SCORES = [-3.0, -1.2815515655446004, -0.3, 0.0, 0.5, 1.6448536269514722, 2.7]
+SCALE = numpy.sqrt(numpy.log(1 + 0.25**2))  # of a lognormal distribution whose deviation is a quarter of its mean
+BASE = (EXAMPLES / "uncertain.toml").read_text().partition("[[uncertain]]")[0]
+
+
+def uncertain(folder, *entries, base=BASE):
+    """What is uncertain of the example with other entries, which are told in TOML."""
+    path = folder / "s.toml"
+    path.write_text(base + "".join(f"[[uncertain]]\n{entry}\n" for entry in entries))
+    return read_study(path).uncertain
+
+
+@pytest.mark.parametrize("ours, theirs", [
+    (Normal(5, 2, -1e9, 1e9), stats.norm(5, 2)),
+    (Normal(1, 0.5, 0.4, 1.2), stats.truncnorm(-1.2, 0.4, 1, 0.5)),
+    (Lognormal(8, 2), stats.lognorm(SCALE, scale=8 * numpy.exp(-SCALE**2 / 2))),
+    (Uniform(2, 7), stats.uniform(2, 5)),
+    (Triangular(2, 3, 7), stats.triang(0.2, 2, 5)),
+    (Triangular(2, 2, 7), stats.triang(0, 2, 5)),
+    (Given((1.0, 2.0, 4.0), (2.0, 1.0, 1.0)), stats.rv_discrete(values=([1, 2, 4], [0.5, 0.25, 0.25])))],
+    ids=["normal", "cut normal", "lognormal", "uniform", "triangular", "triangular from its mode on", "given"])
+def test_a_value_lies_as_high_as_its_score(ours, theirs):
+    for score in SCORES:
+        below = stats.norm.cdf(score) + (1e-12 if isinstance(ours, Given) and score == 0 else 0)  # a step belongs to what follows
+        assert ours.at(score) == pytest.approx(theirs.ppf(below), rel=1e-9)
+
+
+@pytest.mark.parametrize("one", [Normal(2160, 0, 0, 1e9), Lognormal(2160, 0), Uniform(2160, 2160), Triangular(2160, 2160, 2160)])
+def test_without_variance_there_is_one_value(one):
+    assert {f"{one.at(score):.9g}" for score in SCORES} == {"2160"}
+
+
+def test_a_draw_depends_on_the_seed_its_number_and_the_key_alone(tmp_path):
+    demand, lanes = 'key = "demand"\nfactor = "normal"\nmean = 1\ndeviation = 0.1', 'key = "roads.m.lanes"\nvalue = "given"\nvalues = [2, 3]'
+    alone = [drawn(uncertain(tmp_path, demand), 1, number)["demand"] for number in range(1, 9)]
+    beside = [drawn(uncertain(tmp_path, lanes, demand), 1, number) for number in range(1, 9)]
+    assert [row["demand"] for row in beside] == alone and len(set(alone)) == 8
+    assert {row["roads.m.lanes"] for row in beside} == {2, 3}
+    assert alone != [drawn(uncertain(tmp_path, demand), 2, number)["demand"] for number in range(1, 9)]
+
+
+@pytest.mark.parametrize("correlation", [0.8, -0.5, 1.0])
+def test_keys_vary_together_as_their_correlation_says(tmp_path, correlation):
+    entries = [f'key = "{key}"\nvalue = "normal"\nmean = {mean}\ndeviation = 10' for key, mean in
+               (("roads.m.saturation_flow", 2000), ("lane.jam_density", 140))]
+    found = uncertain(tmp_path, *entries, f'keys = ["roads.m.saturation_flow", "lane.jam_density"]\ncorrelation = {correlation}')
+    rows = numpy.array([[float(value) for value in drawn(found, 1, number).values()] for number in range(1, 2001)])
+    assert numpy.corrcoef(rows.T)[0, 1] == pytest.approx(correlation, abs=1e-6 + 4 * (1 - correlation**2) / 2000**0.5)
+    for column, mean in enumerate((2000, 140)):
+        assert rows[:, column].mean() == pytest.approx(mean, abs=4 * 10 / 2000**0.5)
+        assert rows[:, column].std() == pytest.approx(10, rel=4 / (2 * 2000) ** 0.5)
+
+
+def test_what_is_drawn_stands_in_the_study(tmp_path):
+    found = uncertain(tmp_path, 'key = "roads.m.length"\nfactor = "given"\nvalues = [1.1]',
+                      'key = "roads.m.sections.lanes"\nvalue = "given"\nvalues = [1]', base=BASE.replace("17.5", '"17500 m"'))
+    made = with_drawn(read_values(tmp_path / "s.toml"), found.varying, drawn(found, 1, 1))
+    assert made["roads"]["m"]["length"] == "19250.000000000 m" and made["roads"]["m"]["sections"] == [{"from": Fraction(15), "lanes": 1}]
+
+
+NORMAL = 'factor = "normal"\nmean = 1\ndeviation = 0.1'
+
+
+@pytest.mark.parametrize("entry, wanted", [
+    (f'{NORMAL}', r"uncertain\[1\]: say one of key, keys and incidents"),
+    ('key = "demand"', r"uncertain\[1\].factor: say either factor or value, with its distribution"),
+    ('key = "demand"\nvalue = "normal"\nmean = 1\ndeviation = 0', r"uncertain\[1\].value: demand is varied by a factor"),
+    ('key = "demand"\nfactor = "norml"', r'uncertain\[1\].factor: expected normal, lognormal, .* or given, found "norml"'),
+    ('key = "demand"\nfactor = "normal"\nmean = 1', r"uncertain\[1\].deviation: is missing"),
+    (f'key = "demand"\n{NORMAL}\nmen = 2', r"uncertain\[1\].men: no such key; is mean meant"),
+    ('key = "demand"\nfactor = "normal"\nmean = 1\ndeviation = -1', r"uncertain\[1\].deviation: a standard deviation isn't negative"),
+    ('key = "demand"\nfactor = "normal"\nmean = 1\ndeviation = 1\nleast = 2', r"uncertain\[1\].mean: lies between least"),
+    ('key = "demand"\nfactor = "triangular"\nleast = 1\nmode = 3\nmost = 2', r"uncertain\[1\].most: expected least, mode and most"),
+    ('key = "demand"\nfactor = "lognormal"\nmean = 0\ndeviation = 1', r"uncertain\[1\].mean: must be above 0"),
+    ('key = "demand"\nfactor = "given"\nvalues = []', r"uncertain\[1\].values: has no values"),
+    ('key = "demand"\nfactor = "given"\nvalues = [1, 2]\nweights = [0, 0]', r"uncertain\[1\].weights: expected numbers"),
+    (f'key = "demand"\n{NORMAL}\n[[uncertain]]\nkey = "demand"\n{NORMAL}', r"uncertain\[2\].key: demand varies already"),
+    ('keys = ["demand", "demand.on"]\ncorrelation = 0.5', r"uncertain: demand has a correlation and doesn't vary"),
+    ('keys = ["a", "b"]\ncorrelation = 1.5', r"uncertain\[1\].correlation: no values vary together like this"),
+    ('keys = ["a", "b"]\ncorrelation = [[1, 0.5], [0.4, 1]]', r"uncertain\[1\].correlation: expected the same both ways"),
+    ('keys = ["a"]\ncorrelation = 0.5', r"uncertain\[1\].keys: expected two keys or more"),
+    ('incidents = "m"\nrate = -1\nduration = "20 min"\nlanes = 1', r"uncertain\[1\].rate: a rate isn't negative"),
+    ('incidents = "m"\nrate = 1\nlanes = 1', r"uncertain\[1\].duration: is missing")])
+def test_an_entry_that_says_nothing_is_refused(tmp_path, entry, wanted):
+    with pytest.raises(Problem, match=f"s.toml: {wanted}"):
+        uncertain(tmp_path, entry)
+
+
+def test_indices_of_ten_times():
+    # The 95th percentile of 1, 2 .. 10 lies 0.55 of the way from the ninth to the tenth, the mean is 5.5.
+    times = spread([float(time) for time in range(1, 11)])
+    assert times.percentiles == {50: pytest.approx(5.5), 80: pytest.approx(8.2), 95: pytest.approx(9.55)}
+    assert planning_time_index(times, 0.5) == pytest.approx(19.1) and buffer_index(times) == pytest.approx((9.55 - 5.5) / 5.5)
+
+
+def test_intervals_of_textbooks():
+    # Student's t of 9 degrees of freedom is 2.262; Wilson's interval of 8 in 10 is 0.490 to 0.943 (Agresti and Coull, 1998).
+    low, high = of_mean([float(value) for value in range(1, 11)])
+    assert (high - low) / 2 == pytest.approx(2.262 * (55 / 6) ** 0.5 / 10**0.5, rel=1e-3)
+    assert of_probability(8, 10) == (pytest.approx(0.490, abs=5e-4), pytest.approx(0.943, abs=5e-4))
+    # Of the median of 100 values the 40th and the 61st (Conover, Practical Nonparametric Statistics, binomial table).
+    assert of_percentile(list(range(1, 101)), 50) == (40, 61)
+    assert within("2%").is_reached([100.0, 100.1, 99.9]) and not within("0.01").is_reached([100.0, 100.1, 99.9])
+    for text in ("0", "-1", "2 vehicles", ""):
+        with pytest.raises(Problem, match="--until-within"):
+            within(text)
+
+
+def test_as_many_incidents_happen_as_rate_and_kilometres_make(tmp_path, report):
+    """On the lane drop 12,900 vehicles drive 1.5 km before the queue comes there, so 50 in a million make 0.9675 in a run."""
+    entry = 'incidents = "m"\nrate = 50\nto = 1.5\nlanes = {distribution = "given", values = [1, 2]}\n' \
+        'duration = {distribution = "uniform", least = "10 min", most = "30 min"}'
+    found = uncertain(tmp_path, entry, base=(EXAMPLES / "bottleneck.toml").read_text()).incidents
+    read, study = report("bottleneck"), read_study(tmp_path / "s.toml")
+    draws = [happened(found, read, study, 1, number) for number in range(1, 1001)]
+    counts = numpy.array([len(draw) for draw in draws])
+    assert counts.mean() == pytest.approx(0.9675, abs=4 * (0.9675 / 1000) ** 0.5)
+    assert counts.var() == pytest.approx(0.9675, abs=4 * ((0.9675 + 2 * 0.9675**2) / 1000) ** 0.5)  # as a Poisson process has it
+    closures = [closure for draw in draws for closure in draw]
+    assert {float(one.lanes) for one in closures} == {1, 2} and all(0 <= one.part.start_km < one.part.end_km <= 1.5 for one in closures)
+    lasting = numpy.array([float(one.part.end - one.part.start) for one in closures if one.part.start < 12600])
+    assert lasting.min() >= 600 and lasting.max() <= 1800 and lasting.mean() == pytest.approx(1200, abs=4 * 347 / len(lasting) ** 0.5)
+    # Of the 12,900 come 4,770 from 07:00 to 08:00, and are on this part 35 s later in the mean.
+    hour = numpy.mean([3635 <= one.part.start < 7235 for one in closures])
+    assert hour == pytest.approx(4770 / 12900, abs=4 * (0.37 * 0.63 / len(closures)) ** 0.5)
+    assert happened(found, read, study, 1, 3) == draws[2]
+
+
+def test_too_many_incidents_are_told(tmp_path, report):
+    found = uncertain(tmp_path, 'incidents = "m"\nrate = 40_000_000\nduration = "20 min"\nlanes = 1', base=(EXAMPLES / "bottleneck.toml").read_text())
+    with pytest.raises(Problem, match="3,870,000 incidents in a run; it is for a million vehicle-km"):
+        happened(found.incidents, report("bottleneck"), read_study(EXAMPLES / "bottleneck.toml"), 1, 1)

@@ -1,0 +1,112 @@
+"""The figures of docs/VALIDATION.md as they stand on the page, which the program gives."""
+
+import re
+from fractions import Fraction
+
+import pytest
+
+from ctmtools.report.queues import queues_in
+
+from . import test_validation
+from .examples import TOOLS
+from .test_validation import clocks, hours, run
+
+PAGE = (TOOLS.parent / "docs/VALIDATION.md").read_text()
+
+
+def rows_of(heading):
+    """The rows of the table under a heading that begin with a length of cells and a step."""
+    section = PAGE.split(f"\n## {heading}\n")[1].split("\n## ")[0]
+    return re.findall(r"^\| ([\d.]+) m \| ([\d.]+) s \| (.*) \|$", section, re.MULTILINE)
+
+
+def delay(report, cells=slice(None)):
+    return f"{hours(report, cells):,.2f}".rstrip("0").rstrip(".")
+
+
+def longest(queue, without=0.0):
+    """In hundredths of a km, of which a half is rounded up."""
+    return f"{queue.reach - without + 1e-9:.2f} km"
+
+
+def cases():
+    """The rows of the table of cases, each with what the program gives."""
+    light, drop, works, merge, ramp = map(run, ("validation/red-light", "bottleneck", "workzone", "validation/merge", "interchange"))
+    roads, slip = merge.units.roads, ["r1", "r2"]
+    of_light, of_drop, of_works, of_ramp = (queues_in(report)[0] for report in (light, drop, works, ramp))
+    of_slip, of_road = queues_in(merge)
+    yield "red light", delay(light)
+    yield "longest queue, cells of 25 m", f"{of_light.reach * 1000:.0f} m, {round(of_light.reach / 0.025)} cells"
+    yield "lane drop", delay(drop)
+    yield "longest queue, cells of 250 m", f"{longest(of_drop)}, {round(of_drop.reach / 0.25)} cells"
+    yield "cleared", clocks(drop, of_drop)[2]
+    yield "road works", delay(works)
+    yield "longest queue", longest(of_works)
+    yield "cleared", clocks(works, of_works)[2]
+    yield "green", delay(run("validation/green"))
+    yield "merge", f"{delay(merge, roads['a'])} and {delay(merge, roads['b'])}"
+    yield "longest queues, cells of 125 m", f"{of_road.reach:.2f} and {longest(of_slip)}"
+    yield "full off-ramp", f"{delay(ramp, ramp.units.roads['m'][:24])} and {delay(ramp, slip)}"
+    yield "longest queue on the motorway", longest(of_ramp, without=0.5)  # the off-ramp's two cells
+
+
+# What test_yield.py and test_assign.py hold beside the figures on paper.
+ELSEWHERE = ["side street", "roundabout of four arms alike", "permitted left turn", "two ways", "delay", "a closed bridge"]
+
+
+def test_the_table_of_cases():
+    rows = re.findall(r"^\| ([^|]*) \| [^|]* \| ([^|]*) \|$", PAGE.split("\n## ")[0], re.MULTILINE)
+    told = [(re.sub(r"\[|\].*|: .*", "", case), figure) for case, figure in rows[1:]]
+    here = list(cases())
+    assert told[:len(here)] == here and [case for case, _ in told[len(here):]] == ELSEWHERE
+
+
+def test_the_first_page_tells_what_staggered_hours_save():
+    before, after = (hours(run(name), slice(None)) for name in ("bottleneck", "bottleneck-staggered"))
+    told = f"the delay falls by {100 * (1 - after / before):.0f} %, to {after:.0f} vehicle-hours"
+    assert told in (TOOLS.parent / "README.md").read_text()
+
+
+@pytest.mark.parametrize("cell, step, told", rows_of("A red light"))
+def test_a_red_light_over_the_length_of_cells(cell, step, told):
+    reach, cleared, delay = told.split(" | ")
+    report = run("validation/red-light", step=Fraction(step))
+    queue = queues_in(report)[0]
+    assert report.units.cells[report.units.roads["c"][0]]["to_km"] * 1000 == float(cell)
+    assert (f"{queue.reach * 1000:.0f} m", clocks(report, queue)[2]) == (reach, cleared)
+    assert hours(report, report.cells.index) == pytest.approx(float(delay), abs=0.01)
+
+
+def held(test):
+    """The figures to which a test of the program holds it, for each length of cells."""
+    return test.pytestmark[0].args[1]
+
+
+def test_the_rows_of_the_lane_drop_are_those_to_which_the_program_is_held():
+    rows = rows_of("The length of the cells")
+    wanted = held(test_validation.test_lane_drop_over_the_length_of_cells)
+    for row, (step, cell, reach, cleared, mean, most) in zip(rows, wanted, strict=True):
+        told = row[2].split(" | ")
+        assert (Fraction(row[1]), float(row[0]), *told[:2]) == (step, cell, f"{reach:g} km", cleared)
+        assert [float(figure) for figure in told[2:5]] == pytest.approx([461.25, mean, most], rel=0.05)
+
+
+def test_the_rows_of_the_green_are_those_to_which_the_program_is_held():
+    rows = rows_of("A green after a standing queue")
+    wanted = held(test_validation.test_a_green_smears_the_wave_by_the_root_of_its_way)
+    assert [(Fraction(step), float(cell), told) for cell, step, told in rows] == [
+        (step, cell, " | ".join(f"{width} m" for width in widths)) for step, cell, widths in wanted]
+
+
+def test_the_tables_have_a_row_for_each_length_of_cells():
+    assert [len(rows_of(heading)) for heading in ("A red light", "A green after a standing queue", "The length of the cells")] == [3, 3, 4]
+
+
+@pytest.mark.parametrize("step, names", [(720, ["m08"]), (480, [f"m{i}" for i in range(13, 18)])])
+def test_what_the_cells_of_the_lane_drop_hold(step, names):
+    """At 08:00 m08 holds 26, and at 07:20 five cells hold what the page says."""
+    row = run("bottleneck").occupancy.loc[step, names]
+    told = "holds 26 vehicles at 08:00" if names == ["m08"] else (
+        "At 07:20 the cells m13 to m17 of the lane drop hold {:.1f}, {:.1f}, {:.1f}, {:.1f} and {:.1f} vehicles".format(*row))
+    assert told in PAGE
+    assert names != ["m08"] or round(row["m08"]) == 26

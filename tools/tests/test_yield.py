@@ -1,0 +1,195 @@
+"""Who gives way: the keys of a study, the limits that runs settle at, and the cases of docs/VALIDATION.md on paper."""
+
+from fractions import Fraction
+
+import pytest
+
+from ctmtools import Problem, read_study
+from ctmtools.program import ask
+from ctmtools.running import run, settled_by_runs
+from ctmtools.yielding.conflicts import flow_of
+
+from .examples import EXAMPLES
+
+LANE = """step = 2
+start = "07:00"
+end = "08:00"
+[lane]
+free_flow_speed = 50
+wave_speed = 18
+jam_density = 150
+saturation_flow = 1800
+"""
+SIDE = LANE + """[roads]
+before = {{ length = 0.2, lanes = 1 }}
+behind = {{ length = 0.2, lanes = 1 }}
+side = {{ length = 0.5, lanes = 1 }}
+[gates]
+main = {{ into = "before", demand = {main} }}
+village = {{ into = "side", demand = [["07:00", "07:30", {low}], ["07:30", "08:00", {high}]] }}
+[exits]
+out = {{ from = "behind" }}
+[[merges]]
+from = ["before", "side"]
+into = "behind"
+priorities = [1, 1]
+yields_to = "before"
+"""
+CROSSING = LANE + """[roads]
+n = {{ length = 0.2, lanes = 1 }}
+s = {{ length = 0.2, lanes = 1 }}
+e = {{ length = 0.2, lanes = 1 }}
+x = {{ length = 0.2, lanes = 1 }}
+y = {{ length = 0.2, lanes = 1 }}
+[gates]
+gn = {{ into = "n", demand = 400 }}
+gs = {{ into = "s", demand = 600 }}
+ge = {{ into = "e", demand = 100 }}
+[exits]
+ox = {{ from = "x" }}
+oy = {{ from = "y" }}
+[[junctions]]
+from = ["n", "s", "e"]
+into = ["x", "y"]
+shares = [[1, 0], [0, 1], [1, 1]]
+{more}
+"""
+
+
+def write(tmp_path, text):
+    path = tmp_path / "study.toml"
+    path.write_text(text)
+    return path
+
+
+def settle(tmp_path, text):
+    """What is settled of a study's text, and the report of its network with each step recorded."""
+    found = settled_by_runs(read_study(write(tmp_path, text)))
+    return found, recorded(found.built)
+
+
+def recorded(built):
+    return run(built.text.encode(), "study", built.units, 1, network=built.network)[1]
+
+
+def flow(report, cell, begin, end):
+    """The vehicles/h that leave a cell from a minute to another."""
+    return flow_of(report, cell, [begin * 30, end * 30])[0]
+
+
+@pytest.mark.parametrize("main, capacity", [(300, 744.3), (600, 504.6), (900, 340.0), (1200, 227.7)])
+def test_a_side_street_passes_what_its_formula_lets_and_queues_from_there_on(tmp_path, recording_program, main, capacity):
+    low, high = round(capacity * 0.96), round(capacity * 1.04)
+    found, report = settle(tmp_path, SIDE.format(main=main, low=low, high=high))
+    assert found.is_settled and found.runs <= 3
+    last = report.units.roads["side"][-1]
+    # Below capacity nobody waits beyond the time of the first vehicle, above it the street passes its capacity.
+    assert flow(report, last, 10, 30) == pytest.approx(low, rel=0.005)
+    assert flow(report, last, 40, 60) == pytest.approx(capacity, rel=0.005)
+    side = report.units.roads["side"]
+    waits = report.occupancy[side].sum(axis=1)
+    assert waits[900] == pytest.approx(low * 36 / 3600, rel=0.01)
+    # From 07:30:36 on what comes beyond the capacity waits: 4 % of it for 29.4 minutes.
+    queued = waits[1800] - high * 36 / 3600
+    assert queued == pytest.approx((high - capacity) * 29.4 / 60, rel=0.06, abs=0.3)
+
+
+def test_the_network_that_is_settled_at_is_run_again_byte_for_byte(tmp_path, tool, recording_program):
+    write(tmp_path, SIDE.format(main=600, low=300, high=600))
+    status, out, _ = tool("run", "study.toml")
+    assert status == 0 and "merges[1], side: 505 to 5" in out and "settled after 2 runs" in out
+    again = ask(("run", "--every", "1"), (tmp_path / "study.csv").read_bytes())
+    assert again.out == (tmp_path / "study.report").read_bytes()
+
+
+def roundabout(demand):
+    """Four arms alike, of whose drivers half leave at each exit: as many circulate past an entry as come in at it."""
+    text = LANE.replace("speed = 50", "speed = 30") + "[roads]\n"
+    for i in range(4):
+        text += f"arm{i} = {{ length = 0.3, lanes = 1 }}\nring{i} = {{ length = 0.05, lanes = 1 }}\n"
+        text += f"past{i} = {{ length = 0.05, lanes = 1 }}\n"
+    for i in range(4):
+        text += f"[gates.g{i}]\ninto = \"arm{i}\"\ndemand = {demand}\n[exits.o{i}]\n"
+        text += f"[[merges]]\nfrom = [\"past{i}\", \"arm{i}\"]\ninto = \"ring{i}\"\npriorities = [1, 1]\n"
+        text += f"yields_to = \"past{i}\"\nkind = \"roundabout\"\n"
+        text += f"[[diverges]]\nfrom = \"ring{i}\"\ninto = [\"past{(i + 1) % 4}\", \"o{i}\"]\nshares = [1, 1]\n"
+    return text
+
+
+def test_four_arms_of_a_roundabout_alike_pass_what_they_do_by_hand(tmp_path, recording_program):
+    # e = 1,380·exp(-0.00102·e) has the root 685.7, so of 800 vehicles/h that many come in at each arm.
+    found, report = settle(tmp_path, roundabout(800))
+    assert found.is_settled
+    passed = [flow(report, report.units.roads[f"arm{i}"][-1], 20, 60) for i in range(4)]
+    assert passed == pytest.approx([685.7] * 4, rel=0.01)
+    assert max(passed) - min(passed) < 0.01
+
+
+def test_a_roundabout_below_its_capacity_holds_nobody_up(tmp_path, recording_program):
+    _, report = settle(tmp_path, roundabout(600))
+    assert report.total.delay == pytest.approx(0, abs=0.5)
+
+
+PERMITTED = """cycle = 60
+phases = [{ from = ["n", "s"], green = 30, permitted = [["s", "y"]] }, { from = ["e"], start = 35, green = 20 }]
+yields = [{ movement = ["s", "y"], yields_to = [["n", "x"]], sneakers = SNEAKERS }]
+"""
+
+
+@pytest.mark.parametrize("sneakers, capacity", [(0, 357.3), (2, 477.3)])
+def test_a_permitted_left_turn_passes_what_it_does_by_hand(tmp_path, recording_program, sneakers, capacity):
+    # The queue towards it is gone after 8.57 s of its green; in the other 21.43 s pass 1,000.3 vehicles/h, and 2 at its end.
+    found, report = settle(tmp_path, CROSSING.format(more=PERMITTED.replace("SNEAKERS", str(sneakers))))
+    assert found.is_settled
+    assert flow(report, "s-y1", 20, 60) == pytest.approx(capacity, rel=0.01)
+
+
+def test_a_left_turn_is_alone_in_the_phase_in_which_it_is_not_permitted(tmp_path, recording_program):
+    more = PERMITTED.replace("SNEAKERS", "0").replace('{ from = ["e"], start = 35', '{ from = ["s"], start = 30, green = 5 }, '
+                                                      '{ from = ["e"], start = 35')
+    _, report = settle(tmp_path, CROSSING.format(more=more))
+    # In 6 s more at 1,800 vehicles/h 3 pass, 180 in an hour.
+    assert flow(report, "s-y1", 20, 60) == pytest.approx(357.3 + 180, rel=0.01)
+
+
+def test_a_left_turn_out_of_a_side_street_waits_for_a_right_of_way_that_waits_itself(tmp_path, recording_program):
+    more = """yields = [{ movement = ["s", "y"], yields_to = [["n", "x"]], kind = "major-left" },
+      { movement = ["e", "y"], yields_to = [["s", "y"]], kind = "minor-right" }]"""
+    found, _ = settle(tmp_path, CROSSING.format(more=more))
+    right = next(one for one in found.study.yields if one.road == "e-y").capacities[-1]
+    # Of the 1,169.5 who may turn left by 400·0.63412/0.21689, 600 do; beside them 504.6 might leave the side street.
+    assert float(right.flow) == pytest.approx(504.6 * (1 - 600 / 1169.5), rel=0.01)
+
+
+@pytest.mark.parametrize("more, why", [
+    ('yields = [{ movement = ["s", "y"], yields_to = [["n", "x"]] }]', "yields[1].kind: is missing"),
+    ('yields = [{ movement = ["s", "y"], yields_to = [["n", "y"]], kind = "major-left" }]', "nobody drives from n to y"),
+    ('yields = [{ movement = ["s", "y"], yields_to = [], kind = "major-left" }]', "expected other movements"),
+    ('yields = [{ movement = ["s", "y"], yields_to = [["n", "x"]], kind = "left" }]', "expected one of major-left"),
+    ('yields = [{ movement = ["s", "y"], yields_to = [["n", "x"]], kind = "minor-left", control = "halt" }]',
+     "expected stop or give_way, found halt"),
+    ('yields = [{ movement = ["s", "y"], yields_to = [["n", "x"]], kind = "minor-left", median = 1 }]', "yields[1].first"),
+    (PERMITTED.replace(', permitted = [["s", "y"]]', "").replace("SNEAKERS", "2"), "is permitted in no phase"),
+    (PERMITTED.split("yields")[0], "gives way to nobody")])
+def test_what_a_study_cant_mean_is_refused_with_its_place(tmp_path, more, why):
+    with pytest.raises(Problem) as refused:
+        read_study(write(tmp_path, CROSSING.format(more=more)))
+    assert why in str(refused.value) and "junctions[1]" in str(refused.value)
+
+
+def test_build_tells_that_nobody_gives_way_yet(tmp_path, tool):
+    write(tmp_path, SIDE.format(main=600, low=300, high=600))
+    status, out, _ = tool("build", "study.toml")
+    assert status == 0 and "warning: merges[1], side: nobody gives way in this network; `ctm-tools run`" in out
+
+
+@pytest.mark.parametrize("name, traffic, delay", [
+    ("stop", 1, 0), ("stop", 1.2, 59.1), ("stop", 1.5, 216.5), ("roundabout", 1.3, 0), ("roundabout", 1.5, 65.5),
+    ("signal", 1, 5.39), ("signal", 1.5, 10.24)])
+def test_the_village_has_the_delay_of_paper(name, traffic, delay, recording_program):
+    study = read_study(EXAMPLES / f"village-{name}.toml")
+    for gate in study.gates.values():
+        for row in gate.demand:
+            row.flow *= Fraction(traffic).limit_denominator(10)
+    report = recorded(settled_by_runs(study).built)
+    assert report.delay_vehicle_hours == pytest.approx(delay, rel=0.006, abs=0.01)
