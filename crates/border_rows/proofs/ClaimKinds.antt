@@ -263,7 +263,7 @@ counts-kept terms chart start seats s words homes id view w old same is alike so
 pub alike-keeps : (terms : Terms) (s : FieldState) (id : ℕ) (view w : View) → IsStanding terms s → get_elem? s.views id ≡ some view → view.share ≢ 0 →
     CountsAlike view w → w.holds ≡ view.holds → IsStanding terms (record { words = s.words; homes = s.homes; views = set s.views id w })
 alike-keeps terms s id view w old is some_share alike same =
-    let chart : ChartLists = terms.chart.now in
+    let chart : ChartLists = terms.setup.now.chart in
     let after : FieldState = record { words = s.words; homes = s.homes; views = set s.views id w } in
     let from : (v : View) (hold : Hold) → IsHeld after.views v hold → (before : View) × IsHeld s.views before hold =
     λ v hold held. held-set s.views id view w v hold is (subst (λ l. Contains l hold) same) held in
@@ -278,17 +278,17 @@ alike-keeps terms s id view w old is some_share alike same =
         there = there;
         at_home = λ q within none. old.claims.at_home q within (sym (same-knowers s.views id q view w is same) ∙ none);
       };
-      steps = steps-kept terms.net.now chart terms.start.now s after old.steps (λ q within. refl) (λ v hold held knows. from v hold held) there;
-      rows = rows-kept terms.net.now chart terms.start.now s after old.rows (λ q within. refl) (λ q t j within inside. refl) (λ v hold held knows. from v hold held) there;
-      counts = counts-kept terms chart terms.start.now terms.seats s s.words s.homes id view w old.counts (λ q within. refl) is alike some_share;
+      steps = steps-kept terms.setup.now.net chart terms.setup.now.start s after old.steps (λ q within. refl) (λ v hold held knows. from v hold held) there;
+      rows = rows-kept terms.setup.now.net chart terms.setup.now.start s after old.rows (λ q within. refl) (λ q t j within inside. refl) (λ v hold held knows. from v hold held) there;
+      counts = counts-kept terms chart terms.setup.now.start terms.seats s s.words s.homes id view w old.counts (λ q within. refl) is alike some_share;
     }
 
 -- a region that was free is taken
-pub taken-keeps : (terms : Terms) (s : FieldState) (id r : ℕ) (view : View) (c : List (ℕ × RegionValue)) → IsStanding terms s → IsChart terms.chart.now →
-    get_elem? s.views id ≡ some view → view.share ≢ 0 → r < region_count terms.chart.now.cut → claim_of terms.chart.now s.words r ≡ 0 →
-    IsStanding terms (stepped s (claim_place (widths_of terms.chart.now) r) 1 id c (taken view r) keeps)
+pub taken-keeps : (terms : Terms) (s : FieldState) (id r : ℕ) (view : View) (c : List (ℕ × RegionValue)) → IsStanding terms s → IsChart terms.setup.now.chart →
+    get_elem? s.views id ≡ some view → view.share ≢ 0 → r < region_count terms.setup.now.chart.cut → claim_of terms.setup.now.chart s.words r ≡ 0 →
+    IsStanding terms (stepped s (claim_place (widths_of terms.setup.now.chart) r) 1 id c (taken view r) keeps)
 taken-keeps terms s id r view c old sound is some_share within free =
-    let chart : ChartLists = terms.chart.now in
+    let chart : ChartLists = terms.setup.now.chart in
     let words : List ℕ = set s.words (claim_place (widths_of chart) r) 1 in
     let after : FieldState = record { words = words; homes = s.homes; views = set s.views id (taken view r) } in
     let steps : SameSteps chart s.words words = claim-steps chart s.words r 1 sound within in
@@ -326,11 +326,11 @@ taken-keeps terms s id r view c old sound is some_share within free =
         there = there;
         at_home = λ q inside none.
             let home = old.claims.at_home q inside (sym (taken-knowers s.views id r q view is) ∙ none) in
-            (home.0, home.1, subst (λ t. Stands terms.net.now chart terms.start.now terms.every q t home.0) (sym (steps q inside)) home.2);
+            (home.0, home.1, subst (λ t. Stands terms.setup.now.net chart terms.setup.now.start terms.setup.now.every q t home.0) (sym (steps q inside)) home.2);
       };
-      steps = steps-kept terms.net.now chart terms.start.now s after old.steps steps from there;
-      rows = rows-kept terms.net.now chart terms.start.now s after old.rows steps (claim-rows chart s.words r 1 sound within) from there;
-      counts = counts-kept terms chart terms.start.now terms.seats s words s.homes id view (taken view r) old.counts steps is
+      steps = steps-kept terms.setup.now.net chart terms.setup.now.start s after old.steps steps from there;
+      rows = rows-kept terms.setup.now.net chart terms.setup.now.start s after old.rows steps (claim-rows chart s.words r 1 sound within) from there;
+      counts = counts-kept terms chart terms.setup.now.start terms.seats s words s.homes id view (taken view r) old.counts steps is
           (record { terms = refl; share = refl; seen = refl; log = refl; reach = refl }) some_share;
     }
 
@@ -338,10 +338,10 @@ taken-keeps terms s id r view c old sound is some_share within free =
 pub found_taken-keeps : (terms : Terms) (s : FieldState) (id r : ℕ) (view : View) (c : List (ℕ × RegionValue)) → IsStanding terms s →
     get_elem? s.views id ≡ some view → view.share ≢ 0 →
     IsStanding terms
-    (stepped s (claim_place (widths_of terms.chart.now) r) (slice_index s.words (claim_place (widths_of terms.chart.now) r)) id c (found_taken view r) keeps)
+    (stepped s (claim_place (widths_of terms.setup.now.chart) r) (slice_index s.words (claim_place (widths_of terms.setup.now.chart) r)) id c (found_taken view r) keeps)
 found_taken-keeps terms s id r view c old is some_share =
     subst (λ words. IsStanding terms (record { words = words; homes = s.homes; views = set s.views id (found_taken view r) }))
-    (sym (set-get_or s.words (claim_place (widths_of terms.chart.now) r) 0))
+    (sym (set-get_or s.words (claim_place (widths_of terms.setup.now.chart) r) 0))
     (alike-keeps terms s id view (found_taken view r) old is some_share (record { terms = refl; share = refl; seen = refl; log = refl; reach = refl }) refl)
 
 -- a look at any word at a moment that a view remembers keeps the rule
@@ -353,11 +353,11 @@ gathered-keeps terms s i id c view old is some_share =
 
 -- a region that a seat holds with its slot, at the step that it has published, is given back
 freed_with-keeps : (terms : Terms) (s : FieldState) (id r : ℕ) (view : View) (hold : Hold) (holds : List Hold) (region : RegionValue) (c : List (ℕ × RegionValue)) → IsStanding terms s →
-    IsChart terms.chart.now → get_elem? s.views id ≡ some view → view.share ≢ 0 → r < region_count terms.chart.now.cut → view.holds ≡ hold ∷ holds → hold.region ≡ r →
-    Stands terms.net.now terms.chart.now terms.start.now terms.every r (step_of terms.chart.now s.words r) region →
-    IsStanding terms (stepped s (claim_place (widths_of terms.chart.now) r) 0 id ((r, region) ∷ c) (freed view) gives)
+    IsChart terms.setup.now.chart → get_elem? s.views id ≡ some view → view.share ≢ 0 → r < region_count terms.setup.now.chart.cut → view.holds ≡ hold ∷ holds → hold.region ≡ r →
+    Stands terms.setup.now.net terms.setup.now.chart terms.setup.now.start terms.setup.now.every r (step_of terms.setup.now.chart s.words r) region →
+    IsStanding terms (stepped s (claim_place (widths_of terms.setup.now.chart) r) 0 id ((r, region) ∷ c) (freed view) gives)
 freed_with-keeps terms s id r view hold holds region c old sound is some_share within has own stands =
-    let chart : ChartLists = terms.chart.now in
+    let chart : ChartLists = terms.setup.now.chart in
     let words : List ℕ = set s.words (claim_place (widths_of chart) r) 0 in
     let homes : List (maybe.Option RegionValue) = set s.homes r (some region) in
     let after : FieldState = record { words = words; homes = homes; views = set s.views id (freed view) } in
@@ -384,45 +384,45 @@ freed_with-keeps terms s id r view hold holds region c old sound is some_share w
         ];
         there = there;
         at_home = λ q inside none. elim (cases_eq q r) [
-          | inl same ↦ subst (λ p. (home : RegionValue) × IsHome homes p home × Stands terms.net.now chart terms.start.now terms.every p (step_of chart words p) home) (sym same) (
+          | inl same ↦ subst (λ p. (home : RegionValue) × IsHome homes p home × Stands terms.setup.now.net chart terms.setup.now.start terms.setup.now.every p (step_of chart words p) home) (sym same) (
             region,
             set_here s.homes r (some region) (omega (arith, within, old.claims.homes)),
-            subst (λ t. Stands terms.net.now chart terms.start.now terms.every r t region) (sym (steps r within)) stands,
+            subst (λ t. Stands terms.setup.now.net chart terms.setup.now.start terms.setup.now.every r t region) (sym (steps r within)) stands,
           )
           | inr other ↦
               let home = old.claims.at_home q inside (sym (freed-knowers-other s.views id r q view hold holds is has own other) ∙ none) in (
                 home.0,
                 set_else s.homes r q (some region) other ∙ home.1,
-                subst (λ t. Stands terms.net.now chart terms.start.now terms.every q t home.0) (sym (steps q inside)) home.2,
+                subst (λ t. Stands terms.setup.now.net chart terms.setup.now.start terms.setup.now.every q t home.0) (sym (steps q inside)) home.2,
               )
         ];
       };
-      steps = steps-kept terms.net.now chart terms.start.now s after old.steps steps (λ v h held knows. from v h held) there;
-      rows = rows-kept terms.net.now chart terms.start.now s after old.rows steps (claim-rows chart s.words r 0 sound within) (λ v h held knows. from v h held) there;
-      counts = counts-kept terms chart terms.start.now terms.seats s words homes id view (freed view) old.counts steps is
+      steps = steps-kept terms.setup.now.net chart terms.setup.now.start s after old.steps steps (λ v h held knows. from v h held) there;
+      rows = rows-kept terms.setup.now.net chart terms.setup.now.start s after old.rows steps (claim-rows chart s.words r 0 sound within) (λ v h held knows. from v h held) there;
+      counts = counts-kept terms chart terms.setup.now.start terms.seats s words homes id view (freed view) old.counts steps is
           (record { terms = refl; share = refl; seen = refl; log = refl; reach = refl }) some_share;
     }
 
 -- the same for all that the seat carries, where the slot is the first
 pub freed-keeps : (terms : Terms) (s : FieldState) (id r : ℕ) (view : View) (hold : Hold) (holds : List Hold) (region : RegionValue) (c rest : List (ℕ × RegionValue)) → IsStanding terms s →
-    IsChart terms.chart.now → get_elem? s.views id ≡ some view → view.share ≢ 0 → r < region_count terms.chart.now.cut → view.holds ≡ hold ∷ holds → hold.region ≡ r →
-    c ≡ (r, region) ∷ rest → Stands terms.net.now terms.chart.now terms.start.now terms.every r (step_of terms.chart.now s.words r) region →
-    IsStanding terms (stepped s (claim_place (widths_of terms.chart.now) r) 0 id c (freed view) gives)
+    IsChart terms.setup.now.chart → get_elem? s.views id ≡ some view → view.share ≢ 0 → r < region_count terms.setup.now.chart.cut → view.holds ≡ hold ∷ holds → hold.region ≡ r →
+    c ≡ (r, region) ∷ rest → Stands terms.setup.now.net terms.setup.now.chart terms.setup.now.start terms.setup.now.every r (step_of terms.setup.now.chart s.words r) region →
+    IsStanding terms (stepped s (claim_place (widths_of terms.setup.now.chart) r) 0 id c (freed view) gives)
 freed-keeps terms s id r view hold holds region c rest old sound is some_share within has own carries stands =
-    subst (λ l. IsStanding terms (stepped s (claim_place (widths_of terms.chart.now) r) 0 id l (freed view) gives)) (sym carries)
+    subst (λ l. IsStanding terms (stepped s (claim_place (widths_of terms.setup.now.chart) r) 0 id l (freed view) gives)) (sym carries)
     (freed_with-keeps terms s id r view hold holds region rest old sound is some_share within has own stands)
 
 -- a region that a seat knows the step of is given back at the step that the seat knows it to stand at
 pub freed_known-keeps : (terms : Terms) (s : FieldState) (id r : ℕ) (view : View) (hold : Hold) (holds : List Hold) (region : RegionValue) (c rest : List (ℕ × RegionValue)) → IsStanding terms s →
-    IsChart terms.chart.now → get_elem? s.views id ≡ some view → view.share ≢ 0 → view.holds ≡ hold ∷ holds → hold.region ≡ r → hold.known ≡ true →
-    c ≡ (r, region) ∷ rest → Stands terms.net.now terms.chart.now terms.start.now terms.every r (if hold.published then hold.step + 1 else hold.step) region →
-    IsStanding terms (stepped s (claim_place (widths_of terms.chart.now) r) 0 id c (freed view) gives)
+    IsChart terms.setup.now.chart → get_elem? s.views id ≡ some view → view.share ≢ 0 → view.holds ≡ hold ∷ holds → hold.region ≡ r → hold.known ≡ true →
+    c ≡ (r, region) ∷ rest → Stands terms.setup.now.net terms.setup.now.chart terms.setup.now.start terms.setup.now.every r (if hold.published then hold.step + 1 else hold.step) region →
+    IsStanding terms (stepped s (claim_place (widths_of terms.setup.now.chart) r) 0 id c (freed view) gives)
 freed_known-keeps terms s id r view hold holds region c rest old sound is some_share has own knows carries stands =
     let held : IsHeld s.views view hold = record { seat = Contains-elem s.views id view is; held = subst (λ l. Contains l hold) (sym has) (0, omega arith, refl) } in
-    let stood : step_of terms.chart.now s.words r ≡ (if hold.published then hold.step + 1 else hold.step) =
-    ap (step_of terms.chart.now s.words) (sym own) ∙ old.steps.known view hold held knows in
-    freed-keeps terms s id r view hold holds region c rest old sound is some_share (subst (λ q. q < region_count terms.chart.now.cut) own (old.claims.there view hold held)) has own carries
-    (subst (λ t. Stands terms.net.now terms.chart.now terms.start.now terms.every r t region) (sym stood) stands)
+    let stood : step_of terms.setup.now.chart s.words r ≡ (if hold.published then hold.step + 1 else hold.step) =
+    ap (step_of terms.setup.now.chart s.words) (sym own) ∙ old.steps.known view hold held knows in
+    freed-keeps terms s id r view hold holds region c rest old sound is some_share (subst (λ q. q < region_count terms.setup.now.chart.cut) own (old.claims.there view hold held)) has own carries
+    (subst (λ t. Stands terms.setup.now.net terms.setup.now.chart terms.setup.now.start terms.setup.now.every r t region) (sym stood) stands)
 
 -- a sum of terms that are all 0
 none-sum : {X : Type 0} (f : X → ℕ) (xs : List X) → ((x : X) → Contains xs x → f x ≡ 0) → sum_by f xs ≡ 0
@@ -480,7 +480,7 @@ not_held (hold ∷ holds) r others =
 
 -- the seat with all shares finds no claim word taken but of the regions that it holds itself
 pub whole_claim : (terms : Terms) (s : FieldState) (id r : ℕ) (view : View) → IsStanding terms s → get_elem? s.views id ≡ some view → view.share ≡ terms.seats →
-    ((hold : Hold) → Contains view.holds hold → hold.region ≢ r) → r < region_count terms.chart.now.cut → claim_of terms.chart.now s.words r ≡ 0
+    ((hold : Hold) → Contains view.holds hold → hold.region ≢ r) → r < region_count terms.setup.now.chart.cut → claim_of terms.setup.now.chart s.words r ≡ 0
 whole_claim terms s id r view old is all others within =
     old.claims.counted r within ∙
     none-sum (λ (v : View). times_held v.holds r) s.views

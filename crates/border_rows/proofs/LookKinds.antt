@@ -102,19 +102,19 @@ pub record IsReader (terms : Terms) (s : FieldState) (view w : View) : Type 0 wh
   pub log : w.log ≡ view.log
   pub reach : w.reach ≡ view.reach
   pub long : length w.seen ≡ length view.seen
-  pub seen : (q : ℕ) → q < region_count terms.chart.now.cut → slice_index w.seen q ≤ step_of terms.chart.now s.words q
+  pub seen : (q : ℕ) → q < region_count terms.setup.now.chart.cut → slice_index w.seen q ≤ step_of terms.setup.now.chart s.words q
   pub same : (r : ℕ) → held_in w r ≡ held_in view r
   pub more : (r : ℕ) → known_in view r ≤ known_in w r
-  pub there : (hold : Hold) → Contains w.holds hold → hold.region < region_count terms.chart.now.cut
-  pub right : (hold : Hold) → Contains w.holds hold → hold.known ≡ true → IsRight terms.net.now terms.chart.now terms.start.now s.words hold
+  pub there : (hold : Hold) → Contains w.holds hold → hold.region < region_count terms.setup.now.chart.cut
+  pub right : (hold : Hold) → Contains w.holds hold → hold.known ≡ true → IsRight terms.setup.now.net terms.setup.now.chart terms.setup.now.start s.words hold
 
 -- such a step keeps the claims, where the regions at home stay but those of which a step is known now
 claims-read : (terms : Terms) (s : FieldState) (homes : List (maybe.Option RegionValue)) (id : ℕ) (view w : View) →
-    Claims terms.net.now terms.chart.now terms.start.now terms.every s → get_elem? s.views id ≡ some view → IsReader terms s view w →
+    Claims terms.setup.now.net terms.setup.now.chart terms.setup.now.start terms.setup.now.every s → get_elem? s.views id ≡ some view → IsReader terms s view w →
     length homes ≡ length s.homes → ((r : ℕ) (region : RegionValue) → knowers (set s.views id w) r ≡ 0 → IsHome s.homes r region → IsHome homes r region) →
-    Claims terms.net.now terms.chart.now terms.start.now terms.every record { words = s.words; homes = homes; views = set s.views id w }
+    Claims terms.setup.now.net terms.setup.now.chart terms.setup.now.start terms.setup.now.every record { words = s.words; homes = homes; views = set s.views id w }
 claims-read terms s homes id view w old is reads long stay =
-    let chart : ChartLists = terms.chart.now in
+    let chart : ChartLists = terms.setup.now.chart in
     let held : (r : ℕ) → holders (set s.views id w) r ≡ holders s.views r = λ r. omega (arith, sum-set (λ v. held_in v r) s.views id w view is, reads.same r) in
     let knew : (r : ℕ) → knowers s.views r ≤ knowers (set s.views id w) r = λ r. omega (arith, sum-set (λ v. known_in v r) s.views id w view is, reads.more r) in
     record {
@@ -133,10 +133,10 @@ claims-read terms s homes id view w old is reads long stay =
 
 -- and the counts
 counts-read : (terms : Terms) (s : FieldState) (homes : List (maybe.Option RegionValue)) (id : ℕ) (view w : View) →
-    Counts terms terms.chart.now terms.start.now terms.seats s → get_elem? s.views id ≡ some view → view.share ≢ 0 → IsReader terms s view w →
-    Counts terms terms.chart.now terms.start.now terms.seats record { words = s.words; homes = homes; views = set s.views id w }
+    Counts terms terms.setup.now.chart terms.setup.now.start terms.seats s → get_elem? s.views id ≡ some view → view.share ≢ 0 → IsReader terms s view w →
+    Counts terms terms.setup.now.chart terms.setup.now.start terms.seats record { words = s.words; homes = homes; views = set s.views id w }
 counts-read terms s homes id view w old is shares reads =
-    let chart : ChartLists = terms.chart.now in
+    let chart : ChartLists = terms.setup.now.chart in
     let seat : Contains s.views view = Contains-elem s.views id view is in
     let shared : w.share ≢ 0 = λ none. shares (sym reads.share ∙ none) in
     record {
@@ -174,24 +174,24 @@ pub standing-read : (terms : Terms) (s : FieldState) (homes : List (maybe.Option
     length homes ≡ length s.homes → ((r : ℕ) (region : RegionValue) → knowers (set s.views id w) r ≡ 0 → IsHome s.homes r region → IsHome homes r region) →
     IsStanding terms record { words = s.words; homes = homes; views = set s.views id w }
 standing-read terms s homes id view w old is shares reads long stay =
-    let net : Network = terms.net.now in
-    let right : AreRight net terms.chart.now terms.start.now s.words (set s.views id w) = λ v hold held knows. elim (held-set s.views id w v hold held) [
-      | inl before ↦ all_right net terms.chart.now terms.start.now s old.steps old.rows v hold before knows
+    let net : Network = terms.setup.now.net in
+    let right : AreRight net terms.setup.now.chart terms.setup.now.start s.words (set s.views id w) = λ v hold held knows. elim (held-set s.views id w v hold held) [
+      | inl before ↦ all_right net terms.setup.now.chart terms.setup.now.start s old.steps old.rows v hold before knows
       | inr new ↦ reads.right hold new knows
     ] in
     record {
       claims = claims-read terms s homes id view w old.claims is reads long stay;
-      steps = steps-right net terms.chart.now terms.start.now s homes (set s.views id w) old.steps right;
-      rows = rows-right net terms.chart.now terms.start.now s homes (set s.views id w) old.rows right;
+      steps = steps-right net terms.setup.now.chart terms.setup.now.start s homes (set s.views id w) old.steps right;
+      rows = rows-right net terms.setup.now.chart terms.setup.now.start s homes (set s.views id w) old.rows right;
       counts = counts-read terms s homes id view w old.counts is shares reads;
     }
 
 -- what was read of a region is what it has published
 seen-read : (terms : Terms) (s : FieldState) (view : View) (r q : ℕ) → IsStanding terms s → Contains s.views view → view.share ≢ 0 →
-    r < region_count terms.chart.now.cut → q < region_count terms.chart.now.cut →
-    slice_index (set view.seen r (step_of terms.chart.now s.words r)) q ≤ step_of terms.chart.now s.words q
+    r < region_count terms.setup.now.chart.cut → q < region_count terms.setup.now.chart.cut →
+    slice_index (set view.seen r (step_of terms.setup.now.chart s.words r)) q ≤ step_of terms.setup.now.chart s.words q
 seen-read terms s view r q old seat shares within there =
-    let chart : ChartLists = terms.chart.now in
+    let chart : ChartLists = terms.setup.now.chart in
     let long = old.counts.lengths view seat shares in
     elim (cases_eq q r) [
       | inl same ↦ subst (λ p. slice_index (set view.seen r (step_of chart s.words r)) p ≤ step_of chart s.words p) (sym same)
@@ -206,42 +206,42 @@ word_stays terms s i homes views new = subst (λ words. IsStanding terms record 
 
 -- a view that has only seen the step of a region keeps the rule
 seen-keeps : (terms : Terms) (s : FieldState) (id r : ℕ) (c : List (ℕ × RegionValue)) (view w : View) →
-    IsStanding terms s → get_elem? s.views id ≡ some view → view.share ≢ 0 → r < region_count terms.chart.now.cut →
+    IsStanding terms s → get_elem? s.views id ≡ some view → view.share ≢ 0 → r < region_count terms.setup.now.chart.cut →
     w.share ≡ view.share → w.terms ≡ view.terms → w.log ≡ view.log → w.reach ≡ view.reach → w.holds ≡ view.holds →
-    w.seen ≡ set view.seen r (step_of terms.chart.now s.words r) →
-    IsStanding terms (stepped s (step_place (widths_of terms.chart.now) r) (step_of terms.chart.now s.words r) id c w keeps)
+    w.seen ≡ set view.seen r (step_of terms.setup.now.chart s.words r) →
+    IsStanding terms (stepped s (step_place (widths_of terms.setup.now.chart) r) (step_of terms.setup.now.chart s.words r) id c w keeps)
 seen-keeps terms s id r c view w old is shares within share alike log reach same saw =
-    let step : ℕ = step_of terms.chart.now s.words r in
+    let step : ℕ = step_of terms.setup.now.chart s.words r in
     let seat : Contains s.views view = Contains-elem s.views id view is in
     let held : (hold : Hold) → Contains w.holds hold → IsHeld s.views view hold = λ hold has. record { seat = seat; held = subst (λ holds. Contains holds hold) same has } in
-    let right : AreRight terms.net.now terms.chart.now terms.start.now s.words s.views = all_right terms.net.now terms.chart.now terms.start.now s old.steps old.rows in
+    let right : AreRight terms.setup.now.net terms.setup.now.chart terms.setup.now.start s.words s.views = all_right terms.setup.now.net terms.setup.now.chart terms.setup.now.start s old.steps old.rows in
     let reads : IsReader terms s view w = record {
       share = share;
       alike = alike;
       log = log;
       reach = reach;
       long = ap length saw ∙ length-set view.seen r step;
-      seen = λ q there. subst (λ seen. slice_index seen q ≤ step_of terms.chart.now s.words q) (sym saw) (seen-read terms s view r q old seat shares within there);
+      seen = λ q there. subst (λ seen. slice_index seen q ≤ step_of terms.setup.now.chart s.words q) (sym saw) (seen-read terms s view r q old seat shares within there);
       same = λ q. ap (λ holds. count_by (λ (hold : Hold). hold.region == q) holds) same;
       more = λ q. omega (arith, ap (λ holds. count_by (λ (hold : Hold). (hold.region == q) && hold.known) holds) same);
       there = λ hold has. old.claims.there view hold (held hold has);
       right = λ hold has knows. right view hold (held hold has) knows;
     } in
-    word_stays terms s (step_place (widths_of terms.chart.now) r) s.homes (set s.views id w) (standing-read terms s s.homes id view w old is shares reads refl (λ q region none home. home))
+    word_stays terms s (step_place (widths_of terms.setup.now.chart) r) s.homes (set s.views id w) (standing-read terms s s.homes id view w old is shares reads refl (λ q region none home. home))
 
 -- a look at a region's step keeps the rule
 pub looked-keeps : (terms : Terms) (s : FieldState) (id r : ℕ) (c : List (ℕ × RegionValue)) (view : View) →
-    IsStanding terms s → get_elem? s.views id ≡ some view → view.share ≢ 0 → r < region_count terms.chart.now.cut →
-    IsStanding terms (stepped s (step_place (widths_of terms.chart.now) r) (step_of terms.chart.now s.words r) id c (looked view r (step_of terms.chart.now s.words r)) keeps)
+    IsStanding terms s → get_elem? s.views id ≡ some view → view.share ≢ 0 → r < region_count terms.setup.now.chart.cut →
+    IsStanding terms (stepped s (step_place (widths_of terms.setup.now.chart) r) (step_of terms.setup.now.chart s.words r) id c (looked view r (step_of terms.setup.now.chart s.words r)) keeps)
 looked-keeps terms s id r c view old is shares within =
-    seen-keeps terms s id r c view (looked view r (step_of terms.chart.now s.words r)) old is shares within refl refl refl refl refl refl
+    seen-keeps terms s id r c view (looked view r (step_of terms.setup.now.chart s.words r)) old is shares within refl refl refl refl refl refl
 
 -- so does finding a neighbour a step lower
 pub found_short-keeps : (terms : Terms) (s : FieldState) (id r q : ℕ) (c : List (ℕ × RegionValue)) (view : View) →
-    IsStanding terms s → get_elem? s.views id ≡ some view → view.share ≢ 0 → q < region_count terms.chart.now.cut →
-    IsStanding terms (stepped s (step_place (widths_of terms.chart.now) q) (step_of terms.chart.now s.words q) id c (found_short view r q (step_of terms.chart.now s.words q)) keeps)
+    IsStanding terms s → get_elem? s.views id ≡ some view → view.share ≢ 0 → q < region_count terms.setup.now.chart.cut →
+    IsStanding terms (stepped s (step_place (widths_of terms.setup.now.chart) q) (step_of terms.setup.now.chart s.words q) id c (found_short view r q (step_of terms.setup.now.chart s.words q)) keeps)
 found_short-keeps terms s id r q c view old is shares within =
-    seen-keeps terms s id q c view (found_short view r q (step_of terms.chart.now s.words q)) old is shares within refl refl refl refl refl refl
+    seen-keeps terms s id q c view (found_short view r q (step_of terms.setup.now.chart s.words q)) old is shares within refl refl refl refl refl refl
 
 -- the steps of all regions have each region's
 pub steps_of-at : (chart : ChartLists) (words : List ℕ) (r : ℕ) → r < region_count chart.cut → slice_index (steps_of chart words) r ≡ step_of chart words r
@@ -249,11 +249,11 @@ steps_of-at chart words r within = get_or-map-range_with_len (step_of chart word
 
 -- a neighbour below a region whose step is known stands one step lower
 pub short-by-one : (terms : Terms) (s : FieldState) (r q : ℕ) (view : View) (hold : Hold) → IsStanding terms s → IsHeld s.views view hold →
-    hold.region ≡ r → hold.known ≡ true → hold.published ≡ false → are_neighbours terms.net.now.connectors terms.chart.now.cut r q ≡ true →
-    step_of terms.chart.now s.words q < hold.step → step_of terms.chart.now s.words q + 1 ≡ hold.step
+    hold.region ≡ r → hold.known ≡ true → hold.published ≡ false → are_neighbours terms.setup.now.net.connectors terms.setup.now.chart.cut r q ≡ true →
+    step_of terms.setup.now.chart s.words q < hold.step → step_of terms.setup.now.chart s.words q + 1 ≡ hold.step
 short-by-one terms s r q view hold old held region knows unpublished near below =
-    let chart : ChartLists = terms.chart.now in
-    let both = neighbours-there terms.net.now chart r q near in
+    let chart : ChartLists = terms.setup.now.chart in
+    let both = neighbours-there terms.setup.now.net chart r q near in
     let stands : step_of chart s.words hold.region ≡ hold.step =
     old.steps.known view hold held knows ∙ ap (λ published. if published then hold.step + 1 else hold.step) unpublished in
     let own : step_of chart s.words r ≡ hold.step = ap (step_of chart s.words) (sym region) ∙ stands in
@@ -312,16 +312,16 @@ cleared-right net chart start words hold q was near past = record {
 
 -- finding a neighbour at the region's step or past it keeps the rule
 pub cleared-keeps : (terms : Terms) (s : FieldState) (id r q : ℕ) (c : List (ℕ × RegionValue)) (view : View) (hold : Hold) (holds : List Hold) →
-    IsStanding terms s → get_elem? s.views id ≡ some view → view.share ≢ 0 → q < region_count terms.chart.now.cut →
-    view.holds ≡ hold ∷ holds → hold.region ≡ r → hold.known ≡ true → are_neighbours terms.net.now.connectors terms.chart.now.cut r q ≡ true →
-    hold.step ≤ step_of terms.chart.now s.words q →
-    IsStanding terms (stepped s (step_place (widths_of terms.chart.now) q) (step_of terms.chart.now s.words q) id c (cleared view q (step_of terms.chart.now s.words q)) keeps)
+    IsStanding terms s → get_elem? s.views id ≡ some view → view.share ≢ 0 → q < region_count terms.setup.now.chart.cut →
+    view.holds ≡ hold ∷ holds → hold.region ≡ r → hold.known ≡ true → are_neighbours terms.setup.now.net.connectors terms.setup.now.chart.cut r q ≡ true →
+    hold.step ≤ step_of terms.setup.now.chart s.words q →
+    IsStanding terms (stepped s (step_place (widths_of terms.setup.now.chart) q) (step_of terms.setup.now.chart s.words q) id c (cleared view q (step_of terms.setup.now.chart s.words q)) keeps)
 cleared-keeps terms s id r q c view hold holds old is shares within first region knows near past =
-    let step : ℕ = step_of terms.chart.now s.words q in
+    let step : ℕ = step_of terms.setup.now.chart s.words q in
     let w : View = cleared view q step in
     let seat : Contains s.views view = Contains-elem s.views id view is in
     let own : IsHeld s.views view hold = record { seat = seat; held = first-held view.holds hold holds first } in
-    let beside = subst (λ p. are_neighbours terms.net.now.connectors terms.chart.now.cut p q ≡ true) (sym region) near in
+    let beside = subst (λ p. are_neighbours terms.setup.now.net.connectors terms.setup.now.chart.cut p q ≡ true) (sym region) near in
     let reads : IsReader terms s view w = record {
       share = refl;
       alike = refl;
@@ -332,21 +332,21 @@ cleared-keeps terms s id r q c view hold holds old is shares within first region
       same = λ p. omega (arith, first-count (λ h. h.region == p) (clears q) view.holds hold holds first);
       more = λ p. omega (arith, first-count (λ h. (h.region == p) && h.known) (clears q) view.holds hold holds first);
       there = λ h has. elim (first-Contains (clears q) view.holds hold holds h first has) [
-        | inl new ↦ subst (λ (x : Hold). x.region < region_count terms.chart.now.cut) (sym new) (old.claims.there view hold own)
+        | inl new ↦ subst (λ (x : Hold). x.region < region_count terms.setup.now.chart.cut) (sym new) (old.claims.there view hold own)
         | inr before ↦ old.claims.there view h record { seat = seat; held = before }
       ];
       right = λ h has known. elim (first-Contains (clears q) view.holds hold holds h first has) [
-        | inl new ↦ subst (IsRight terms.net.now terms.chart.now terms.start.now s.words) (sym new) (cleared-right terms.net.now terms.chart.now terms.start.now s.words hold q (right view hold own knows) beside past)
+        | inl new ↦ subst (IsRight terms.setup.now.net terms.setup.now.chart terms.setup.now.start s.words) (sym new) (cleared-right terms.setup.now.net terms.setup.now.chart terms.setup.now.start s.words hold q (right view hold own knows) beside past)
         | inr before ↦ right view h record { seat = seat; held = before } known
       ];
     } in
-    word_stays terms s (step_place (widths_of terms.chart.now) q) s.homes (set s.views id w) (standing-read terms s s.homes id view w old is shares reads refl (λ p at none home. home))
+    word_stays terms s (step_place (widths_of terms.setup.now.chart) q) s.homes (set s.views id w) (standing-read terms s s.homes id view w old is shares reads refl (λ p at none home. home))
   where
     clears : ℕ → Hold → Hold
     clears p h = record h { cleared = p ∷ h.cleared }
 
-    right : AreRight terms.net.now terms.chart.now terms.start.now s.words s.views
-    right = all_right terms.net.now terms.chart.now terms.start.now s old.steps old.rows
+    right : AreRight terms.setup.now.net terms.setup.now.chart terms.setup.now.start s.words s.views
+    right = all_right terms.setup.now.net terms.setup.now.chart terms.setup.now.start s old.steps old.rows
 
 -- a view knows the steps of some of the regions that it holds
 pub knows-some : (all : List Hold) (r : ℕ) → count_by (λ hold. (hold.region == r) && hold.known) all ≤ count_by (λ hold. hold.region == r) all
@@ -398,20 +398,20 @@ fresh-right net chart start words r = record {
 
 -- the look at a region that was just taken finds it at home as it stands, and taking it out of its slot keeps the rule
 pub found_at-keeps : (terms : Terms) (s : FieldState) (id r : ℕ) (c : List (ℕ × RegionValue)) (view : View) (hold : Hold) (holds : List Hold) →
-    IsStanding terms s → get_elem? s.views id ≡ some view → view.share ≢ 0 → r < region_count terms.chart.now.cut →
+    IsStanding terms s → get_elem? s.views id ≡ some view → view.share ≢ 0 → r < region_count terms.setup.now.chart.cut →
     view.holds ≡ hold ∷ holds → hold ≡ fresh r →
     (region : RegionValue) × IsHome s.homes r region ×
-    Stands terms.net.now terms.chart.now terms.start.now terms.every r (step_of terms.chart.now s.words r) region ×
-    IsStanding terms (stepped s (step_place (widths_of terms.chart.now) r) (step_of terms.chart.now s.words r) id c (found_at view r (step_of terms.chart.now s.words r)) (takes r region))
+    Stands terms.setup.now.net terms.setup.now.chart terms.setup.now.start terms.setup.now.every r (step_of terms.setup.now.chart s.words r) region ×
+    IsStanding terms (stepped s (step_place (widths_of terms.setup.now.chart) r) (step_of terms.setup.now.chart s.words r) id c (found_at view r (step_of terms.setup.now.chart s.words r)) (takes r region))
 found_at-keeps terms s id r c view hold holds old is shares within some_first taken =
-    let step : ℕ = step_of terms.chart.now s.words r in
+    let step : ℕ = step_of terms.setup.now.chart s.words r in
     let first : view.holds ≡ fresh r ∷ holds = some_first ∙ ap (λ h. h ∷ holds) taken in
     let knows : Hold → Hold = λ h. known_at h step in
     let w : View = found_at view r step in
     let seat : Contains s.views view = Contains-elem s.views id view is in
     let unknown : knowers s.views r ≡ 0 = just-taken terms s id r view holds old is first in
     let home = old.claims.at_home r within unknown in
-    let right : AreRight terms.net.now terms.chart.now terms.start.now s.words s.views = all_right terms.net.now terms.chart.now terms.start.now s old.steps old.rows in
+    let right : AreRight terms.setup.now.net terms.setup.now.chart terms.setup.now.start s.words s.views = all_right terms.setup.now.net terms.setup.now.chart terms.setup.now.start s old.steps old.rows in
     let counts = λ (p : ℕ). first-count (λ h. (h.region == p) && h.known) knows view.holds (fresh r) holds first in
     let reads : IsReader terms s view w = record {
       share = refl;
@@ -423,11 +423,11 @@ found_at-keeps terms s id r c view hold holds old is shares within some_first ta
       same = λ p. omega (arith, first-count (λ h. h.region == p) knows view.holds (fresh r) holds first);
       more = λ p. omega (arith, counts p, none_of (r == p));
       there = λ h has. elim (first-Contains knows view.holds (fresh r) holds h first has) [
-        | inl new ↦ subst (λ (x : Hold). x.region < region_count terms.chart.now.cut) (sym new) within
+        | inl new ↦ subst (λ (x : Hold). x.region < region_count terms.setup.now.chart.cut) (sym new) within
         | inr before ↦ old.claims.there view h record { seat = seat; held = before }
       ];
       right = λ h has known. elim (first-Contains knows view.holds (fresh r) holds h first has) [
-        | inl new ↦ subst (IsRight terms.net.now terms.chart.now terms.start.now s.words) (sym new) (fresh-right terms.net.now terms.chart.now terms.start.now s.words r)
+        | inl new ↦ subst (IsRight terms.setup.now.net terms.setup.now.chart terms.setup.now.start s.words) (sym new) (fresh-right terms.setup.now.net terms.setup.now.chart terms.setup.now.start s.words r)
         | inr before ↦ right view h record { seat = seat; held = before } known
       ];
     } in
@@ -444,7 +444,7 @@ found_at-keeps terms s id r c view hold holds old is shares within some_first ta
       | inr other ↦ set_else s.homes r q none other ∙ there
     ] in
     let new = standing-read terms s (set s.homes r none) id view w old is shares reads (length-set s.homes r none) stay in
-    (home.0, home.1, home.2, word_stays terms s (step_place (widths_of terms.chart.now) r) (set s.homes r none) (set s.views id w) new)
+    (home.0, home.1, home.2, word_stays terms s (step_place (widths_of terms.setup.now.chart) r) (set s.homes r none) (set s.views id w) new)
   where
     none_of : (own : Bool) → ◌≡◌ {A = ℕ} (cond (own && false) 1 0) 0
     none_of true = refl

@@ -74,7 +74,7 @@ holds-same views v w h k r one held also is same =
 -- a seat that knows the step of the region that it took last, and hasn't published the step to come
 pub record IsWorking (terms : Terms) (s : FieldState) (id : ℕ) (view : View) (hold : Hold) (holds : List Hold) : Type 0 where
   pub standing : IsStanding terms s
-  pub charted : IsChart terms.chart.now
+  pub charted : IsChart terms.setup.now.chart
   pub seat : get_elem? s.views id ≡ some view
   pub share : view.share ≢ 0
   pub held : view.holds ≡ hold ∷ holds
@@ -141,13 +141,13 @@ read-keeps terms s i id c view standing seat =
 
 -- the step of a region just before it is published is the hold's
 pub working-step : (terms : Terms) (s : FieldState) (id : ℕ) (view : View) (hold : Hold) (holds : List Hold) → IsWorking terms s id view hold holds →
-    step_of terms.chart.now s.words hold.region ≡ hold.step
+    step_of terms.setup.now.chart s.words hold.region ≡ hold.step
 working-step terms s id view hold holds works =
     let knows = works.standing.steps.known view hold (working-held terms s id view hold holds works) works.known in
     rw works.early at knows
 
 pub working-there : (terms : Terms) (s : FieldState) (id : ℕ) (view : View) (hold : Hold) (holds : List Hold) → IsWorking terms s id view hold holds →
-    hold.region < region_count terms.chart.now.cut
+    hold.region < region_count terms.setup.now.chart.cut
 working-there terms s id view hold holds works = works.standing.claims.there view hold (working-held terms s id view hold holds works)
 
 -- neighbours stand at most a step apart
@@ -159,12 +159,12 @@ steps-close net chart words r q lawful near =
 
 -- a border word of a neighbour at the region's step or past it is what the cell holds at that step
 pub border-read-near : (terms : Terms) (s : FieldState) (id : ℕ) (view : View) (hold : Hold) (holds : List Hold) (q j : ℕ) → IsWorking terms s id view hold holds →
-    are_neighbours terms.net.now.connectors terms.chart.now.cut hold.region q ≡ true → hold.step ≤ step_of terms.chart.now s.words q → j < width_at (widths_of terms.chart.now) q →
-    border_word terms.chart.now s.words q hold.step j ≡ grid_held terms.net.now terms.chart.now.cut terms.start.now hold.step (border_cell terms.chart.now q j)
+    are_neighbours terms.setup.now.net.connectors terms.setup.now.chart.cut hold.region q ≡ true → hold.step ≤ step_of terms.setup.now.chart s.words q → j < width_at (widths_of terms.setup.now.chart) q →
+    border_word terms.setup.now.chart s.words q hold.step j ≡ grid_held terms.setup.now.net terms.setup.now.chart.cut terms.setup.now.start hold.step (border_cell terms.setup.now.chart q j)
 border-read-near terms s id view hold holds q j works near past inside =
-    let net : Network = terms.net.now in
-    let chart : ChartLists = terms.chart.now in
-    let start : StartLists = terms.start.now in
+    let net : Network = terms.setup.now.net in
+    let chart : ChartLists = terms.setup.now.chart in
+    let start : StartLists = terms.setup.now.start in
     let back = neighbours-sym net.connectors chart.cut hold.region q near in
     let own : step_of chart s.words hold.region ≡ hold.step = working-step terms s id view hold holds works in
     let close : step_of chart s.words q ≤ step_of chart s.words hold.region + 1 = steps-close net chart s.words q hold.region works.standing.steps.lawful back in
@@ -177,8 +177,8 @@ border-read-near terms s id view hold holds q j works near past inside =
 
 -- so is one of a cleared neighbour
 pub border-read : (terms : Terms) (s : FieldState) (id : ℕ) (view : View) (hold : Hold) (holds : List Hold) (q j : ℕ) → IsWorking terms s id view hold holds →
-    Contains hold.cleared q → j < width_at (widths_of terms.chart.now) q →
-    border_word terms.chart.now s.words q hold.step j ≡ grid_held terms.net.now terms.chart.now.cut terms.start.now hold.step (border_cell terms.chart.now q j)
+    Contains hold.cleared q → j < width_at (widths_of terms.setup.now.chart) q →
+    border_word terms.setup.now.chart s.words q hold.step j ≡ grid_held terms.setup.now.net terms.setup.now.chart.cut terms.setup.now.start hold.step (border_cell terms.setup.now.chart q j)
 border-read terms s id view hold holds q j works has inside =
     let held = working-held terms s id view hold holds works in
     border-read-near terms s id view hold holds q j works (works.standing.steps.around view hold q held works.known has)
@@ -264,9 +264,9 @@ known-counts views view hold held known =
 
 claims-worked : (terms : Terms) (s : FieldState) (id : ℕ) (view w : View) (hold new : Hold) (holds : List Hold) (words : List ℕ) →
     IsWorking terms s id view hold holds → IsChanged view w hold new holds → length words ≡ length s.words →
-    ((r : ℕ) → r < region_count terms.chart.now.cut → claim_of terms.chart.now words r ≡ claim_of terms.chart.now s.words r) →
-    ((r : ℕ) → r < region_count terms.chart.now.cut → r ≢ hold.region → step_of terms.chart.now words r ≡ step_of terms.chart.now s.words r) →
-    Claims terms.net.now terms.chart.now terms.start.now terms.every (field_of s words (set s.views id w))
+    ((r : ℕ) → r < region_count terms.setup.now.chart.cut → claim_of terms.setup.now.chart words r ≡ claim_of terms.setup.now.chart s.words r) →
+    ((r : ℕ) → r < region_count terms.setup.now.chart.cut → r ≢ hold.region → step_of terms.setup.now.chart words r ≡ step_of terms.setup.now.chart s.words r) →
+    Claims terms.setup.now.net terms.setup.now.chart terms.setup.now.start terms.setup.now.every (field_of s words (set s.views id w))
 claims-worked terms s id view w hold new holds words works changed long claims steps =
     let old = works.standing.claims in
     record {
@@ -275,7 +275,7 @@ claims-worked terms s id view w hold new holds words works changed long claims s
       counted = λ r within. claims r within ∙ old.counted r within ∙ sym (holders-set s.views id view w hold new holds works.seat changed r);
       one = λ r. omega (arith, old.one r, holders-set s.views id view w hold new holds works.seat changed r);
       there = λ v h held. elim (held-after s.views id view w hold new holds works.seat changed old.one v h held) [
-        | inl is ↦ subst (λ r. r < region_count terms.chart.now.cut) (sym (ap (λ (some_hold : Hold). some_hold.region) is ∙ changed.region)) (working-there terms s id view hold holds works)
+        | inl is ↦ subst (λ r. r < region_count terms.setup.now.chart.cut) (sym (ap (λ (some_hold : Hold). some_hold.region) is ∙ changed.region)) (working-there terms s id view hold holds works)
         | inr other ↦ old.there other.1.0 h other.1.1
       ];
       at_home = λ r within none.
@@ -290,13 +290,13 @@ pub record AreRaised (chart : ChartLists) (before after : List ℕ) (r : ℕ) : 
   pub others : (q : ℕ) → q < region_count chart.cut → q ≢ r → step_of chart after q ≡ step_of chart before q
 
 steps-worked : (terms : Terms) (s : FieldState) (id : ℕ) (view w : View) (hold new : Hold) (holds : List Hold) (words : List ℕ) →
-    IsWorking terms s id view hold holds → IsChanged view w hold new holds → AreRaised terms.chart.now s.words words hold.region →
-    AreLawful terms.net.now terms.chart.now.cut (steps_of terms.chart.now words) →
-    step_of terms.chart.now words hold.region ≡ (if new.published then hold.step + 1 else hold.step) →
-    Steps terms.net.now terms.chart.now terms.start.now (field_of s words (set s.views id w))
+    IsWorking terms s id view hold holds → IsChanged view w hold new holds → AreRaised terms.setup.now.chart s.words words hold.region →
+    AreLawful terms.setup.now.net terms.setup.now.chart.cut (steps_of terms.setup.now.chart words) →
+    step_of terms.setup.now.chart words hold.region ≡ (if new.published then hold.step + 1 else hold.step) →
+    Steps terms.setup.now.net terms.setup.now.chart terms.setup.now.start (field_of s words (set s.views id w))
 steps-worked terms s id view w hold new holds words works changed raised lawful own =
-    let net : Network = terms.net.now in
-    let chart : ChartLists = terms.chart.now in
+    let net : Network = terms.setup.now.net in
+    let chart : ChartLists = terms.setup.now.chart in
     let old = works.standing.steps in
     let held = working-held terms s id view hold holds works in
     let from = held-after s.views id view w hold new holds works.seat changed works.standing.claims.one in
@@ -333,19 +333,19 @@ pub record IsCounted (terms : Terms) (before after : List ℕ) (view w : View) :
   pub alike : w.terms ≡ view.terms
   pub share : w.share ≡ view.share
   pub lengths : length w.seen ≡ length view.seen
-  pub seen : (r : ℕ) → r < region_count terms.chart.now.cut → slice_index w.seen r ≤ step_of terms.chart.now after r
-  pub moves : length w.log + steps_made terms.chart.now terms.start.now before ≡ length view.log + steps_made terms.chart.now terms.start.now after
-  pub logged : (r s : ℕ) → times_in w.log r s + times_made terms.chart.now terms.start.now before r s ≡ times_in view.log r s + times_made terms.chart.now terms.start.now after r s
+  pub seen : (r : ℕ) → r < region_count terms.setup.now.chart.cut → slice_index w.seen r ≤ step_of terms.setup.now.chart after r
+  pub moves : length w.log + steps_made terms.setup.now.chart terms.setup.now.start before ≡ length view.log + steps_made terms.setup.now.chart terms.setup.now.start after
+  pub logged : (r s : ℕ) → times_in w.log r s + times_made terms.setup.now.chart terms.setup.now.start before r s ≡ times_in view.log r s + times_made terms.setup.now.chart terms.setup.now.start after r s
   pub further : view.reach ≤ w.reach
-  pub reach : (r : ℕ) → r < region_count terms.chart.now.cut →
-      (step_of terms.chart.now after r ≡ step_of terms.chart.now before r) ⊎ (step_of terms.chart.now after r ≤ w.reach)
+  pub reach : (r : ℕ) → r < region_count terms.setup.now.chart.cut →
+      (step_of terms.setup.now.chart after r ≡ step_of terms.setup.now.chart before r) ⊎ (step_of terms.setup.now.chart after r ≤ w.reach)
 
 counts-worked : (terms : Terms) (s : FieldState) (id : ℕ) (view w : View) (words : List ℕ) → IsStanding terms s → get_elem? s.views id ≡ some view → view.share ≢ 0 →
-    ((r : ℕ) → r < region_count terms.chart.now.cut → step_of terms.chart.now s.words r ≤ step_of terms.chart.now words r) → IsCounted terms s.words words view w →
-    Counts terms terms.chart.now terms.start.now terms.seats (field_of s words (set s.views id w))
+    ((r : ℕ) → r < region_count terms.setup.now.chart.cut → step_of terms.setup.now.chart s.words r ≤ step_of terms.setup.now.chart words r) → IsCounted terms s.words words view w →
+    Counts terms terms.setup.now.chart terms.setup.now.start terms.seats (field_of s words (set s.views id w))
 counts-worked terms s id view w words standing seat share rises counted =
-    let chart : ChartLists = terms.chart.now in
-    let start : StartLists = terms.start.now in
+    let chart : ChartLists = terms.setup.now.chart in
+    let start : StartLists = terms.setup.now.start in
     let old = standing.counts in
     let here : Contains s.views view = Contains-elem s.views id view seat in
     let new : Contains (set s.views id w) w = set-Contains s.views id w view seat in
@@ -383,17 +383,17 @@ counts-worked terms s id view w words standing seat share rises counted =
 
 -- the load of a border word keeps the rule
 pub border-read-keeps : (terms : Terms) (s : FieldState) (id : ℕ) (c : List (ℕ × RegionValue)) (view : View) (hold : Hold) (holds : List Hold) (q j : ℕ) → IsWorking terms s id view hold holds →
-    IsStanding terms (stepped s (row_place (widths_of terms.chart.now) q (hold.step % 2) j) (border_word terms.chart.now s.words q hold.step j) id c view keeps)
+    IsStanding terms (stepped s (row_place (widths_of terms.setup.now.chart) q (hold.step % 2) j) (border_word terms.setup.now.chart s.words q hold.step j) id c view keeps)
 border-read-keeps terms s id c view hold holds q j works =
-    read-keeps terms s (row_place (widths_of terms.chart.now) q (hold.step % 2) j) id c view works.standing works.seat
+    read-keeps terms s (row_place (widths_of terms.setup.now.chart) q (hold.step % 2) j) id c view works.standing works.seat
 
 -- all neighbours of a hold's region are cleared
 abbrev pub AllCleared : Terms → Hold → Type 0
-AllCleared terms hold = (q : ℕ) → are_neighbours terms.net.now.connectors terms.chart.now.cut hold.region q ≡ true → Contains hold.cleared q
+AllCleared terms hold = (q : ℕ) → are_neighbours terms.setup.now.net.connectors terms.setup.now.chart.cut hold.region q ≡ true → Contains hold.cleared q
 
 -- then none stands lower
 none-lower : (terms : Terms) (s : FieldState) (id : ℕ) (view : View) (hold : Hold) (holds : List Hold) (q : ℕ) → IsWorking terms s id view hold holds → AllCleared terms hold →
-    are_neighbours terms.net.now.connectors terms.chart.now.cut hold.region q ≡ true → hold.step ≤ step_of terms.chart.now s.words q
+    are_neighbours terms.setup.now.net.connectors terms.setup.now.chart.cut hold.region q ≡ true → hold.step ≤ step_of terms.setup.now.chart s.words q
 none-lower terms s id view hold holds q works all near =
     works.standing.steps.cleared view hold q (working-held terms s id view hold holds works) works.known (all q near)
 
@@ -412,14 +412,14 @@ published-changed view hold holds r n held = record { before = held; after = ap 
 
 -- one more word of the step to come is written: no word that a row of before needs is touched
 rows-wrote : (terms : Terms) (s : FieldState) (id : ℕ) (view : View) (hold : Hold) (holds : List Hold) (n : ℕ) → IsWorking terms s id view hold holds →
-    hold.written < width_at (widths_of terms.chart.now) hold.region → AllCleared terms hold →
-    n ≡ grid_held terms.net.now terms.chart.now.cut terms.start.now (hold.step + 1) (border_cell terms.chart.now hold.region hold.written) →
-    Rows terms.net.now terms.chart.now terms.start.now
-    (field_of s (set s.words (row_place (widths_of terms.chart.now) hold.region ((hold.step + 1) % 2) hold.written) n) (set s.views id (wrote view)))
+    hold.written < width_at (widths_of terms.setup.now.chart) hold.region → AllCleared terms hold →
+    n ≡ grid_held terms.setup.now.net terms.setup.now.chart.cut terms.setup.now.start (hold.step + 1) (border_cell terms.setup.now.chart hold.region hold.written) →
+    Rows terms.setup.now.net terms.setup.now.chart terms.setup.now.start
+    (field_of s (set s.words (row_place (widths_of terms.setup.now.chart) hold.region ((hold.step + 1) % 2) hold.written) n) (set s.views id (wrote view)))
 rows-wrote terms s id view hold holds n works short all is_n =
-    let net : Network = terms.net.now in
-    let chart : ChartLists = terms.chart.now in
-    let start : StartLists = terms.start.now in
+    let net : Network = terms.setup.now.net in
+    let chart : ChartLists = terms.setup.now.chart in
+    let start : StartLists = terms.setup.now.start in
     let r : ℕ = hold.region in
     let words : List ℕ = set s.words (row_place (widths_of chart) r ((hold.step + 1) % 2) hold.written) n in
     let old = works.standing.rows in
@@ -513,12 +513,12 @@ steps_made-same chart start before after same =
 
 -- a written border word keeps the rule
 pub wrote-keeps : (terms : Terms) (s : FieldState) (id : ℕ) (c : List (ℕ × RegionValue)) (view : View) (hold : Hold) (holds : List Hold) (n : ℕ) → IsWorking terms s id view hold holds →
-    hold.written < width_at (widths_of terms.chart.now) hold.region → AllCleared terms hold →
-    n ≡ grid_held terms.net.now terms.chart.now.cut terms.start.now (hold.step + 1) (border_cell terms.chart.now hold.region hold.written) →
-    IsStanding terms (stepped s (row_place (widths_of terms.chart.now) hold.region ((hold.step + 1) % 2) hold.written) n id c (wrote view) keeps)
+    hold.written < width_at (widths_of terms.setup.now.chart) hold.region → AllCleared terms hold →
+    n ≡ grid_held terms.setup.now.net terms.setup.now.chart.cut terms.setup.now.start (hold.step + 1) (border_cell terms.setup.now.chart hold.region hold.written) →
+    IsStanding terms (stepped s (row_place (widths_of terms.setup.now.chart) hold.region ((hold.step + 1) % 2) hold.written) n id c (wrote view) keeps)
 wrote-keeps terms s id c view hold holds n works short all is_n =
-    let chart : ChartLists = terms.chart.now in
-    let start : StartLists = terms.start.now in
+    let chart : ChartLists = terms.setup.now.chart in
+    let start : StartLists = terms.setup.now.start in
     let r : ℕ = hold.region in
     let place : ℕ = row_place (widths_of chart) r ((hold.step + 1) % 2) hold.written in
     let words : List ℕ = set s.words place n in
@@ -531,7 +531,7 @@ wrote-keeps terms s id c view hold holds n works short all is_n =
     let step : (q : ℕ) → q < region_count chart.cut → step_of chart words q ≡ step_of chart s.words q =
     λ q there. border-set-step chart s.words r (hold.step + 1) hold.written q n within short (omega (arith, wide, there)) in
     let raised : AreRaised chart s.words words r = record { rises = λ q there. omega (arith, step q there); others = λ q there apart. step q there } in
-    let lawful : AreLawful terms.net.now chart.cut (steps_of chart words) = subst (AreLawful terms.net.now chart.cut) (sym (steps_of-same chart s.words words step)) old.steps.lawful in
+    let lawful : AreLawful terms.setup.now.net chart.cut (steps_of chart words) = subst (AreLawful terms.setup.now.net chart.cut) (sym (steps_of-same chart s.words words step)) old.steps.lawful in
     let stays : step_of chart words r ≡ (if hold.published then hold.step + 1 else hold.step) = rw works.early (step r inside ∙ own) in
     let has = Contains-elem s.views id view works.seat in
     let counted : IsCounted terms s.words words view (wrote view) = record {
@@ -594,15 +594,15 @@ abbrev pub published_words : ChartLists → (words : List ℕ) → Hold → List
 published_words chart words hold = set words (step_place (widths_of chart) hold.region) (hold.step + 1)
 
 published-own : (terms : Terms) (s : FieldState) (id : ℕ) (view : View) (hold : Hold) (holds : List Hold) → IsWorking terms s id view hold holds →
-    step_of terms.chart.now (published_words terms.chart.now s.words hold) hold.region ≡ hold.step + 1
+    step_of terms.setup.now.chart (published_words terms.setup.now.chart s.words hold) hold.region ≡ hold.step + 1
 published-own terms s id view hold holds works =
-    step-set terms.chart.now s.words hold.region (hold.step + 1)
-    (omega (arith, length-widths_of terms.chart.now works.charted, working-there terms s id view hold holds works)) works.standing.claims.words
+    step-set terms.setup.now.chart s.words hold.region (hold.step + 1)
+    (omega (arith, length-widths_of terms.setup.now.chart works.charted, working-there terms s id view hold holds works)) works.standing.claims.words
 
 published-raised : (terms : Terms) (s : FieldState) (id : ℕ) (view : View) (hold : Hold) (holds : List Hold) → IsWorking terms s id view hold holds →
-    AreRaised terms.chart.now s.words (published_words terms.chart.now s.words hold) hold.region
+    AreRaised terms.setup.now.chart s.words (published_words terms.setup.now.chart s.words hold) hold.region
 published-raised terms s id view hold holds works =
-    let chart : ChartLists = terms.chart.now in
+    let chart : ChartLists = terms.setup.now.chart in
     let words : List ℕ = published_words chart s.words hold in
     let wide = length-widths_of chart works.charted in
     let inside = working-there terms s id view hold holds works in
@@ -625,13 +625,13 @@ published-raised terms s id view hold holds works =
 
 -- the row of a published step is the one that was written, and the one before stays
 rows-published : (terms : Terms) (s : FieldState) (id : ℕ) (view : View) (hold : Hold) (holds : List Hold) → IsWorking terms s id view hold holds →
-    hold.written ≡ width_at (widths_of terms.chart.now) hold.region → AllCleared terms hold →
-    Rows terms.net.now terms.chart.now terms.start.now
-    (field_of s (published_words terms.chart.now s.words hold) (set s.views id (published view hold.region (hold.step + 1))))
+    hold.written ≡ width_at (widths_of terms.setup.now.chart) hold.region → AllCleared terms hold →
+    Rows terms.setup.now.net terms.setup.now.chart terms.setup.now.start
+    (field_of s (published_words terms.setup.now.chart s.words hold) (set s.views id (published view hold.region (hold.step + 1))))
 rows-published terms s id view hold holds works full all =
-    let net : Network = terms.net.now in
-    let chart : ChartLists = terms.chart.now in
-    let start : StartLists = terms.start.now in
+    let net : Network = terms.setup.now.net in
+    let chart : ChartLists = terms.setup.now.chart in
+    let start : StartLists = terms.setup.now.start in
     let r : ℕ = hold.region in
     let words : List ℕ = published_words chart s.words hold in
     let old = works.standing.rows in
@@ -704,12 +704,12 @@ rows-published terms s id view hold holds works full all =
 
 -- a published step keeps the rule
 pub published-keeps : (terms : Terms) (s : FieldState) (id : ℕ) (c : List (ℕ × RegionValue)) (view : View) (hold : Hold) (holds : List Hold) → IsWorking terms s id view hold holds →
-    hold.written ≡ width_at (widths_of terms.chart.now) hold.region → AllCleared terms hold → hold.step < terms.net.now.steps →
-    IsStanding terms (stepped s (step_place (widths_of terms.chart.now) hold.region) (hold.step + 1) id c (published view hold.region (hold.step + 1)) keeps)
+    hold.written ≡ width_at (widths_of terms.setup.now.chart) hold.region → AllCleared terms hold → hold.step < terms.setup.now.net.steps →
+    IsStanding terms (stepped s (step_place (widths_of terms.setup.now.chart) hold.region) (hold.step + 1) id c (published view hold.region (hold.step + 1)) keeps)
 published-keeps terms s id c view hold holds works full all below =
-    let net : Network = terms.net.now in
-    let chart : ChartLists = terms.chart.now in
-    let start : StartLists = terms.start.now in
+    let net : Network = terms.setup.now.net in
+    let chart : ChartLists = terms.setup.now.chart in
+    let start : StartLists = terms.setup.now.start in
     let r : ℕ = hold.region in
     let t : ℕ = hold.step in
     let words : List ℕ = published_words chart s.words hold in

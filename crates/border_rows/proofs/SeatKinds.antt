@@ -48,7 +48,7 @@ pub record IsOpening (net : Network) (chart : ChartLists) (start : StartLists) (
 pub record IsFirst (terms : Terms) (view : View) : Type 0 where
   pub alike : view.terms ≡ terms ∷ []
   pub share : view.share ≡ terms.seats
-  pub seen : view.seen ≡ terms.start.now.steps
+  pub seen : view.seen ≡ terms.setup.now.start.steps
   pub log : view.log ≡ []
   pub reach : view.reach ≡ 0
   pub holds : view.holds ≡ []
@@ -89,13 +89,13 @@ none-made net chart start every words regions opens =
 
 -- a field opens under the rule
 pub opening-stands : (terms : Terms) (words : List ℕ) (regions : List RegionValue) (v : View) →
-    AreLawful terms.net.now terms.chart.now.cut terms.start.now.steps →
-    IsOpening terms.net.now terms.chart.now terms.start.now terms.every words regions → IsFirst terms v → terms.seats ≢ 0 →
+    AreLawful terms.setup.now.net terms.setup.now.chart.cut terms.setup.now.start.steps →
+    IsOpening terms.setup.now.net terms.setup.now.chart terms.setup.now.start terms.setup.now.every words regions → IsFirst terms v → terms.seats ≢ 0 →
     IsStanding terms (opening words regions v)
 opening-stands terms words regions v lawful opens first seats =
-    let net : Network = terms.net.now in
-    let chart : ChartLists = terms.chart.now in
-    let start : StartLists = terms.start.now in
+    let net : Network = terms.setup.now.net in
+    let chart : ChartLists = terms.setup.now.chart in
+    let start : StartLists = terms.setup.now.start in
     record {
       claims = record {
         words = opens.long;
@@ -106,7 +106,7 @@ opening-stands terms words regions v lawful opens first seats =
         at_home = λ r within unknown. home r within;
       };
       steps = record {
-        lawful = subst (AreLawful net chart.cut) (sym (steps_of-start net chart start terms.every words regions lawful opens)) lawful;
+        lawful = subst (AreLawful net chart.cut) (sym (steps_of-start net chart start terms.setup.now.every words regions lawful opens)) lawful;
         started = λ r within. omega (arith, opens.steps r within);
         known = λ view hold holds knows. absurd (first-none terms v view hold first holds);
         around = λ view hold q holds knows has. absurd (first-none terms v view hold first holds);
@@ -129,7 +129,7 @@ opening-stands terms words regions v lawful opens first seats =
             omega (arith, ap (λ (u : View). slice_index u.seen r) (one-Contains v view has), ap (λ seen. slice_index seen r) first.seen, opens.steps r within);
         shares = omega (arith, sum_by-cons (λ (u : View). u.share) v [], first.share);
         spent = λ view has none. absurd (seats (omega (arith, ap (λ (u : View). u.share) (one-Contains v view has), first.share, none)));
-        moves = omega (arith, sum_by-cons (λ (u : View). length u.log) v [], ap length first.log, none-made net chart start terms.every words regions opens);
+        moves = omega (arith, sum_by-cons (λ (u : View). length u.log) v [], ap length first.log, none-made net chart start terms.setup.now.every words regions opens);
         logged = λ r step. omega (
           arith,
           sum_by-cons (λ (u : View). times_in u.log r step) v [],
@@ -146,15 +146,15 @@ opening-stands terms words regions v lawful opens first seats =
         let none : count_by (λ hold. hold.region == r) v.holds ≡ 0 = ap (count_by (λ (hold : Hold). hold.region == r)) first.holds in
         omega (arith, sum_by-cons (λ (u : View). count_by (λ hold. hold.region == r) u.holds) v [], none)
 
-    home : (r : ℕ) → r < region_count terms.chart.now.cut → (region : RegionValue) × IsHome (map some regions) r region ×
-        Stands terms.net.now terms.chart.now terms.start.now terms.every r (step_of terms.chart.now words r) region
+    home : (r : ℕ) → r < region_count terms.setup.now.chart.cut → (region : RegionValue) × IsHome (map some regions) r region ×
+        Stands terms.setup.now.net terms.setup.now.chart terms.setup.now.start terms.setup.now.every r (step_of terms.setup.now.chart words r) region
     home r within =
         let inside : r < length regions = omega (arith, within, opens.homes.one_each) in
         let d : RegionValue = (some_there regions r inside).0 in
         let region : RegionValue = get_or regions r d in (
           region,
           at_map some regions r region (elem-get_or regions r d inside),
-          subst (λ t. Stands terms.net.now terms.chart.now terms.start.now terms.every r t region) (sym (opens.steps r within)) (opens.homes.each r d inside),
+          subst (λ t. Stands terms.setup.now.net terms.setup.now.chart terms.setup.now.start terms.setup.now.every r t region) (sym (opens.steps r within)) (opens.homes.each r d inside),
         )
 
 -- each of the views holds what some view held before
@@ -176,16 +176,16 @@ claims-same net chart start every s views old held knew before = record {
 
 pub standing-same : (terms : Terms) (s : FieldState) (views : List View) → IsStanding terms s →
     ((r : ℕ) → holders views r ≡ holders s.views r) → ((r : ℕ) → knowers views r ≡ knowers s.views r) → AreHeldBefore s.views views →
-    Counts terms terms.chart.now terms.start.now terms.seats record { words = s.words; homes = s.homes; views = views } →
+    Counts terms terms.setup.now.chart terms.setup.now.start terms.seats record { words = s.words; homes = s.homes; views = views } →
     IsStanding terms record { words = s.words; homes = s.homes; views = views }
 standing-same terms s views old held knew before counts =
-    let right : AreRight terms.net.now terms.chart.now terms.start.now s.words views = λ view hold holds knows.
+    let right : AreRight terms.setup.now.net terms.setup.now.chart terms.setup.now.start s.words views = λ view hold holds knows.
     let was = before view hold holds in
-    all_right terms.net.now terms.chart.now terms.start.now s old.steps old.rows was.0 hold was.1 knows in
+    all_right terms.setup.now.net terms.setup.now.chart terms.setup.now.start s old.steps old.rows was.0 hold was.1 knows in
     record {
-      claims = claims-same terms.net.now terms.chart.now terms.start.now terms.every s views old.claims held knew before;
-      steps = steps-right terms.net.now terms.chart.now terms.start.now s s.homes views old.steps right;
-      rows = rows-right terms.net.now terms.chart.now terms.start.now s s.homes views old.rows right;
+      claims = claims-same terms.setup.now.net terms.setup.now.chart terms.setup.now.start terms.setup.now.every s views old.claims held knew before;
+      steps = steps-right terms.setup.now.net terms.setup.now.chart terms.setup.now.start s s.homes views old.steps right;
+      rows = rows-right terms.setup.now.net terms.setup.now.chart terms.setup.now.start s s.homes views old.rows right;
       counts = counts;
     }
 
@@ -250,7 +250,7 @@ split-keeps terms s id view old is shares = standing-same terms s (split_views s
     seat : Contains s.views view
     seat = Contains-elem s.views id view is
 
-    long : length view.seen ≡ region_count terms.chart.now.cut
+    long : length view.seen ≡ region_count terms.setup.now.chart.cut
     long = old.counts.lengths view seat (λ none. omega (arith, none, shares))
 
     alike : view.terms ≡ terms ∷ []
@@ -354,7 +354,7 @@ join-keeps terms s id view at other old is apart also shares others empty = stan
     beside : Contains s.views other
     beside = Contains-elem s.views at other (sym (set_else s.views id at (united view other) apart) ∙ also)
 
-    long : length view.seen ≡ region_count terms.chart.now.cut
+    long : length view.seen ≡ region_count terms.setup.now.chart.cut
     long = old.counts.lengths view seat shares
 
     both : Contains (joined_views s.views id view at other) (united view other)

@@ -98,7 +98,7 @@ pub record Counts (terms : Terms) (chart : ChartLists) (start : StartLists) (sea
 
 -- the rule
 pub record IsStanding (terms : Terms) (field : FieldState) : Type 0 where
-  pub claims : Claims terms.net.now terms.chart.now terms.start.now terms.every field
-  pub steps : Steps terms.net.now terms.chart.now terms.start.now field
-  pub rows : Rows terms.net.now terms.chart.now terms.start.now field
-  pub counts : Counts terms terms.chart.now terms.start.now terms.seats field
+  pub claims : Claims terms.setup.now.net terms.setup.now.chart terms.setup.now.start terms.setup.now.every field
+  pub steps : Steps terms.setup.now.net terms.setup.now.chart terms.setup.now.start field
+  pub rows : Rows terms.setup.now.net terms.setup.now.chart terms.setup.now.start field
+  pub counts : Counts terms terms.setup.now.chart terms.setup.now.start terms.seats field

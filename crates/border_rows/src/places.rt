@@ -3,7 +3,7 @@ ghost use Rattle.border_rows.specs.Places.{IsOfNetwork, base_of, claim_place, ro
 
 use crate::span::Span;
 use no_memory::NoMemory;
-use region_cut::Chart;
+use region_cut::Layout;
 use std::alloc::Global;
 use std::marker::Model;
 
@@ -27,14 +27,14 @@ impl Model for Places {
 
 impl Places {
     /// The places for the regions of a chart.
-    pub fn new(alloc: Global, chart: &Chart) -> Result<Places, NoMemory>
-        requires { IsOfNetwork chart.now }
-        ensures { IfOk result (λ places. places ≡ widths_of chart.now) }
+    pub fn new(alloc: Global, layout: &Layout) -> Result<Places, NoMemory>
+        requires { IsOfNetwork layout.now.chart }
+        ensures { IfOk result (λ places. places ≡ widths_of layout.now.chart) }
     {
         let mut spans = Vec::new(alloc);
         let mut words = 0;
-        for r in 0..chart.regions() {
-            let width = chart.border(r).len() as u32;
+        for r in 0..layout.regions() {
+            let width = layout.border(r).len() as u32;
             let span = Span { base: words, width };
             spans.push(span)?;
             words = span.end();

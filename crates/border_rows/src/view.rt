@@ -1,15 +1,10 @@
-use network_file::Net;
-use region_cut::Chart;
-use region_step::Start;
+use region_step::Setup;
 
 /// What a field was opened with, as its rule is told it once.
 #[derive(Clone, Copy)]
 pub struct Terms<'a> {
-    pub net: &'a Net,
-    pub chart: &'a Chart,
-    pub start: &'a Start,
-    /// Every how many steps regions are recorded.
-    pub every: u64,
+    /// What its regions were opened with.
+    pub setup: &'a Setup<'a>,
     /// How many seats there are in all.
     pub seats: u64,
 }

@@ -8,14 +8,14 @@ ghost use Rattle.region_step.specs.declared.note.Note.{Note as NoteValue};
 use flow_model::Row;
 use network_file::Net;
 use no_memory::NoMemory;
-use region_cut::Chart;
+use region_cut::Layout;
 use region_step::{Note, Region};
 use std::alloc::Global;
 
 /// Regions, seen cell by cell.
 #[derive(Clone, Copy)]
 pub(crate) struct ByCell<'a> {
-    pub(crate) chart: &'a Chart,
+    pub(crate) layout: &'a Layout<'a>,
     pub(crate) regions: &'a [Region],
     /// The place of each cell among the cells of its region.
     pub(crate) places: &'a [u32],
@@ -24,37 +24,37 @@ pub(crate) struct ByCell<'a> {
 impl ByCell<'_> {
     /// The row of cell `i` at its region's step.
     pub(crate) fn row(&self, i: u32) -> Row
-        requires there { i < length self.now.chart.now.cut }
-        requires placed { AreCellPlaces self.now.chart.now (length self.now.chart.now.cut) self.now.places.now }
-        requires rows { HaveRows self.now.chart.now self.now.regions.now }
-        ensures { (rows : List RowValue) → AreRowsOf self.now.chart.now self.now.regions.now rows → result ≡ row_at rows i }
+        requires there { i < length self.now.layout.now.chart.cut }
+        requires placed { AreCellPlaces self.now.layout.now.chart (length self.now.layout.now.chart.cut) self.now.places.now }
+        requires rows { HaveRows self.now.layout.now.chart self.now.regions.now }
+        ensures { (rows : List RowValue) → AreRowsOf self.now.layout.now.chart self.now.regions.now rows → result ≡ row_at rows i }
     {
-        let q = self.chart.region_of(i);
+        let q = self.layout.region_of(i);
         self.regions[q as usize].row(self.places[i as usize])
     }
 
     /// What was noted of cell `i` at the `k`-th recorded step.
     pub(crate) fn note(&self, k: usize, i: u32) -> Note
-        requires there { i < length self.now.chart.now.cut }
-        requires placed { AreCellPlaces self.now.chart.now (length self.now.chart.now.cut) self.now.places.now }
-        requires rows { HaveRows self.now.chart.now self.now.regions.now }
-        requires notes { (steps : ℕ) × (k < steps) × HaveNotes self.now.chart.now self.now.regions.now steps }
-        ensures { (recorded : List ℕ) (note : ℕ → ℕ → NoteValue) → k < length recorded → AreNotesOf self.now.chart.now self.now.regions.now recorded note →
+        requires there { i < length self.now.layout.now.chart.cut }
+        requires placed { AreCellPlaces self.now.layout.now.chart (length self.now.layout.now.chart.cut) self.now.places.now }
+        requires rows { HaveRows self.now.layout.now.chart self.now.regions.now }
+        requires notes { (steps : ℕ) × (k < steps) × HaveNotes self.now.layout.now.chart self.now.regions.now steps }
+        ensures { (recorded : List ℕ) (note : ℕ → ℕ → NoteValue) → k < length recorded → AreNotesOf self.now.layout.now.chart self.now.regions.now recorded note →
             result ≡ note (slice_index recorded k) i }
     {
-        let q = self.chart.region_of(i);
-        let cells = self.chart.cells(q);
+        let q = self.layout.region_of(i);
+        let cells = self.layout.cells(q);
         let trail = self.regions[q as usize].trail();
         note_in(trail, cells.len(), k, self.places[i as usize])
     }
 
     /// The rows of all cells.
     pub(crate) fn rows(&self, alloc: Global, net: &Net) -> Result<Vec<Row>, NoMemory>
-        requires one_each { length self.now.chart.now.cut ≡ length net.now.cells }
-        requires placed { AreCellPlaces self.now.chart.now (length self.now.chart.now.cut) self.now.places.now }
-        requires rows { HaveRows self.now.chart.now self.now.regions.now }
+        requires one_each { length self.now.layout.now.chart.cut ≡ length net.now.cells }
+        requires placed { AreCellPlaces self.now.layout.now.chart (length self.now.layout.now.chart.cut) self.now.places.now }
+        requires rows { HaveRows self.now.layout.now.chart self.now.regions.now }
         ensures one_each { IfOk result (λ own. length own.items ≡ length net.now.cells) }
-        ensures rows { IfOk result (λ own. (rows : List RowValue) → AreRowsOf self.now.chart.now self.now.regions.now rows → own.items ≡ rows) }
+        ensures rows { IfOk result (λ own. (rows : List RowValue) → AreRowsOf self.now.layout.now.chart self.now.regions.now rows → own.items ≡ rows) }
     {
         let mut rows = Vec::with_capacity(alloc, net.cells.len())?;
         for i in 0..net.cells.len() as u32 {

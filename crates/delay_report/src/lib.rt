@@ -4,10 +4,10 @@
 //!
 //! ```text
 //! let net = Net::read(alloc, &bytes)?;                                        // network_file: the first fault has its place
-//! let chart = charted(alloc, &net, 16)?;                                      // region_cut: the file's regions, or even ones
-//! let regions = last_regions(rt, alloc, &net, &chart, 0, 4, &OpenGate)?;      // recorded at no step
-//! let report = run_report(alloc, &net, &chart, &regions, 0)?;                 // that of the plain recurrences
-//! let rows = run_rows(alloc, &net, &chart, &regions)?;                        // or the rows of all cells
+//! let layout = charted(alloc, &net, 16)?;                                     // region_cut: the file's regions, or even ones
+//! let regions = last_regions(rt, alloc, &layout, 0, 4, &OpenGate)?;           // recorded at no step
+//! let report = run_report(alloc, &layout, &regions, 0)?;                      // that of the plain recurrences
+//! let rows = run_rows(alloc, &layout, &regions)?;                             // or the rows of all cells
 //! ```
 //!
 //! The program `worst_cells` does so. `report` and `put_last_totals` are of regions of any true start, and

@@ -19,11 +19,11 @@ pub(crate) fn put_note_lines(
     by_cell: &ByCell,
     every: u64,
 ) -> Result<(), NoMemory>
-    requires one_each { length by_cell.now.chart.now.cut ≡ length net.now.cells }
-    requires placed { AreCellPlaces by_cell.now.chart.now (length by_cell.now.chart.now.cut) by_cell.now.places.now }
-    requires rows { HaveRows by_cell.now.chart.now by_cell.now.regions.now }
-    requires notes { HaveNotes by_cell.now.chart.now by_cell.now.regions.now (recorded_count net.now.steps every) }
-    ensures { OnOk result ((note : ℕ → ℕ → NoteValue) → AreNotesOf by_cell.now.chart.now by_cell.now.regions.now (recorded net.now.steps every 0 net.now.steps) note →
+    requires one_each { length by_cell.now.layout.now.chart.cut ≡ length net.now.cells }
+    requires placed { AreCellPlaces by_cell.now.layout.now.chart (length by_cell.now.layout.now.chart.cut) by_cell.now.places.now }
+    requires rows { HaveRows by_cell.now.layout.now.chart by_cell.now.regions.now }
+    requires notes { HaveNotes by_cell.now.layout.now.chart by_cell.now.regions.now (recorded_count net.now.steps every) }
+    ensures { OnOk result ((note : ℕ → ℕ → NoteValue) → AreNotesOf by_cell.now.layout.now.chart by_cell.now.regions.now (recorded net.now.steps every 0 net.now.steps) note →
         text.new.items ≡ text.old.items ++ note_lines net.now.cells note (recorded net.now.steps every 0 net.now.steps)) }
 {
     let mut k = 0;
@@ -45,12 +45,12 @@ fn put_step_lines(
     t: u64,
 ) -> Result<(), NoMemory>
     requires few { length cells.now < 2 ^ 32 }
-    requires one_each { length by_cell.now.chart.now.cut ≡ length cells.now }
-    requires placed { AreCellPlaces by_cell.now.chart.now (length by_cell.now.chart.now.cut) by_cell.now.places.now }
-    requires rows { HaveRows by_cell.now.chart.now by_cell.now.regions.now }
-    requires notes { (steps : ℕ) × (k < steps) × HaveNotes by_cell.now.chart.now by_cell.now.regions.now steps }
+    requires one_each { length by_cell.now.layout.now.chart.cut ≡ length cells.now }
+    requires placed { AreCellPlaces by_cell.now.layout.now.chart (length by_cell.now.layout.now.chart.cut) by_cell.now.places.now }
+    requires rows { HaveRows by_cell.now.layout.now.chart by_cell.now.regions.now }
+    requires notes { (steps : ℕ) × (k < steps) × HaveNotes by_cell.now.layout.now.chart by_cell.now.regions.now steps }
     ensures { OnOk result ((recorded : List ℕ) (note : ℕ → ℕ → NoteValue) → k < length recorded → slice_index recorded k ≡ t →
-        AreNotesOf by_cell.now.chart.now by_cell.now.regions.now recorded note →
+        AreNotesOf by_cell.now.layout.now.chart by_cell.now.regions.now recorded note →
         text.new.items ≡ text.old.items ++ step_lines cells.now (note t) t) }
 {
     for (i, cell) in cells.iter().enumerate() {

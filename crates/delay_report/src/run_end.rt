@@ -1,6 +1,5 @@
 ghost use Rattle.std.specs.Prelude.{◌≡◌, ◌<◌, ◌^◌, ℕ, IfOk, length, replicate};
 ghost use Rattle.flow_model.specs.State.{delay_of, state_at};
-ghost use Rattle.region_cut.specs.Chart.{chart_of};
 ghost use Rattle.region_cut.specs.Cuttings.{region_count};
 ghost use Rattle.region_step.specs.Standing.{AllStand};
 ghost use Rattle.region_step.specs.Start.{StartLists, zero_start};
@@ -12,9 +11,8 @@ use crate::cell_rows::cell_rows;
 use crate::whole_report::report;
 use flow_ledger::total_delay;
 use flow_model::Row;
-use network_file::Net;
 use no_memory::NoMemory;
-use region_cut::Chart;
+use region_cut::Layout;
 use region_step::Region;
 use std::alloc::Global;
 
@@ -22,74 +20,54 @@ use std::alloc::Global;
 /// every so many steps.
 pub fn run_report(
     alloc: Global,
-    net: &Net,
-    chart: &Chart,
+    layout: &Layout,
     regions: &[Region],
     every: u64,
 ) -> Result<Vec<u8>, NoMemory>
-    requires chart { chart.now ≡ chart_of net.now chart.now.cut }
-    requires one_each { length chart.now.cut ≡ length net.now.cells }
-    requires stand { AllStand net.now chart.now (zero_start net.now chart.now.cut) every (replicate (region_count chart.now.cut) net.now.steps) regions.now }
-    ensures { IfOk result (λ text. text.items ≡ report_of net.now every) }
+    requires stand { AllStand layout.now.net layout.now.chart (zero_start layout.now.net layout.now.chart.cut) every (replicate (region_count layout.now.chart.cut) layout.now.net.steps) regions.now }
+    ensures { IfOk result (λ text. text.items ≡ report_of layout.now.net every) }
 {
+    let net = layout.net();
     let _steps = net.steps;
-    let text = report(alloc, net, chart, regions, every)?;
+    let text = report(alloc, layout, regions, every)?;
     Ok(text)
 }
 
 /// The same of regions that were taken to the last step from any one start, each from its own step, and recorded at none.
-pub fn report_from(
-    alloc: Global,
-    net: &Net,
-    chart: &Chart,
-    regions: &[Region],
-) -> Result<Vec<u8>, NoMemory>
-    requires chart { chart.now ≡ chart_of net.now chart.now.cut }
-    requires one_each { length chart.now.cut ≡ length net.now.cells }
-    requires stand { (start : StartLists) × AllStand net.now chart.now start 0 (replicate (region_count chart.now.cut) net.now.steps) regions.now }
-    ensures rows { IfOk result (λ text. (start : StartLists) → AllStand net.now chart.now start 0 (replicate (region_count chart.now.cut) net.now.steps) regions.now →
-        text.items ≡ report_from net.now chart.now.cut start) }
+pub fn report_from(alloc: Global, layout: &Layout, regions: &[Region]) -> Result<Vec<u8>, NoMemory>
+    requires stand { (start : StartLists) × AllStand layout.now.net layout.now.chart start 0 (replicate (region_count layout.now.chart.cut) layout.now.net.steps) regions.now }
+    ensures rows { IfOk result (λ text. (start : StartLists) → AllStand layout.now.net layout.now.chart start 0 (replicate (region_count layout.now.chart.cut) layout.now.net.steps) regions.now →
+        text.items ≡ report_from layout.now.net layout.now.chart.cut start) }
 
     // Of a true start it is the report of the plain recurrences.
-    ensures recurrences { IfOk result (λ text. (start : StartLists) → AreAtTheEnd net.now chart.now start 0 regions.now → text.items ≡ report_of net.now 0) }
+    ensures recurrences { IfOk result (λ text. (start : StartLists) → AreAtTheEnd layout.now.net layout.now.chart start 0 regions.now → text.items ≡ report_of layout.now.net 0) }
 {
+    let net = layout.net();
     let _steps = net.steps;
-    let text = report(alloc, net, chart, regions, 0)?;
+    let text = report(alloc, layout, regions, 0)?;
     Ok(text)
 }
 
 /// The rows of all cells at the last step, in the order of the file, of such regions, however they were recorded.
-pub fn run_rows(
-    alloc: Global,
-    net: &Net,
-    chart: &Chart,
-    regions: &[Region],
-) -> Result<Vec<Row>, NoMemory>
-    requires chart { chart.now ≡ chart_of net.now chart.now.cut }
-    requires one_each { length chart.now.cut ≡ length net.now.cells }
-    requires stand { (every : ℕ) × AllStand net.now chart.now (zero_start net.now chart.now.cut) every (replicate (region_count chart.now.cut) net.now.steps) regions.now }
-    ensures one_each { IfOk result (λ rows. length rows.items ≡ length net.now.cells) }
-    ensures rows { IfOk result (λ rows. rows.items ≡ state_at net.now net.now.steps) }
+pub fn run_rows(alloc: Global, layout: &Layout, regions: &[Region]) -> Result<Vec<Row>, NoMemory>
+    requires stand { (every : ℕ) × AllStand layout.now.net layout.now.chart (zero_start layout.now.net layout.now.chart.cut) every (replicate (region_count layout.now.chart.cut) layout.now.net.steps) regions.now }
+    ensures one_each { IfOk result (λ rows. length rows.items ≡ length layout.now.net.cells) }
+    ensures rows { IfOk result (λ rows. rows.items ≡ state_at layout.now.net layout.now.net.steps) }
 {
+    let net = layout.net();
     let _steps = net.steps;
-    let (_places, rows) = cell_rows(alloc, net, chart, regions)?;
+    let (_places, rows) = cell_rows(alloc, layout, regions)?;
     Ok(rows)
 }
 
 /// The delay of such regions: the waits of all cells, parts times steps. At most 200,000 waits of 64 bits fit in 128.
-pub fn run_delay(
-    alloc: Global,
-    net: &Net,
-    chart: &Chart,
-    regions: &[Region],
-) -> Result<u128, NoMemory>
-    requires chart { chart.now ≡ chart_of net.now chart.now.cut }
-    requires one_each { length chart.now.cut ≡ length net.now.cells }
-    requires stand { (every : ℕ) × AllStand net.now chart.now (zero_start net.now chart.now.cut) every (replicate (region_count chart.now.cut) net.now.steps) regions.now }
-    ensures delay { IfOk result (λ sum. sum ≡ delay_of (state_at net.now net.now.steps)) }
+pub fn run_delay(alloc: Global, layout: &Layout, regions: &[Region]) -> Result<u128, NoMemory>
+    requires stand { (every : ℕ) × AllStand layout.now.net layout.now.chart (zero_start layout.now.net layout.now.chart.cut) every (replicate (region_count layout.now.chart.cut) layout.now.net.steps) regions.now }
+    ensures delay { IfOk result (λ sum. sum ≡ delay_of (state_at layout.now.net layout.now.net.steps)) }
     ensures few { IfOk result (λ sum. sum < 2 ^ 96) }
 {
+    let net = layout.net();
     let _steps = net.steps;
-    let rows = run_rows(alloc, net, chart, regions)?;
+    let rows = run_rows(alloc, layout, regions)?;
     Ok(total_delay(&rows))
 }

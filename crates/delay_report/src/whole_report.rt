@@ -1,7 +1,6 @@
 ghost use Rattle.std.specs.Prelude.{◌≡◌, ◌++◌, ◌+◌, ℕ, List, IfOk, OnOk, length};
 ghost use Rattle.flow_ledger.specs.Books.{entered_of, initial_of, inside_of, left_of};
 ghost use Rattle.flow_model.specs.declared.row.Row.{Row as RowValue};
-ghost use Rattle.region_cut.specs.Chart.{chart_of};
 ghost use Rattle.region_step.specs.Recording.{recorded};
 ghost use Rattle.region_step.specs.Start.{StartLists};
 ghost use Rattle.region_step.specs.declared.note.Note.{Note as NoteValue};
@@ -18,7 +17,7 @@ use crate::total_line::put_total_line;
 use line_fields::put_count;
 use network_file::Net;
 use no_memory::NoMemory;
-use region_cut::Chart;
+use region_cut::Layout;
 use region_step::Region;
 use std::alloc::Global;
 
@@ -27,31 +26,29 @@ use std::alloc::Global;
 #[tactic(auto, unfolding(crate::specs::Report::report_with))]
 pub fn report(
     alloc: Global,
-    net: &Net,
-    chart: &Chart,
+    layout: &Layout,
     regions: &[Region],
     every: u64,
 ) -> Result<Vec<u8>, NoMemory>
-    requires chart { chart.now ≡ chart_of net.now chart.now.cut }
-    requires one_each { length chart.now.cut ≡ length net.now.cells }
-    requires ended { AreEnded net.now.steps every regions.now }
-    requires rows { HaveRows chart.now regions.now }
-    requires notes { HaveNotes chart.now regions.now (recorded_count net.now.steps every) }
+    requires ended { AreEnded layout.now.net.steps every regions.now }
+    requires rows { HaveRows layout.now.chart regions.now }
+    requires notes { HaveNotes layout.now.chart regions.now (recorded_count layout.now.net.steps every) }
     ensures text { IfOk result (λ text. (note : ℕ → ℕ → NoteValue) (rows : List RowValue) →
-        AreNotesOf chart.now regions.now (recorded net.now.steps every 0 net.now.steps) note → AreRowsOf chart.now regions.now rows →
-        text.items ≡ report_with net.now every note rows) }
+        AreNotesOf layout.now.chart regions.now (recorded layout.now.net.steps every 0 layout.now.net.steps) note → AreRowsOf layout.now.chart regions.now rows →
+        text.items ≡ report_with layout.now.net every note rows) }
 
     // Of regions of a true start it is the report of the plain recurrences, whatever the cutting.
-    ensures recurrences { IfOk result (λ text. (start : StartLists) → AreAtTheEnd net.now chart.now start every regions.now → text.items ≡ report_of net.now every) }
+    ensures recurrences { IfOk result (λ text. (start : StartLists) → AreAtTheEnd layout.now.net layout.now.chart start every regions.now → text.items ≡ report_of layout.now.net every) }
 
     // Then its totals balance: what is inside at the last step and what has left were there at first or have entered.
-    ensures balance { IfOk result (λ text. (start : StartLists) (rows : List RowValue) → AreAtTheEnd net.now chart.now start every regions.now →
-        AreRowsOf chart.now regions.now rows → inside_of net.now rows + left_of net.now rows ≡ initial_of net.now + entered_of net.now rows) }
+    ensures balance { IfOk result (λ text. (start : StartLists) (rows : List RowValue) → AreAtTheEnd layout.now.net layout.now.chart start every regions.now →
+        AreRowsOf layout.now.chart regions.now rows → inside_of layout.now.net rows + left_of layout.now.net rows ≡ initial_of layout.now.net + entered_of layout.now.net rows) }
 {
+    let net = layout.net();
     let _steps = net.steps;
-    let (places, rows) = cell_rows(alloc, net, chart, regions)?;
+    let (places, rows) = cell_rows(alloc, layout, regions)?;
     let by_cell = ByCell {
-        chart,
+        layout,
         regions,
         places: &places,
     };

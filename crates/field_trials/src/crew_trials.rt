@@ -28,7 +28,7 @@ pub(crate) fn two_members<R: Abort + Threads + Sync>(
 )
     requires belongs { IsPassOf field pass }
     requires two { pass.knows.share ≡ 2 }
-    requires in_time { last ≤ field.terms.net.now.steps }
+    requires in_time { last ≤ field.terms.setup.now.net.steps }
 {
     let gate = Meeting::new();
     let other = field.share(&mut pass);

@@ -23,7 +23,7 @@ pub(crate) fn two_helpers<R: Abort + Threads + Sync>(
 )
     requires belongs { IsPassOf field pass }
     requires two { pass.knows.share ≡ 2 }
-    requires in_time { last ≤ field.terms.net.now.steps }
+    requires in_time { last ≤ field.terms.setup.now.net.steps }
 {
     let gate = Meeting::new();
     let other = field.share(&mut pass);
@@ -65,7 +65,7 @@ pub(crate) fn a_helper_alone<R: Abort + Threads + Sync>(
     way: Way,
 )
     requires belongs { IsPassOf field pass }
-    requires in_time { last ≤ field.terms.net.now.steps }
+    requires in_time { last ≤ field.terms.setup.now.net.steps }
 {
     let gate = Notes::new();
     assert!(rt; field.regions() == 4);

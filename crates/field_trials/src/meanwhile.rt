@@ -11,8 +11,8 @@ use std::thread::{Threads, join_mut};
 // A turn that is taken once another holds its region.
 fn turn_meanwhile(field: &Field, pass: &mut Pass, region: u32, goal: u64, pause: &Pause) -> Turn
     requires belongs { IsPassOf field.now pass.old }
-    requires there { region < region_count field.now.terms.chart.now.cut }
-    requires in_time { goal ≤ field.now.terms.net.now.steps }
+    requires there { region < region_count field.now.terms.setup.now.chart.cut }
+    requires in_time { goal ≤ field.now.terms.setup.now.net.steps }
     ensures belongs { IsPassOf field.now pass.new }
 {
     pause.wait_for_turn();
@@ -33,22 +33,22 @@ pub(crate) fn turn_during_a_turn<R: Threads + Sync>(
 ) -> (Turn, Turn, u64)
     requires belongs { IsPassOf field.now pass.old }
     requires also { IsPassOf field.now other.old }
-    requires there { region < region_count field.now.terms.chart.now.cut }
-    requires in_time { goal ≤ field.now.terms.net.now.steps }
+    requires there { region < region_count field.now.terms.setup.now.chart.cut }
+    requires in_time { goal ≤ field.now.terms.setup.now.net.steps }
     ensures belongs { IsPassOf field.now pass.new }
     ensures also { IsPassOf field.now other.new }
 {
     let pause = Pause::new(0);
     let gate = &pause;
     let mut first = || -> Turn
-        requires { IsPassOf field.now pass.now × (goal ≤ field.now.terms.net.now.steps) }
+        requires { IsPassOf field.now pass.now × (goal ≤ field.now.terms.setup.now.net.steps) }
         ensures { IsPassOf field.entry.now pass.exit.now }
     {
         let (field, goal, gate) = (field, goal, gate);
         field.turn(pass, 0, goal, gate)
     };
     let mut second = || -> Turn
-        requires { IsPassOf field.now other.now × (region < region_count field.now.terms.chart.now.cut) × (goal ≤ field.now.terms.net.now.steps) }
+        requires { IsPassOf field.now other.now × (region < region_count field.now.terms.setup.now.chart.cut) × (goal ≤ field.now.terms.setup.now.net.steps) }
         ensures { IsPassOf field.entry.now other.exit.now }
     {
         let (field, region, goal, gate) = (field, region, goal, gate);
@@ -61,9 +61,9 @@ pub(crate) fn turn_during_a_turn<R: Threads + Sync>(
 // A shot with one try that is taken once a turn holds its region.
 fn shot_meanwhile(field: &Field, pass: &mut Pass, room: &mut ShotRoom, pause: &Pause) -> Shot
     requires belongs { IsPassOf field.now pass.old }
-    requires room { IsRoomFor field.now.terms.chart.now room.old }
+    requires room { IsRoomFor field.now.terms.setup.now.chart room.old }
     ensures belongs { IsPassOf field.now pass.new }
-    ensures room { IsRoomFor field.now.terms.chart.now room.new }
+    ensures room { IsRoomFor field.now.terms.setup.now.chart room.new }
 {
     pause.wait_for_turn();
     let shot = field.shot(pass, room, 1);
@@ -83,25 +83,25 @@ pub(crate) fn shot_during_a_turn<R: Threads + Sync>(
 ) -> (Turn, Shot)
     requires belongs { IsPassOf field.now pass.old }
     requires also { IsPassOf field.now other.old }
-    requires room { IsRoomFor field.now.terms.chart.now room.old }
-    requires there { region < region_count field.now.terms.chart.now.cut }
-    requires in_time { goal ≤ field.now.terms.net.now.steps }
+    requires room { IsRoomFor field.now.terms.setup.now.chart room.old }
+    requires there { region < region_count field.now.terms.setup.now.chart.cut }
+    requires in_time { goal ≤ field.now.terms.setup.now.net.steps }
     ensures belongs { IsPassOf field.now pass.new }
     ensures also { IsPassOf field.now other.new }
-    ensures room { IsRoomFor field.now.terms.chart.now room.new }
+    ensures room { IsRoomFor field.now.terms.setup.now.chart room.new }
 {
     let pause = Pause::new(region);
     let gate = &pause;
     let mut turning = || -> Turn
-        requires { IsPassOf field.now pass.now × (region < region_count field.now.terms.chart.now.cut) × (goal ≤ field.now.terms.net.now.steps) }
+        requires { IsPassOf field.now pass.now × (region < region_count field.now.terms.setup.now.chart.cut) × (goal ≤ field.now.terms.setup.now.net.steps) }
         ensures { IsPassOf field.entry.now pass.exit.now }
     {
         let (field, region, goal, gate) = (field, region, goal, gate);
         field.turn(pass, region, goal, gate)
     };
     let mut shooting = || -> Shot
-        requires { IsPassOf field.now other.now × IsRoomFor field.now.terms.chart.now room.now }
-        ensures { IsPassOf field.entry.now other.exit.now × IsRoomFor field.entry.now.terms.chart.now room.exit.now }
+        requires { IsPassOf field.now other.now × IsRoomFor field.now.terms.setup.now.chart room.now }
+        ensures { IsPassOf field.entry.now other.exit.now × IsRoomFor field.entry.now.terms.setup.now.chart room.exit.now }
     {
         let (field, gate) = (field, gate);
         shot_meanwhile(field, other, room, gate)

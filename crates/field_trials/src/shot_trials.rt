@@ -38,9 +38,9 @@ pub(crate) fn busy_shots<R: Abort + Threads + Sync>(
 )
     requires belongs { IsPassOf field pass }
     requires two { pass.knows.share ≡ 2 }
-    requires in_time { last ≤ field.terms.net.now.steps }
-    requires one_each { length field.terms.chart.now.cut ≡ length net.now.cells }
-    requires room { IsRoomFor field.terms.chart.now room.old }
+    requires in_time { last ≤ field.terms.setup.now.net.steps }
+    requires one_each { length field.terms.setup.now.chart.cut ≡ length net.now.cells }
+    requires room { IsRoomFor field.terms.setup.now.chart room.old }
 {
     let mut other = field.share(&mut pass);
     busy_shot(rt, net, &field, &mut pass, &mut other, room, last, 1);
@@ -60,12 +60,12 @@ fn busy_shot<R: Abort + Threads + Sync>(
 )
     requires belongs { IsPassOf field.now pass.old }
     requires also { IsPassOf field.now other.old }
-    requires in_time { last ≤ field.now.terms.net.now.steps }
-    requires one_each { length field.now.terms.chart.now.cut ≡ length net.now.cells }
-    requires room { IsRoomFor field.now.terms.chart.now room.old }
+    requires in_time { last ≤ field.now.terms.setup.now.net.steps }
+    requires one_each { length field.now.terms.setup.now.chart.cut ≡ length net.now.cells }
+    requires room { IsRoomFor field.now.terms.setup.now.chart room.old }
     ensures belongs { IsPassOf field.now pass.new }
     ensures also { IsPassOf field.now other.new }
-    ensures room { IsRoomFor field.now.terms.chart.now room.new }
+    ensures room { IsRoomFor field.now.terms.setup.now.chart room.new }
 {
     assert!(rt; field.regions() == 2);
     let both = shot_during_a_turn(rt, field, pass, other, room, 1, last);

@@ -1,18 +1,16 @@
 ghost use Rattle.std.specs.Prelude.{◌≡◌, ◌≤◌, length};
-ghost use Rattle.region_cut.specs.Chart.{chart_of};
 ghost use Rattle.snapshot.specs.Rooms.{IsRoomFor};
 ghost use Rattle.region_slots.specs.FieldView.{IsPassOf};
 
 use crate::crew_trials::two_members;
 use crate::help_trials::{Way, a_helper_alone, two_helpers};
-use crate::networks::charted;
 use crate::shot_trials::busy_shots;
 use crate::turn_trials::{held_before_neighbours, held_for_others, shared_pass, turns_in_order};
 use network_file::{MOST_BYTES, Net};
 use no_memory::NoMemory;
-use region_cut::Chart;
+use region_cut::{Layout, charted};
 use region_slots::{Field, Pass};
-use region_step::Start;
+use region_step::Setup;
 use snapshot::ShotRoom;
 use std::alloc::Global;
 use std::process::Abort;
@@ -41,25 +39,22 @@ pub(crate) fn on_field<R: Abort + Threads + Sync>(
 ) -> Result<(), Fail> {
     assert!(rt; text.len() <= MOST_BYTES);
     let net = Net::read(alloc, text)?;
-    let chart = charted(alloc, &net)?;
-    open(rt, alloc, &net, &chart, trial)?;
+    let layout = charted(alloc, &net, 1)?;
+    open(rt, alloc, &layout, trial)?;
     Ok(())
 }
 
-// The same of a network and its chart.
+// The same of a network that is cut.
 fn open<R: Abort + Threads + Sync>(
     rt: &R,
     alloc: Global,
-    net: &Net,
-    chart: &Chart,
+    layout: &Layout,
     trial: Trial,
-) -> Result<(), NoMemory>
-    requires chart { chart.now ≡ chart_of net.now chart.now.cut }
-    requires one_each { length chart.now.cut ≡ length net.now.cells }
-{
-    let mut room = ShotRoom::new(alloc, net, chart)?;
-    let start = Start::zero(alloc, net, chart)?;
-    let (field, pass) = Field::open(alloc, net, chart, &start, 0, 2)?;
+) -> Result<(), NoMemory> {
+    let net = layout.net();
+    let mut room = ShotRoom::new(alloc, layout)?;
+    let setup = Setup::zero(alloc, layout, 0)?;
+    let (field, pass) = Field::open(alloc, &setup, 2)?;
     make(rt, alloc, net, field, pass, &mut room, trial);
     Ok(())
 }
@@ -76,9 +71,9 @@ fn make<R: Abort + Threads + Sync>(
 )
     requires belongs { IsPassOf field pass }
     requires whole { (field.terms.seats ≡ 2) × (pass.knows.share ≡ 2) }
-    requires network { field.terms.net.now ≡ net.now }
-    requires one_each { length field.terms.chart.now.cut ≡ length net.now.cells }
-    requires room { IsRoomFor field.terms.chart.now room.old }
+    requires network { field.terms.setup.now.net ≡ net.now }
+    requires one_each { length field.terms.setup.now.chart.cut ≡ length net.now.cells }
+    requires room { IsRoomFor field.terms.setup.now.chart room.old }
 {
     let last = net.steps;
     match trial {

@@ -19,7 +19,7 @@ pub(crate) struct Told {
 // Takes these turns, one after the other. A goal past the last step is brought back.
 fn take_turns<R: Abort>(rt: &R, field: &Field, pass: &mut Pass, last: u64, turns: &[Told])
     requires belongs { IsPassOf field.now pass.old }
-    requires in_time { last ≤ field.now.terms.net.now.steps }
+    requires in_time { last ≤ field.now.terms.setup.now.net.steps }
     ensures belongs { IsPassOf field.now pass.new }
     ensures share { pass.new.knows.share ≡ pass.old.knows.share }
 {
@@ -37,7 +37,7 @@ fn take_turns<R: Abort>(rt: &R, field: &Field, pass: &mut Pass, last: u64, turns
 pub(crate) fn turns_in_order<R: Abort>(rt: &R, field: Field, mut pass: Pass, last: u64)
     requires belongs { IsPassOf field pass }
     requires whole { pass.knows.share ≡ field.terms.seats }
-    requires in_time { last ≤ field.terms.net.now.steps }
+    requires in_time { last ≤ field.terms.setup.now.net.steps }
 {
     let behind = Turn::Behind {
         neighbour: 1,
@@ -75,7 +75,7 @@ pub(crate) fn move_to<R: Abort>(
     step: u64,
 )
     requires belongs { IsPassOf field.now pass.old }
-    requires in_time { last ≤ field.now.terms.net.now.steps }
+    requires in_time { last ≤ field.now.terms.setup.now.net.steps }
     ensures belongs { IsPassOf field.now pass.new }
     ensures share { pass.new.knows.share ≡ pass.old.knows.share }
 {
@@ -89,7 +89,7 @@ pub(crate) fn move_to<R: Abort>(
 pub(crate) fn shared_pass<R: Abort>(rt: &R, field: Field, mut pass: Pass, last: u64)
     requires belongs { IsPassOf field pass }
     requires whole { (field.terms.seats ≡ 2) × (pass.knows.share ≡ 2) }
-    requires in_time { last ≤ field.terms.net.now.steps }
+    requires in_time { last ≤ field.terms.setup.now.net.steps }
 {
     let mut other = field.share(&mut pass);
     assert!(rt; field.regions() == 2);
@@ -113,7 +113,7 @@ pub(crate) fn held_for_others<R: Abort + Threads + Sync>(
 )
     requires belongs { IsPassOf field pass }
     requires two { pass.knows.share ≡ 2 }
-    requires in_time { last ≤ field.terms.net.now.steps }
+    requires in_time { last ≤ field.terms.setup.now.net.steps }
 {
     let mut other = field.share(&mut pass);
     assert!(rt; field.regions() == 2);
@@ -134,7 +134,7 @@ pub(crate) fn held_before_neighbours<R: Abort + Threads + Sync>(
 )
     requires belongs { IsPassOf field pass }
     requires two { pass.knows.share ≡ 2 }
-    requires in_time { last ≤ field.terms.net.now.steps }
+    requires in_time { last ≤ field.terms.setup.now.net.steps }
 {
     let mut other = field.share(&mut pass);
     assert!(rt; field.regions() == 2);

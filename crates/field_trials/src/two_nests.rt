@@ -41,7 +41,7 @@ fn fill(nest: &mut Nest, members: &[u32], regions: u32)
 // A helper whose sweeps begin at a region of the field.
 pub(crate) fn helper_at(field: &Field, pass: Pass, nest: Nest, first: u32) -> Helper
     requires belongs { IsPassOf field.now pass }
-    requires nest { nest.regions ≡ region_count field.now.terms.chart.now.cut }
+    requires nest { nest.regions ≡ region_count field.now.terms.setup.now.chart.cut }
     ensures { IsHelperOf field.now result }
 {
     let member = Member::new(pass, first % field.regions());

@@ -36,7 +36,7 @@ pub All-from_map : {X Y : Type 0} (P : Y → Type 0) (f : X → Y) (xs : List X)
 All-from_map P f xs all = λ k d within. subst P (get_or-map f xs k d (f d) within) (all k (f d) (omega (arith, within, length-map xs f)))
 
 -- helpers whose members are enlisted, with nests for the field's regions
-pub helpers-of : (field : FieldValue) (goal workers regions : ℕ) (helpers : List Helper) → regions ≡ region_count field.terms.chart.now.cut →
+pub helpers-of : (field : FieldValue) (goal workers regions : ℕ) (helpers : List Helper) → regions ≡ region_count field.terms.setup.now.chart.cut →
     AreEnlisted field goal (members_of helpers) → AreHelpersFor workers regions helpers → AreHelpersOf field helpers
 helpers-of field goal workers regions helpers many enlisted nests = λ k d within. record {
   member = (All-from_map (IsEnlisted field goal) (λ (helper : Helper). helper.member) helpers enlisted k d within).belongs;

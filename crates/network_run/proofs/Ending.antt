@@ -23,10 +23,10 @@ all-at cut steps goal one_each low high =
 
 -- the regions of a field that is closed with a pass which has seen all of them at a goal stand there, where none is past it
 pub all-ended : (terms : Terms) (net : Network) (chart : ChartLists) (start : StartLists) (every goal : ℕ) (view : View) (steps : List ℕ) (regions : List RegionValue) →
-    terms.net.now ≡ net → terms.chart.now ≡ chart → terms.start.now ≡ start → terms.every ≡ every →
-    AllStand terms.net.now terms.chart.now terms.start.now terms.every steps regions → AreLawful terms.net.now terms.chart.now.cut steps →
-    ((r : ℕ) → r < region_count terms.chart.now.cut → slice_index view.seen r ≤ slice_index steps r) → AllReach (region_count chart.cut) goal view →
-    ((r : ℕ) → r < region_count terms.chart.now.cut → slice_index steps r ≤ goal) →
+    terms.setup.now.net ≡ net → terms.setup.now.chart ≡ chart → terms.setup.now.start ≡ start → terms.setup.now.every ≡ every →
+    AllStand terms.setup.now.net terms.setup.now.chart terms.setup.now.start terms.setup.now.every steps regions → AreLawful terms.setup.now.net terms.setup.now.chart.cut steps →
+    ((r : ℕ) → r < region_count terms.setup.now.chart.cut → slice_index view.seen r ≤ slice_index steps r) → AllReach (region_count chart.cut) goal view →
+    ((r : ℕ) → r < region_count terms.setup.now.chart.cut → slice_index steps r ≤ goal) →
     AllStand net chart start every (replicate (region_count chart.cut) goal) regions
 all-ended terms net chart start every goal view steps regions same_net same_chart same_start same_every stand lawful later reach high =
     let here : AllStand net chart start every steps regions = rw (same_net, same_chart, same_start, same_every) at stand in

@@ -29,7 +29,7 @@ AreHelpersFor workers regions helpers = All (λ helper. helper.nest ≡ record {
 
 -- a view has seen no region past both its start and the view's reach
 abbrev pub IsReached : Terms → View → Type 0
-IsReached terms view = (r : ℕ) → r < region_count terms.chart.now.cut → slice_index view.seen r ≤ max (slice_index terms.start.now.steps r) view.reach
+IsReached terms view = (r : ℕ) → r < region_count terms.setup.now.chart.cut → slice_index view.seen r ≤ max (slice_index terms.setup.now.start.steps r) view.reach
 
 -- one worker more is a member, with a seat that was shared off a pass
 pub record HasJoined (field : FieldValue) (old new : PassValue) (before after : CrewValue) : Type 0 where

@@ -32,4 +32,4 @@ pub record AreGoing (members : List Member) : Type 0 where
 pub record AreRounds (field : FieldValue) (rounds vain : ℕ) (old new : List Member) : Type 0 where
   pub moved : rounds + moves_of old ≤ moves_of new + vain
   pub tried : (k : ℕ) (d : Member) → k < length old →
-      tries_of (slice_index_or new k d).pass.knows ≤ tries_of (slice_index_or old k d).pass.knows + rounds * (round_sweeps * region_count field.terms.chart.now.cut)
+      tries_of (slice_index_or new k d).pass.knows ≤ tries_of (slice_index_or old k d).pass.knows + rounds * (round_sweeps * region_count field.terms.setup.now.chart.cut)

@@ -22,11 +22,11 @@ HasLogged count starts goal log =
 -- its regions stand at any goal that all have come to, where none started or went past it
 abbrev pub StandWhereTheyCame : RunValue → List RegionValue → Type 0
 StandWhereTheyCame run regions =
-    (goal : ℕ) → AllReach (region_count run.terms.chart.now.cut) goal run.knows → run.knows.reach ≤ goal →
-    ((r : ℕ) → r < region_count run.terms.chart.now.cut → slice_index run.terms.start.now.steps r ≤ goal) →
-    AllStand run.terms.net.now run.terms.chart.now run.terms.start.now run.terms.every (replicate (region_count run.terms.chart.now.cut) goal) regions
+    (goal : ℕ) → AllReach (region_count run.terms.setup.now.chart.cut) goal run.knows → run.knows.reach ≤ goal →
+    ((r : ℕ) → r < region_count run.terms.setup.now.chart.cut → slice_index run.terms.setup.now.start.steps r ≤ goal) →
+    AllStand run.terms.setup.now.net run.terms.setup.now.chart run.terms.setup.now.start run.terms.setup.now.every (replicate (region_count run.terms.setup.now.chart.cut) goal) regions
 
 -- and up to such a goal its log is whole
 abbrev pub IsLoggedWhereTheyCame : RunValue → Type 0
 IsLoggedWhereTheyCame run =
-    (goal : ℕ) → AllReach (region_count run.terms.chart.now.cut) goal run.knows → HasLogged (region_count run.terms.chart.now.cut) run.terms.start.now.steps goal run.knows.log
+    (goal : ℕ) → AllReach (region_count run.terms.setup.now.chart.cut) goal run.knows → HasLogged (region_count run.terms.setup.now.chart.cut) run.terms.setup.now.start.steps goal run.knows.log

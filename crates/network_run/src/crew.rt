@@ -57,7 +57,7 @@ impl Crew {
 
     /// Shares a pass off for each worker, and fills its nest.
     pub(crate) fn enlist(&mut self, field: &Field, pass: &mut Pass)
-        requires regions { self.old.regions ≡ region_count field.now.terms.chart.now.cut }
+        requires regions { self.old.regions ≡ region_count field.now.terms.setup.now.chart.cut }
         requires nobody { self.old.members ≡ [] }
         requires belongs { IsPassOf field.now pass.old }
         requires seats { pass.old.knows.share ≡ self.old.workers + 1 }
@@ -76,7 +76,7 @@ impl Crew {
 
     // The same for one of them.
     fn enlist_one(&mut self, field: &Field, pass: &mut Pass, number: u32)
-        requires regions { self.old.regions ≡ region_count field.now.terms.chart.now.cut }
+        requires regions { self.old.regions ≡ region_count field.now.terms.setup.now.chart.cut }
         requires one_of { length self.old.members < self.old.workers }
         requires number { number < self.old.workers }
         requires belongs { IsPassOf field.now pass.old }

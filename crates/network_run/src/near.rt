@@ -1,5 +1,4 @@
 ghost use Rattle.std.specs.Prelude.{◌≡◌, ◌≤◌, IfOk, length, min};
-ghost use Rattle.region_cut.specs.Chart.{chart_of};
 ghost use Rattle.region_step.specs.Start.{zero_start};
 ghost use Rattle.snapshot.specs.Rooms.{IsRoomFor};
 ghost use Rattle.snapshot.specs.Shots.{AreStepsBetween};
@@ -7,11 +6,10 @@ ghost use Rattle.snapshot.specs.Snapshots.{IsSnapshot};
 ghost use Rattle.network_run.specs.Near.{near_end};
 
 use crate::run::Run;
-use network_file::Net;
 use no_memory::NoMemory;
-use region_cut::Chart;
+use region_cut::Layout;
 use region_slots::Gate;
-use region_step::Start;
+use region_step::Setup;
 use snapshot::ShotRoom;
 use std::alloc::Global;
 use std::thread::Threads;
@@ -19,29 +17,27 @@ use std::thread::Threads;
 /// How many steps past a step its snapshot may show a region.
 const NEAR: u64 = 4;
 
-/// A room with a snapshot of the regions of a chart near the step `until`, or near the last step where that comes first.
+/// A room with a snapshot of the regions of a network that is cut, near the step `until`, or near the last step where that comes first.
 /// So many workers take all regions there from step 0. Then the snapshot is taken while they go on, so it has each region
 /// at that step or at most four steps past it.
 pub fn room_near<R: Threads + Sync, G: Gate>(
     rt: &R,
     alloc: Global,
-    net: &Net,
-    chart: &Chart,
+    layout: &Layout,
     until: u64,
     workers: u32,
     gate: &G,
 ) -> Result<ShotRoom, NoMemory>
-    requires chart { chart.now ≡ chart_of net.now chart.now.cut }
-    requires one_each { length chart.now.cut ≡ length net.now.cells }
     requires workers { (1 ≤ workers) × (workers ≤ 16) }
-    ensures room { IfOk result (IsRoomFor chart.now) }
-    ensures snapshot { IfOk result (IsSnapshot net.now chart.now.cut (zero_start net.now chart.now.cut)) }
-    ensures near { IfOk result (λ room. AreStepsBetween net.now chart.now.cut (min until net.now.steps) (near_end net.now until) room.steps) }
+    ensures room { IfOk result (IsRoomFor layout.now.chart) }
+    ensures snapshot { IfOk result (IsSnapshot layout.now.net layout.now.chart.cut (zero_start layout.now.net layout.now.chart.cut)) }
+    ensures near { IfOk result (λ room. AreStepsBetween layout.now.net layout.now.chart.cut (min until layout.now.net.steps) (near_end layout.now.net until) room.steps) }
 {
-    let start = Start::zero(alloc, net, chart)?;
-    let mut room = ShotRoom::new(alloc, net, chart)?;
-    let mut run = Run::open(alloc, net, chart, &start, 0, workers)?;
-    run.show_near(rt, net, &mut room, until.min(net.steps), gate);
+    let net = layout.net();
+    let setup = Setup::zero(alloc, layout, 0)?;
+    let mut room = ShotRoom::new(alloc, layout)?;
+    let mut run = Run::open(alloc, &setup, workers)?;
+    run.show_near(rt, layout, &mut room, until.min(net.steps), gate);
     Ok(room)
 }
 
@@ -50,20 +46,21 @@ impl<'a> Run<'a> {
     fn show_near<R: Threads + Sync, G: Gate>(
         &mut self,
         rt: &R,
-        net: &Net,
+        layout: &Layout,
         room: &mut ShotRoom,
         from: u64,
         gate: &G,
     )
-        requires network { self.old.terms.net.now ≡ net.now }
-        requires start { self.old.terms.start.now ≡ zero_start net.now self.old.terms.chart.now.cut }
-        requires room { IsRoomFor self.old.terms.chart.now room.old }
+        requires network { self.old.terms.setup.now.net ≡ layout.now.net }
+        requires start { self.old.terms.setup.now.start ≡ zero_start layout.now.net self.old.terms.setup.now.chart.cut }
+        requires room { IsRoomFor self.old.terms.setup.now.chart room.old }
         requires reach { self.old.knows.reach ≡ 0 }
-        requires in_time { from ≤ net.now.steps }
-        ensures room { IsRoomFor self.old.terms.chart.now room.new }
-        ensures snapshot { IsSnapshot net.now self.old.terms.chart.now.cut (zero_start net.now self.old.terms.chart.now.cut) room.new }
-        ensures near { AreStepsBetween net.now self.old.terms.chart.now.cut from (near_end net.now from) room.new.steps }
+        requires in_time { from ≤ layout.now.net.steps }
+        ensures room { IsRoomFor self.old.terms.setup.now.chart room.new }
+        ensures snapshot { IsSnapshot layout.now.net self.old.terms.setup.now.chart.cut (zero_start layout.now.net self.old.terms.setup.now.chart.cut) room.new }
+        ensures near { AreStepsBetween layout.now.net self.old.terms.setup.now.chart.cut from (near_end layout.now.net from) room.new.steps }
     {
+        let net = layout.net();
         self.take_to(rt, from, gate);
         let end = from.saturating_add(NEAR).min(net.steps);
         self.show_on_the_way(rt, room, end, gate);

@@ -33,16 +33,16 @@ impl Crew {
         goal: u64,
         gate: &G,
     ) -> u64
-        requires regions { self.old.regions ≡ region_count field.now.terms.chart.now.cut }
+        requires regions { self.old.regions ≡ region_count field.now.terms.setup.now.chart.cut }
         requires enlisted { AreEnlisted field.now goal self.old.members }
-        requires in_time { goal ≤ field.now.terms.net.now.steps }
+        requires in_time { goal ≤ field.now.terms.setup.now.net.steps }
         ensures same { (self.new.workers ≡ self.old.workers) × (self.new.regions ≡ self.old.regions) }
         ensures many { length self.new.members ≡ length self.old.members }
         ensures enlisted { AreEnlisted field.now goal self.new.members }
         ensures told { AreMembersTold (G.told_held gate.now) (G.told_freed gate.now) self.old.members self.new.members }
         ensures rounds { AreRounds field.now result 1 self.old.members self.new.members }
-        ensures few { result ≤ region_count field.now.terms.chart.now.cut * goal }
-        ensures over { IsOver self.new.members ⊎ (result ≡ min (region_count field.now.terms.chart.now.cut * goal) (2 ^ 64 - 1)) }
+        ensures few { result ≤ region_count field.now.terms.setup.now.chart.cut * goal }
+        ensures over { IsOver self.new.members ⊎ (result ≡ min (region_count field.now.terms.setup.now.chart.cut * goal) (2 ^ 64 - 1)) }
     {
         let most = u64::from(field.regions()).saturating_mul(goal);
         for round in 0..most {
@@ -62,9 +62,9 @@ impl Crew {
         goal: u64,
         gate: &G,
     )
-        requires regions { self.old.regions ≡ region_count field.now.terms.chart.now.cut }
+        requires regions { self.old.regions ≡ region_count field.now.terms.setup.now.chart.cut }
         requires enlisted { AreEnlisted field.now goal self.old.members }
-        requires in_time { goal ≤ field.now.terms.net.now.steps }
+        requires in_time { goal ≤ field.now.terms.setup.now.net.steps }
         ensures same { (self.new.workers ≡ self.old.workers) × (self.new.regions ≡ self.old.regions) }
         ensures many { length self.new.members ≡ length self.old.members }
         ensures enlisted { AreEnlisted field.now goal self.new.members }
@@ -85,11 +85,11 @@ impl Crew {
         goal: u64,
         gate: &G,
     ) -> Shot
-        requires regions { self.old.regions ≡ region_count field.now.terms.chart.now.cut }
+        requires regions { self.old.regions ≡ region_count field.now.terms.setup.now.chart.cut }
         requires watcher { IsPassOf field.now watcher.old }
-        requires room { IsRoomFor field.now.terms.chart.now room.old }
+        requires room { IsRoomFor field.now.terms.setup.now.chart room.old }
         requires enlisted { AreEnlisted field.now goal self.old.members }
-        requires in_time { goal ≤ field.now.terms.net.now.steps }
+        requires in_time { goal ≤ field.now.terms.setup.now.net.steps }
         ensures same { (self.new.workers ≡ self.old.workers) × (self.new.regions ≡ self.old.regions) }
         ensures watched { IsWatched field.now watcher_tries watcher.old watcher.new room.old room.new result }
         ensures many { length self.new.members ≡ length self.old.members }
@@ -115,11 +115,11 @@ impl Crew {
         goal: u64,
         gate: &G,
     ) -> Shot
-        requires regions { self.old.regions ≡ region_count field.now.terms.chart.now.cut }
+        requires regions { self.old.regions ≡ region_count field.now.terms.setup.now.chart.cut }
         requires watcher { IsPassOf field.now watcher.old }
-        requires room { IsRoomFor field.now.terms.chart.now room.old }
+        requires room { IsRoomFor field.now.terms.setup.now.chart room.old }
         requires enlisted { AreEnlisted field.now goal self.old.members }
-        requires in_time { goal ≤ field.now.terms.net.now.steps }
+        requires in_time { goal ≤ field.now.terms.setup.now.net.steps }
         ensures same { (self.new.workers ≡ self.old.workers) × (self.new.regions ≡ self.old.regions) }
         ensures watched { IsWatched field.now watcher_tries watcher.old watcher.new room.old room.new result }
         ensures many { length self.new.members ≡ length self.old.members }

@@ -1,9 +1,7 @@
 use crate::crew::Crew;
-use network_file::Net;
 use no_memory::NoMemory;
-use region_cut::Chart;
 use region_slots::{Closed, Field, Gate, Pass, Shot};
-use region_step::{Region, Start};
+use region_step::{Region, Setup};
 use snapshot::ShotRoom;
 use std::alloc::Global;
 use std::marker::Model;
@@ -31,15 +29,12 @@ impl<'a> Model for Run<'a> {
 
     ghost invariant = { λ run. IsPassOf run.field run.pass × (run.pass.knows.share ≡ run.crew.workers + 1)
         × (run.pass.knows.share ≡ run.field.terms.seats) × (1 ≤ run.crew.workers)
-        × (run.crew.regions ≡ region_count run.field.terms.chart.now.cut) × (run.crew.members ≡ []) };
+        × (run.crew.regions ≡ region_count run.field.terms.setup.now.chart.cut) × (run.crew.members ≡ []) };
 }
 
 impl<'a> Run<'a> {
     ghost use Rattle.std.specs.Prelude.{◌≡◌, ◌+◌, ◌<◌, ◌≤◌, ℕ, IfOk, max, slice_index};
-    ghost use Rattle.region_cut.specs.Chart.{chart_of};
     ghost use Rattle.region_cut.specs.Cuttings.{region_count};
-    ghost use Rattle.region_cut.specs.LawfulSteps.{AreLawful};
-    ghost use Rattle.region_step.specs.Start.{Fits};
     ghost use Rattle.snapshot.specs.Rooms.{IsRoomFor};
     ghost use Rattle.snapshot.specs.Snapshots.{IsSnapshot};
     ghost use Rattle.region_slots.specs.Opening.{first_view};
@@ -47,36 +42,29 @@ impl<'a> Run<'a> {
     ghost use Rattle.worker_claim.specs.Telling.{AreTold};
     ghost use Rattle.network_run.specs.Run.{IsLoggedWhereTheyCame, StandWhereTheyCame};
 
-    /// A run of so many workers, whose regions stand where the start says. They are recorded at each step that `every` divides
-    /// and at the last one, never where `every` is 0.
+    /// A run of the regions of a setup by so many workers.
     pub(crate) fn open(
         alloc: Global,
-        net: &'a Net,
-        chart: &'a Chart,
-        start: &'a Start,
-        every: u64,
+        setup: &'a Setup<'a>,
         workers: u32,
     ) -> Result<Run<'a>, NoMemory>
-        requires chart { chart.now ≡ chart_of net.now chart.now.cut }
-        requires fits { Fits net.now chart.now.cut start.now }
-        requires lawful { AreLawful net.now chart.now.cut start.now.steps }
         requires workers { (1 ≤ workers) × (workers ≤ 16) }
-        ensures terms { IfOk result (λ run. run.terms ≡ record { net = net.entry; chart = chart.entry; start = start.entry; every = every; seats = workers + 1 }) }
+        ensures terms { IfOk result (λ run. run.terms ≡ record { setup = setup.entry; seats = workers + 1 }) }
         ensures knows { IfOk result (λ run. run.knows ≡ first_view run.terms) }
     {
-        let crew = Crew::new(alloc, workers, chart.regions())?;
-        let (field, pass) = Field::open(alloc, net, chart, start, every, workers + 1)?;
+        let crew = Crew::new(alloc, workers, setup.layout().regions())?;
+        let (field, pass) = Field::open(alloc, setup, workers + 1)?;
         Ok(Run { field, pass, crew })
     }
 
     /// Takes all regions to a goal.
     pub(crate) fn take_to<R: Threads + Sync, G: Gate>(&mut self, rt: &R, goal: u64, gate: &G)
-        requires in_time { goal ≤ self.old.terms.net.now.steps }
+        requires in_time { goal ≤ self.old.terms.setup.now.net.steps }
         requires reach { self.old.knows.reach ≤ goal }
         ensures terms { self.new.terms ≡ self.old.terms }
         ensures reach { self.new.knows.reach ≤ goal }
         ensures told { AreTold (G.told_held gate.now) (G.told_freed gate.now) self.old.knows.log self.new.knows.log }
-        ensures done { AllReach (region_count self.old.terms.chart.now.cut) goal self.new.knows }
+        ensures done { AllReach (region_count self.old.terms.setup.now.chart.cut) goal self.new.knows }
     {
         self.crew.enlist(&self.field, &mut self.pass);
         self.crew.drive(rt, &self.field, goal, gate);
@@ -93,17 +81,17 @@ impl<'a> Run<'a> {
         goal: u64,
         gate: &G,
     )
-        requires room { IsRoomFor self.old.terms.chart.now room.old }
-        requires in_time { goal ≤ self.old.terms.net.now.steps }
+        requires room { IsRoomFor self.old.terms.setup.now.chart room.old }
+        requires in_time { goal ≤ self.old.terms.setup.now.net.steps }
         requires reach { self.old.knows.reach ≤ goal }
         ensures terms { self.new.terms ≡ self.old.terms }
-        ensures room { IsRoomFor self.old.terms.chart.now room.new }
+        ensures room { IsRoomFor self.old.terms.setup.now.chart room.new }
         ensures reach { self.new.knows.reach ≤ goal }
         ensures told { AreTold (G.told_held gate.now) (G.told_freed gate.now) self.old.knows.log self.new.knows.log }
-        ensures done { AllReach (region_count self.old.terms.chart.now.cut) goal self.new.knows }
-        ensures snapshot { IsSnapshot self.old.terms.net.now self.old.terms.chart.now.cut self.old.terms.start.now room.new }
-        ensures between { (r : ℕ) → r < region_count self.old.terms.chart.now.cut → (slice_index self.old.knows.seen r ≤ slice_index room.new.steps r)
-            × (slice_index room.new.steps r ≤ max (slice_index self.old.terms.start.now.steps r) goal) }
+        ensures done { AllReach (region_count self.old.terms.setup.now.chart.cut) goal self.new.knows }
+        ensures snapshot { IsSnapshot self.old.terms.setup.now.net self.old.terms.setup.now.chart.cut self.old.terms.setup.now.start room.new }
+        ensures between { (r : ℕ) → r < region_count self.old.terms.setup.now.chart.cut → (slice_index self.old.knows.seen r ≤ slice_index room.new.steps r)
+            × (slice_index room.new.steps r ≤ max (slice_index self.old.terms.setup.now.start.steps r) goal) }
     {
         self.crew.enlist(&self.field, &mut self.pass);
         let shot = self

@@ -1,5 +1,4 @@
 ghost use Rattle.std.specs.Prelude.{◌≡◌, ◌+◌, ◌<◌, ◌≤◌, ◌^◌, IfOk, IsOk, [], length, replicate};
-ghost use Rattle.region_cut.specs.Chart.{chart_of};
 ghost use Rattle.region_cut.specs.Cuttings.{region_count};
 ghost use Rattle.region_step.specs.Standing.{AllStand};
 ghost use Rattle.region_step.specs.Start.{zero_start};
@@ -13,9 +12,9 @@ ghost use Rattle.network_run.specs.Telling.{HasTold};
 use crate::run::Run;
 use network_file::Net;
 use no_memory::NoMemory;
-use region_cut::Chart;
+use region_cut::Layout;
 use region_slots::Gate;
-use region_step::{Region, Start};
+use region_step::{Region, Setup};
 use shot_lines::shot_text;
 use snapshot::ShotRoom;
 use std::alloc::Global;
@@ -36,27 +35,24 @@ pub struct Watched {
 pub fn watched_regions<R: Threads + Sync, G: Gate>(
     rt: &R,
     alloc: Global,
-    net: &Net,
-    chart: &Chart,
+    layout: &Layout,
     every: u64,
     workers: u32,
     shots: u32,
     gate: &G,
 ) -> Result<Watched, NoMemory>
-    requires chart { chart.now ≡ chart_of net.now chart.now.cut }
-    requires one_each { length chart.now.cut ≡ length net.now.cells }
     requires workers { (1 ≤ workers) × (workers ≤ 16) }
     requires shots { (1 ≤ shots) × (shots + 1 < 2 ^ 32) }
-    ensures shots { IfOk result (λ watched. AreShots net.now chart.now.cut shots watched.shots.items) }
-    ensures stand { IfOk result (λ watched. AllStand net.now chart.now (zero_start net.now chart.now.cut) every
-        (replicate (region_count chart.now.cut) net.now.steps) watched.regions.items) }
-    ensures told { IsOk result → HasTold (G.told_held gate.now) (G.told_freed gate.now) (region_count chart.now.cut) net.now.steps }
+    ensures shots { IfOk result (λ watched. AreShots layout.now.net layout.now.chart.cut shots watched.shots.items) }
+    ensures stand { IfOk result (λ watched. AllStand layout.now.net layout.now.chart (zero_start layout.now.net layout.now.chart.cut) every
+        (replicate (region_count layout.now.chart.cut) layout.now.net.steps) watched.regions.items) }
+    ensures told { IsOk result → HasTold (G.told_held gate.now) (G.told_freed gate.now) (region_count layout.now.chart.cut) layout.now.net.steps }
 {
-    let start = Start::zero(alloc, net, chart)?;
-    let mut room = ShotRoom::new(alloc, net, chart)?;
-    let mut run = Run::open(alloc, net, chart, &start, every, workers)?;
+    let setup = Setup::zero(alloc, layout, every)?;
+    let mut room = ShotRoom::new(alloc, layout)?;
+    let mut run = Run::open(alloc, &setup, workers)?;
     let mut text = Vec::new(alloc);
-    run.take_shots(rt, net, chart, &mut room, shots, gate, &mut text)?;
+    run.take_shots(rt, layout, &mut room, shots, gate, &mut text)?;
     Ok(Watched {
         shots: text,
         regions: run.close(),
@@ -68,31 +64,30 @@ impl<'a> Run<'a> {
     fn take_shots<R: Threads + Sync, G: Gate>(
         &mut self,
         rt: &R,
-        net: &Net,
-        chart: &Chart,
+        layout: &Layout,
         room: &mut ShotRoom,
         shots: u32,
         gate: &G,
         text: &mut Vec<u8>,
     ) -> Result<(), NoMemory>
-        requires network { (self.old.terms.net.now ≡ net.now) × (self.old.terms.chart.now ≡ chart.now) }
-        requires start { self.old.terms.start.now ≡ zero_start net.now chart.now.cut }
-        requires one_each { length chart.now.cut ≡ length net.now.cells }
+        requires network { (self.old.terms.setup.now.net ≡ layout.now.net) × (self.old.terms.setup.now.chart ≡ layout.now.chart) }
+        requires start { self.old.terms.setup.now.start ≡ zero_start layout.now.net layout.now.chart.cut }
         requires shots { (1 ≤ shots) × (shots + 1 < 2 ^ 32) }
-        requires room { IsRoomFor chart.now room.old }
+        requires room { IsRoomFor layout.now.chart room.old }
         requires reach { self.old.knows.reach ≡ 0 }
         requires nothing { text.old.items ≡ [] }
         ensures terms { IsOk result → self.new.terms ≡ self.old.terms }
-        ensures reach { IsOk result → self.new.knows.reach ≤ net.now.steps }
+        ensures reach { IsOk result → self.new.knows.reach ≤ layout.now.net.steps }
         ensures told { IsOk result → AreTold (G.told_held gate.now) (G.told_freed gate.now) self.old.knows.log self.new.knows.log }
-        ensures last { IsOk result → AllReach (region_count chart.now.cut) net.now.steps self.new.knows }
-        ensures shots { IsOk result → AreShots net.now chart.now.cut shots text.new.items }
+        ensures last { IsOk result → AllReach (region_count layout.now.chart.cut) layout.now.net.steps self.new.knows }
+        ensures shots { IsOk result → AreShots layout.now.net layout.now.chart.cut shots text.new.items }
     {
+        let net = layout.net();
         let _steps = net.steps;
         for i in 0..shots {
             let goal = goal_at(net, shots, i + 1);
             self.show_on_the_way(rt, room, goal, gate);
-            shot_text(net, chart, room, i + 1, text)?;
+            shot_text(layout, room, i + 1, text)?;
         }
         Ok(())
     }

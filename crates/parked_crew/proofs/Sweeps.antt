@@ -105,7 +105,7 @@ more-ended old view new r goal swept one before after own all p within =
     ]
 
 -- one turn more
-pub swept-more : (terms : Terms) (old view new : View) (goal r : ℕ) (swept : Swept) (answer : Turn) → r < region_count terms.chart.now.cut → HasCounts (region_count terms.chart.now.cut) view →
+pub swept-more : (terms : Terms) (old view new : View) (goal r : ℕ) (swept : Swept) (answer : Turn) → r < region_count terms.setup.now.chart.cut → HasCounts (region_count terms.setup.now.chart.cut) view →
     HasSwept r goal old view swept → IsWithin view new goal → (answer ≡ Held → new ≡ found_taken view r) →
     ((s : ℕ) → answer ≡ Ended s → (goal ≤ s) × (new ≡ took_at view r s) × (slice_index new.seen r ≡ s) × (slice_index view.seen r ≤ s)) →
     ((q s : ℕ) → answer ≡ Behind q s → IsBehind terms view new goal r q s) → ((s : ℕ) → answer ≡ Moved s → IsMoved terms view new goal r s) →

@@ -19,7 +19,7 @@ pub record IsBrought (field : FieldValue) (goal : ℕ) (old new : PassValue) : T
   pub belongs : IsPassOf field new
   pub same : new.id ≡ old.id
   pub keeps : IsWithin old.knows new.knows goal
-  pub seen : HasSeenAll (region_count field.terms.chart.now.cut) goal new.knows
+  pub seen : HasSeenAll (region_count field.terms.setup.now.chart.cut) goal new.knows
 
 -- and so each pass of a crew
 pub record AreBrought (field : FieldValue) (goal : ℕ) (old new : List PassValue) : Type 0 where

@@ -19,7 +19,7 @@ pub(crate) fn work<R: Wait, G: Gate>(
     gate: &G,
 )
     requires belongs { IsPassOf field.now pass.old }
-    requires in_time { goal ≤ field.now.terms.net.now.steps }
+    requires in_time { goal ≤ field.now.terms.setup.now.net.steps }
     ensures { IsBrought field.now goal pass.old pass.new }
 {
     for _ in rt.forever() {

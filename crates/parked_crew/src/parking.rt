@@ -20,12 +20,12 @@ pub fn parked<R: Threads + Wait + Sync, G: Gate>(
     gate: &G,
 )
     requires passes { ArePassesOf field.now passes.old }
-    requires in_time { goal ≤ field.now.terms.net.now.steps }
+    requires in_time { goal ≤ field.now.terms.setup.now.net.steps }
     ensures brought { AreBrought field.now goal passes.old passes.new }
 {
     let threads = passes.len().max(1);
     let member = move |_k: usize, pass: &mut Pass|
-        requires { IsPassOf field.now pass.old × (goal ≤ field.now.terms.net.now.steps) }
+        requires { IsPassOf field.now pass.old × (goal ≤ field.now.terms.setup.now.net.steps) }
         ensures { IsBrought field.entry.now goal pass.old pass.new }
     { work(rt, field, pass, goal, board, gate) };
     for_each_mut(rt, passes, threads, &member);

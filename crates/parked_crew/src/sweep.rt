@@ -18,9 +18,9 @@ pub(crate) fn sweep<R: Wait, G: Gate>(
     gate: &G,
 ) -> Swept
     requires belongs { IsPassOf field.now pass.old }
-    requires in_time { goal ≤ field.now.terms.net.now.steps }
+    requires in_time { goal ≤ field.now.terms.setup.now.net.steps }
     ensures belongs { IsPassOf field.now pass.new × (pass.new.id ≡ pass.old.id) }
-    ensures swept { HasSwept (region_count field.now.terms.chart.now.cut) goal pass.old.knows pass.new.knows result }
+    ensures swept { HasSwept (region_count field.now.terms.setup.now.chart.cut) goal pass.old.knows pass.new.knows result }
 {
     let mut swept = Swept::none();
     for region in 0..field.regions() {

@@ -1,7 +1,7 @@
 ghost use Rattle.std.specs.Prelude.{◌≡◌, ◌<◌, ℕ, IfOk, None, OnErr, OnOk, Some, length, replicate, slice_index, slice_set};
 ghost use Rattle.network_file.specs.Network.{Network};
 ghost use Rattle.flow_model.specs.State.{occupancy, row_at};
-ghost use Rattle.region_cut.specs.Chart.{ChartLists, chart_of, list_at};
+ghost use Rattle.region_cut.specs.Chart.{ChartLists, list_at};
 ghost use Rattle.region_cut.specs.Cuttings.{region_count};
 
 use crate::cell_rows::CellRows;
@@ -9,10 +9,9 @@ use crate::notes::{make_room, note_step};
 use crate::opening::first_notes;
 use crate::wiring::Wiring;
 use flow_model::Row;
-use network_file::Net;
 use no_memory::NoMemory;
 use region_body::nothing_put;
-use region_cut::Chart;
+use region_cut::Layout;
 use region_step::{Note, Start, is_recorded};
 use std::alloc::Global;
 use std::marker::Model;
@@ -64,26 +63,25 @@ impl PlainRegion {
     /// never where `every` is 0.
     pub fn open(
         alloc: Global,
-        net: &Net,
-        chart: &Chart,
+        layout: &Layout,
         start: &Start,
         r: u32,
         every: u64,
     ) -> Result<PlainRegion, NoMemory>
-        requires chart { chart.now ≡ chart_of net.now chart.now.cut }
-        requires fits { Fits net.now chart.now.cut start.now }
-        requires there { r < region_count chart.now.cut }
-        ensures opened { IfOk result (λ region. IsIn net.now chart.now region) }
+        requires fits { Fits layout.now.net layout.now.chart.cut start.now }
+        requires there { r < region_count layout.now.chart.cut }
+        ensures opened { IfOk result (λ region. IsIn layout.now.net layout.now.chart region) }
         ensures state { IfOk result (λ region. region.state ≡
-            grid_state net.now chart.now start.now every r (slice_index start.now.steps r)) }
-        ensures in_bounds { IfOk result (λ region. HasRowsInBounds net.now chart.now region.state) }
+            grid_state layout.now.net layout.now.chart start.now every r (slice_index start.now.steps r)) }
+        ensures in_bounds { IfOk result (λ region. HasRowsInBounds layout.now.net layout.now.chart region.state) }
     {
+        let net = layout.net();
         let steps = net.steps;
         let step = start.steps[r as usize];
-        let cells = chart.cells(r);
-        let wiring = Wiring::new(alloc, net, chart, r)?;
+        let cells = layout.cells(r);
+        let wiring = Wiring::new(alloc, layout, r)?;
         let own = CellRows::new(alloc, &start.rows, &start.earlier, cells)?;
-        let put = nothing_put(alloc, chart.halo(r).len())?;
+        let put = nothing_put(alloc, layout.halo(r).len())?;
         let trail = first_notes(alloc, own.rows(), is_recorded(steps, every, step))?;
         Ok(PlainRegion {
             number: r,
@@ -135,14 +133,14 @@ impl PlainRegion {
     }
 
     /// What its `j`-th border cell holds at its step, in parts.
-    pub fn border_now(&self, chart: &Chart, j: u32) -> u64
-        requires of { IsOf chart.now self.now }
-        requires there { j < length (list_at chart.now.border self.now.state.number) }
-        ensures { (p : ℕ) → p < length (list_at chart.now.cells self.now.state.number) →
-            slice_index (list_at chart.now.cells self.now.state.number) p ≡ slice_index (list_at chart.now.border self.now.state.number) j →
+    pub fn border_now(&self, layout: &Layout, j: u32) -> u64
+        requires of { IsOf layout.now.chart self.now }
+        requires there { j < length (list_at layout.now.chart.border self.now.state.number) }
+        ensures { (p : ℕ) → p < length (list_at layout.now.chart.cells self.now.state.number) →
+            slice_index (list_at layout.now.chart.cells self.now.state.number) p ≡ slice_index (list_at layout.now.chart.border self.now.state.number) j →
             result ≡ occupancy self.now.state.rows p }
     {
-        let _cells = chart.regions();
+        let _cells = layout.regions();
         self.cells.held(self.wiring.border[j as usize])
     }
 
@@ -157,19 +155,20 @@ impl PlainRegion {
 
     /// Takes the region through its step, by its own rows and by what was told of its halo; nothing is told of its halo
     /// then. Where there is no memory for its notes, the region stays as it was.
-    pub fn advance(&mut self, net: &Net, chart: &Chart) -> Result<(), NoMemory>
-        requires opened { IsIn net.now chart.now self.old }
-        requires in_time { self.old.state.step < net.now.steps }
-        requires in_bounds { HasRowsInBounds net.now chart.now self.old.state }
-        requires halo { HasHaloPut net.now chart.now self.old.state }
-        ensures state { OnOk result (self.new.state ≡ advanced net.now chart.now self.old.state) }
-        ensures opened { IsIn net.now chart.now self.new }
-        ensures bounds { HasRowsInBounds net.now chart.now self.new.state }
+    pub fn advance(&mut self, layout: &Layout) -> Result<(), NoMemory>
+        requires opened { IsIn layout.now.net layout.now.chart self.old }
+        requires in_time { self.old.state.step < layout.now.net.steps }
+        requires in_bounds { HasRowsInBounds layout.now.net layout.now.chart self.old.state }
+        requires halo { HasHaloPut layout.now.net layout.now.chart self.old.state }
+        ensures state { OnOk result (self.new.state ≡ advanced layout.now.net layout.now.chart self.old.state) }
+        ensures opened { IsIn layout.now.net layout.now.chart self.new }
+        ensures bounds { HasRowsInBounds layout.now.net layout.now.chart self.new.state }
         ensures unchanged { OnErr result (self.new ≡ self.old) }
     {
+        let net = layout.net();
         let steps = net.steps;
-        let cells = chart.cells(self.number);
-        let halo = chart.halo(self.number);
+        let cells = layout.cells(self.number);
+        let halo = layout.halo(self.number);
         let recorded = is_recorded(steps, self.every, self.step + 1);
         make_room(&mut self.trail, cells.len(), recorded)?;
         self.cells

@@ -1,5 +1,5 @@
 ghost use Rattle.std.specs.Prelude.{◌<◌, IfOk};
-ghost use Rattle.region_cut.specs.Chart.{chart_of, list_at};
+ghost use Rattle.region_cut.specs.Chart.{list_at};
 ghost use Rattle.region_cut.specs.Cuttings.{region_count};
 ghost use Rattle.plain_region.specs.Layout.{AreTies};
 ghost use Rattle.region_step.specs.Opened.{halo_cells};
@@ -7,9 +7,8 @@ ghost use Rattle.region_step.specs.Opening.{ArePlaces};
 ghost use Rattle.std.specs.Prelude.{◌≡◌};
 
 use crate::tie::{Tie, ties};
-use network_file::Net;
 use no_memory::NoMemory;
-use region_cut::Chart;
+use region_cut::Layout;
 use region_step::{border_places, halo_cells};
 use std::alloc::Global;
 
@@ -23,18 +22,18 @@ pub(crate) struct Wiring {
 
 impl Wiring {
     /// The wiring of region `r`.
-    pub(crate) fn new(alloc: Global, net: &Net, chart: &Chart, r: u32) -> Result<Wiring, NoMemory>
-        requires chart { chart.now ≡ chart_of net.now chart.now.cut }
-        requires there { r < region_count chart.now.cut }
-        ensures ties { IfOk result (λ wiring. AreTies net.now (list_at chart.now.cells r) (halo_cells chart.now r)
-            (list_at chart.now.connectors r) wiring.ties.items) }
-        ensures border { IfOk result (λ wiring. ArePlaces (list_at chart.now.cells r) (list_at chart.now.border r) wiring.border.items) }
+    pub(crate) fn new(alloc: Global, layout: &Layout, r: u32) -> Result<Wiring, NoMemory>
+        requires there { r < region_count layout.now.chart.cut }
+        ensures ties { IfOk result (λ wiring. AreTies layout.now.net (list_at layout.now.chart.cells r) (halo_cells layout.now.chart r)
+            (list_at layout.now.chart.connectors r) wiring.ties.items) }
+        ensures border { IfOk result (λ wiring. ArePlaces (list_at layout.now.chart.cells r) (list_at layout.now.chart.border r) wiring.border.items) }
     {
+        let net = layout.net();
         let _cells = &net.cells;
-        let cells = chart.cells(r);
-        let halo = halo_cells(alloc, chart.halo(r))?;
-        let ties = ties(alloc, net, chart.connectors(r), cells, &halo)?;
-        let border = border_places(alloc, chart.border(r), cells)?;
+        let cells = layout.cells(r);
+        let halo = halo_cells(alloc, layout.halo(r))?;
+        let ties = ties(alloc, net, layout.connectors(r), cells, &halo)?;
+        let border = border_places(alloc, layout.border(r), cells)?;
         Ok(Wiring { ties, border })
     }
 }

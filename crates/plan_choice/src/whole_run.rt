@@ -1,5 +1,4 @@
 ghost use Rattle.std.specs.Prelude.{◌≡◌, ◌<◌, ◌≤◌, ◌^◌, ℕ, IfOk, length};
-ghost use Rattle.region_cut.specs.Chart.{chart_of};
 ghost use Rattle.region_cut.specs.Cuttings.{region_count};
 ghost use Rattle.region_step.specs.Advance.{HasRowsInBounds};
 ghost use Rattle.region_step.specs.Standing.{Stands};
@@ -9,7 +8,7 @@ ghost use Rattle.plan_choice.specs.Choice.{whole_delay};
 use delay_report::run_delay;
 use network_file::Net;
 use no_memory::NoMemory;
-use region_cut::{Chart, Cut, CutRefusal};
+use region_cut::{Cut, CutRefusal, Layout};
 use region_step::{Region, Start};
 use std::alloc::Global;
 
@@ -18,10 +17,10 @@ pub(crate) fn whole_delay(alloc: Global, net: &Net) -> Result<u128, NoMemory>
     ensures delay { IfOk result (λ delay. delay ≡ whole_delay net.now) }
     ensures few { IfOk result (λ delay. delay < 2 ^ 96) }
 {
-    let chart = Chart::new(alloc, net, whole(alloc, net)?)?;
+    let layout = Layout::new(alloc, net, whole(alloc, net)?)?;
     let mut regions = Vec::new(alloc);
-    regions.push(last_region(alloc, net, &chart)?)?;
-    run_delay(alloc, net, &chart, &regions)
+    regions.push(last_region(alloc, &layout)?)?;
+    run_delay(alloc, &layout, &regions)
 }
 
 // The cutting that has all cells in one region, whatever regions the file gives.
@@ -37,27 +36,27 @@ fn whole(alloc: Global, net: &Net) -> Result<Cut, NoMemory>
     }
 }
 
-// The one region of a chart at the last step.
-fn last_region(alloc: Global, net: &Net, chart: &Chart) -> Result<Region, NoMemory>
-    requires chart { chart.now ≡ chart_of net.now chart.now.cut }
-    requires one { region_count chart.now.cut ≡ 1 }
-    ensures { IfOk result (Stands net.now chart.now (zero_start net.now chart.now.cut) 0 0 net.now.steps) }
+// The one region of a network at the last step.
+fn last_region(alloc: Global, layout: &Layout) -> Result<Region, NoMemory>
+    requires one { region_count layout.now.chart.cut ≡ 1 }
+    ensures { IfOk result (Stands layout.now.net layout.now.chart (zero_start layout.now.net layout.now.chart.cut) 0 0 layout.now.net.steps) }
 {
-    let start = Start::zero(alloc, net, chart)?;
-    let mut region = Region::open(alloc, net, chart, &start, 0, 0)?;
-    take_to_end(net, chart, &mut region);
+    let start = Start::zero(alloc, layout)?;
+    let mut region = Region::open(alloc, layout, &start, 0, 0)?;
+    take_to_end(layout, &mut region);
     Ok(region)
 }
 
-// Takes the one region of a chart from step 0 to the last step.
-fn take_to_end(net: &Net, chart: &Chart, region: &mut Region)
-    requires one { region_count chart.now.cut ≡ 1 }
-    requires stands { Stands net.now chart.now (zero_start net.now chart.now.cut) 0 0 0 region.old }
-    requires in_bounds { HasRowsInBounds net.now chart.now region.old.state }
-    ensures { Stands net.now chart.now (zero_start net.now chart.now.cut) 0 0 net.now.steps region.new }
+// Takes the one region of a network from step 0 to the last step.
+fn take_to_end(layout: &Layout, region: &mut Region)
+    requires one { region_count layout.now.chart.cut ≡ 1 }
+    requires stands { Stands layout.now.net layout.now.chart (zero_start layout.now.net layout.now.chart.cut) 0 0 0 region.old }
+    requires in_bounds { HasRowsInBounds layout.now.net layout.now.chart region.old.state }
+    ensures { Stands layout.now.net layout.now.chart (zero_start layout.now.net layout.now.chart.cut) 0 0 layout.now.net.steps region.new }
 {
-    let _regions = chart.regions();
+    let net = layout.net();
+    let _regions = layout.regions();
     for _step in 0..net.steps {
-        region.advance(net, chart);
+        region.advance(layout);
     }
 }

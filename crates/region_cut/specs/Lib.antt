@@ -6,3 +6,4 @@ pub mod Chart
 pub mod Gathered
 pub mod LawfulSteps
 pub mod ChartView
+pub mod Layout

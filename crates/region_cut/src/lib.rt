@@ -1,8 +1,8 @@
-//! Cuts the cells of a network into regions, and charts what each region has to do with the others.
+//! Cuts the cells of a network into regions, and tells what each region has to do with the others.
 //!
-//! A cutting gives each cell the number of its region. The chart of a cut network has five lists for each region,
-//! each in ascending order: its cells, its neighbours, its border cells, the connectors that touch it, and its
-//! halo, which is the cells of other regions that these connectors touch.
+//! A cutting gives each cell the number of its region. A layout is a network that is cut. It has five lists for each
+//! region, its chart, each in ascending order: its cells, its neighbours, its border cells, the connectors that touch it,
+//! and its halo, which is the cells of other regions that these connectors touch.
 #![tactic(auto)]
 
 mod border;
@@ -16,6 +16,7 @@ mod even;
 mod fault;
 mod halo;
 mod halo_lists;
+mod layout;
 mod list_place;
 mod lists;
 mod met;
@@ -29,5 +30,6 @@ pub use crossing::crosses;
 pub use cut::Cut;
 pub use fault::{CutFault, CutRefusal};
 pub use halo::Halo;
+pub use layout::Layout;
 pub use list_place::{place, place_if_listed};
 pub use own_or_even::{charted, cutting};

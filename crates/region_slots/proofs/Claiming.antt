@@ -28,38 +28,38 @@ pub same-terms : (view : View) (one other : Terms) → view.terms ≡ one ∷ []
 same-terms view one other first second = cc
 
 -- a claim word is of one region
-pub same-claim : (terms : Terms) (r q : ℕ) → IsChart terms.chart.now → r < region_count terms.chart.now.cut → q < region_count terms.chart.now.cut →
-    claim_place (widths_of terms.chart.now) r ≡ claim_place (widths_of terms.chart.now) q → q ≡ r
+pub same-claim : (terms : Terms) (r q : ℕ) → IsChart terms.setup.now.chart → r < region_count terms.setup.now.chart.cut → q < region_count terms.setup.now.chart.cut →
+    claim_place (widths_of terms.setup.now.chart) r ≡ claim_place (widths_of terms.setup.now.chart) q → q ≡ r
 same-claim terms r q chart within there same = elim (cases_eq q r) [
   | inl is ↦ is
-  | inr other ↦ absurd (claims-differ (widths_of terms.chart.now) q r (within-widths terms.chart.now q chart there) (within-widths terms.chart.now r chart within) other (sym same))
+  | inr other ↦ absurd (claims-differ (widths_of terms.setup.now.chart) q r (within-widths terms.setup.now.chart q chart there) (within-widths terms.setup.now.chart r chart within) other (sym same))
 ]
 
 -- what a seat has seen of a region lies within the field's steps, since the region has published it
 pub seen-in-time : (terms : Terms) (s : FieldState) (id : ℕ) (view : View) → IsStanding terms s → get_elem? s.views id ≡ some view → view.terms ≡ terms ∷ [] → (other : Terms) (q : ℕ) → IsRegion view other q →
-    slice_index view.seen q ≤ other.net.now.steps
+    slice_index view.seen q ≤ other.setup.now.net.steps
 seen-in-time terms s id view standing at of_field other q region =
     let one : other ≡ terms = same-terms view terms other of_field region.of_field in
-    let there : q < region_count terms.chart.now.cut = rw one at region.there in
+    let there : q < region_count terms.setup.now.chart.cut = rw one at region.there in
     let seen = standing.counts.seen view q (Contains-elem s.views id view at) there in
     let last = standing.steps.lawful.in_time q 0 (omega (arith, there, standing.steps.lawful.one_each)) in
-    subst (λ (t : Terms). slice_index view.seen q ≤ t.net.now.steps) (sym one) (omega (arith, seen, last, steps_of-at terms.chart.now s.words q there))
+    subst (λ (t : Terms). slice_index view.seen q ≤ t.setup.now.net.steps) (sym one) (omega (arith, seen, last, steps_of-at terms.setup.now.chart s.words q there))
 
-pub claiming : (terms : Terms) (slots id r : ℕ) (me : Mine) → IsChart terms.chart.now → r < region_count terms.chart.now.cut → me.0.terms ≡ terms ∷ [] → me.0.share ≢ 0 →
+pub claiming : (terms : Terms) (slots id r : ℕ) (me : Mine) → IsChart terms.setup.now.chart → r < region_count terms.setup.now.chart.cut → me.0.terms ≡ terms ∷ [] → me.0.share ≢ 0 →
     ((hold : Hold) → Contains me.0.holds hold → hold.region ≢ r) →
-    Allows (IsStanding terms) slots id me (claim_place (widths_of terms.chart.now) r) (λ n. either (n == 0) 1 n)
-    (Claimed (step slots (claim_place (widths_of terms.chart.now) r) 0 1 none) me)
+    Allows (IsStanding terms) slots id me (claim_place (widths_of terms.setup.now.chart) r) (λ n. either (n == 0) 1 n)
+    (Claimed (step slots (claim_place (widths_of terms.setup.now.chart) r) 0 1 none) me)
 claiming terms slots id r me chart within of_field share others = λ s standing long at small.
-    let found : ℕ = slice_index s.words (claim_place (widths_of terms.chart.now) r) in
-    let is_r : (other : Terms) (q : ℕ) → IsRegion me.0 other q → claim_place (widths_of terms.chart.now) r ≡ claim_place (widths_of other.chart.now) q → (other ≡ terms) × (q ≡ r) =
+    let found : ℕ = slice_index s.words (claim_place (widths_of terms.setup.now.chart) r) in
+    let is_r : (other : Terms) (q : ℕ) → IsRegion me.0 other q → claim_place (widths_of terms.setup.now.chart) r ≡ claim_place (widths_of other.setup.now.chart) q → (other ≡ terms) × (q ≡ r) =
     λ other q region same.
     let one : other ≡ terms = same-terms me.0 terms other of_field region.of_field in
     (one, same-claim terms r q chart within (rw one at region.there) (rw one at same)) in
-    let long_seen : (other : Terms) (q : ℕ) → IsRegion me.0 other q → length me.0.seen ≡ region_count other.chart.now.cut =
-    λ other q region. standing.counts.lengths me.0 (Contains-elem s.views id me.0 at) share ∙ ap (λ (t : Terms). region_count t.chart.now.cut) (sym (same-terms me.0 terms other of_field region.of_field)) in
+    let long_seen : (other : Terms) (q : ℕ) → IsRegion me.0 other q → length me.0.seen ≡ region_count other.setup.now.chart.cut =
+    λ other q region. standing.counts.lengths me.0 (Contains-elem s.views id me.0 at) share ∙ ap (λ (t : Terms). region_count t.setup.now.chart.cut) (sym (same-terms me.0 terms other of_field region.of_field)) in
     exchanged found 0 1
-    (λ n. (w : View) × (a : Act RegionValue) × Valid s.homes me.1 a × IsStanding terms (stepped s (claim_place (widths_of terms.chart.now) r) n id me.1 w a)
-    × Claimed (step slots (claim_place (widths_of terms.chart.now) r) 0 1 none) me found (w, carried_after me.1 a))
+    (λ n. (w : View) × (a : Act RegionValue) × Valid s.homes me.1 a × IsStanding terms (stepped s (claim_place (widths_of terms.setup.now.chart) r) n id me.1 w a)
+    × Claimed (step slots (claim_place (widths_of terms.setup.now.chart) r) 0 1 none) me found (w, carried_after me.1 a))
     (λ free. (
       taken me.0 r,
       keeps,

@@ -73,13 +73,13 @@ whole_moves terms s id view old is all = whole_logs terms s id view length old i
 
 -- so is what they count of each step
 whole_logged : (terms : Terms) (s : FieldState) (id r step : ℕ) (view : View) → IsStanding terms s → get_elem? s.views id ≡ some view → view.share ≡ terms.seats →
-    times_in view.log r step ≡ times_made terms.chart.now terms.start.now s.words r step
+    times_in view.log r step ≡ times_made terms.setup.now.chart terms.setup.now.start s.words r step
 whole_logged terms s id r step view old is all =
     sym (whole_logs terms s id view (λ log. times_in log r step) old is all refl) ∙ old.counts.logged r step
 
 -- no region stands past its start and past the reach of the seat with all shares
 pub whole_reach : (terms : Terms) (s : FieldState) (id r : ℕ) (view : View) → IsStanding terms s → get_elem? s.views id ≡ some view → view.share ≡ terms.seats →
-    r < region_count terms.chart.now.cut → step_of terms.chart.now s.words r ≤ max (slice_index terms.start.now.steps r) view.reach
+    r < region_count terms.setup.now.chart.cut → step_of terms.setup.now.chart s.words r ≤ max (slice_index terms.setup.now.start.steps r) view.reach
 whole_reach terms s id r view old is all within = elim (old.counts.reach r within) [
   | inl low ↦ omega (arith, low)
   | inr far ↦ elim (whole_spent terms s id view far.0 old is all far.1) [
@@ -90,34 +90,34 @@ whole_reach terms s id r view old is all within = elim (old.counts.reach r withi
 
 -- what is said of a field's regions when it is closed
 pub record IsClosed (terms : Terms) (view : View) (steps : List ℕ) (regions : List RegionValue) : Type 0 where
-  pub one_step : length steps ≡ region_count terms.chart.now.cut
-  pub one_each : length regions ≡ region_count terms.chart.now.cut
-  pub stand : AllStand terms.net.now terms.chart.now terms.start.now terms.every steps regions
-  pub lawful : AreLawful terms.net.now terms.chart.now.cut steps
-  pub started : (r : ℕ) → r < region_count terms.chart.now.cut → slice_index terms.start.now.steps r ≤ slice_index steps r
-  pub later : (r : ℕ) → r < region_count terms.chart.now.cut → slice_index view.seen r ≤ slice_index steps r
-  pub reached : (r : ℕ) → r < region_count terms.chart.now.cut → slice_index steps r ≤ max (slice_index terms.start.now.steps r) view.reach
-  pub moves : steps_since terms.start.now (region_count terms.chart.now.cut) steps ≡ length view.log
-  pub logged : AreLogged terms.start.now (region_count terms.chart.now.cut) steps view.log
+  pub one_step : length steps ≡ region_count terms.setup.now.chart.cut
+  pub one_each : length regions ≡ region_count terms.setup.now.chart.cut
+  pub stand : AllStand terms.setup.now.net terms.setup.now.chart terms.setup.now.start terms.setup.now.every steps regions
+  pub lawful : AreLawful terms.setup.now.net terms.setup.now.chart.cut steps
+  pub started : (r : ℕ) → r < region_count terms.setup.now.chart.cut → slice_index terms.setup.now.start.steps r ≤ slice_index steps r
+  pub later : (r : ℕ) → r < region_count terms.setup.now.chart.cut → slice_index view.seen r ≤ slice_index steps r
+  pub reached : (r : ℕ) → r < region_count terms.setup.now.chart.cut → slice_index steps r ≤ max (slice_index terms.setup.now.start.steps r) view.reach
+  pub moves : steps_since terms.setup.now.start (region_count terms.setup.now.chart.cut) steps ≡ length view.log
+  pub logged : AreLogged terms.setup.now.start (region_count terms.setup.now.chart.cut) steps view.log
 
 -- the steps since the start are those that were made
 pub since-made : (terms : Terms) (words : List ℕ) →
-    steps_since terms.start.now (region_count terms.chart.now.cut) (steps_of terms.chart.now words) ≡ steps_made terms.chart.now terms.start.now words
+    steps_since terms.setup.now.start (region_count terms.setup.now.chart.cut) (steps_of terms.setup.now.chart words) ≡ steps_made terms.setup.now.chart terms.setup.now.start words
 since-made terms words =
-    let count : ℕ = region_count terms.chart.now.cut in
-    let new : ℕ → ℕ = λ r. slice_index (steps_of terms.chart.now words) r - slice_index terms.start.now.steps r in
-    let old : ℕ → ℕ = λ r. step_of terms.chart.now words r - slice_index terms.start.now.steps r in
+    let count : ℕ = region_count terms.setup.now.chart.cut in
+    let new : ℕ → ℕ = λ r. slice_index (steps_of terms.setup.now.chart words) r - slice_index terms.setup.now.start.steps r in
+    let old : ℕ → ℕ = λ r. step_of terms.setup.now.chart words r - slice_index terms.setup.now.start.steps r in
     sym (sum-map new (range_with_len 0 count)) ∙
-    ap sum (map_range_same new old count (λ r within. ap (λ t. t - slice_index terms.start.now.steps r) (steps_of-at terms.chart.now words r within))) ∙
+    ap sum (map_range_same new old count (λ r within. ap (λ t. t - slice_index terms.setup.now.start.steps r) (steps_of-at terms.setup.now.chart words r within))) ∙
     sum-map old (range_with_len 0 count)
 
 pub closing : (terms : Terms) (id : ℕ) (view : View) (words : List ℕ) (regions : List RegionValue) → view.share ≡ terms.seats → view.holds ≡ [] →
-    Final (Seen (IsStanding terms) id view) words regions → IsClosed terms view (steps_of terms.chart.now words) regions
+    Final (Seen (IsStanding terms) id view) words regions → IsClosed terms view (steps_of terms.setup.now.chart words) regions
 closing terms id view words regions all empty (s, (old, is), same, long, homes) =
-    let count : ℕ = region_count terms.chart.now.cut in
-    let stood : (r : ℕ) → r < count → slice_index (steps_of terms.chart.now words) r ≡ step_of terms.chart.now s.words r =
-    λ r within. steps_of-at terms.chart.now words r within ∙ ap (λ w. step_of terms.chart.now w r) (sym same) in
-    let lawful : AreLawful terms.net.now terms.chart.now.cut (steps_of terms.chart.now words) = subst (λ w. AreLawful terms.net.now terms.chart.now.cut (steps_of terms.chart.now w)) same old.steps.lawful in
+    let count : ℕ = region_count terms.setup.now.chart.cut in
+    let stood : (r : ℕ) → r < count → slice_index (steps_of terms.setup.now.chart words) r ≡ step_of terms.setup.now.chart s.words r =
+    λ r within. steps_of-at terms.setup.now.chart words r within ∙ ap (λ w. step_of terms.setup.now.chart w r) (sym same) in
+    let lawful : AreLawful terms.setup.now.net terms.setup.now.chart.cut (steps_of terms.setup.now.chart words) = subst (λ w. AreLawful terms.setup.now.net terms.setup.now.chart.cut (steps_of terms.setup.now.chart w)) same old.steps.lawful in
     record {
       one_step = lawful.one_each;
       one_each = sym long ∙ old.claims.homes;
@@ -126,20 +126,20 @@ closing terms id view words regions all empty (s, (old, is), same, long, homes) 
         each = λ q d within.
             let inside : q < count = omega (arith, within, long, old.claims.homes) in
             let (home, at, stands) = old.claims.at_home q inside (whole_knowers terms s id q view old is all empty) in
-            subst (λ x. Stands terms.net.now terms.chart.now terms.start.now terms.every q (slice_index (steps_of terms.chart.now words) q) x) (sym (get_or-elem regions q home d (homes q home at)))
-            (subst (λ t. Stands terms.net.now terms.chart.now terms.start.now terms.every q t home) (sym (stood q inside)) stands);
+            subst (λ x. Stands terms.setup.now.net terms.setup.now.chart terms.setup.now.start terms.setup.now.every q (slice_index (steps_of terms.setup.now.chart words) q) x) (sym (get_or-elem regions q home d (homes q home at)))
+            (subst (λ t. Stands terms.setup.now.net terms.setup.now.chart terms.setup.now.start terms.setup.now.every q t home) (sym (stood q inside)) stands);
       };
       lawful = lawful;
       started = λ r within. omega (arith, old.steps.started r within, stood r within);
       later = λ r within. omega (arith, old.counts.seen view r (Contains-elem s.views id view is) within, stood r within);
       reached = λ r within. omega (arith, whole_reach terms s id r view old is all within, stood r within);
-      moves = since-made terms words ∙ ap (steps_made terms.chart.now terms.start.now) (sym same) ∙ sym old.counts.moves ∙ whole_moves terms s id view old is all;
+      moves = since-made terms words ∙ ap (steps_made terms.setup.now.chart terms.setup.now.start) (sym same) ∙ sym old.counts.moves ∙ whole_moves terms s id view old is all;
       logged = record {
         each = λ r step within later there.
-            whole_logged terms s id r step view old is all ∙ times_made-one terms.chart.now terms.start.now s.words r step within later (omega (arith, stood r within, there));
+            whole_logged terms s id r step view old is all ∙ times_made-one terms.setup.now.chart terms.setup.now.start s.words r step within later (omega (arith, stood r within, there));
         others = λ r step other. whole_logged terms s id r step view old is all ∙ elim (cases_lt r count) [
-          | inr past ↦ times_made-other terms.chart.now terms.start.now s.words r step (inl past)
-          | inl within ↦ times_made-other terms.chart.now terms.start.now s.words r step (elim other [
+          | inr past ↦ times_made-other terms.setup.now.chart terms.setup.now.start s.words r step (inl past)
+          | inl within ↦ times_made-other terms.setup.now.chart terms.setup.now.start s.words r step (elim other [
             | inl past ↦ inl past
             | inr (inl early) ↦ inr (inl early)
             | inr (inr late) ↦ inr (inr (omega (arith, stood r within, late)))

@@ -24,11 +24,11 @@ use Rattle.region_slots.specs.Plays.{Compared, IsBeside, Mine}
 use Rattle.region_slots.proofs.Claiming.{same-terms}
 
 -- a step word is of one region
-pub same-step : (terms : Terms) (r q : ℕ) → IsChart terms.chart.now → r < region_count terms.chart.now.cut → q < region_count terms.chart.now.cut →
-    step_place (widths_of terms.chart.now) r ≡ step_place (widths_of terms.chart.now) q → q ≡ r
+pub same-step : (terms : Terms) (r q : ℕ) → IsChart terms.setup.now.chart → r < region_count terms.setup.now.chart.cut → q < region_count terms.setup.now.chart.cut →
+    step_place (widths_of terms.setup.now.chart) r ≡ step_place (widths_of terms.setup.now.chart) q → q ≡ r
 same-step terms r q chart within there same = elim (cases_eq q r) [
   | inl is ↦ is
-  | inr other ↦ absurd (steps-differ (widths_of terms.chart.now) q r (within-widths terms.chart.now q chart there) (within-widths terms.chart.now r chart within) other (sym same))
+  | inr other ↦ absurd (steps-differ (widths_of terms.setup.now.chart) q r (within-widths terms.setup.now.chart q chart there) (within-widths terms.setup.now.chart r chart within) other (sym same))
 ]
 
 -- the region held last is one
@@ -36,16 +36,16 @@ pub same-hold : (all : List Hold) (hold other : Hold) (later others : List Hold)
 same-hold all hold other later others first second = cc
 
 -- what a look at the step word of neighbour q of the hold's region may be told
-pub comparing : (terms : Terms) (slots id q : ℕ) (me : Mine) (hold : Hold) → IsChart terms.chart.now → me.0.terms ≡ terms ∷ [] → me.0.share ≢ 0 → IsWorkingAt me.0 hold →
-    are_neighbours terms.net.now.connectors terms.chart.now.cut hold.region q ≡ true →
-    Allows (IsStanding terms) slots id me (step_place (widths_of terms.chart.now) q) (λ n. n)
-    (Compared (step slots (step_place (widths_of terms.chart.now) q) 0 0 none) me)
+pub comparing : (terms : Terms) (slots id q : ℕ) (me : Mine) (hold : Hold) → IsChart terms.setup.now.chart → me.0.terms ≡ terms ∷ [] → me.0.share ≢ 0 → IsWorkingAt me.0 hold →
+    are_neighbours terms.setup.now.net.connectors terms.setup.now.chart.cut hold.region q ≡ true →
+    Allows (IsStanding terms) slots id me (step_place (widths_of terms.setup.now.chart) q) (λ n. n)
+    (Compared (step slots (step_place (widths_of terms.setup.now.chart) q) 0 0 none) me)
 comparing terms slots id q me hold chart of_field share works near = λ s standing long at small.
-    let found : ℕ = slice_index s.words (step_place (widths_of terms.chart.now) q) in
-    let there : q < region_count terms.chart.now.cut = (neighbours-there terms.net.now terms.chart.now hold.region q near).1 in
+    let found : ℕ = slice_index s.words (step_place (widths_of terms.setup.now.chart) q) in
+    let there : q < region_count terms.setup.now.chart.cut = (neighbours-there terms.setup.now.net terms.setup.now.chart hold.region q near).1 in
     let own : IsHeld s.views me.0 hold = record { seat = Contains-elem s.views id me.0 at; held = first-held me.0.holds hold works.later works.holds } in
     let seen : slice_index me.0.seen q ≤ found = standing.counts.seen me.0 q own.seat there in
-    let is_q : (other : Terms) (p : ℕ) (h : Hold) → IsBeside me.0 other p h → step_place (widths_of terms.chart.now) q ≡ step_place (widths_of other.chart.now) p → (p ≡ q) × (h ≡ hold) =
+    let is_q : (other : Terms) (p : ℕ) (h : Hold) → IsBeside me.0 other p h → step_place (widths_of terms.setup.now.chart) q ≡ step_place (widths_of other.setup.now.chart) p → (p ≡ q) × (h ≡ hold) =
     λ other p h beside same.
     let one : other ≡ terms = same-terms me.0 terms other of_field beside.region.of_field in
     (same-step terms q p chart there (rw one at beside.region.there) (rw one at same), same-hold me.0.holds hold h works.later beside.later works.holds beside.holds) in
@@ -82,14 +82,14 @@ comparing terms slots id q me hold chart of_field share works near = λ s standi
 
 -- a neighbour is beside the region that a seat works at
 pub working-beside : (terms : Terms) (q : ℕ) (view : View) (hold own : Hold) → view.terms ≡ terms ∷ [] → IsWorkingAt view hold → IsWorkingAt view own →
-    are_neighbours terms.net.now.connectors terms.chart.now.cut own.region q ≡ true → IsBeside view terms q hold
+    are_neighbours terms.setup.now.net.connectors terms.setup.now.chart.cut own.region q ≡ true → IsBeside view terms q hold
 working-beside terms q view hold own of_field works also near =
     let is : hold ≡ own = same-hold view.holds own hold also.later works.later also.holds works.holds in
     record {
-      region = record { of_field = of_field; there = (neighbours-there terms.net.now terms.chart.now own.region q near).1 };
+      region = record { of_field = of_field; there = (neighbours-there terms.setup.now.net terms.setup.now.chart own.region q near).1 };
       later = works.later;
       holds = works.holds;
       known = works.known;
       early = works.early;
-      near = subst (λ (x : Hold). are_neighbours terms.net.now.connectors terms.chart.now.cut x.region q ≡ true) (sym is) near;
+      near = subst (λ (x : Hold). are_neighbours terms.setup.now.net.connectors terms.setup.now.chart.cut x.region q ≡ true) (sym is) near;
     }

@@ -15,12 +15,12 @@ use Rattle.region_slots.specs.Turning.{IsBehind, IsMoved, took_at}
 use Rattle.region_slots.specs.declared.turn.Turn.{Turn}
 use Rattle.region_slots.specs.declared.turn.Turn.TheVariants.{Behind, Ended, Held, Moved}
 
-pub counts-first : (terms : Terms) (count : ℕ) → length terms.start.now.steps ≡ count → HasCounts count (first_view terms)
+pub counts-first : (terms : Terms) (count : ℕ) → length terms.setup.now.start.steps ≡ count → HasCounts count (first_view terms)
 counts-first terms count each = record {
   seen = each;
-  held_found = length-map terms.start.now.steps (λ s. 0) ∙ each;
-  looks = length-map terms.start.now.steps (λ s. 0) ∙ each;
-  takes = length-map terms.start.now.steps (λ s. 0) ∙ each;
+  held_found = length-map terms.setup.now.start.steps (λ s. 0) ∙ each;
+  looks = length-map terms.setup.now.start.steps (λ s. 0) ∙ each;
+  takes = length-map terms.setup.now.start.steps (λ s. 0) ∙ each;
 }
 
 pub counts-kept : (count : ℕ) (view : View) → HasCounts count view → HasCounts count (kept view)
@@ -46,14 +46,14 @@ counts-united count view other has = record {
 }
 
 -- what two views have seen lies within the field's steps, and so does the greater of both
-pub united-in-time : (terms : Terms) (view other : View) → HasCounts (region_count terms.chart.now.cut) view → HasSeenInTime terms view → HasSeenInTime terms other → HasSeenInTime terms (united view other)
+pub united-in-time : (terms : Terms) (view other : View) → HasCounts (region_count terms.setup.now.chart.cut) view → HasSeenInTime terms view → HasSeenInTime terms other → HasSeenInTime terms (united view other)
 united-in-time terms view other has seen also = λ r there.
     let is : slice_index (united view other).seen r ≡ max (slice_index view.seen r) (slice_index other.seen r) =
     get_or-map-range_with_len (λ q. max (slice_index view.seen q) (slice_index other.seen q)) 0 (length view.seen) r r 0 (omega (arith, there, has.seen)) (omega arith) in
     omega (arith, is, seen r there, also r there)
 
 -- what was looked at does too
-pub looked-in-time : (terms : Terms) (view : View) (r s : ℕ) → HasSeenInTime terms view → s ≤ terms.net.now.steps → HasSeenInTime terms (looked view r s)
+pub looked-in-time : (terms : Terms) (view : View) (r s : ℕ) → HasSeenInTime terms view → s ≤ terms.setup.now.net.steps → HasSeenInTime terms (looked view r s)
 looked-in-time terms view r s seen now = λ q there. elim (cases_eq q r) [
   | inl same ↦ elim (cases_lt r (length view.seen)) [
     | inl within ↦ omega (arith, ap (slice_index (looked view r s).seen) same, get_or-set_same view.seen r s 0 within, now)

@@ -31,7 +31,7 @@ carried-same terms seen r t (suc q) carried low (state, others, is, stands, late
   state,
   others,
   is,
-  subst (λ s. Stands terms.net.now terms.chart.now terms.start.now terms.every q s state) (sym (get_or-set_other seen r q t 0 (λ same. absurd (omega (arith, low, same))))) stands,
+  subst (λ s. Stands terms.setup.now.net terms.setup.now.chart terms.setup.now.start terms.setup.now.every q s state) (sym (get_or-set_other seen r q t 0 (λ same. absurd (omega (arith, low, same))))) stands,
   carried-same terms seen r t q others (omega (arith, low)) later,
 )
 
@@ -63,7 +63,7 @@ unmoved-same view = record {
 }
 
 -- a seat that holds nothing has taken none
-pub gathered-none : (terms : Terms) (me : Mine) → HasCounts (region_count terms.chart.now.cut) me.0 → HasSeenInTime terms me.0 → me.0.holds ≡ [] → me.1 ≡ [] → HasGathered terms me.0 0 me
+pub gathered-none : (terms : Terms) (me : Mine) → HasCounts (region_count terms.setup.now.chart.cut) me.0 → HasSeenInTime terms me.0 → me.0.holds ≡ [] → me.1 ≡ [] → HasGathered terms me.0 0 me
 gathered-none terms me counts in_time holds nothing = record {
   unmoved = unmoved-same me.0;
   moments = (refl, refl);
@@ -127,7 +127,7 @@ gathered-stopped terms old new r tries me has tried =
     record {
       unmoved = unmoved-tried old me.0 new r tries has.unmoved tried;
       moments = (ap (λ (v : View). v.moments) tried.same ∙ has.moments.0, ap (λ (v : View). v.moment) tried.same ∙ has.moments.1);
-      counts = counts-tried (region_count terms.chart.now.cut) me.0 new r tries tried has.counts;
+      counts = counts-tried (region_count terms.setup.now.chart.cut) me.0 new r tries tried has.counts;
       in_time = λ q there. omega (arith, has.in_time q there, ap (λ l. slice_index l q) seen);
       holds = ap (λ (v : View). v.holds) tried.same ∙ has.holds ∙ ap (λ l. held_to l r) (sym seen);
       carried = subst (λ l. AreCarried terms l r me.1) (sym seen) has.carried;
@@ -135,8 +135,8 @@ gathered-stopped terms old new r tries me has tried =
     }
 
 -- or it was taken, at this step
-pub gathered-more : (terms : Terms) (old view : View) (r failed t : ℕ) (me : Mine) (state : RegionValue) → r < region_count terms.chart.now.cut → HasGathered terms old r me → HasTried me.0 view r failed →
-    slice_index view.seen r ≤ t → t ≤ terms.net.now.steps → Stands terms.net.now terms.chart.now terms.start.now terms.every r t state →
+pub gathered-more : (terms : Terms) (old view : View) (r failed t : ℕ) (me : Mine) (state : RegionValue) → r < region_count terms.setup.now.chart.cut → HasGathered terms old r me → HasTried me.0 view r failed →
+    slice_index view.seen r ≤ t → t ≤ terms.setup.now.net.steps → Stands terms.setup.now.net terms.setup.now.chart terms.setup.now.start terms.setup.now.every r t state →
     HasGathered terms old (r + 1) (found_at (taken view r) r t, (r, state) ∷ me.1)
 gathered-more terms old view r failed t me state there has tried past now stands =
     let new : View = found_at (taken view r) r t in
@@ -180,7 +180,7 @@ gathered-more terms old view r failed t me state there has tried past now stands
         state,
         me.1,
         refl,
-        subst (λ s. Stands terms.net.now terms.chart.now terms.start.now terms.every r s state) (sym here) stands,
+        subst (λ s. Stands terms.setup.now.net terms.setup.now.chart terms.setup.now.start terms.setup.now.every r s state) (sym here) stands,
         carried-same terms view.seen r t r me.1 (omega arith) stopped.carried,
       );
       looks = λ q low. elim (cases_eq q r) [
@@ -207,12 +207,12 @@ pub carried-top : (terms : Terms) (seen : List ℕ) (left r : ℕ) (carried : Li
 carried-top terms seen left r carried is are = let next : left ≡ suc r = omega (arith, is) in subst (λ n. AreCarried terms seen n carried) next are
 
 -- a seat that has taken all holds them all
-pub holds-all : (terms : Terms) (old : View) (me : Mine) → HasGathered terms old (region_count terms.chart.now.cut) me → HoldsAll terms me.0
+pub holds-all : (terms : Terms) (old : View) (me : Mine) → HasGathered terms old (region_count terms.setup.now.chart.cut) me → HoldsAll terms me.0
 holds-all terms old me has = record {
   long = has.counts.seen;
   each = λ r there. (
     known_at (fresh r) (slice_index me.0.seen r),
-    subst (λ holds. Contains holds (known_at (fresh r) (slice_index me.0.seen r))) (sym has.holds) (held_to-Contains me.0.seen (region_count terms.chart.now.cut) r there),
+    subst (λ holds. Contains holds (known_at (fresh r) (slice_index me.0.seen r))) (sym has.holds) (held_to-Contains me.0.seen (region_count terms.setup.now.chart.cut) r there),
     refl,
     refl,
     refl,

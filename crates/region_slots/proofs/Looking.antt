@@ -23,8 +23,8 @@ use Rattle.region_slots.proofs.Claiming.{same-terms, seen-in-time}
 use Rattle.region_slots.proofs.Comparing.{same-step}
 
 -- the field and the region that a view's step word is of
-pub one-step : (terms : Terms) (view : View) (r : ℕ) → IsChart terms.chart.now → r < region_count terms.chart.now.cut → view.terms ≡ terms ∷ [] →
-    (other : Terms) (q : ℕ) → IsRegion view other q → step_place (widths_of terms.chart.now) r ≡ step_place (widths_of other.chart.now) q → (other ≡ terms) × (q ≡ r)
+pub one-step : (terms : Terms) (view : View) (r : ℕ) → IsChart terms.setup.now.chart → r < region_count terms.setup.now.chart.cut → view.terms ≡ terms ∷ [] →
+    (other : Terms) (q : ℕ) → IsRegion view other q → step_place (widths_of terms.setup.now.chart) r ≡ step_place (widths_of other.setup.now.chart) q → (other ≡ terms) × (q ≡ r)
 one-step terms view r chart within of_field other q region same =
     let one : other ≡ terms = same-terms view terms other of_field region.of_field in
     (one, same-step terms r q chart within (rw one at region.there) (rw one at same))
@@ -32,21 +32,21 @@ one-step terms view r chart within of_field other q region same =
 -- what a look at a step word finds is no less than what the view has seen, and not past the field's steps
 pub record IsFound (terms : Terms) (view : View) (r found : ℕ) : Type 0 where
   pub later : slice_index view.seen r ≤ found
-  pub started : slice_index terms.start.now.steps r ≤ found
-  pub in_time : found ≤ terms.net.now.steps
+  pub started : slice_index terms.setup.now.start.steps r ≤ found
+  pub in_time : found ≤ terms.setup.now.net.steps
 
-pub found-step : (terms : Terms) (s : FieldState) (id r : ℕ) (view : View) → IsStanding terms s → get_elem? s.views id ≡ some view → r < region_count terms.chart.now.cut →
-    IsFound terms view r (step_of terms.chart.now s.words r)
+pub found-step : (terms : Terms) (s : FieldState) (id r : ℕ) (view : View) → IsStanding terms s → get_elem? s.views id ≡ some view → r < region_count terms.setup.now.chart.cut →
+    IsFound terms view r (step_of terms.setup.now.chart s.words r)
 found-step terms s id r view standing at within = record {
   later = standing.counts.seen view r (Contains-elem s.views id view at) within;
   started = standing.steps.started r within;
-  in_time = omega (arith, standing.steps.lawful.in_time r 0 (omega (arith, within, standing.steps.lawful.one_each)), steps_of-at terms.chart.now s.words r within);
+  in_time = omega (arith, standing.steps.lawful.in_time r 0 (omega (arith, within, standing.steps.lawful.one_each)), steps_of-at terms.setup.now.chart s.words r within);
 }
 
-pub looking : (terms : Terms) (slots id r : ℕ) (me : Mine) → IsChart terms.chart.now → r < region_count terms.chart.now.cut → me.0.terms ≡ terms ∷ [] → me.0.share ≢ 0 →
-    Allows (IsStanding terms) slots id me (step_place (widths_of terms.chart.now) r) (λ n. n) (Looked (step slots (step_place (widths_of terms.chart.now) r) 0 0 none) me)
+pub looking : (terms : Terms) (slots id r : ℕ) (me : Mine) → IsChart terms.setup.now.chart → r < region_count terms.setup.now.chart.cut → me.0.terms ≡ terms ∷ [] → me.0.share ≢ 0 →
+    Allows (IsStanding terms) slots id me (step_place (widths_of terms.setup.now.chart) r) (λ n. n) (Looked (step slots (step_place (widths_of terms.setup.now.chart) r) 0 0 none) me)
 looking terms slots id r me chart within of_field share = λ s standing long at small.
-    let found : ℕ = step_of terms.chart.now s.words r in
+    let found : ℕ = step_of terms.setup.now.chart s.words r in
     let is = found-step terms s id r me.0 standing at within in (
       looked me.0 r found,
       keeps,
@@ -55,19 +55,19 @@ looking terms slots id r me chart within of_field share = λ s standing long at 
       record {
         seen = λ other q region same.
             let one = one-step terms me.0 r chart within of_field other q region same in
-            subst (λ p. (◌≡◌ {A = Mine} (looked me.0 r found, me.1) (looked me.0 p found, me.1)) × (slice_index me.0.seen p ≤ found) × (found ≤ other.net.now.steps)) (sym one.1) (
+            subst (λ p. (◌≡◌ {A = Mine} (looked me.0 r found, me.1) (looked me.0 p found, me.1)) × (slice_index me.0.seen p ≤ found) × (found ≤ other.setup.now.net.steps)) (sym one.1) (
               refl,
               is.later,
-              subst (λ (t : Terms). found ≤ t.net.now.steps) (sym one.0) is.in_time,
+              subst (λ (t : Terms). found ≤ t.setup.now.net.steps) (sym one.0) is.in_time,
             );
       },
     )
 
-pub learning : (terms : Terms) (slots id r : ℕ) (me : Mine) (later : List Hold) → IsChart terms.chart.now → r < region_count terms.chart.now.cut → me.0.terms ≡ terms ∷ [] → me.0.share ≢ 0 →
+pub learning : (terms : Terms) (slots id r : ℕ) (me : Mine) (later : List Hold) → IsChart terms.setup.now.chart → r < region_count terms.setup.now.chart.cut → me.0.terms ≡ terms ∷ [] → me.0.share ≢ 0 →
     me.0.holds ≡ fresh r ∷ later →
-    Allows (IsStanding terms) slots id me (step_place (widths_of terms.chart.now) r) (λ n. n) (Learned (step slots (step_place (widths_of terms.chart.now) r) 0 0 none) me)
+    Allows (IsStanding terms) slots id me (step_place (widths_of terms.setup.now.chart) r) (λ n. n) (Learned (step slots (step_place (widths_of terms.setup.now.chart) r) 0 0 none) me)
 learning terms slots id r me later chart within of_field share taken = λ s standing long at small.
-    let found : ℕ = step_of terms.chart.now s.words r in
+    let found : ℕ = step_of terms.setup.now.chart s.words r in
     let is = found-step terms s id r me.0 standing at within in
     let keep = found_at-keeps terms s id r me.1 me.0 (fresh r) later standing at share within taken refl in (
       found_at me.0 r found,
@@ -78,19 +78,19 @@ learning terms slots id r me later chart within of_field share taken = λ s stan
         known = λ other q also region same first.
             let one = one-step terms me.0 r chart within of_field other q region same in
             subst (λ (t : Terms). (state : RegionValue) × (◌≡◌ {A = Mine} (found_at me.0 r found, (r, keep.0) ∷ me.1) (found_at me.0 q found, (q, state) ∷ me.1))
-            × Stands t.net.now t.chart.now t.start.now t.every q found state
-            × (slice_index me.0.seen q ≤ found) × (slice_index t.start.now.steps q ≤ found) × (found ≤ t.net.now.steps)) (sym one.0)
+            × Stands t.setup.now.net t.setup.now.chart t.setup.now.start t.setup.now.every q found state
+            × (slice_index me.0.seen q ≤ found) × (slice_index t.setup.now.start.steps q ≤ found) × (found ≤ t.setup.now.net.steps)) (sym one.0)
             (subst (λ p. (state : RegionValue) × (◌≡◌ {A = Mine} (found_at me.0 r found, (r, keep.0) ∷ me.1) (found_at me.0 p found, (p, state) ∷ me.1))
-            × Stands terms.net.now terms.chart.now terms.start.now terms.every p found state
-            × (slice_index me.0.seen p ≤ found) × (slice_index terms.start.now.steps p ≤ found) × (found ≤ terms.net.now.steps)) (sym one.1)
+            × Stands terms.setup.now.net terms.setup.now.chart terms.setup.now.start terms.setup.now.every p found state
+            × (slice_index me.0.seen p ≤ found) × (slice_index terms.setup.now.start.steps p ≤ found) × (found ≤ terms.setup.now.net.steps)) (sym one.1)
             (keep.0, refl, keep.2, is.later, is.started, is.in_time));
       },
     )
 
-pub freeing : (terms : Terms) (slots id r : ℕ) (me : Mine) (hold : Hold) (later : List Hold) (state : RegionValue) (others : List (ℕ × RegionValue)) → IsChart terms.chart.now → me.0.terms ≡ terms ∷ [] →
+pub freeing : (terms : Terms) (slots id r : ℕ) (me : Mine) (hold : Hold) (later : List Hold) (state : RegionValue) (others : List (ℕ × RegionValue)) → IsChart terms.setup.now.chart → me.0.terms ≡ terms ∷ [] →
     me.0.share ≢ 0 → me.0.holds ≡ hold ∷ later → hold.region ≡ r → hold.known ≡ true → me.1 ≡ (r, state) ∷ others →
-    Stands terms.net.now terms.chart.now terms.start.now terms.every r (if hold.published then hold.step + 1 else hold.step) state →
-    Allows (IsStanding terms) slots id me (claim_place (widths_of terms.chart.now) r) (λ _. 0) (λ _. Freed (step slots (claim_place (widths_of terms.chart.now) r) 0 0 none) me 0)
+    Stands terms.setup.now.net terms.setup.now.chart terms.setup.now.start terms.setup.now.every r (if hold.published then hold.step + 1 else hold.step) state →
+    Allows (IsStanding terms) slots id me (claim_place (widths_of terms.setup.now.chart) r) (λ _. 0) (λ _. Freed (step slots (claim_place (widths_of terms.setup.now.chart) r) 0 0 none) me 0)
 freeing terms slots id r me hold later state others chart of_field share has own knows carries stands = λ s standing long at small. (
   freed me.0,
   gives,

@@ -138,7 +138,7 @@ pair-same q s p t same =
 
 -- a turn that ends behind a neighbour
 pub turned-behind : (terms : Terms) (old view : View) (r q s step goal : ℕ) → HasFallenShort (found_at (taken old r) r step) view r q s → s + 1 ≡ step → step < goal → slice_index old.seen r ≤ step →
-    r < length old.seen → are_neighbours terms.net.now.connectors terms.chart.now.cut r q ≡ true → IsBehind terms old (freed view) goal r q s
+    r < length old.seen → are_neighbours terms.setup.now.net.connectors terms.setup.now.chart.cut r q ≡ true → IsBehind terms old (freed view) goal r q s
 turned-behind terms old view r q s step goal short by_one below past there beside =
     let alike = short.still.alike in
     record {
@@ -170,8 +170,8 @@ turned-behind terms old view r q s step goal short by_one below past there besid
 
 -- a turn that takes its region through a step
 pub turned-moved : (terms : Terms) (old view : View) (hold : Hold) (r step goal width : ℕ) → HasLooked (found_at (taken old r) r step) view hold →
-    slice_index old.seen r ≤ step → step < goal → slice_index view.seen r ≤ step + 1 → length old.seen ≡ region_count terms.chart.now.cut → r < region_count terms.chart.now.cut →
-    ((q : ℕ) → are_neighbours terms.net.now.connectors terms.chart.now.cut r q ≡ true → step ≤ slice_index view.seen q) →
+    slice_index old.seen r ≤ step → step < goal → slice_index view.seen r ≤ step + 1 → length old.seen ≡ region_count terms.setup.now.chart.cut → r < region_count terms.setup.now.chart.cut →
+    ((q : ℕ) → are_neighbours terms.setup.now.net.connectors terms.setup.now.chart.cut r q ≡ true → step ≤ slice_index view.seen q) →
     IsMoved terms old (freed (published (wrote_many view width) r (step + 1))) goal r (step + 1)
 turned-moved terms old view hold r step goal width has past below rise long there near =
     let alike = has.still.alike in

@@ -64,10 +64,10 @@ laid-opens net chart start every words regions sound laid stand = record {
 }
 
 -- they stand under the rule
-pub laid-stands : (terms : Terms) (words : List ℕ) (regions : List RegionValue) → IsChart terms.chart.now → AreLawful terms.net.now terms.chart.now.cut terms.start.now.steps →
-    AreAllFirstWords terms.chart.now terms.start.now words → AllStand terms.net.now terms.chart.now terms.start.now terms.every terms.start.now.steps regions → 1 ≤ terms.seats →
+pub laid-stands : (terms : Terms) (words : List ℕ) (regions : List RegionValue) → IsChart terms.setup.now.chart → AreLawful terms.setup.now.net terms.setup.now.chart.cut terms.setup.now.start.steps →
+    AreAllFirstWords terms.setup.now.chart terms.setup.now.start words → AllStand terms.setup.now.net terms.setup.now.chart terms.setup.now.start terms.setup.now.every terms.setup.now.start.steps regions → 1 ≤ terms.seats →
     IsStanding terms (opening words regions (first_view terms))
 laid-stands terms words regions sound lawful laid stand seats =
-    opening-stands terms words regions (first_view terms) lawful (laid-opens terms.net.now terms.chart.now terms.start.now terms.every words regions sound laid stand)
+    opening-stands terms words regions (first_view terms) lawful (laid-opens terms.setup.now.net terms.setup.now.chart terms.setup.now.start terms.setup.now.every words regions sound laid stand)
     record { alike = refl; share = refl; seen = refl; log = refl; reach = refl; holds = refl }
     (λ none. omega (arith, none, seats))

@@ -20,8 +20,8 @@ use Rattle.region_slots.specs.Plays.{Bounded, Mine}
 use Rattle.region_slots.proofs.Claiming.{same-terms}
 
 -- a field has a word
-pub some-word : (terms : Terms) → IsChart terms.chart.now → 0 < words_of (widths_of terms.chart.now)
-some-word terms chart = omega (arith, claim-there (widths_of terms.chart.now) 0 (within-widths terms.chart.now 0 chart (omega arith)))
+pub some-word : (terms : Terms) → IsChart terms.setup.now.chart → 0 < words_of (widths_of terms.setup.now.chart)
+some-word terms chart = omega (arith, claim-there (widths_of terms.setup.now.chart) 0 (within-widths terms.setup.now.chart 0 chart (omega arith)))
 
 -- a seat is shared off
 pub sharing : (terms : Terms) (id : ℕ) (view : View) → 2 ≤ view.share → Splits (IsStanding terms) id view (kept view) (shared_off view)
@@ -34,7 +34,7 @@ uniting terms id view place other share also empty = λ s standing at apart ther
 
 -- with the whole share no region was seen past its start and past the reach
 whole-seen : (terms : Terms) (s : FieldState) (id r : ℕ) (view : View) → IsStanding terms s → get_elem? s.views id ≡ some view → view.share ≡ terms.seats →
-    r < region_count terms.chart.now.cut → slice_index view.seen r ≤ max (slice_index terms.start.now.steps r) view.reach
+    r < region_count terms.setup.now.chart.cut → slice_index view.seen r ≤ max (slice_index terms.setup.now.start.steps r) view.reach
 whole-seen terms s id r view standing at all within =
     let seen = standing.counts.seen view r (Contains-elem s.views id view at) within in
     elim (standing.counts.reach r within) [
@@ -57,7 +57,7 @@ bounding terms slots id place me of_field = λ s standing long at small. (
     same = refl;
     whole = λ other r region all.
         let one : other ≡ terms = same-terms me.0 terms other of_field region.of_field in
-        subst (λ (t : Terms). slice_index me.0.seen r ≤ max (slice_index t.start.now.steps r) me.0.reach) (sym one)
+        subst (λ (t : Terms). slice_index me.0.seen r ≤ max (slice_index t.setup.now.start.steps r) me.0.reach) (sym one)
         (whole-seen terms s id r me.0 standing at (all ∙ ap (λ (t : Terms). t.seats) one) (rw one at region.there));
   },
 )

@@ -38,20 +38,20 @@ use Rattle.region_slots.specs.Turning.{IsTold, field_held}
 use Rattle.atomic_table.specs.Seated.{TableId}
 
 -- nothing is told yet
-pub told-none : (terms : Terms) (r t : ℕ) (region : RegionValue) → Stands terms.net.now terms.chart.now terms.start.now terms.every r t region → IsTold terms r t 0 region
+pub told-none : (terms : Terms) (r t : ℕ) (region : RegionValue) → Stands terms.setup.now.net terms.setup.now.chart terms.setup.now.start terms.setup.now.every r t region → IsTold terms r t 0 region
 told-none terms r t region stands =
-    let put : region.state.put ≡ (grid_state terms.net.now terms.chart.now terms.start.now terms.every r t).put = ap (λ state. state.put) stands.state in
+    let put : region.state.put ≡ (grid_state terms.setup.now.net terms.setup.now.chart terms.setup.now.start terms.setup.now.every r t).put = ap (λ state. state.put) stands.state in
     record {
       opened = stands.opened;
-      state = stands.state ∙ ap (λ p. record (grid_state terms.net.now terms.chart.now terms.start.now terms.every r t) { put = p }) (sym put);
-      one_each = ap length (put ∙ grid_state-put terms.net.now terms.chart.now terms.start.now terms.every r t) ∙ length-replicate {A = Option ℕ} (length (list_at terms.chart.now.halo r)) None ∙
-          sym (length-map (list_at terms.chart.now.halo r) (λ halo. halo.cell));
+      state = stands.state ∙ ap (λ p. record (grid_state terms.setup.now.net terms.setup.now.chart terms.setup.now.start terms.setup.now.every r t) { put = p }) (sym put);
+      one_each = ap length (put ∙ grid_state-put terms.setup.now.net terms.setup.now.chart terms.setup.now.start terms.setup.now.every r t) ∙ length-replicate {A = Option ℕ} (length (list_at terms.setup.now.chart.halo r)) None ∙
+          sym (length-map (list_at terms.setup.now.chart.halo r) (λ halo. halo.cell));
       told = λ k before. absurd (omega (arith, before));
     }
 
 -- one cell more
-pub told-more : (terms : Terms) (r t j n : ℕ) (old new : RegionValue) → IsTold terms r t j old → j < length (halo_cells terms.chart.now r) →
-    n ≡ field_held terms t (slice_index (halo_cells terms.chart.now r) j) → new.state ≡ record old.state { put = slice_set old.state.put j (Some n) } → IsIn terms.net.now terms.chart.now new →
+pub told-more : (terms : Terms) (r t j n : ℕ) (old new : RegionValue) → IsTold terms r t j old → j < length (halo_cells terms.setup.now.chart r) →
+    n ≡ field_held terms t (slice_index (halo_cells terms.setup.now.chart r) j) → new.state ≡ record old.state { put = slice_set old.state.put j (Some n) } → IsIn terms.setup.now.net terms.setup.now.chart new →
     IsTold terms r t (j + 1) new
 told-more terms r t j n old new told within is state opened =
     let put : new.state.put ≡ slice_set old.state.put j (Some n) = ap (λ s. s.put) state in
@@ -59,12 +59,12 @@ told-more terms r t j n old new told within is state opened =
     record {
       opened = opened;
       state = state ∙ ap {A = RegionState} (λ s. record s { put = slice_set old.state.put j (Some n) }) told.state ∙
-          ap (λ p. record (grid_state terms.net.now terms.chart.now terms.start.now terms.every r t) { put = p }) (sym put);
+          ap (λ p. record (grid_state terms.setup.now.net terms.setup.now.chart terms.setup.now.start terms.setup.now.every r t) { put = p }) (sym put);
       one_each = ap length put ∙ length-set old.state.put j (Some n) ∙ told.one_each;
       told = λ k before. elim (cases_eq k j) [
         | inl last ↦
             ap (λ p. slice_index_or p k None) put ∙ ap (λ i. slice_index_or (slice_set old.state.put j (Some n)) i None) last ∙
-            get_or-set_same old.state.put j (Some n) None inside ∙ ap Some is ∙ ap (λ i. Some (field_held terms t (slice_index (halo_cells terms.chart.now r) i))) (sym last)
+            get_or-set_same old.state.put j (Some n) None inside ∙ ap Some is ∙ ap (λ i. Some (field_held terms t (slice_index (halo_cells terms.setup.now.chart r) i))) (sym last)
         | inr other ↦
             let earlier : k < j = below k j before other in
             ap (λ p. slice_index_or p k None) put ∙ get_or-set_other old.state.put j k (Some n) None other ∙ told.told k earlier
@@ -75,18 +75,18 @@ told-more terms r t j n old new told within is state opened =
     below k j before other = elim (cases_lt k j) [ inl lower ↦ lower | inr not_lower ↦ absurd (other (omega (arith, before, not_lower))) ]
 
 -- all is told
-pub told-all : (terms : Terms) (r t j : ℕ) (region : RegionValue) → IsTold terms r t j region → length (halo_cells terms.chart.now r) ≤ j →
-    region.state ≡ with_halo terms.chart.now (field_held terms t) (grid_state terms.net.now terms.chart.now terms.start.now terms.every r t)
+pub told-all : (terms : Terms) (r t j : ℕ) (region : RegionValue) → IsTold terms r t j region → length (halo_cells terms.setup.now.chart r) ≤ j →
+    region.state ≡ with_halo terms.setup.now.chart (field_held terms t) (grid_state terms.setup.now.net terms.setup.now.chart terms.setup.now.start terms.setup.now.every r t)
 told-all terms r t j region told all =
-    let number = grid_state-number terms.net.now terms.chart.now terms.start.now terms.every r t in
-    let halo : List ℕ = halo_cells terms.chart.now r in
+    let number = grid_state-number terms.setup.now.net terms.setup.now.chart terms.setup.now.start terms.setup.now.every r t in
+    let halo : List ℕ = halo_cells terms.setup.now.chart r in
     let put : region.state.put ≡ map (λ i. Some (field_held terms t i)) halo =
     ext_get_or None region.state.put (map (λ i. Some (field_held terms t i)) halo) (told.one_each ∙ sym (length-map halo (λ i. Some (field_held terms t i))))
     (λ k within.
     let inside : k < length halo = omega (arith, within, told.one_each) in
     told.told k (omega (arith, inside, all)) ∙ sym (get_or-map (λ i. Some (field_held terms t i)) halo k 0 None inside)) in
-    told.state ∙ ap (λ p. record (grid_state terms.net.now terms.chart.now terms.start.now terms.every r t) { put = p })
-    (put ∙ ap (λ q. map (λ i. Some (field_held terms t i)) (halo_cells terms.chart.now q)) (sym number))
+    told.state ∙ ap (λ p. record (grid_state terms.setup.now.net terms.setup.now.chart terms.setup.now.start terms.setup.now.every r t) { put = p })
+    (put ∙ ap (λ q. map (λ i. Some (field_held terms t i)) (halo_cells terms.setup.now.chart q)) (sym number))
 
 -- for its halo occupancies in bounds are put, since the regions around it start no later than one step ahead
 halo-in_bounds : (net : Network) (chart : ChartLists) (start : StartLists) (every r t : ℕ) → IsNetwork net → chart ≡ chart_of net chart.cut → r < region_count chart.cut →
@@ -109,29 +109,29 @@ halo-in_bounds net chart start every r t sound is within fits lawful started in_
     }
 
 -- and its step can be made
-pub can_advance : (terms : Terms) (table : TableId) (r t j : ℕ) (region : RegionValue) → IsTableFor terms table → r < region_count terms.chart.now.cut → t < terms.net.now.steps →
-    slice_index terms.start.now.steps r ≤ t →
-    IsTold terms r t j region → length (halo_cells terms.chart.now r) ≤ j → HasRowsInBounds terms.net.now terms.chart.now region.state × HasHaloPut terms.net.now terms.chart.now region.state
+pub can_advance : (terms : Terms) (table : TableId) (r t j : ℕ) (region : RegionValue) → IsTableFor terms table → r < region_count terms.setup.now.chart.cut → t < terms.setup.now.net.steps →
+    slice_index terms.setup.now.start.steps r ≤ t →
+    IsTold terms r t j region → length (halo_cells terms.setup.now.chart r) ≤ j → HasRowsInBounds terms.setup.now.net terms.setup.now.chart region.state × HasHaloPut terms.setup.now.net terms.setup.now.chart region.state
 can_advance terms table r t j region field within before started told all =
     let whole = told-all terms r t j region told all in (
-      subst (HasRowsInBounds terms.net.now terms.chart.now) (sym told.state)
-          (grid_state-in_bounds terms.net.now terms.chart.now terms.start.now terms.every r t region.state.put field.sound field.charted within field.fits started (omega (arith, before))),
-      subst (HasHaloPut terms.net.now terms.chart.now) (sym whole)
-          (halo-in_bounds terms.net.now terms.chart.now terms.start.now terms.every r t field.sound field.charted within field.fits field.lawful started (omega (arith, before))),
+      subst (HasRowsInBounds terms.setup.now.net terms.setup.now.chart) (sym told.state)
+          (grid_state-in_bounds terms.setup.now.net terms.setup.now.chart terms.setup.now.start terms.setup.now.every r t region.state.put field.sound field.charted within field.fits started (omega (arith, before))),
+      subst (HasHaloPut terms.setup.now.net terms.setup.now.chart) (sym whole)
+          (halo-in_bounds terms.setup.now.net terms.setup.now.chart terms.setup.now.start terms.setup.now.every r t field.sound field.charted within field.fits field.lawful started (omega (arith, before))),
     )
 
 -- the step of a region that is told
 pub told-step : (terms : Terms) (r t j : ℕ) (region : RegionValue) → IsTold terms r t j region → region.state.step ≡ t
-told-step terms r t j region told = ap (λ state. state.step) told.state ∙ grid_state-step terms.net.now terms.chart.now terms.start.now terms.every r t
+told-step terms r t j region told = ap (λ state. state.step) told.state ∙ grid_state-step terms.setup.now.net terms.setup.now.chart terms.setup.now.start terms.setup.now.every r t
 
 -- a told region that has made its step stands there
-pub advanced-stands : (terms : Terms) (net : Network) (chart : ChartLists) (r t j : ℕ) (old new : RegionValue) → net ≡ terms.net.now → chart ≡ terms.chart.now →
-    IsTold terms r t j old → length (halo_cells terms.chart.now r) ≤ j → IsIn net chart new →
-    (old.state ≡ with_halo chart (grid_held net chart.cut terms.start.now t) (grid_state net chart terms.start.now terms.every r t) → new.state ≡ grid_state net chart terms.start.now terms.every r (t + 1)) →
-    Stands terms.net.now terms.chart.now terms.start.now terms.every r (t + 1) new
+pub advanced-stands : (terms : Terms) (net : Network) (chart : ChartLists) (r t j : ℕ) (old new : RegionValue) → net ≡ terms.setup.now.net → chart ≡ terms.setup.now.chart →
+    IsTold terms r t j old → length (halo_cells terms.setup.now.chart r) ≤ j → IsIn net chart new →
+    (old.state ≡ with_halo chart (grid_held net chart.cut terms.setup.now.start t) (grid_state net chart terms.setup.now.start terms.setup.now.every r t) → new.state ≡ grid_state net chart terms.setup.now.start terms.setup.now.every r (t + 1)) →
+    Stands terms.setup.now.net terms.setup.now.chart terms.setup.now.start terms.setup.now.every r (t + 1) new
 advanced-stands terms net chart r t j old new same_net same_chart told all opened grid =
     let whole = told-all terms r t j old told all in
-    let there : old.state ≡ with_halo chart (grid_held net chart.cut terms.start.now t) (grid_state net chart terms.start.now terms.every r t) = rw (same_net, same_chart) whole in
+    let there : old.state ≡ with_halo chart (grid_held net chart.cut terms.setup.now.start t) (grid_state net chart terms.setup.now.start terms.setup.now.every r t) = rw (same_net, same_chart) whole in
     record {
       opened = rw (same_net, same_chart) at opened;
       state = rw (same_net, same_chart) at (grid there);
@@ -146,44 +146,44 @@ same-slot carried others later r x y first second = ap (λ l. front l) (sym firs
     front (slot ∷ slots) = slot.1
 
 -- its number
-pub stands-number : (terms : Terms) (r t : ℕ) (region : RegionValue) → Stands terms.net.now terms.chart.now terms.start.now terms.every r t region → region.state.number ≡ r
-stands-number terms r t region stands = ap (λ state. state.number) stands.state ∙ grid_state-number terms.net.now terms.chart.now terms.start.now terms.every r t
+pub stands-number : (terms : Terms) (r t : ℕ) (region : RegionValue) → Stands terms.setup.now.net terms.setup.now.chart terms.setup.now.start terms.setup.now.every r t region → region.state.number ≡ r
+stands-number terms r t region stands = ap (λ state. state.number) stands.state ∙ grid_state-number terms.setup.now.net terms.setup.now.chart terms.setup.now.start terms.setup.now.every r t
 
 -- what its border cells hold
-pub border-now : (terms : Terms) (table : TableId) (r t j result : ℕ) (region : RegionValue) → IsTableFor terms table → r < region_count terms.chart.now.cut → slice_index terms.start.now.steps r ≤ t →
-    j < length (list_at terms.chart.now.border r) → Stands terms.net.now terms.chart.now terms.start.now terms.every r t region →
-    ((p : ℕ) → p < length (list_at terms.chart.now.cells region.state.number) → slice_index (list_at terms.chart.now.cells region.state.number) p ≡ slice_index (list_at terms.chart.now.border region.state.number) j →
-    result ≡ occupancy region.state.rows p) → result ≡ field_held terms t (border_cell terms.chart.now r j)
+pub border-now : (terms : Terms) (table : TableId) (r t j result : ℕ) (region : RegionValue) → IsTableFor terms table → r < region_count terms.setup.now.chart.cut → slice_index terms.setup.now.start.steps r ≤ t →
+    j < length (list_at terms.setup.now.chart.border r) → Stands terms.setup.now.net terms.setup.now.chart terms.setup.now.start terms.setup.now.every r t region →
+    ((p : ℕ) → p < length (list_at terms.setup.now.chart.cells region.state.number) → slice_index (list_at terms.setup.now.chart.cells region.state.number) p ≡ slice_index (list_at terms.setup.now.chart.border region.state.number) j →
+    result ≡ occupancy region.state.rows p) → result ≡ field_held terms t (border_cell terms.setup.now.chart r j)
 border-now terms table r t j result region field within started inside stands told =
     let number = stands-number terms r t region stands in
-    let cells : List ℕ = list_at terms.chart.now.cells r in
-    let i : ℕ = border_cell terms.chart.now r j in
-    let listed : Contains cells i = (field.chart.regions r within).inside i (Contains-get_or (list_at terms.chart.now.border r) j 0 inside) in
+    let cells : List ℕ = list_at terms.setup.now.chart.cells r in
+    let i : ℕ = border_cell terms.setup.now.chart r j in
+    let listed : Contains cells i = (field.chart.regions r within).inside i (Contains-get_or (list_at terms.setup.now.chart.border r) j 0 inside) in
     let p : ℕ = listed.0 in
     let here : slice_index cells p ≡ i = get_or_default cells p 0 i listed.1 ∙ listed.2 in
     let there : result ≡ occupancy region.state.rows p = rw number at told p listed.1 here in
     there ∙ ap (λ state. occupancy state.rows p) stands.state ∙
-    occupancy-grid terms.net.now terms.chart.now terms.start.now terms.every r t p field.sound field.charted within started listed.1 ∙ ap (field_held terms t) here
+    occupancy-grid terms.setup.now.net terms.setup.now.chart terms.setup.now.start terms.setup.now.every r t p field.sound field.charted within started listed.1 ∙ ap (field_held terms t) here
 
 -- the chart's neighbours are those of the network
-pub listed-near : (terms : Terms) (table : TableId) (r q : ℕ) → IsTableFor terms table → r < region_count terms.chart.now.cut → Contains (list_at terms.chart.now.neighbours r) q →
-    are_neighbours terms.net.now.connectors terms.chart.now.cut r q ≡ true
+pub listed-near : (terms : Terms) (table : TableId) (r q : ℕ) → IsTableFor terms table → r < region_count terms.setup.now.chart.cut → Contains (list_at terms.setup.now.chart.neighbours r) q →
+    are_neighbours terms.setup.now.net.connectors terms.setup.now.chart.cut r q ≡ true
 listed-near terms table r q field within listed =
-    (Contains-neighbours_of terms.net.now terms.chart.now.cut r q (subst (λ list. Contains list q) (chart-neighbours terms.net.now terms.chart.now.cut terms.chart.now r field.charted within) listed)).1
+    (Contains-neighbours_of terms.setup.now.net terms.setup.now.chart.cut r q (subst (λ list. Contains list q) (chart-neighbours terms.setup.now.net terms.setup.now.chart.cut terms.setup.now.chart r field.charted within) listed)).1
 
 -- a halo cell is a neighbour's border cell
-pub halo-beside : (terms : Terms) (table : TableId) (r : ℕ) (other : Halo) → IsTableFor terms table → r < region_count terms.chart.now.cut → Contains (list_at terms.chart.now.halo r) other →
-    (are_neighbours terms.net.now.connectors terms.chart.now.cut r other.region ≡ true) × (other.place < width_at (widths_of terms.chart.now) other.region) ×
-    (border_cell terms.chart.now other.region other.place ≡ other.cell)
+pub halo-beside : (terms : Terms) (table : TableId) (r : ℕ) (other : Halo) → IsTableFor terms table → r < region_count terms.setup.now.chart.cut → Contains (list_at terms.setup.now.chart.halo r) other →
+    (are_neighbours terms.setup.now.net.connectors terms.setup.now.chart.cut r other.region ≡ true) × (other.place < width_at (widths_of terms.setup.now.chart) other.region) ×
+    (border_cell terms.setup.now.chart other.region other.place ≡ other.cell)
 halo-beside terms table r other field within listed =
     let facts = (field.chart.regions r within).met other listed in
-    (listed-near terms table r other.region field within facts.0, omega (arith, facts.2, width_at-widths_of terms.chart.now other.region), facts.3)
+    (listed-near terms table r other.region field within facts.0, omega (arith, facts.2, width_at-widths_of terms.setup.now.chart other.region), facts.3)
 
 -- each neighbour stands in the chart's list
-pub near-listed : (terms : Terms) (table : TableId) (r q : ℕ) → IsTableFor terms table → r < region_count terms.chart.now.cut → are_neighbours terms.net.now.connectors terms.chart.now.cut r q ≡ true →
-    (i : ℕ) × (i < length (list_at terms.chart.now.neighbours r)) × (slice_index (list_at terms.chart.now.neighbours r) i ≡ q)
+pub near-listed : (terms : Terms) (table : TableId) (r q : ℕ) → IsTableFor terms table → r < region_count terms.setup.now.chart.cut → are_neighbours terms.setup.now.net.connectors terms.setup.now.chart.cut r q ≡ true →
+    (i : ℕ) × (i < length (list_at terms.setup.now.chart.neighbours r)) × (slice_index (list_at terms.setup.now.chart.neighbours r) i ≡ q)
 near-listed terms table r q field within near =
-    let there = (neighbours-there terms.net.now terms.chart.now r q near).1 in
-    let has : Contains (list_at terms.chart.now.neighbours r) q =
-    subst (λ list. Contains list q) (sym (chart-neighbours terms.net.now terms.chart.now.cut terms.chart.now r field.charted within)) (neighbours_of-Contains terms.net.now terms.chart.now.cut r q there near) in
-    (has.0, has.1, get_or_default (list_at terms.chart.now.neighbours r) has.0 0 q has.1 ∙ has.2)
+    let there = (neighbours-there terms.setup.now.net terms.setup.now.chart r q near).1 in
+    let has : Contains (list_at terms.setup.now.chart.neighbours r) q =
+    subst (λ list. Contains list q) (sym (chart-neighbours terms.setup.now.net terms.setup.now.chart.cut terms.setup.now.chart r field.charted within)) (neighbours_of-Contains terms.setup.now.net terms.setup.now.chart.cut r q there near) in
+    (has.0, has.1, get_or_default (list_at terms.setup.now.chart.neighbours r) has.0 0 q has.1 ∙ has.2)

@@ -26,12 +26,12 @@ pub record PassValue : Type 0 where
 
 -- a table for these terms
 pub record IsTableFor (terms : Terms) (table : TableId) : Type 0 where
-  pub sound : IsNetwork terms.net.now
-  pub charted : terms.chart.now ≡ chart_of terms.net.now terms.chart.now.cut
-  pub chart : IsChart terms.chart.now
-  pub words : table.words ≡ words_of (widths_of terms.chart.now)
-  pub fits : Fits terms.net.now terms.chart.now.cut terms.start.now
-  pub lawful : AreLawful terms.net.now terms.chart.now.cut terms.start.now.steps
+  pub sound : IsNetwork terms.setup.now.net
+  pub charted : terms.setup.now.chart ≡ chart_of terms.setup.now.net terms.setup.now.chart.cut
+  pub chart : IsChart terms.setup.now.chart
+  pub words : table.words ≡ words_of (widths_of terms.setup.now.chart)
+  pub fits : Fits terms.setup.now.net terms.setup.now.chart.cut terms.setup.now.start
+  pub lawful : AreLawful terms.setup.now.net terms.setup.now.chart.cut terms.setup.now.start.steps
 
 -- between calls a pass has a share, and holds nothing
 pub record IsIdle (view : View) (carried : List (ℕ × RegionValue)) : Type 0 where
@@ -48,13 +48,13 @@ pub record HasCounts (count : ℕ) (view : View) : Type 0 where
 
 -- what a view has seen of the regions of a field lies within its steps
 abbrev pub HasSeenInTime : Terms → View → Type 0
-HasSeenInTime terms view = (r : ℕ) → r < region_count terms.chart.now.cut → slice_index view.seen r ≤ terms.net.now.steps
+HasSeenInTime terms view = (r : ℕ) → r < region_count terms.setup.now.chart.cut → slice_index view.seen r ≤ terms.setup.now.net.steps
 
 -- the pass is one of the field's
 pub record IsPassOf (field : FieldValue) (pass : PassValue) : Type 0 where
   pub table : pass.table ≡ field.table
   pub terms : pass.knows.terms ≡ field.terms ∷ []
-  pub counts : HasCounts (region_count field.terms.chart.now.cut) pass.knows
+  pub counts : HasCounts (region_count field.terms.setup.now.chart.cut) pass.knows
   pub in_time : HasSeenInTime field.terms pass.knows
 
 -- a seat of the field that isn't spent

@@ -28,13 +28,13 @@ abbrev pub AreCarried : Terms → (seen : List ℕ) → (count : ℕ) → List (
 AreCarried terms seen zero carried = carried ≡ []
 AreCarried terms seen (suc r) carried =
     (state : RegionValue) × (others : List (ℕ × RegionValue)) × (carried ≡ (r, state) ∷ others)
-    × Stands terms.net.now terms.chart.now terms.start.now terms.every r (slice_index seen r) state × AreCarried terms seen r others
+    × Stands terms.setup.now.net terms.setup.now.chart terms.setup.now.start terms.setup.now.every r (slice_index seen r) state × AreCarried terms seen r others
 
 -- a seat that holds so many regions, and had this view before
 pub record HasGathered (terms : Terms) (old : View) (count : ℕ) (me : Mine) : Type 0 where
   pub unmoved : IsUnmoved old me.0
   pub moments : (me.0.moments ≡ old.moments) × (me.0.moment ≡ old.moment)
-  pub counts : HasCounts (region_count terms.chart.now.cut) me.0
+  pub counts : HasCounts (region_count terms.setup.now.chart.cut) me.0
   pub in_time : HasSeenInTime terms me.0
   pub holds : me.0.holds ≡ held_to me.0.seen count
   pub carried : AreCarried terms me.0.seen count me.1
@@ -46,7 +46,7 @@ pub record HasGathered (terms : Terms) (old : View) (count : ℕ) (me : Mine) : 
 pub record HasStopped (terms : Terms) (old : View) (r tries : ℕ) (me : Mine) : Type 0 where
   pub unmoved : IsUnmoved old me.0
   pub moments : (me.0.moments ≡ old.moments) × (me.0.moment ≡ old.moment)
-  pub counts : HasCounts (region_count terms.chart.now.cut) me.0
+  pub counts : HasCounts (region_count terms.setup.now.chart.cut) me.0
   pub in_time : HasSeenInTime terms me.0
   pub holds : me.0.holds ≡ held_to me.0.seen r
   pub carried : AreCarried terms me.0.seen r me.1

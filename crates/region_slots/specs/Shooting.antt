@@ -30,32 +30,32 @@ pub record IsUnmoved (old new : View) : Type 0 where
 -- than before. The pass held all regions together, at these steps, at one moment more. No road holds more than its room.
 -- From a true start the row of each cell is that of the plain recurrences at the step of its region, and the books balance.
 pub record HasShot (terms : Terms) (old new : View) (room : RoomValue) : Type 0 where
-  pub snapshot : IsSnapshot terms.net.now terms.chart.now.cut terms.start.now room
+  pub snapshot : IsSnapshot terms.setup.now.net terms.setup.now.chart.cut terms.setup.now.start room
   pub seen : new.seen ≡ room.steps
-  pub later : (r : ℕ) → r < region_count terms.chart.now.cut → slice_index old.seen r ≤ slice_index room.steps r
-  pub looks : (r : ℕ) → r < region_count terms.chart.now.cut → slice_index new.looks r ≡ slice_index old.looks r + 1
+  pub later : (r : ℕ) → r < region_count terms.setup.now.chart.cut → slice_index old.seen r ≤ slice_index room.steps r
+  pub looks : (r : ℕ) → r < region_count terms.setup.now.chart.cut → slice_index new.looks r ≡ slice_index old.looks r + 1
   pub moments : new.moments ≡ old.moments + 1
   pub moment : new.moment ≡ room.steps
-  pub rooms : KeepsRooms terms.net.now room.rows
-  pub recurrences : IsTrueStart terms.net.now terms.chart.now.cut terms.start.now → (i : ℕ) → i < length terms.net.now.cells →
-      row_at room.rows i ≡ row_at (state_at terms.net.now (slice_index room.steps (region_at terms.chart.now.cut i))) i
-  pub books : IsTrueStart terms.net.now terms.chart.now.cut terms.start.now → KeepsBooks terms.net.now terms.chart.now.cut room.rows
+  pub rooms : KeepsRooms terms.setup.now.net room.rows
+  pub recurrences : IsTrueStart terms.setup.now.net terms.setup.now.chart.cut terms.setup.now.start → (i : ℕ) → i < length terms.setup.now.net.cells →
+      row_at room.rows i ≡ row_at (state_at terms.setup.now.net (slice_index room.steps (region_at terms.setup.now.chart.cut i))) i
+  pub books : IsTrueStart terms.setup.now.net terms.setup.now.chart.cut terms.setup.now.start → KeepsBooks terms.setup.now.net terms.setup.now.chart.cut room.rows
 
 -- the steps of all regions as the whole share finds them: they are its moves since the start, and none lies past both the
 -- start and its reach
 pub record IsWhole (terms : Terms) (view : View) (steps : List ℕ) : Type 0 where
-  pub moves : steps_since terms.start.now (region_count terms.chart.now.cut) steps ≡ length view.log
-  pub reached : (r : ℕ) → r < region_count terms.chart.now.cut → slice_index steps r ≤ max (slice_index terms.start.now.steps r) view.reach
+  pub moves : steps_since terms.setup.now.start (region_count terms.setup.now.chart.cut) steps ≡ length view.log
+  pub reached : (r : ℕ) → r < region_count terms.setup.now.chart.cut → slice_index steps r ≤ max (slice_index terms.setup.now.start.steps r) view.reach
 
 -- region r was found taken at each of the tries
 pub record IsBusy (terms : Terms) (old new : View) (r tries : ℕ) : Type 0 where
-  pub there : r < region_count terms.chart.now.cut
+  pub there : r < region_count terms.setup.now.chart.cut
   pub held_found : slice_index new.held_found r ≡ slice_index old.held_found r + tries
   pub moments : (new.moments ≡ old.moments) × (new.moment ≡ old.moment)
 
 -- what came of a shot, by its answer
 pub record IsShotOf (terms : Terms) (tries : ℕ) (old new : View) (before after : RoomValue) (shot : Shot) : Type 0 where
-  pub room : IsRoomFor terms.chart.now after
+  pub room : IsRoomFor terms.setup.now.chart after
   pub unmoved : IsUnmoved old new
   -- no region was found taken more often than it was tried
   pub tried : (q : ℕ) → slice_index new.held_found q ≤ slice_index old.held_found q + tries

@@ -14,14 +14,14 @@ use Rattle.region_slots.specs.FieldView.{IsWorkingAt}
 
 -- what cell i holds at step t
 abbrev pub field_held : Terms → (t i : ℕ) → ℕ
-field_held terms t i = grid_held terms.net.now terms.chart.now.cut terms.start.now t i
+field_held terms t i = grid_held terms.setup.now.net terms.setup.now.chart.cut terms.setup.now.start t i
 
 -- region r at step t, told what the first j cells of its halo hold
 pub record IsTold (terms : Terms) (r t j : ℕ) (region : RegionValue) : Type 0 where
-  pub opened : IsIn terms.net.now terms.chart.now region
-  pub state : region.state ≡ record (grid_state terms.net.now terms.chart.now terms.start.now terms.every r t) { put = region.state.put }
-  pub one_each : length region.state.put ≡ length (halo_cells terms.chart.now r)
-  pub told : (k : ℕ) → k < j → slice_index_or region.state.put k None ≡ Some (field_held terms t (slice_index (halo_cells terms.chart.now r) k))
+  pub opened : IsIn terms.setup.now.net terms.setup.now.chart region
+  pub state : region.state ≡ record (grid_state terms.setup.now.net terms.setup.now.chart terms.setup.now.start terms.setup.now.every r t) { put = region.state.put }
+  pub one_each : length region.state.put ≡ length (halo_cells terms.setup.now.chart r)
+  pub told : (k : ℕ) → k < j → slice_index_or region.state.put k None ≡ Some (field_held terms t (slice_index (halo_cells terms.setup.now.chart r) k))
 
 -- the view works at region r, at this step
 pub record IsAt (view : View) (r t : ℕ) : Type 0 where
@@ -32,7 +32,7 @@ pub record IsAt (view : View) (r t : ℕ) : Type 0 where
 
 -- all neighbours of the region that a view holds last are cleared
 pub record IsCleared (terms : Terms) (view : View) : Type 0 where
-  pub all : (hold : Hold) (q : ℕ) → IsWorkingAt view hold → are_neighbours terms.net.now.connectors terms.chart.now.cut hold.region q ≡ true → Contains hold.cleared q
+  pub all : (hold : Hold) (q : ℕ) → IsWorkingAt view hold → are_neighbours terms.setup.now.net.connectors terms.setup.now.chart.cut hold.region q ≡ true → Contains hold.cleared q
 
 -- so many border words of the step to come are written
 pub record HasWritten (view : View) (j : ℕ) : Type 0 where
@@ -101,7 +101,7 @@ pub record HasFallenShort (old new : View) (r q s : ℕ) : Type 0 where
 
 -- region r was found at a step below goal, and its neighbour q a step lower, at step s
 pub record IsBehind (terms : Terms) (old new : View) (goal r q s : ℕ) : Type 0 where
-  pub beside : are_neighbours terms.net.now.connectors terms.chart.now.cut r q ≡ true
+  pub beside : are_neighbours terms.setup.now.net.connectors terms.setup.now.chart.cut r q ≡ true
   pub still : IsStill old new
   pub looks : new.looks ≡ raised old.looks r
   pub takes : new.takes ≡ raised old.takes r
@@ -124,7 +124,7 @@ pub record IsMoved (terms : Terms) (old new : View) (goal r s : ℕ) : Type 0 wh
   pub below : s ≤ goal
   pub own : slice_index old.seen r + 1 ≤ s
   pub seen : slice_index new.seen r ≡ s
-  pub around : (q : ℕ) → are_neighbours terms.net.now.connectors terms.chart.now.cut r q ≡ true → s ≤ slice_index new.seen q + 1
+  pub around : (q : ℕ) → are_neighbours terms.setup.now.net.connectors terms.setup.now.chart.cut r q ≡ true → s ≤ slice_index new.seen q + 1
 
 -- what every turn keeps of a pass: its share, its splits, what it has seen, how many steps it has published, and that it has
 -- published nothing past goal

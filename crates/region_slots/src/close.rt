@@ -20,19 +20,18 @@ impl<'a> Field<'a> {
     pub fn close(self, pass: Pass) -> Closed
         requires belongs { IsPassOf self pass }
         requires whole { pass.knows.share ≡ self.terms.seats }
-        ensures steps { length result.steps.items ≡ region_count self.entry.terms.chart.now.cut }
-        ensures regions { length result.regions.items ≡ region_count self.entry.terms.chart.now.cut }
-        ensures stand { AllStand self.entry.terms.net.now self.entry.terms.chart.now self.entry.terms.start.now self.entry.terms.every result.steps.items result.regions.items }
-        ensures lawful { AreLawful self.entry.terms.net.now self.entry.terms.chart.now.cut result.steps.items }
-        ensures started { (r : ℕ) → r < region_count self.entry.terms.chart.now.cut → slice_index self.entry.terms.start.now.steps r ≤ slice_index result.steps.items r }
-        ensures later { (r : ℕ) → r < region_count self.entry.terms.chart.now.cut → slice_index pass.knows.seen r ≤ slice_index result.steps.items r }
-        ensures reached { (r : ℕ) → r < region_count self.entry.terms.chart.now.cut → slice_index result.steps.items r ≤ max (slice_index self.entry.terms.start.now.steps r) pass.knows.reach }
-        ensures moves { steps_since self.entry.terms.start.now (region_count self.entry.terms.chart.now.cut) result.steps.items ≡ length pass.knows.log }
-        ensures logged { AreLogged self.entry.terms.start.now (region_count self.entry.terms.chart.now.cut) result.steps.items pass.knows.log }
+        ensures steps { length result.steps.items ≡ region_count self.entry.terms.setup.now.chart.cut }
+        ensures regions { length result.regions.items ≡ region_count self.entry.terms.setup.now.chart.cut }
+        ensures stand { AllStand self.entry.terms.setup.now.net self.entry.terms.setup.now.chart self.entry.terms.setup.now.start self.entry.terms.setup.now.every result.steps.items result.regions.items }
+        ensures lawful { AreLawful self.entry.terms.setup.now.net self.entry.terms.setup.now.chart.cut result.steps.items }
+        ensures started { (r : ℕ) → r < region_count self.entry.terms.setup.now.chart.cut → slice_index self.entry.terms.setup.now.start.steps r ≤ slice_index result.steps.items r }
+        ensures later { (r : ℕ) → r < region_count self.entry.terms.setup.now.chart.cut → slice_index pass.knows.seen r ≤ slice_index result.steps.items r }
+        ensures reached { (r : ℕ) → r < region_count self.entry.terms.setup.now.chart.cut → slice_index result.steps.items r ≤ max (slice_index self.entry.terms.setup.now.start.steps r) pass.knows.reach }
+        ensures moves { steps_since self.entry.terms.setup.now.start (region_count self.entry.terms.setup.now.chart.cut) result.steps.items ≡ length pass.knows.log }
+        ensures logged { AreLogged self.entry.terms.setup.now.start (region_count self.entry.terms.setup.now.chart.cut) result.steps.items pass.knows.log }
     {
         let Field {
-            net: _,
-            chart,
+            layout,
             places,
             table,
             mut steps,
@@ -41,7 +40,7 @@ impl<'a> Field<'a> {
         let Pass { seat } = pass;
         let mut closed = table.close_with(seat);
         let mut r = 0;
-        while r < chart.regions() {
+        while r < layout.regions() {
             let word = places.step(r);
             steps.push_reserved(closed.word(word as usize));
             regions.push_reserved(closed.take(r as usize));

@@ -1,8 +1,7 @@
 use crate::rule::Rule;
 use atomic_table::{Seat, Table};
 use border_rows::{Places, Terms, View};
-use network_file::Net;
-use region_cut::Chart;
+use region_cut::Layout;
 use region_step::Region;
 use std::alloc::Global;
 use std::marker::Model;
@@ -10,8 +9,7 @@ use std::marker::Model;
 /// Regions that any thread may take, advance by a step and give back.
 #[derive(Drop)]
 pub struct Field<'a> {
-    pub(crate) net: &'a Net,
-    pub(crate) chart: &'a Chart,
+    pub(crate) layout: &'a Layout<'a>,
     pub(crate) places: Places,
     pub(crate) table: Table<Region, View<'static>, Terms<'a>, Rule, Global>,
     // They are empty until it is closed, with room for one for each region.
@@ -29,10 +27,10 @@ impl<'a> Model for Field<'a> {
 
     ghost view = { λ field. record { terms = field.table.shared.key; table = field.table.shared.table_id } };
 
-    ghost invariant = { λ field. (field.table.shared.key.net.now ≡ field.net.now) × (field.table.shared.key.chart.now ≡ field.chart.now)
-        × (field.places ≡ widths_of field.chart.now) × IsTableFor field.table.shared.key field.table.shared.table_id
-        × (field.steps.items ≡ []) × (region_count field.chart.now.cut ≤ vec_capacity field.steps)
-        × (field.regions.items ≡ []) × (region_count field.chart.now.cut ≤ vec_capacity field.regions) };
+    ghost invariant = { λ field. (field.table.shared.key.setup.now.net ≡ field.layout.now.net) × (field.table.shared.key.setup.now.chart ≡ field.layout.now.chart)
+        × (field.places ≡ widths_of field.layout.now.chart) × IsTableFor field.table.shared.key field.table.shared.table_id
+        × (field.steps.items ≡ []) × (region_count field.layout.now.chart.cut ≤ vec_capacity field.steps)
+        × (field.regions.items ≡ []) × (region_count field.layout.now.chart.cut ≤ vec_capacity field.regions) };
 }
 
 impl<'a> Field<'a> {
@@ -41,9 +39,9 @@ impl<'a> Field<'a> {
 
     /// How many regions the field has.
     pub fn regions(&self) -> u32
-        ensures { result ≡ region_count self.now.terms.chart.now.cut }
+        ensures { result ≡ region_count self.now.terms.setup.now.chart.cut }
     {
-        self.chart.regions()
+        self.layout.regions()
     }
 }
 

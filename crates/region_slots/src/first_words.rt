@@ -6,7 +6,7 @@ ghost use Rattle.region_slots.specs.FirstWords.{AreFirstWords, AreAllFirstWords,
 
 use border_rows::Places;
 use no_memory::NoMemory;
-use region_cut::Chart;
+use region_cut::Layout;
 use region_step::Start;
 use std::alloc::Global;
 
@@ -15,39 +15,39 @@ use std::alloc::Global;
 pub(crate) fn first_words(
     alloc: Global,
     places: &Places,
-    chart: &Chart,
+    layout: &Layout,
     start: &Start,
 ) -> Result<Vec<u64>, NoMemory>
-    requires places { places.now ≡ widths_of chart.now }
-    requires steps { length start.now.steps ≡ region_count chart.now.cut }
-    requires rows { (q : ℕ) → q < region_count chart.now.cut → All (λ i. i < length start.now.rows) (list_at chart.now.border q) }
+    requires places { places.now ≡ widths_of layout.now.chart }
+    requires steps { length start.now.steps ≡ region_count layout.now.chart.cut }
+    requires rows { (q : ℕ) → q < region_count layout.now.chart.cut → All (λ i. i < length start.now.rows) (list_at layout.now.chart.border q) }
     requires earlier { length start.now.earlier ≡ length start.now.rows }
-    ensures { IfOk result (λ words. AreAllFirstWords chart.now start.now words.items) }
+    ensures { IfOk result (λ words. AreAllFirstWords layout.now.chart start.now words.items) }
 {
     let mut words = vec![in alloc; 0; places.words() as usize]?;
-    for r in 0..chart.regions() {
-        fill(&mut words, places, chart, start, r);
+    for r in 0..layout.regions() {
+        fill(&mut words, places, layout, start, r);
     }
     Ok(words)
 }
 
 // Fills the words of region `r`, but for its claim word.
-fn fill(words: &mut Vec<u64>, places: &Places, chart: &Chart, start: &Start, r: u32)
-    requires sound { IsChart chart.now }
-    requires long { length words.old.items ≡ words_of (widths_of chart.now) }
-    requires few { words_of (widths_of chart.now) < 2 ^ 32 }
-    requires places { places.now ≡ widths_of chart.now }
-    requires steps { length start.now.steps ≡ region_count chart.now.cut }
-    requires rows { (q : ℕ) → q < region_count chart.now.cut → All (λ i. i < length start.now.rows) (list_at chart.now.border q) }
+fn fill(words: &mut Vec<u64>, places: &Places, layout: &Layout, start: &Start, r: u32)
+    requires sound { IsChart layout.now.chart }
+    requires long { length words.old.items ≡ words_of (widths_of layout.now.chart) }
+    requires few { words_of (widths_of layout.now.chart) < 2 ^ 32 }
+    requires places { places.now ≡ widths_of layout.now.chart }
+    requires steps { length start.now.steps ≡ region_count layout.now.chart.cut }
+    requires rows { (q : ℕ) → q < region_count layout.now.chart.cut → All (λ i. i < length start.now.rows) (list_at layout.now.chart.border q) }
     requires earlier { length start.now.earlier ≡ length start.now.rows }
-    requires there { r < region_count chart.now.cut }
-    ensures only { OnlyThose chart.now words.old.items words.new.items r }
-    ensures filled { AreFirstWords chart.now start.now words.new.items r }
+    requires there { r < region_count layout.now.chart.cut }
+    ensures only { OnlyThose layout.now.chart words.old.items words.new.items r }
+    ensures filled { AreFirstWords layout.now.chart start.now words.new.items r }
 {
     let step = start.steps[r as usize];
     let parity = (step % 2) as u32;
     words[places.step(r) as usize] = step;
-    let border = chart.border(r);
+    let border = layout.border(r);
     for j in 0..border.len() {
         let cell = border[j] as usize;
         words[places.row(r, parity, j as u32) as usize] = start.rows[cell].n;

@@ -33,13 +33,13 @@ impl<'a> Field<'a> {
         requires idle { HasGathered self.now.terms seat.old.me.0 0 seat.old.me }
         requires tries { 1 ≤ tries }
         ensures same { (seat.new.id ≡ seat.old.id) × (seat.new.table_id ≡ seat.old.table_id) }
-        ensures all { result ≡ None → HasGathered self.now.terms seat.old.me.0 (region_count self.now.terms.chart.now.cut) seat.new.me }
-        ensures there { (r : ℕ) → result ≡ Some r → r < region_count self.now.terms.chart.now.cut }
+        ensures all { result ≡ None → HasGathered self.now.terms seat.old.me.0 (region_count self.now.terms.setup.now.chart.cut) seat.new.me }
+        ensures there { (r : ℕ) → result ≡ Some r → r < region_count self.now.terms.setup.now.chart.cut }
         ensures stopped { (r : ℕ) → result ≡ Some r → HasStopped self.now.terms seat.old.me.0 r tries seat.new.me }
         ensures tried { (q : ℕ) → slice_index seat.new.me.0.held_found q ≤ slice_index seat.old.me.0.held_found q + tries }
         ensures never_whole { seat.old.me.0.share ≡ self.now.terms.seats → result ≡ None }
     {
-        for region in 0..self.chart.regions() {
+        for region in 0..self.layout.regions() {
             if !self.takes_next(seat, region, tries) {
                 return Some(region);
             }
@@ -50,7 +50,7 @@ impl<'a> Field<'a> {
     // Takes the next region, or tells that another seat had it at each of the tries.
     fn takes_next(&self, seat: &mut Seat<Region, View<'static>>, region: u32, tries: u32) -> bool
         requires seat { IsSeatOf self.now seat.old }
-        requires there { region < region_count self.now.terms.chart.now.cut }
+        requires there { region < region_count self.now.terms.setup.now.chart.cut }
         requires tries { 1 ≤ tries }
         requires gathered { (old : ViewValue) × HasGathered self.now.terms old region seat.old.me }
         ensures same { (seat.new.id ≡ seat.old.id) × (seat.new.table_id ≡ seat.old.table_id) }
@@ -79,10 +79,10 @@ impl<'a> Field<'a> {
         pauses: &mut Pauses,
     ) -> bool
         requires seat { IsSeatOf self.now seat.old }
-        requires there { region < region_count self.now.terms.chart.now.cut }
+        requires there { region < region_count self.now.terms.setup.now.chart.cut }
         requires tries { 1 ≤ tries }
         requires others { (hold : Hold) → Contains seat.old.me.0.holds hold → hold.region ≢ region }
-        requires counts { HasCounts (region_count self.now.terms.chart.now.cut) seat.old.me.0 }
+        requires counts { HasCounts (region_count self.now.terms.setup.now.chart.cut) seat.old.me.0 }
         requires first { pauses.old ≡ 0 }
         ensures same { (seat.new.id ≡ seat.old.id) × (seat.new.table_id ≡ seat.old.table_id) }
         ensures taken { IsTrue result → (failed : ℕ) × (view : ViewValue) × HasTried seat.old.me.0 view region failed × (failed < tries) × (seat.new.me ≡ (taken view region, seat.old.me.1)) }
@@ -106,11 +106,11 @@ impl<'a> Field<'a> {
     /// Tells that the regions, which the seat holds all, stand together at the steps that it has seen: one moment more of it.
     pub(crate) fn sees_together(&self, seat: &mut Seat<Region, View<'static>>)
         requires seat { IsSeatOf self.now seat.old }
-        requires gathered { (old : ViewValue) × HasGathered self.now.terms old (region_count self.now.terms.chart.now.cut) seat.old.me }
+        requires gathered { (old : ViewValue) × HasGathered self.now.terms old (region_count self.now.terms.setup.now.chart.cut) seat.old.me }
         ensures same { (seat.new.id ≡ seat.old.id) × (seat.new.table_id ≡ seat.old.table_id) }
         ensures moment { seat.new.me ≡ (gathered seat.old.me.0, seat.old.me.1) }
-        ensures lawful { AreLawful self.now.terms.net.now self.now.terms.chart.now.cut seat.old.me.0.seen }
-        ensures started { (r : ℕ) → r < region_count self.now.terms.chart.now.cut → slice_index self.now.terms.start.now.steps r ≤ slice_index seat.old.me.0.seen r }
+        ensures lawful { AreLawful self.now.terms.setup.now.net self.now.terms.setup.now.chart.cut seat.old.me.0.seen }
+        ensures started { (r : ℕ) → r < region_count self.now.terms.setup.now.chart.cut → slice_index self.now.terms.setup.now.start.steps r ≤ slice_index seat.old.me.0.seen r }
         ensures whole { seat.old.me.0.share ≡ self.now.terms.seats → IsWhole self.now.terms seat.old.me.0 seat.old.me.0.seen }
     {
         self.table.shared.load::<Gather>(seat, 0);
@@ -119,15 +119,15 @@ impl<'a> Field<'a> {
     /// Copies the regions, which the seat holds all, to a room.
     pub(crate) fn shows(&self, seat: &mut Seat<Region, View<'static>>, room: &mut ShotRoom)
         requires seat { IsSeatOf self.now seat.old }
-        requires carried { AreCarried self.now.terms seat.old.me.0.seen (region_count self.now.terms.chart.now.cut) seat.old.me.1 }
-        requires room { IsRoomFor self.now.terms.chart.now room.old }
+        requires carried { AreCarried self.now.terms seat.old.me.0.seen (region_count self.now.terms.setup.now.chart.cut) seat.old.me.1 }
+        requires room { IsRoomFor self.now.terms.setup.now.chart room.old }
         ensures same { (seat.new.id ≡ seat.old.id) × (seat.new.table_id ≡ seat.old.table_id) × (seat.new.me ≡ seat.old.me) }
-        ensures room { IsRoomFor self.now.terms.chart.now room.new }
-        ensures shown { (r : ℕ) → r < region_count self.now.terms.chart.now.cut → (state : RegionValue)
-            × Stands self.now.terms.net.now self.now.terms.chart.now self.now.terms.start.now self.now.terms.every r (slice_index seat.old.me.0.seen r) state
-            × ShowsRegion self.now.terms.chart.now room.new state }
+        ensures room { IsRoomFor self.now.terms.setup.now.chart room.new }
+        ensures shown { (r : ℕ) → r < region_count self.now.terms.setup.now.chart.cut → (state : RegionValue)
+            × Stands self.now.terms.setup.now.net self.now.terms.setup.now.chart self.now.terms.setup.now.start self.now.terms.setup.now.every r (slice_index seat.old.me.0.seen r) state
+            × ShowsRegion self.now.terms.setup.now.chart room.new state }
     {
-        let mut left = self.chart.regions();
+        let mut left = self.layout.regions();
         while left > 0 {
             left -= 1;
             self.shows_last(seat, left, room);
@@ -139,21 +139,21 @@ impl<'a> Field<'a> {
     fn shows_last(&self, seat: &mut Seat<Region, View<'static>>, region: u32, room: &mut ShotRoom)
         requires seat { IsSeatOf self.now seat.old }
         requires slot { (step : ℕ) × (state : RegionValue) × (seat.old.me.1 ≡ (region, state) ∷ rest seat.old.me.1)
-            × Stands self.now.terms.net.now self.now.terms.chart.now self.now.terms.start.now self.now.terms.every region step state }
-        requires room { IsRoomFor self.now.terms.chart.now room.old }
+            × Stands self.now.terms.setup.now.net self.now.terms.setup.now.chart self.now.terms.setup.now.start self.now.terms.setup.now.every region step state }
+        requires room { IsRoomFor self.now.terms.setup.now.chart room.old }
         ensures same { (seat.new.id ≡ seat.old.id) × (seat.new.table_id ≡ seat.old.table_id) × (seat.new.me ≡ seat.old.me) }
-        ensures room { IsRoomFor self.now.terms.chart.now room.new }
-        ensures shows { (state : RegionValue) → seat.old.me.1 ≡ (region, state) ∷ rest seat.old.me.1 → ShowsRegion self.now.terms.chart.now room.new state }
-        ensures others { StaysBeside self.now.terms.chart.now room.old room.new region }
+        ensures room { IsRoomFor self.now.terms.setup.now.chart room.new }
+        ensures shows { (state : RegionValue) → seat.old.me.1 ≡ (region, state) ∷ rest seat.old.me.1 → ShowsRegion self.now.terms.setup.now.chart room.new state }
+        ensures others { StaysBeside self.now.terms.setup.now.chart room.old room.new region }
     {
         let state = seat.slot_mut(&self.table.shared, region as usize);
-        room.fill(self.chart, state);
+        room.fill(self.layout, state);
     }
 
     /// Gives the first regions back, so many of them, which are all that the seat holds.
     pub(crate) fn gives_back(&self, seat: &mut Seat<Region, View<'static>>, count: u32)
         requires seat { IsSeatOf self.now seat.old }
-        requires there { count ≤ region_count self.now.terms.chart.now.cut }
+        requires there { count ≤ region_count self.now.terms.setup.now.chart.cut }
         requires holds { seat.old.me.0.holds ≡ held_to seat.old.me.0.seen count }
         requires carried { AreCarried self.now.terms seat.old.me.0.seen count seat.old.me.1 }
         ensures same { (seat.new.id ≡ seat.old.id) × (seat.new.table_id ≡ seat.old.table_id) }

@@ -10,10 +10,10 @@ impl<'a> Field<'a> {
     /// The step that a region has published. It is looked at in this call.
     pub fn look(&self, pass: &mut Pass, region: u32) -> u64
         requires belongs { IsPassOf self.now pass.old }
-        requires there { region < region_count self.now.terms.chart.now.cut }
+        requires there { region < region_count self.now.terms.setup.now.chart.cut }
         ensures knows { pass.new.knows ≡ looked pass.old.knows region result }
         ensures later { slice_index pass.old.knows.seen region ≤ result }
-        ensures in_time { result ≤ self.now.terms.net.now.steps }
+        ensures in_time { result ≤ self.now.terms.setup.now.net.steps }
         ensures belongs { IsPassOf self.now pass.new × (pass.new.id ≡ pass.old.id) }
     {
         let word = self.places.step(region);

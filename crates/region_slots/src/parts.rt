@@ -28,7 +28,7 @@ impl<'a> Field<'a> {
         ensures same { (seat.new.id ≡ seat.old.id) × (seat.new.table_id ≡ seat.old.table_id) }
         ensures put { (old : RegionValue) × (new : RegionValue) × (seat.old.me.1 ≡ (region, old) ∷ rest seat.old.me.1) × (seat.new.me ≡ (seat.old.me.0, (region, new) ∷ rest seat.old.me.1))
             × (new.state ≡ record old.state { put = slice_set old.state.put j (Some n) })
-            × (IsIn self.now.terms.net.now self.now.terms.chart.now old → IsIn self.now.terms.net.now self.now.terms.chart.now new) }
+            × (IsIn self.now.terms.setup.now.net self.now.terms.setup.now.chart old → IsIn self.now.terms.setup.now.net self.now.terms.setup.now.chart new) }
     {
         let state = seat.slot_mut(&self.table.shared, region as usize);
         state.halo_put(j, n);
@@ -37,17 +37,17 @@ impl<'a> Field<'a> {
     /// Tells the region in the seat's slot, whose neighbours are cleared, what each cell of its halo holds.
     pub(crate) fn tells(&self, seat: &mut Seat<Region, View<'static>>, region: u32, step: u64)
         requires seat { IsSeatOf self.now seat.old }
-        requires there { region < region_count self.now.terms.chart.now.cut }
+        requires there { region < region_count self.now.terms.setup.now.chart.cut }
         requires at { IsAt seat.old.me.0 region step }
         requires cleared { IsCleared self.now.terms seat.old.me.0 }
         requires slot { (state : RegionValue) × (seat.old.me.1 ≡ (region, state) ∷ rest seat.old.me.1)
-            × Stands self.now.terms.net.now self.now.terms.chart.now self.now.terms.start.now self.now.terms.every region step state }
+            × Stands self.now.terms.setup.now.net self.now.terms.setup.now.chart self.now.terms.setup.now.start self.now.terms.setup.now.every region step state }
         ensures same { (seat.new.id ≡ seat.old.id) × (seat.new.table_id ≡ seat.old.table_id) }
         ensures told { (state : RegionValue) × (seat.new.me ≡ (seat.old.me.0, (region, state) ∷ rest seat.old.me.1))
-            × IsTold self.now.terms region step (length (list_at self.now.terms.chart.now.halo region)) state }
+            × IsTold self.now.terms region step (length (list_at self.now.terms.setup.now.chart.halo region)) state }
     {
-        let _regions = self.chart.regions();
-        let halo = self.chart.halo(region);
+        let _regions = self.layout.regions();
+        let halo = self.layout.halo(region);
         for j in 0..halo.len() as u32 {
             let other = halo[j as usize];
             let n = self.load_border_word(seat, other.region, step, other.place);
@@ -58,17 +58,17 @@ impl<'a> Field<'a> {
     /// Takes the region in the seat's slot, whose halo is told, through its step.
     pub(crate) fn advances(&self, seat: &mut Seat<Region, View<'static>>, region: u32, step: u64)
         requires seat { IsSeatOf self.now seat.old }
-        requires there { region < region_count self.now.terms.chart.now.cut }
-        requires in_time { step < self.now.terms.net.now.steps }
+        requires there { region < region_count self.now.terms.setup.now.chart.cut }
+        requires in_time { step < self.now.terms.setup.now.net.steps }
         requires slot { (state : RegionValue) × (seat.old.me.1 ≡ (region, state) ∷ rest seat.old.me.1)
-            × IsTold self.now.terms region step (length (list_at self.now.terms.chart.now.halo region)) state }
-        requires started { slice_index self.now.terms.start.now.steps region ≤ step }
+            × IsTold self.now.terms region step (length (list_at self.now.terms.setup.now.chart.halo region)) state }
+        requires started { slice_index self.now.terms.setup.now.start.steps region ≤ step }
         ensures same { (seat.new.id ≡ seat.old.id) × (seat.new.table_id ≡ seat.old.table_id) }
         ensures advanced { (state : RegionValue) × (seat.new.me ≡ (seat.old.me.0, (region, state) ∷ rest seat.old.me.1))
-            × Stands self.now.terms.net.now self.now.terms.chart.now self.now.terms.start.now self.now.terms.every region (step + 1) state }
+            × Stands self.now.terms.setup.now.net self.now.terms.setup.now.chart self.now.terms.setup.now.start self.now.terms.setup.now.every region (step + 1) state }
     {
         let state = seat.slot_mut(&self.table.shared, region as usize);
-        state.advance(self.net, self.chart);
+        state.advance(self.layout);
     }
 
     /// What a border cell of the region in the seat's slot holds.
@@ -80,33 +80,33 @@ impl<'a> Field<'a> {
         j: u32,
     ) -> u64
         requires seat { IsSeatOf self.now seat.old }
-        requires there { region < region_count self.now.terms.chart.now.cut }
-        requires inside { j < length (list_at self.now.terms.chart.now.border region) }
+        requires there { region < region_count self.now.terms.setup.now.chart.cut }
+        requires inside { j < length (list_at self.now.terms.setup.now.chart.border region) }
         requires slot { (state : RegionValue) × (seat.old.me.1 ≡ (region, state) ∷ rest seat.old.me.1)
-            × Stands self.now.terms.net.now self.now.terms.chart.now self.now.terms.start.now self.now.terms.every region step state }
-        requires started { slice_index self.now.terms.start.now.steps region ≤ step }
+            × Stands self.now.terms.setup.now.net self.now.terms.setup.now.chart self.now.terms.setup.now.start self.now.terms.setup.now.every region step state }
+        requires started { slice_index self.now.terms.setup.now.start.steps region ≤ step }
         ensures same { (seat.new.id ≡ seat.old.id) × (seat.new.table_id ≡ seat.old.table_id) × (seat.new.me ≡ seat.old.me) }
-        ensures held { result ≡ field_held self.now.terms step (border_cell self.now.terms.chart.now region j) }
+        ensures held { result ≡ field_held self.now.terms step (border_cell self.now.terms.setup.now.chart region j) }
     {
         let state = seat.slot_mut(&self.table.shared, region as usize);
-        state.border_now(self.chart, j)
+        state.border_now(self.layout, j)
     }
 
     /// Writes the row of the step to come, at which the region in the seat's slot stands already.
     pub(crate) fn fills(&self, seat: &mut Seat<Region, View<'static>>, region: u32, step: u64)
         requires seat { IsSeatOf self.now seat.old }
-        requires there { region < region_count self.now.terms.chart.now.cut }
+        requires there { region < region_count self.now.terms.setup.now.chart.cut }
         requires at { (t : ℕ) × IsAt seat.old.me.0 region t × (t + 1 ≡ step) }
         requires cleared { IsCleared self.now.terms seat.old.me.0 }
         requires none { HasWritten seat.old.me.0 0 }
         requires slot { (state : RegionValue) × (seat.old.me.1 ≡ (region, state) ∷ rest seat.old.me.1)
-            × Stands self.now.terms.net.now self.now.terms.chart.now self.now.terms.start.now self.now.terms.every region step state }
-        requires started { slice_index self.now.terms.start.now.steps region ≤ step }
+            × Stands self.now.terms.setup.now.net self.now.terms.setup.now.chart self.now.terms.setup.now.start self.now.terms.setup.now.every region step state }
+        requires started { slice_index self.now.terms.setup.now.start.steps region ≤ step }
         ensures same { (seat.new.id ≡ seat.old.id) × (seat.new.table_id ≡ seat.old.table_id) }
-        ensures written { seat.new.me ≡ (wrote_many seat.old.me.0 (width_at (widths_of self.now.terms.chart.now) region), seat.old.me.1) }
+        ensures written { seat.new.me ≡ (wrote_many seat.old.me.0 (width_at (widths_of self.now.terms.setup.now.chart) region), seat.old.me.1) }
     {
-        let _regions = self.chart.regions();
-        let border = self.chart.border(region);
+        let _regions = self.layout.regions();
+        let border = self.layout.border(region);
         for j in 0..border.len() as u32 {
             let n = self.holds_now(seat, region, step, j);
             self.store_border_word(seat, region, step, j, n);
@@ -121,17 +121,17 @@ impl<'a> Field<'a> {
         step: u64,
     ) -> Option<(u32, u64)>
         requires seat { IsSeatOf self.now seat.old }
-        requires there { region < region_count self.now.terms.chart.now.cut }
+        requires there { region < region_count self.now.terms.setup.now.chart.cut }
         requires at { IsAt seat.old.me.0 region step }
-        requires long { length seat.old.me.0.seen ≡ region_count self.now.terms.chart.now.cut }
+        requires long { length seat.old.me.0.seen ≡ region_count self.now.terms.setup.now.chart.cut }
         ensures same { (seat.new.id ≡ seat.old.id) × (seat.new.table_id ≡ seat.old.table_id) × (seat.new.me.1 ≡ seat.old.me.1) }
         ensures cleared { result ≡ None → ((hold : Hold) → IsWorkingAt seat.old.me.0 hold → HasLooked seat.old.me.0 seat.new.me.0 hold) × IsCleared self.now.terms seat.new.me.0
-            × ((q : ℕ) → are_neighbours self.now.terms.net.now.connectors self.now.terms.chart.now.cut region q ≡ true → step ≤ slice_index seat.new.me.0.seen q) }
+            × ((q : ℕ) → are_neighbours self.now.terms.setup.now.net.connectors self.now.terms.setup.now.chart.cut region q ≡ true → step ≤ slice_index seat.new.me.0.seen q) }
         ensures short { (q s : ℕ) → result ≡ Some (q, s) → HasFallenShort seat.old.me.0 seat.new.me.0 region q s × (s + 1 ≡ step) × IsAt seat.new.me.0 region step
-            × (are_neighbours self.now.terms.net.now.connectors self.now.terms.chart.now.cut region q ≡ true) }
+            × (are_neighbours self.now.terms.setup.now.net.connectors self.now.terms.setup.now.chart.cut region q ≡ true) }
     {
-        let _regions = self.chart.regions();
-        let neighbours = self.chart.neighbours(region);
+        let _regions = self.layout.regions();
+        let neighbours = self.layout.neighbours(region);
         for k in 0..neighbours.len() {
             let q = neighbours[k];
             let s = self.load_neighbour_step(seat, q);
@@ -145,20 +145,20 @@ impl<'a> Field<'a> {
     /// Takes the region held last, whose neighbours are cleared, through its step, publishes it and gives it back.
     pub(crate) fn rises(&self, seat: &mut Seat<Region, View<'static>>, region: u32, step: u64)
         requires seat { IsSeatOf self.now seat.old }
-        requires there { region < region_count self.now.terms.chart.now.cut }
-        requires in_time { step < self.now.terms.net.now.steps }
+        requires there { region < region_count self.now.terms.setup.now.chart.cut }
+        requires in_time { step < self.now.terms.setup.now.net.steps }
         requires at { IsAt seat.old.me.0 region step }
         requires cleared { IsCleared self.now.terms seat.old.me.0 }
         requires none { HasWritten seat.old.me.0 0 }
         requires slot { (state : RegionValue) × (seat.old.me.1 ≡ (region, state) ∷ rest seat.old.me.1)
-            × Stands self.now.terms.net.now self.now.terms.chart.now self.now.terms.start.now self.now.terms.every region step state }
-        requires started { slice_index self.now.terms.start.now.steps region ≤ step }
+            × Stands self.now.terms.setup.now.net self.now.terms.setup.now.chart self.now.terms.setup.now.start self.now.terms.setup.now.every region step state }
+        requires started { slice_index self.now.terms.setup.now.start.steps region ≤ step }
         ensures same { (seat.new.id ≡ seat.old.id) × (seat.new.table_id ≡ seat.old.table_id) }
-        ensures risen { seat.new.me ≡ (freed (published (wrote_many seat.old.me.0 (width_at (widths_of self.now.terms.chart.now) region)) region (step + 1)), rest seat.old.me.1) }
+        ensures risen { seat.new.me ≡ (freed (published (wrote_many seat.old.me.0 (width_at (widths_of self.now.terms.setup.now.chart) region)) region (step + 1)), rest seat.old.me.1) }
         ensures later { slice_index seat.old.me.0.seen region ≤ step + 1 }
         ensures in_time { HasSeenInTime self.now.terms seat.new.me.0 }
     {
-        let net: &Net = self.net;
+        let net: &Net = self.layout.net();
         let _steps = net.steps;
         self.tells(seat, region, step);
         self.advances(seat, region, step);

@@ -29,8 +29,8 @@ impl<'a> Field<'a> {
         ensures knows { pass.new.knows ≡ united pass.old.knows other.knows }
         ensures same { (pass.new.id ≡ pass.old.id) × (pass.new.table ≡ pass.old.table) }
         ensures belongs { IsPassOf self.now pass.new }
-        ensures whole { pass.new.knows.share ≡ self.now.terms.seats → (r : ℕ) → r < region_count self.now.terms.chart.now.cut →
-            slice_index pass.new.knows.seen r ≤ max (slice_index self.now.terms.start.now.steps r) pass.new.knows.reach }
+        ensures whole { pass.new.knows.share ≡ self.now.terms.seats → (r : ℕ) → r < region_count self.now.terms.setup.now.chart.cut →
+            slice_index pass.new.knows.seen r ≤ max (slice_index self.now.terms.setup.now.start.steps r) pass.new.knows.reach }
     {
         let Pass { seat } = other;
         self.table.shared.join_seat::<Unite>(&mut pass.seat, seat);

@@ -24,7 +24,7 @@ impl<'a> Field<'a> {
     /// tries at most, copies them all and gives them all back.
     pub fn shot(&self, pass: &mut Pass, room: &mut ShotRoom, tries: u32) -> Shot
         requires belongs { IsPassOf self.now pass.old }
-        requires room { IsRoomFor self.now.terms.chart.now room.old }
+        requires room { IsRoomFor self.now.terms.setup.now.chart room.old }
         requires tries { 1 ≤ tries }
         ensures belongs { IsPassOf self.now pass.new × (pass.new.id ≡ pass.old.id) }
         ensures shot { IsShotOf self.now.terms tries pass.old.knows pass.new.knows room.old room.new result }
@@ -41,14 +41,14 @@ impl<'a> Field<'a> {
     ) -> Shot
         requires seat { IsSeatOf self.now seat.old }
         requires idle { IsIdle seat.old.me.0 seat.old.me.1 }
-        requires counts { HasCounts (region_count self.now.terms.chart.now.cut) seat.old.me.0 }
+        requires counts { HasCounts (region_count self.now.terms.setup.now.chart.cut) seat.old.me.0 }
         requires in_time { HasSeenInTime self.now.terms seat.old.me.0 }
-        requires room { IsRoomFor self.now.terms.chart.now room.old }
+        requires room { IsRoomFor self.now.terms.setup.now.chart room.old }
         requires tries { 1 ≤ tries }
         ensures same { (seat.new.id ≡ seat.old.id) × (seat.new.table_id ≡ seat.old.table_id) }
         ensures terms { seat.new.me.0.terms ≡ seat.old.me.0.terms }
         ensures idle { IsIdle seat.new.me.0 seat.new.me.1 }
-        ensures counts { HasCounts (region_count self.now.terms.chart.now.cut) seat.new.me.0 }
+        ensures counts { HasCounts (region_count self.now.terms.setup.now.chart.cut) seat.new.me.0 }
         ensures in_time { HasSeenInTime self.now.terms seat.new.me.0 }
         ensures shot { IsShotOf self.now.terms tries seat.old.me.0 seat.new.me.0 room.old room.new result }
     {
@@ -58,7 +58,7 @@ impl<'a> Field<'a> {
         }
         self.sees_together(seat);
         self.shows(seat, room);
-        self.gives_back(seat, self.chart.regions());
+        self.gives_back(seat, self.layout.regions());
         Shot::Taken
     }
 }

@@ -23,12 +23,12 @@ impl<'a> Field<'a> {
     /// Tries to take a region, and gives whether the seat has it now.
     pub(crate) fn try_claim(&self, seat: &mut Seat<Region, View<'static>>, region: u32) -> bool
         requires seat { IsSeatOf self.now seat.old }
-        requires there { region < region_count self.now.terms.chart.now.cut }
+        requires there { region < region_count self.now.terms.setup.now.chart.cut }
         requires others { (hold : Hold) → Contains seat.old.me.0.holds hold → hold.region ≢ region }
         ensures same { (seat.new.id ≡ seat.old.id) × (seat.new.table_id ≡ seat.old.table_id) }
         ensures taken { IsTrue result → seat.new.me ≡ (taken seat.old.me.0 region, seat.old.me.1) }
         ensures held { result ≡ false → seat.new.me ≡ (found_taken seat.old.me.0 region, seat.old.me.1) }
-        ensures long { length seat.old.me.0.seen ≡ region_count self.now.terms.chart.now.cut }
+        ensures long { length seat.old.me.0.seen ≡ region_count self.now.terms.setup.now.chart.cut }
         ensures in_time { HasSeenInTime self.now.terms seat.old.me.0 }
         ensures never_whole { seat.old.me.0.share ≡ self.now.terms.seats → IsTrue result }
     {
@@ -43,14 +43,14 @@ impl<'a> Field<'a> {
     /// The step of the region just taken, whose state is the seat's now.
     pub(crate) fn load_own_step(&self, seat: &mut Seat<Region, View<'static>>, region: u32) -> u64
         requires seat { IsSeatOf self.now seat.old }
-        requires there { region < region_count self.now.terms.chart.now.cut }
+        requires there { region < region_count self.now.terms.setup.now.chart.cut }
         requires fresh { (later : List Hold) × (seat.old.me.0.holds ≡ fresh region ∷ later) }
         ensures same { (seat.new.id ≡ seat.old.id) × (seat.new.table_id ≡ seat.old.table_id) }
         ensures state { (state : RegionValue) × (seat.new.me ≡ (found_at seat.old.me.0 region result, (region, state) ∷ seat.old.me.1))
-            × Stands self.now.terms.net.now self.now.terms.chart.now self.now.terms.start.now self.now.terms.every region result state }
+            × Stands self.now.terms.setup.now.net self.now.terms.setup.now.chart self.now.terms.setup.now.start self.now.terms.setup.now.every region result state }
         ensures later { slice_index seat.old.me.0.seen region ≤ result }
-        ensures started { slice_index self.now.terms.start.now.steps region ≤ result }
-        ensures in_time { result ≤ self.now.terms.net.now.steps }
+        ensures started { slice_index self.now.terms.setup.now.start.steps region ≤ result }
+        ensures in_time { result ≤ self.now.terms.setup.now.net.steps }
     {
         let word = self.places.step(region);
         self.table.shared.load::<Learn>(seat, word as usize)
@@ -64,7 +64,7 @@ impl<'a> Field<'a> {
     ) -> u64
         requires seat { IsSeatOf self.now seat.old }
         requires working { (hold : Hold) × IsWorkingAt seat.old.me.0 hold
-            × (are_neighbours self.now.terms.net.now.connectors self.now.terms.chart.now.cut hold.region neighbour ≡ true) }
+            × (are_neighbours self.now.terms.setup.now.net.connectors self.now.terms.setup.now.chart.cut hold.region neighbour ≡ true) }
         ensures same { (seat.new.id ≡ seat.old.id) × (seat.new.table_id ≡ seat.old.table_id) }
         ensures near { (hold : Hold) → IsWorkingAt seat.old.me.0 hold → hold.step ≤ result → seat.new.me ≡ (cleared seat.old.me.0 neighbour result, seat.old.me.1) }
         ensures short { (hold : Hold) → IsWorkingAt seat.old.me.0 hold → result < hold.step →
@@ -84,11 +84,11 @@ impl<'a> Field<'a> {
         j: u32,
     ) -> u64
         requires seat { IsSeatOf self.now seat.old }
-        requires inside { j < width_at (widths_of self.now.terms.chart.now) neighbour }
+        requires inside { j < width_at (widths_of self.now.terms.setup.now.chart) neighbour }
         requires working { (hold : Hold) × IsWorkingAt seat.old.me.0 hold × (hold.step ≡ step) × Contains hold.cleared neighbour
-            × (are_neighbours self.now.terms.net.now.connectors self.now.terms.chart.now.cut hold.region neighbour ≡ true) }
+            × (are_neighbours self.now.terms.setup.now.net.connectors self.now.terms.setup.now.chart.cut hold.region neighbour ≡ true) }
         ensures same { (seat.new.id ≡ seat.old.id) × (seat.new.table_id ≡ seat.old.table_id) × (seat.new.me ≡ seat.old.me) }
-        ensures held { result ≡ grid_held self.now.terms.net.now self.now.terms.chart.now.cut self.now.terms.start.now step (border_cell self.now.terms.chart.now neighbour j) }
+        ensures held { result ≡ grid_held self.now.terms.setup.now.net self.now.terms.setup.now.chart.cut self.now.terms.setup.now.start step (border_cell self.now.terms.setup.now.chart neighbour j) }
     {
         let word = self.places.row(neighbour, (step % 2) as u32, j);
         self.table.shared.load::<ReadBorder>(seat, word as usize)
@@ -105,9 +105,9 @@ impl<'a> Field<'a> {
     )
         requires seat { IsSeatOf self.now seat.old }
         requires working { (hold : Hold) × IsWorkingAt seat.old.me.0 hold × (hold.region ≡ region) × (hold.step + 1 ≡ step) × (hold.written ≡ j)
-            × ((q : ℕ) → are_neighbours self.now.terms.net.now.connectors self.now.terms.chart.now.cut hold.region q ≡ true → Contains hold.cleared q) }
-        requires inside { j < width_at (widths_of self.now.terms.chart.now) region }
-        requires held { n ≡ grid_held self.now.terms.net.now self.now.terms.chart.now.cut self.now.terms.start.now step (border_cell self.now.terms.chart.now region j) }
+            × ((q : ℕ) → are_neighbours self.now.terms.setup.now.net.connectors self.now.terms.setup.now.chart.cut hold.region q ≡ true → Contains hold.cleared q) }
+        requires inside { j < width_at (widths_of self.now.terms.setup.now.chart) region }
+        requires held { n ≡ grid_held self.now.terms.setup.now.net self.now.terms.setup.now.chart.cut self.now.terms.setup.now.start step (border_cell self.now.terms.setup.now.chart region j) }
         ensures same { (seat.new.id ≡ seat.old.id) × (seat.new.table_id ≡ seat.old.table_id) }
         ensures one_more { seat.new.me ≡ (wrote seat.old.me.0, seat.old.me.1) }
     {
@@ -124,10 +124,10 @@ impl<'a> Field<'a> {
     )
         requires seat { IsSeatOf self.now seat.old }
         requires working { (hold : Hold) × IsWorkingAt seat.old.me.0 hold × (hold.region ≡ region) × (hold.step + 1 ≡ step)
-            × (hold.written ≡ width_at (widths_of self.now.terms.chart.now) region)
-            × ((q : ℕ) → are_neighbours self.now.terms.net.now.connectors self.now.terms.chart.now.cut hold.region q ≡ true → Contains hold.cleared q) }
-        requires there { region < region_count self.now.terms.chart.now.cut }
-        requires in_time { step ≤ self.now.terms.net.now.steps }
+            × (hold.written ≡ width_at (widths_of self.now.terms.setup.now.chart) region)
+            × ((q : ℕ) → are_neighbours self.now.terms.setup.now.net.connectors self.now.terms.setup.now.chart.cut hold.region q ≡ true → Contains hold.cleared q) }
+        requires there { region < region_count self.now.terms.setup.now.chart.cut }
+        requires in_time { step ≤ self.now.terms.setup.now.net.steps }
         ensures same { (seat.new.id ≡ seat.old.id) × (seat.new.table_id ≡ seat.old.table_id) }
         ensures risen { seat.new.me ≡ (published seat.old.me.0 region step, seat.old.me.1) }
         ensures later { slice_index seat.old.me.0.seen region ≤ step }
@@ -141,10 +141,10 @@ impl<'a> Field<'a> {
     /// Gives the region held last back, with its state at the step that it has published.
     pub(crate) fn free(&self, seat: &mut Seat<Region, View<'static>>, region: u32)
         requires seat { IsSeatOf self.now seat.old }
-        requires there { region < region_count self.now.terms.chart.now.cut }
+        requires there { region < region_count self.now.terms.setup.now.chart.cut }
         requires state { (hold : Hold) × (later : List Hold) × (state : RegionValue) × (others : List (ℕ × RegionValue)) × (seat.old.me.0.holds ≡ hold ∷ later) × (hold.region ≡ region)
             × (hold.known ≡ true) × (seat.old.me.1 ≡ (region, state) ∷ others)
-            × Stands self.now.terms.net.now self.now.terms.chart.now self.now.terms.start.now self.now.terms.every region (if hold.published then hold.step + 1 else hold.step) state }
+            × Stands self.now.terms.setup.now.net self.now.terms.setup.now.chart self.now.terms.setup.now.start self.now.terms.setup.now.every region (if hold.published then hold.step + 1 else hold.step) state }
         ensures same { (seat.new.id ≡ seat.old.id) × (seat.new.table_id ≡ seat.old.table_id) }
         ensures given { seat.new.me ≡ (freed seat.old.me.0, rest seat.old.me.1) }
         ensures in_time { HasSeenInTime self.now.terms seat.old.me.0 }

@@ -29,8 +29,8 @@ impl<'a> Field<'a> {
     /// taken through its step, and the observer is told. Then it is free again.
     pub fn turn<G: Gate>(&self, pass: &mut Pass, region: u32, goal: u64, gate: &G) -> Turn
         requires belongs { IsPassOf self.now pass.old }
-        requires there { region < region_count self.now.terms.chart.now.cut }
-        requires in_time { goal ≤ self.now.terms.net.now.steps }
+        requires there { region < region_count self.now.terms.setup.now.chart.cut }
+        requires in_time { goal ≤ self.now.terms.setup.now.net.steps }
         ensures belongs { IsPassOf self.now pass.new × (pass.new.id ≡ pass.old.id) }
         ensures keeps { IsWithin pass.old.knows pass.new.knows goal }
         ensures tried { pass.new.knows.tried ≡ pass.old.knows.tried ++ region ∷ [] }
@@ -55,8 +55,8 @@ impl<'a> Field<'a> {
     ) -> Turn
         requires seat { IsSeatOf self.now seat.old }
         requires idle { IsIdle seat.old.me.0 seat.old.me.1 }
-        requires there { region < region_count self.now.terms.chart.now.cut }
-        requires in_time { goal ≤ self.now.terms.net.now.steps }
+        requires there { region < region_count self.now.terms.setup.now.chart.cut }
+        requires in_time { goal ≤ self.now.terms.setup.now.net.steps }
         ensures same { (seat.new.id ≡ seat.old.id) × (seat.new.table_id ≡ seat.old.table_id) }
         ensures terms { seat.new.me.0.terms ≡ seat.old.me.0.terms }
         ensures idle { IsIdle seat.new.me.0 seat.new.me.1 }

@@ -1,6 +1,7 @@
 pub mod Recording
 pub mod Region
 pub mod Start
+pub mod Setup
 pub mod Fitting
 pub mod Grid
 pub mod Ordered

@@ -1,4 +1,5 @@
-//! The regions of a cut network, each advanced one step at a time by itself.
+//! The regions of a network that is cut, each advanced one step at a time by itself. A start says where they begin; a
+//! setup is a layout with a start, and what a field of regions is opened with.
 #![tactic(auto)]
 
 mod bounds;
@@ -9,6 +10,7 @@ mod ordered_rows;
 mod placing;
 mod recording;
 mod region;
+mod setup;
 mod start;
 
 pub use first_regions::open_regions;
@@ -16,4 +18,5 @@ pub use note::Note;
 pub use opening::{border_places, halo_cells};
 pub use recording::is_recorded;
 pub use region::Region;
+pub use setup::Setup;
 pub use start::Start;

@@ -1,7 +1,7 @@
 ghost use Rattle.std.specs.Prelude.{◌≡◌, ◌+◌, ◌<◌, ◌≤◌, ℕ, IfOk, Some, None, length, replicate, slice_index, slice_set};
 ghost use Rattle.network_file.specs.Network.{Network};
 ghost use Rattle.flow_model.specs.State.{occupancy, row_at};
-ghost use Rattle.region_cut.specs.Chart.{ChartLists, chart_of, list_at};
+ghost use Rattle.region_cut.specs.Chart.{ChartLists, list_at};
 ghost use Rattle.region_cut.specs.Cuttings.{region_count};
 ghost use Rattle.region_cut.specs.LawfulSteps.{AreLawful};
 
@@ -12,16 +12,15 @@ use crate::placing::place_cells;
 use crate::recording::{first_notes, is_recorded, note_step};
 use crate::start::Start;
 use flow_model::Row;
-use network_file::Net;
 use no_memory::NoMemory;
 use region_body::nothing_put;
-use region_cut::Chart;
+use region_cut::Layout;
 use std::alloc::Global;
 use std::marker::Model;
 
 /// A region of a cut network, with the rows of its cells at its step.
 ///
-/// It is opened with a network, its chart and a start, and used with that network and that chart alone. Before each
+/// It is opened with a layout and a start, and used with that layout alone. Before each
 /// step its halo is told what the cells around it hold as that step begins.
 #[derive(Debug, Drop)]
 pub struct Region {
@@ -69,31 +68,30 @@ impl Region {
     /// never where `every` is 0. All memory that it will need is taken here.
     pub fn open(
         alloc: Global,
-        net: &Net,
-        chart: &Chart,
+        layout: &Layout,
         start: &Start,
         r: u32,
         every: u64,
     ) -> Result<Region, NoMemory>
-        requires chart { chart.now ≡ chart_of net.now chart.now.cut }
-        requires fits { Fits net.now chart.now.cut start.now }
-        requires there { r < region_count chart.now.cut }
-        ensures opened { IfOk result (λ region. IsIn net.now chart.now region) }
+        requires fits { Fits layout.now.net layout.now.chart.cut start.now }
+        requires there { r < region_count layout.now.chart.cut }
+        ensures opened { IfOk result (λ region. IsIn layout.now.net layout.now.chart region) }
         ensures state { IfOk result (λ region. region.state ≡
-            grid_state net.now chart.now start.now every r (slice_index start.now.steps r)) }
-        ensures in_bounds { IfOk result (λ region. HasRowsInBounds net.now chart.now region.state) }
+            grid_state layout.now.net layout.now.chart start.now every r (slice_index start.now.steps r)) }
+        ensures in_bounds { IfOk result (λ region. HasRowsInBounds layout.now.net layout.now.chart region.state) }
 
         // The rows that this start's regions come to are in bounds at each step; from a true start with lawful steps they
         // are those of the recurrences, taken one step of the whole network at a time.
-        ensures bounds { StayInBounds net.now chart.now.cut start.now }
-        ensures recurrences { AreLawful net.now chart.now.cut start.now.steps → IsTrueStart net.now chart.now.cut start.now →
-            AreTheRecurrences net.now chart.now.cut start.now }
+        ensures bounds { StayInBounds layout.now.net layout.now.chart.cut start.now }
+        ensures recurrences { AreLawful layout.now.net layout.now.chart.cut start.now.steps → IsTrueStart layout.now.net layout.now.chart.cut start.now →
+            AreTheRecurrences layout.now.net layout.now.chart.cut start.now }
     {
+        let net = layout.net();
         let steps = net.steps;
         let step = start.steps[r as usize];
-        let cells = place_cells(alloc, net, chart, start, r)?;
-        let border = border_places(alloc, chart.border(r), chart.cells(r))?;
-        let put = nothing_put(alloc, chart.halo(r).len())?;
+        let cells = place_cells(alloc, layout, start, r)?;
+        let border = border_places(alloc, layout.border(r), layout.cells(r))?;
+        let put = nothing_put(alloc, layout.halo(r).len())?;
         let trail = first_notes(alloc, &cells, steps, every, step)?;
         Ok(Region {
             number: r,
@@ -145,14 +143,14 @@ impl Region {
     }
 
     /// What its `j`-th border cell holds at its step, in parts.
-    pub fn border_now(&self, chart: &Chart, j: u32) -> u64
-        requires of { IsOf chart.now self.now }
-        requires there { j < length (list_at chart.now.border self.now.state.number) }
-        ensures { (p : ℕ) → p < length (list_at chart.now.cells self.now.state.number) →
-            slice_index (list_at chart.now.cells self.now.state.number) p ≡ slice_index (list_at chart.now.border self.now.state.number) j →
+    pub fn border_now(&self, layout: &Layout, j: u32) -> u64
+        requires of { IsOf layout.now.chart self.now }
+        requires there { j < length (list_at layout.now.chart.border self.now.state.number) }
+        ensures { (p : ℕ) → p < length (list_at layout.now.chart.cells self.now.state.number) →
+            slice_index (list_at layout.now.chart.cells self.now.state.number) p ≡ slice_index (list_at layout.now.chart.border self.now.state.number) j →
             result ≡ occupancy self.now.state.rows p }
     {
-        let _cells = chart.regions();
+        let _cells = layout.regions();
         self.cells.held(self.border[j as usize])
     }
 
@@ -168,22 +166,23 @@ impl Region {
     /// Takes the region through its step, by its own rows and by what was told of its halo; nothing is told of its halo
     /// then. It takes no memory.
     #[inline(never)]
-    pub fn advance(&mut self, net: &Net, chart: &Chart)
-        requires opened { IsIn net.now chart.now self.old }
-        requires in_time { self.old.state.step < net.now.steps }
-        requires in_bounds { HasRowsInBounds net.now chart.now self.old.state }
-        requires halo { HasHaloPut net.now chart.now self.old.state }
-        ensures state { self.new.state ≡ advanced net.now chart.now self.old.state }
-        ensures opened { IsIn net.now chart.now self.new }
-        ensures bounds { HasRowsInBounds net.now chart.now self.new.state }
+    pub fn advance(&mut self, layout: &Layout)
+        requires opened { IsIn layout.now.net layout.now.chart self.old }
+        requires in_time { self.old.state.step < layout.now.net.steps }
+        requires in_bounds { HasRowsInBounds layout.now.net layout.now.chart self.old.state }
+        requires halo { HasHaloPut layout.now.net layout.now.chart self.old.state }
+        ensures state { self.new.state ≡ advanced layout.now.net layout.now.chart self.old.state }
+        ensures opened { IsIn layout.now.net layout.now.chart self.new }
+        ensures bounds { HasRowsInBounds layout.now.net layout.now.chart self.new.state }
 
         // From a start's region at a step, whose halo was told what each cell holds there, it comes to the next step.
         ensures grid { (start : StartLists) (every r t : ℕ) → slice_index start.steps r ≤ t →
-            self.old.state ≡ with_halo chart.now (grid_held net.now chart.now.cut start t) (grid_state net.now chart.now start every r t) →
-            self.new.state ≡ grid_state net.now chart.now start every r (t + 1) }
+            self.old.state ≡ with_halo layout.now.chart (grid_held layout.now.net layout.now.chart.cut start t) (grid_state layout.now.net layout.now.chart start every r t) →
+            self.new.state ≡ grid_state layout.now.net layout.now.chart start every r (t + 1) }
     {
+        let net = layout.net();
         let steps = net.steps;
-        let cells = chart.cells(self.number);
+        let cells = layout.cells(self.number);
         self.cells.step(net, self.step, cells, &self.put);
         self.step += 1;
         let recorded = is_recorded(steps, self.every, self.step);

@@ -8,7 +8,7 @@ use crate::bounds::{is_earlier_in_bounds, is_row_in_bounds};
 use flow_model::{Row, first_rows};
 use network_file::Net;
 use no_memory::NoMemory;
-use region_cut::Chart;
+use region_cut::Layout;
 use std::alloc::Global;
 use std::marker::Model;
 
@@ -35,13 +35,14 @@ impl Start {
     ghost use Rattle.region_step.specs.Start.{Fits, IsTrueStart, zero_start};
 
     /// The start at step 0: each cell holds what it holds at first.
-    pub fn zero(alloc: Global, net: &Net, chart: &Chart) -> Result<Start, NoMemory>
-        ensures start { IfOk result (λ start. start ≡ zero_start net.now chart.now.cut) }
-        ensures fits { IfOk result (λ start. Fits net.now chart.now.cut start) }
-        ensures lawful { IfOk result (λ start. AreLawful net.now chart.now.cut start.steps) }
-        ensures true_start { IfOk result (λ start. IsTrueStart net.now chart.now.cut start) }
+    pub fn zero(alloc: Global, layout: &Layout) -> Result<Start, NoMemory>
+        ensures start { IfOk result (λ start. start ≡ zero_start layout.now.net layout.now.chart.cut) }
+        ensures fits { IfOk result (λ start. Fits layout.now.net layout.now.chart.cut start) }
+        ensures lawful { IfOk result (λ start. AreLawful layout.now.net layout.now.chart.cut start.steps) }
+        ensures true_start { IfOk result (λ start. IsTrueStart layout.now.net layout.now.chart.cut start) }
     {
-        let steps = vec![in alloc; 0; chart.regions() as usize]?;
+        let net = layout.net();
+        let steps = vec![in alloc; 0; layout.regions() as usize]?;
         let earlier = vec![in alloc; 0; net.cells.len()]?;
         let rows = rows_at_first(alloc, net)?;
         Ok(Start {
@@ -54,15 +55,15 @@ impl Start {
     /// Whether regions can be opened from here: there is one step for each region, none past the last, and for each cell
     /// a row in bounds at its region's step and an earlier occupancy in bounds a step before, 0 before step 0. It takes
     /// no memory, and doesn't ask whether the steps are lawful.
-    pub fn fits(&self, net: &Net, chart: &Chart) -> bool
-        requires chart { length chart.now.cut ≡ length net.now.cells }
-        ensures { IsTrue result ↔ Fits net.now chart.now.cut self.now }
+    pub fn fits(&self, layout: &Layout) -> bool
+        ensures { IsTrue result ↔ Fits layout.now.net layout.now.chart.cut self.now }
     {
-        self.steps.len() == chart.regions() as usize
+        let net = layout.net();
+        self.steps.len() == layout.regions() as usize
             && self.rows.len() == net.cells.len()
             && self.earlier.len() == net.cells.len()
             && are_in_time(&self.steps, net.steps)
-            && are_in_bounds(self, net, chart)
+            && are_in_bounds(self, layout)
     }
 }
 
@@ -93,16 +94,15 @@ fn are_in_time(steps: &[u64], last: u64) -> bool
 }
 
 // Whether the row of each cell is in bounds at its region's step, and what it held earlier a step before.
-fn are_in_bounds(start: &Start, net: &Net, chart: &Chart) -> bool
-    requires chart { length chart.now.cut ≡ length net.now.cells }
-    requires steps { length start.now.steps ≡ region_count chart.now.cut }
-    requires rows { length start.now.rows ≡ length net.now.cells }
-    requires earlier { length start.now.earlier ≡ length net.now.cells }
-    requires in_time { All (λ s. s ≤ net.now.steps) start.now.steps }
-    ensures { IsTrue result ↔ ((i : ℕ) → i < length net.now.cells → IsCellInBounds net.now chart.now.cut start.now i) }
+fn are_in_bounds(start: &Start, layout: &Layout) -> bool
+    requires steps { length start.now.steps ≡ region_count layout.now.chart.cut }
+    requires rows { length start.now.rows ≡ length layout.now.net.cells }
+    requires earlier { length start.now.earlier ≡ length layout.now.net.cells }
+    requires in_time { All (λ s. s ≤ layout.now.net.steps) start.now.steps }
+    ensures { IsTrue result ↔ ((i : ℕ) → i < length layout.now.net.cells → IsCellInBounds layout.now.net layout.now.chart.cut start.now i) }
 {
-    for i in 0..net.cells.len() as u32 {
-        if !is_cell_in_bounds(start, net, chart, i) {
+    for i in 0..layout.net().cells.len() as u32 {
+        if !is_cell_in_bounds(start, layout, i) {
             return false;
         }
     }
@@ -110,27 +110,27 @@ fn are_in_bounds(start: &Start, net: &Net, chart: &Chart) -> bool
 }
 
 // Whether the row of cell `i` is in bounds at its region's step, and what it held earlier a step before.
-fn is_cell_in_bounds(start: &Start, net: &Net, chart: &Chart, i: u32) -> bool
-    requires there { i < length net.now.cells }
-    requires chart { length chart.now.cut ≡ length net.now.cells }
-    requires steps { length start.now.steps ≡ region_count chart.now.cut }
-    requires rows { length start.now.rows ≡ length net.now.cells }
-    requires earlier { length start.now.earlier ≡ length net.now.cells }
-    requires in_time { All (λ s. s ≤ net.now.steps) start.now.steps }
-    ensures { IsTrue result ↔ IsCellInBounds net.now chart.now.cut start.now i }
+fn is_cell_in_bounds(start: &Start, layout: &Layout, i: u32) -> bool
+    requires there { i < length layout.now.net.cells }
+    requires steps { length start.now.steps ≡ region_count layout.now.chart.cut }
+    requires rows { length start.now.rows ≡ length layout.now.net.cells }
+    requires earlier { length start.now.earlier ≡ length layout.now.net.cells }
+    requires in_time { All (λ s. s ≤ layout.now.net.steps) start.now.steps }
+    ensures { IsTrue result ↔ IsCellInBounds layout.now.net layout.now.chart.cut start.now i }
 {
-    let step = cell_step(&start.steps, chart, i);
+    let net = layout.net();
+    let step = cell_step(&start.steps, layout, i);
     let row = start.rows[i as usize];
     let earlier = start.earlier[i as usize];
     is_row_in_bounds(net, step, i, &row) && is_earlier_in_bounds(net, step, i, earlier)
 }
 
 // The step of a cell's region.
-fn cell_step(steps: &[u64], chart: &Chart, i: u32) -> u64
-    requires there { i < length chart.now.cut }
-    requires one_each { length steps.now ≡ region_count chart.now.cut }
-    ensures step { result ≡ slice_index steps.now (region_at chart.now.cut i) }
+fn cell_step(steps: &[u64], layout: &Layout, i: u32) -> u64
+    requires there { i < length layout.now.chart.cut }
+    requires one_each { length steps.now ≡ region_count layout.now.chart.cut }
+    ensures step { result ≡ slice_index steps.now (region_at layout.now.chart.cut i) }
     ensures one { (last : ℕ) → All (λ s. s ≤ last) steps.now → result ≤ last }
 {
-    steps[chart.region_of(i) as usize]
+    steps[layout.region_of(i) as usize]
 }

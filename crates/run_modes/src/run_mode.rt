@@ -18,7 +18,7 @@ use no_memory::NoMemory;
 use region_slots::Gate;
 use std::alloc::Global;
 use std::thread::Threads;
-use workerless_call::{chart_asked, large_record, network_in, records_too_much};
+use workerless_call::{large_record, layout_asked, network_in, records_too_much};
 
 /// The report of a network that workers take through all its steps, in regions.
 pub fn run_text<R: Threads + Sync, G: Gate>(
@@ -58,7 +58,7 @@ fn report_of_run<R: Threads + Sync, G: Gate>(
 {
     let _steps = net.steps;
     let every = u64::from(request.every);
-    let chart = chart_asked(alloc, net, request)?;
-    let regions = last_regions(rt, alloc, net, &chart, every, request.workers, gate)?;
-    run_report(alloc, net, &chart, &regions, every)
+    let layout = layout_asked(alloc, net, request)?;
+    let regions = last_regions(rt, alloc, &layout, every, request.workers, gate)?;
+    run_report(alloc, &layout, &regions, every)
 }

@@ -55,11 +55,11 @@ fn sample_totals<R: Threads + Sync, G: Gate>(
     ensures told { IsOk result → HasToldSample (G.told_held gate.now) (G.told_freed gate.now) net.now request }
 {
     let _steps = net.steps;
-    let chart = charted(alloc, net, regions_wanted(net, request))?;
-    let regions = last_regions(rt, alloc, net, &chart, 0, request.workers, gate)?;
+    let layout = charted(alloc, net, regions_wanted(net, request))?;
+    let regions = last_regions(rt, alloc, &layout, 0, request.workers, gate)?;
     let mut text = Vec::new(alloc);
     put_sample_line(&mut text, net, request.size, request.seed)?;
-    put_last_totals(alloc, net, &chart, &regions, &mut text)?;
+    put_last_totals(alloc, &layout, &regions, &mut text)?;
     Ok(text)
 }
 

@@ -17,7 +17,7 @@ use no_memory::NoMemory;
 use region_slots::Gate;
 use std::alloc::Global;
 use std::thread::Threads;
-use workerless_call::{chart_asked, large_record, network_in, records_too_much};
+use workerless_call::{large_record, layout_asked, network_in, records_too_much};
 
 /// The most rows that a run's shots may show: cells times shots.
 const MOST_SHOWN: u64 = 4_000_000;
@@ -77,18 +77,17 @@ fn shots_and_report<R: Threads + Sync, G: Gate>(
 {
     let _steps = net.steps;
     let every = u64::from(request.every);
-    let chart = chart_asked(alloc, net, request)?;
+    let layout = layout_asked(alloc, net, request)?;
     let Watched { mut shots, regions } = watched_regions(
         rt,
         alloc,
-        net,
-        &chart,
+        &layout,
         every,
         request.workers,
         request.shots,
         gate,
     )?;
-    let report = run_report(alloc, net, &chart, &regions, every)?;
+    let report = run_report(alloc, &layout, &regions, every)?;
     shots.extend_from_slice(&report)?;
     Ok(shots)
 }

@@ -1,17 +1,16 @@
 ghost use Rattle.std.specs.Prelude.{◌≡◌, ◌+◌, ◌<◌, ℕ, IfOk, OnOk, Some, length, slice_index, slice_set};
 ghost use Rattle.network_file.specs.Network.{Network};
 ghost use Rattle.flow_model.specs.State.{occupancy};
-ghost use Rattle.region_cut.specs.Chart.{ChartLists, chart_of, list_at};
+ghost use Rattle.region_cut.specs.Chart.{ChartLists, list_at};
 ghost use Rattle.region_cut.specs.Cuttings.{region_count};
 ghost use Rattle.region_step.specs.Advance.{HasHaloPut, HasRowsInBounds};
 ghost use Rattle.region_step.specs.Region.{RegionState};
 ghost use Rattle.region_step.specs.Start.{Fits};
 ghost use Rattle.run_trials.specs.Rounds.{IsAt, IsShaped};
 
-use network_file::Net;
 use no_memory::NoMemory;
 use plain_region::PlainRegion;
-use region_cut::Chart;
+use region_cut::Layout;
 use region_step::{Region, Start};
 use std::alloc::Global;
 
@@ -26,24 +25,22 @@ pub(crate) trait Body: Sized + Drop {
     // Region `r` at the step at which it starts.
     fn opened(
         alloc: Global,
-        net: &Net,
-        chart: &Chart,
+        layout: &Layout,
         start: &Start,
         r: u32,
         every: u64,
     ) -> Result<Self, NoMemory>
-        requires chart { chart.now ≡ chart_of net.now chart.now.cut }
-        requires fits { Fits net.now chart.now.cut start.now }
-        requires there { r < region_count chart.now.cut }
-        ensures opened { IfOk result (λ body. is_in net.now chart.now body) }
-        ensures at_start { IfOk result (λ body. IsAt net.now chart.now r (slice_index start.now.steps r) (state body)) };
+        requires fits { Fits layout.now.net layout.now.chart.cut start.now }
+        requires there { r < region_count layout.now.chart.cut }
+        ensures opened { IfOk result (λ body. is_in layout.now.net layout.now.chart body) }
+        ensures at_start { IfOk result (λ body. IsAt layout.now.net layout.now.chart r (slice_index start.now.steps r) (state body)) };
 
     // What its `j`-th border cell holds.
-    fn at_border(&self, net: &Net, chart: &Chart, j: u32) -> u64
-        requires opened { is_in net.now chart.now self.now }
-        requires there { j < length (list_at chart.now.border (state self.now).number) }
-        ensures { (p : ℕ) → p < length (list_at chart.now.cells (state self.now).number) →
-            slice_index (list_at chart.now.cells (state self.now).number) p ≡ slice_index (list_at chart.now.border (state self.now).number) j →
+    fn at_border(&self, layout: &Layout, j: u32) -> u64
+        requires opened { is_in layout.now.net layout.now.chart self.now }
+        requires there { j < length (list_at layout.now.chart.border (state self.now).number) }
+        ensures { (p : ℕ) → p < length (list_at layout.now.chart.cells (state self.now).number) →
+            slice_index (list_at layout.now.chart.cells (state self.now).number) p ≡ slice_index (list_at layout.now.chart.border (state self.now).number) j →
             result ≡ occupancy (state self.now).rows p };
 
     // Tells what the `j`-th cell of its halo holds.
@@ -53,13 +50,13 @@ pub(crate) trait Body: Sized + Drop {
         ensures opened { (net : Network) (chart : ChartLists) → is_in net chart self.old → is_in net chart self.new };
 
     // Takes it through its step.
-    fn take_step(&mut self, net: &Net, chart: &Chart) -> Result<(), NoMemory>
-        requires opened { is_in net.now chart.now self.old }
-        requires in_time { (state self.old).step < net.now.steps }
-        requires in_bounds { HasRowsInBounds net.now chart.now (state self.old) }
-        requires halo { HasHaloPut net.now chart.now (state self.old) }
-        ensures opened { OnOk result (is_in net.now chart.now self.new) }
-        ensures at_next { OnOk result (IsAt net.now chart.now (state self.old).number ((state self.old).step + 1) (state self.new)) };
+    fn take_step(&mut self, layout: &Layout) -> Result<(), NoMemory>
+        requires opened { is_in layout.now.net layout.now.chart self.old }
+        requires in_time { (state self.old).step < layout.now.net.steps }
+        requires in_bounds { HasRowsInBounds layout.now.net layout.now.chart (state self.old) }
+        requires halo { HasHaloPut layout.now.net layout.now.chart (state self.old) }
+        ensures opened { OnOk result (is_in layout.now.net layout.now.chart self.new) }
+        ensures at_next { OnOk result (IsAt layout.now.net layout.now.chart (state self.old).number ((state self.old).step + 1) (state self.new)) };
 
     ghost shaped: { (net : Network) (chart : ChartLists) (body : Self) → is_in net chart body → IsShaped chart (state body) };
 }
@@ -73,25 +70,24 @@ impl Body for Region {
 
     fn opened(
         alloc: Global,
-        net: &Net,
-        chart: &Chart,
+        layout: &Layout,
         start: &Start,
         r: u32,
         every: u64,
     ) -> Result<Region, NoMemory> {
-        Region::open(alloc, net, chart, start, r, every)
+        Region::open(alloc, layout, start, r, every)
     }
 
-    fn at_border(&self, net: &Net, chart: &Chart, j: u32) -> u64 {
-        self.border_now(chart, j)
+    fn at_border(&self, layout: &Layout, j: u32) -> u64 {
+        self.border_now(layout, j)
     }
 
     fn tell(&mut self, j: u32, n: u64) {
         self.halo_put(j, n);
     }
 
-    fn take_step(&mut self, net: &Net, chart: &Chart) -> Result<(), NoMemory> {
-        self.advance(net, chart);
+    fn take_step(&mut self, layout: &Layout) -> Result<(), NoMemory> {
+        self.advance(layout);
         Ok(())
     }
 
@@ -107,25 +103,24 @@ impl Body for PlainRegion {
 
     fn opened(
         alloc: Global,
-        net: &Net,
-        chart: &Chart,
+        layout: &Layout,
         start: &Start,
         r: u32,
         every: u64,
     ) -> Result<PlainRegion, NoMemory> {
-        PlainRegion::open(alloc, net, chart, start, r, every)
+        PlainRegion::open(alloc, layout, start, r, every)
     }
 
-    fn at_border(&self, net: &Net, chart: &Chart, j: u32) -> u64 {
-        self.border_now(chart, j)
+    fn at_border(&self, layout: &Layout, j: u32) -> u64 {
+        self.border_now(layout, j)
     }
 
     fn tell(&mut self, j: u32, n: u64) {
         self.halo_put(j, n);
     }
 
-    fn take_step(&mut self, net: &Net, chart: &Chart) -> Result<(), NoMemory> {
-        self.advance(net, chart)
+    fn take_step(&mut self, layout: &Layout) -> Result<(), NoMemory> {
+        self.advance(layout)
     }
 
     ghost shaped = { λ net chart region inside. record { there = inside.one_of.there; rows = inside.one_of.rows; before = inside.one_of.before; put = inside.one_of.put } };

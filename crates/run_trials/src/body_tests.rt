@@ -1,6 +1,5 @@
 ghost use Rattle.std.specs.Prelude.{◌≡◌, ◌<◌, ◌≤◌, ℕ, length, slice_index};
 ghost use Rattle.network_file.specs.declared.limits.TheConstants.{MOST_REGIONS};
-ghost use Rattle.region_cut.specs.Chart.{chart_of};
 ghost use Rattle.region_step.specs.Start.{Fits};
 
 use crate::alike::first_difference;
@@ -9,7 +8,7 @@ use crate::rounds::open_all;
 use network_file::{MOST_BYTES, MOST_REGIONS, Net};
 use no_memory::NoMemory;
 use plain_region::PlainRegion;
-use region_cut::{Chart, Cut, cutting};
+use region_cut::{Cut, Layout, cutting};
 use region_step::{Region, Start};
 use std::alloc::Global;
 use std::process::Abort;
@@ -68,27 +67,25 @@ fn differ_at(
 ) -> Result<Option<u64>, NoMemory>
     requires { length cut ≡ length net.now.cells }
 {
-    let chart = Chart::new(alloc, net, cut)?;
-    let start = Start::zero(alloc, net, &chart)?;
-    differ_from(alloc, net, &chart, &start, every, plain_every)
+    let layout = Layout::new(alloc, net, cut)?;
+    let start = Start::zero(alloc, &layout)?;
+    differ_from(alloc, &layout, &start, every, plain_every)
 }
 
 // The same from a start at step 0.
 fn differ_from(
     alloc: Global,
-    net: &Net,
-    chart: &Chart,
+    layout: &Layout,
     start: &Start,
     every: u64,
     plain_every: u64,
 ) -> Result<Option<u64>, NoMemory>
-    requires chart { chart.now ≡ chart_of net.now chart.now.cut }
-    requires fits { Fits net.now chart.now.cut start.now }
+    requires fits { Fits layout.now.net layout.now.chart.cut start.now }
     requires at_first { (q : ℕ) → slice_index start.now.steps q ≡ 0 }
 {
-    let mut regions = open_all::<Region>(alloc, net, chart, start, every)?;
-    let mut plain = open_all::<PlainRegion>(alloc, net, chart, start, plain_every)?;
-    first_difference(net, chart, &mut regions, &mut plain)
+    let mut regions = open_all::<Region>(alloc, layout, start, every)?;
+    let mut plain = open_all::<PlainRegion>(alloc, layout, start, plain_every)?;
+    first_difference(layout, &mut regions, &mut plain)
 }
 
 #[test]

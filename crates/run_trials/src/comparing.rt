@@ -1,16 +1,14 @@
 ghost use Rattle.std.specs.Prelude.{◌≡◌, length};
-ghost use Rattle.region_cut.specs.Chart.{chart_of};
 ghost use Rattle.region_slots.specs.FieldView.{IsPassOf};
 ghost use Rattle.snapshot.specs.Rooms.{IsRoomFor};
 
 use crate::mixed_calls::{Found, call_at_once};
 use crate::networks::whole_steps;
 use flow_model::Row;
-use network_file::Net;
 use no_memory::NoMemory;
-use region_cut::Chart;
+use region_cut::Layout;
 use region_slots::{Field, OpenGate, Pass, Shot};
-use region_step::Start;
+use region_step::Setup;
 use snapshot::ShotRoom;
 use std::alloc::Global;
 use std::process::Abort;
@@ -24,34 +22,28 @@ const SEATS: u32 = 5;
 pub(crate) fn compare_rows<R: Abort + Threads + Sync>(
     rt: &R,
     alloc: Global,
-    net: &Net,
-    chart: &Chart,
+    layout: &Layout,
     found: &Found,
-) -> Result<(), NoMemory>
-    requires chart { chart.now ≡ chart_of net.now chart.now.cut }
-    requires one_each { length chart.now.cut ≡ length net.now.cells }
-{
+) -> Result<(), NoMemory> {
+    let net = layout.net();
     let rows = whole_steps(alloc, net)?;
-    compare_with(rt, alloc, net, chart, found, &rows)
+    compare_with(rt, alloc, layout, found, &rows)
 }
 
 // The same with these rows.
 fn compare_with<R: Abort + Threads + Sync>(
     rt: &R,
     alloc: Global,
-    net: &Net,
-    chart: &Chart,
+    layout: &Layout,
     found: &Found,
     rows: &[Row],
-) -> Result<(), NoMemory>
-    requires chart { chart.now ≡ chart_of net.now chart.now.cut }
-    requires one_each { length chart.now.cut ≡ length net.now.cells }
-{
-    let mut room = ShotRoom::new(alloc, net, chart)?;
-    let start = Start::zero(alloc, net, chart)?;
-    let (field, mut pass) = Field::open(alloc, net, chart, &start, 0, SEATS)?;
+) -> Result<(), NoMemory> {
+    let net = layout.net();
+    let mut room = ShotRoom::new(alloc, layout)?;
+    let setup = Setup::zero(alloc, layout, 0)?;
+    let (field, mut pass) = Field::open(alloc, &setup, SEATS)?;
     let last = net.steps;
-    call_at_once(rt, alloc, net, chart, &field, &mut pass, found, last);
+    call_at_once(rt, alloc, layout, &field, &mut pass, found, last);
     show_last(rt, &field, &mut pass, &mut room, last);
     assert!(rt; room.rows() == rows, "the rows of whole steps");
     Ok(())
@@ -60,8 +52,8 @@ fn compare_with<R: Abort + Threads + Sync>(
 // Takes all regions to the last step, and shows them.
 fn show_last<R: Abort>(rt: &R, field: &Field, pass: &mut Pass, room: &mut ShotRoom, last: u64)
     requires belongs { IsPassOf field.now pass.old }
-    requires room { IsRoomFor field.now.terms.chart.now room.old }
-    requires in_time { last ≡ field.now.terms.net.now.steps }
+    requires room { IsRoomFor field.now.terms.setup.now.chart room.old }
+    requires in_time { last ≡ field.now.terms.setup.now.net.steps }
 {
     let _regions = field.regions();
     let driven = drive(field, pass, last, 4096, 0, &OpenGate);

@@ -1,5 +1,4 @@
 ghost use Rattle.std.specs.Prelude.{◌≡◌, length};
-ghost use Rattle.region_cut.specs.Chart.{chart_of};
 ghost use Rattle.region_cut.specs.LawfulSteps.{AreLawful};
 ghost use Rattle.region_step.specs.Start.{Fits};
 
@@ -8,9 +7,9 @@ use flow_model::Row;
 use network_file::Net;
 use network_run::regions_from;
 use no_memory::NoMemory;
-use region_cut::{Chart, Cut};
+use region_cut::{Cut, Layout};
 use region_slots::OpenGate;
-use region_step::{Note, Region, Start};
+use region_step::{Note, Region, Setup, Start};
 use std::alloc::{AllocError, Global};
 use std::process::Abort;
 use std::test::Fail;
@@ -97,28 +96,28 @@ fn recorded_in<R: Abort + Threads + Sync>(
 ) -> Result<Vec<Region>, NoMemory>
     requires { length cut ≡ length net.now.cells }
 {
-    let chart = Chart::new(alloc, net, cut)?;
+    let layout = Layout::new(alloc, net, cut)?;
     let start = gate_ahead(alloc)?;
-    assert!(rt; start.fits(net, &chart));
-    assert!(rt; is_lawful(&start.steps, net, &chart));
-    last_from(rt, alloc, net, &chart, &start, every)
+    assert!(rt; start.fits(&layout));
+    assert!(rt; is_lawful(&start.steps, &layout));
+    last_from(rt, alloc, &layout, start, every)
 }
 
 // The regions at the last step, taken there by two workers.
 fn last_from<R: Threads + Sync>(
     rt: &R,
     alloc: Global,
-    net: &Net,
-    chart: &Chart,
-    start: &Start,
+    layout: &Layout,
+    start: Start,
     every: u64,
 ) -> Result<Vec<Region>, NoMemory>
-    requires chart { chart.now ≡ chart_of net.now chart.now.cut }
-    requires fits { Fits net.now chart.now.cut start.now }
-    requires lawful { AreLawful net.now chart.now.cut start.now.steps }
+    requires fits { Fits layout.now.net layout.now.chart.cut start }
+    requires lawful { AreLawful layout.now.net layout.now.chart.cut start.steps }
 {
+    let net = layout.net();
     let last = net.steps;
-    regions_from(rt, alloc, net, chart, start, every, last, 2, &OpenGate)
+    let setup = Setup::new(layout, start, every);
+    regions_from(rt, alloc, &setup, last, 2, &OpenGate)
 }
 
 // Looks at the notes of the two regions, recorded so.

@@ -1,11 +1,9 @@
 ghost use Rattle.std.specs.Prelude.{◌≡◌, ◌≤◌, All, length};
-ghost use Rattle.region_cut.specs.Chart.{chart_of};
 ghost use Rattle.snapshot.specs.Rooms.{IsRoomFor};
 ghost use Rattle.region_slots.specs.FieldView.{IsPassOf};
 
 use flow_ledger::Books;
-use network_file::Net;
-use region_cut::Chart;
+use region_cut::Layout;
 use region_slots::{Field, Gate, Pass, Shot};
 use snapshot::ShotRoom;
 use std::alloc::Global;
@@ -93,19 +91,16 @@ impl Gate for Found {
 pub(crate) fn call_at_once<R: Threads + Sync>(
     rt: &R,
     alloc: Global,
-    net: &Net,
-    chart: &Chart,
+    layout: &Layout,
     field: &Field,
     pass: &mut Pass,
     found: &Found,
     goal: u64,
 )
-    requires network { (field.now.terms.net.now ≡ net.now) × (field.now.terms.chart.now ≡ chart.now) }
-    requires charted { chart.now ≡ chart_of net.now chart.now.cut }
-    requires one_each { length chart.now.cut ≡ length net.now.cells }
+    requires network { (field.now.terms.setup.now.net ≡ layout.now.net) × (field.now.terms.setup.now.chart ≡ layout.now.chart) }
     requires belongs { IsPassOf field.now pass.old }
     requires seats { 5 ≤ pass.old.knows.share }
-    requires in_time { goal ≤ field.now.terms.net.now.steps }
+    requires in_time { goal ≤ field.now.terms.setup.now.net.steps }
     ensures belongs { IsPassOf field.now pass.new }
 {
     let first = field.share(pass);
@@ -113,35 +108,31 @@ pub(crate) fn call_at_once<R: Threads + Sync>(
     let third = field.share(pass);
     let fourth = field.share(pass);
     let mut passes = [first, second, third, fourth];
-    each_calls(rt, alloc, net, chart, field, &mut passes, found, goal);
+    each_calls(rt, alloc, layout, field, &mut passes, found, goal);
 }
 
 // Has these passes call the field at once.
 fn each_calls<R: Threads + Sync>(
     rt: &R,
     alloc: Global,
-    net: &Net,
-    chart: &Chart,
+    layout: &Layout,
     field: &Field,
     passes: &mut [Pass],
     found: &Found,
     goal: u64,
 )
-    requires network { (field.now.terms.net.now ≡ net.now) × (field.now.terms.chart.now ≡ chart.now) }
-    requires charted { chart.now ≡ chart_of net.now chart.now.cut }
-    requires one_each { length chart.now.cut ≡ length net.now.cells }
+    requires network { (field.now.terms.setup.now.net ≡ layout.now.net) × (field.now.terms.setup.now.chart ≡ layout.now.chart) }
     requires belong { All (IsPassOf field.now) passes.old }
-    requires in_time { goal ≤ field.now.terms.net.now.steps }
+    requires in_time { goal ≤ field.now.terms.setup.now.net.steps }
 {
     let work = move |k: usize, pass: &mut Pass|
-        requires { IsPassOf field.now pass.old × (goal ≤ field.now.terms.net.now.steps)
-            × (field.now.terms.net.now ≡ net.now) × (field.now.terms.chart.now ≡ chart.now)
-            × (chart.now ≡ chart_of net.now chart.now.cut) × (length chart.now.cut ≡ length net.now.cells) }
+        requires { IsPassOf field.now pass.old × (goal ≤ field.now.terms.setup.now.net.steps)
+            × (field.now.terms.setup.now.net ≡ layout.now.net) × (field.now.terms.setup.now.chart ≡ layout.now.chart) }
     {
         match k {
             0 | 1 => take_turns(field, pass, found, goal, k == 0),
             2 => look_round(field, pass),
-            _ => shoot(alloc, net, chart, field, pass, found),
+            _ => shoot(alloc, layout, field, pass, found),
         }
     };
     for_each_mut(rt, passes, 4, &work);
@@ -150,7 +141,7 @@ fn each_calls<R: Threads + Sync>(
 // Drives to the goal, from far from where the other begins.
 fn take_turns(field: &Field, pass: &mut Pass, found: &Found, goal: u64, is_first: bool)
     requires belongs { IsPassOf field.now pass.old }
-    requires in_time { goal ≤ field.now.terms.net.now.steps }
+    requires in_time { goal ≤ field.now.terms.setup.now.net.steps }
     ensures belongs { IsPassOf field.now pass.new }
 {
     let half = field.regions() / 2;
@@ -169,14 +160,13 @@ fn look_round(field: &Field, pass: &mut Pass)
 }
 
 // Takes shots with three tries each, until so many have shown the field, one of them on the way.
-fn shoot(alloc: Global, net: &Net, chart: &Chart, field: &Field, pass: &mut Pass, found: &Found)
-    requires network { (field.now.terms.net.now ≡ net.now) × (field.now.terms.chart.now ≡ chart.now) }
-    requires charted { chart.now ≡ chart_of net.now chart.now.cut }
-    requires one_each { length chart.now.cut ≡ length net.now.cells }
+fn shoot(alloc: Global, layout: &Layout, field: &Field, pass: &mut Pass, found: &Found)
+    requires network { (field.now.terms.setup.now.net ≡ layout.now.net) × (field.now.terms.setup.now.chart ≡ layout.now.chart) }
     requires belongs { IsPassOf field.now pass.old }
     ensures belongs { IsPassOf field.now pass.new }
 {
-    let Ok(mut room) = ShotRoom::new(alloc, net, chart) else {
+    let net = layout.net();
+    let Ok(mut room) = ShotRoom::new(alloc, layout) else {
         return;
     };
     for _ in 0..1_000_000 {
@@ -184,7 +174,7 @@ fn shoot(alloc: Global, net: &Net, chart: &Chart, field: &Field, pass: &mut Pass
             return;
         }
         if field.shot(pass, &mut room, 3) == Shot::Taken {
-            let sound = is_lawful(room.steps(), net, chart) && balances(room.books(net));
+            let sound = is_lawful(room.steps(), layout) && balances(room.books(net));
             found.note(sound, is_midway(room.steps()));
         }
         yield_now();

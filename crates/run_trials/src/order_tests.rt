@@ -29,8 +29,8 @@ fn compare<R: Abort + Threads + Sync>(
     requires some { 1 ≤ regions }
     requires few { regions ≤ MOST_REGIONS }
 {
-    let chart = charted(alloc, net, regions)?;
-    compare_rows(rt, alloc, net, &chart, found)
+    let layout = charted(alloc, net, regions)?;
+    compare_rows(rt, alloc, &layout, found)
 }
 
 #[test]

@@ -13,12 +13,12 @@ use Rattle.saved_modes.specs.Recutting.{IsLastPart, IsPart, part_cutting, part_c
 use Rattle.saved_modes.specs.declared.recutting.Part.{Part}
 
 -- the regions of a part that ends at the last step stand there
-pub part-ended : (net : Network) (part : Part) (is : IsPart net part) → part.step ≡ net.steps → AreAtTheEnd net part.chart is.start 0 part.regions.items
+pub part-ended : (net : Network) (part : Part) (is : IsPart net part) → part.step ≡ net.steps → AreAtTheEnd net part.layout.chart is.start 0 part.regions.items
 part-ended net part is ended = record {
   true_start = is.from.true_start;
   lawful = is.from.lawful;
   from_zero = λ some. absurd (some refl);
-  stand = subst (λ u. AllStand net part.chart is.start 0 (replicate (region_count part.chart.cut) u) part.regions.items) ended is.at.stand;
+  stand = subst (λ u. AllStand net part.layout.chart is.start 0 (replicate (region_count part.layout.chart.cut) u) part.regions.items) ended is.at.stand;
 }
 
 -- no part ends past the last step

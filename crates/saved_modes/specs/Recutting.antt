@@ -1,9 +1,8 @@
 -- The parts of a run that is cut anew on the way.
-use Rattle.std.specs.Prelude.{◌≡◌, ⊤, ℕ, ◌+◌, ◌-◌, ◌%◌, ◌≤◌, List, Option, Some, None, length, map, min}
+use Rattle.std.specs.Prelude.{◌≡◌, ⊤, ℕ, ◌+◌, ◌-◌, ◌%◌, ◌≤◌, List, Option, Some, None, map, min}
 use Rattle.std.specs.List.{range_with_len}
 use Rattle.network_file.specs.Limits.{most_regions}
 use Rattle.network_file.specs.Network.{Network}
-use Rattle.region_cut.specs.Chart.{chart_of}
 use Rattle.region_cut.specs.Cuttings.{even_cutting}
 use Rattle.region_step.specs.Start.{StartLists}
 use Rattle.saved_run.specs.EvenStart.{IsTrueBelow, StandAt}
@@ -21,12 +20,11 @@ part_cuttings cells regions parts = map (part_cutting cells regions) (range_with
 -- the regions of a part at the step where it ends, taken there from an earlier one where the rows were those of the plain
 -- recurrences
 pub record IsPart (net : Network) (part : Part) : Type 0 where
-  pub charted : part.chart ≡ chart_of net part.chart.cut
-  pub one_each : length part.chart.cut ≡ length net.cells
+  pub network : part.layout.net ≡ net
   pub in_time : part.step ≤ net.steps
   pub start : StartLists
-  pub at : StandAt net part.chart start 0 part.step part.regions.items
-  pub from : IsTrueBelow net part.chart.cut start part.step
+  pub at : StandAt net part.layout.chart start 0 part.step part.regions.items
+  pub from : IsTrueBelow net part.layout.chart.cut start part.step
 
 -- the last part so far, where there is one
 abbrev pub IsLastPart : Network → Option Part → Type 0

@@ -1,7 +1,7 @@
-ghost use Rattle.std.specs.Prelude.{◌≡◌, ◌<◌, ◌≤◌, All, IfOk, Some, length, replicate};
-ghost use Rattle.region_cut.specs.Chart.{chart_of};
+ghost use Rattle.std.specs.Prelude.{◌≡◌, ◌<◌, ◌≤◌, ℕ, All, IfOk, Some, length, replicate, slice_index};
 ghost use Rattle.region_cut.specs.Cuttings.{region_count};
 ghost use Rattle.region_cut.specs.LawfulSteps.{AreLawful};
+ghost use Rattle.region_step.specs.Standing.{AllStand};
 ghost use Rattle.region_step.specs.Start.{Fits, IsTrueStart};
 ghost use Rattle.snapshot.specs.Shots.{goal_of};
 ghost use Rattle.delay_report.specs.Report.{report_of};
@@ -11,18 +11,18 @@ use delay_report::report_from;
 use network_file::Net;
 use network_run::regions_from;
 use no_memory::NoMemory;
-use region_cut::{Chart, Cut};
+use region_cut::{Cut, Layout};
 use region_slots::Gate;
-use region_step::{Region, Start};
+use region_step::{Region, Setup, Start};
 use saved_run::even_start;
 use std::alloc::Global;
 use std::thread::Threads;
 
-/// What a part of a run comes to: the regions of its chart, at the step where the part ends.
+/// What a part of a run comes to: the regions of its cutting, at the step where the part ends.
 #[derive(Drop)]
-pub(crate) struct Part {
+pub(crate) struct Part<'n> {
     step: u64,
-    chart: Chart,
+    layout: Layout<'n>,
     regions: Vec<Region>,
 }
 
@@ -47,7 +47,7 @@ pub fn recut_report<R: Threads + Sync, G: Gate>(
 {
     let _steps = net.steps;
     let parts = cuts.len() as u32;
-    let mut last: Option<Part> = None;
+    let mut last: Option<Part<'_>> = None;
     let mut i = 0;
     for cut in cuts {
         i += 1;
@@ -57,7 +57,7 @@ pub fn recut_report<R: Threads + Sync, G: Gate>(
         }
     }
     let part = last.unwrap();
-    part_report(alloc, net, &part)
+    part_report(alloc, &part)
 }
 
 // Goal `i` of so many parts.
@@ -72,7 +72,7 @@ fn goal_at(net: &Net, parts: u32, i: u32) -> u64
 }
 
 // The step where the last part ended, 0 before the first.
-fn step_of(last: &Option<Part>) -> u64
+fn step_of(last: &Option<Part<'_>>) -> u64
     ensures { result ≡ step_of last.now }
 {
     match last {
@@ -82,16 +82,16 @@ fn step_of(last: &Option<Part>) -> u64
 }
 
 // The part to a goal, in another cutting.
-fn next_part<R: Threads + Sync, G: Gate>(
+fn next_part<'n, R: Threads + Sync, G: Gate>(
     rt: &R,
     alloc: Global,
-    net: &Net,
-    last: Option<Part>,
+    net: &'n Net,
+    last: Option<Part<'n>>,
     cut: Cut,
     goal: u64,
     workers: u32,
     gate: &G,
-) -> Result<Part, NoMemory>
+) -> Result<Part<'n>, NoMemory>
     requires last { IsLastPart net.now last }
     requires one_each { length cut ≡ length net.now.cells }
     requires later { step_of last < goal }
@@ -100,44 +100,57 @@ fn next_part<R: Threads + Sync, G: Gate>(
     ensures part { IfOk result (IsPart net.now) }
     ensures goal { IfOk result (λ part. part.step ≡ goal) }
 {
-    let _steps = net.steps;
-    let chart = Chart::new(alloc, net, cut)?;
-    let start = part_start(alloc, net, last, &chart)?;
-    let regions = regions_from(rt, alloc, net, &chart, &start, 0, goal, workers, gate)?;
+    let layout = Layout::new(alloc, net, cut)?;
+    let start = part_start(alloc, last, &layout)?;
+    let regions = part_regions(rt, alloc, &layout, start, goal, workers, gate)?;
     Ok(Part {
         step: goal,
-        chart,
+        layout,
         regions,
     })
 }
 
-// Where the regions of a chart start behind the last part.
-fn part_start(
+// The regions of a part at its goal, from where they start.
+fn part_regions<R: Threads + Sync, G: Gate>(
+    rt: &R,
     alloc: Global,
-    net: &Net,
-    last: Option<Part>,
-    chart: &Chart,
-) -> Result<Start, NoMemory>
-    requires last { IsLastPart net.now last }
-    ensures steps { IfOk result (λ start. start.steps ≡ replicate (region_count chart.now.cut) (step_of last)) }
-    ensures fits { IfOk result (λ start. Fits net.now chart.now.cut start) }
-    ensures lawful { IfOk result (λ start. AreLawful net.now chart.now.cut start.steps) }
-    ensures true_start { IfOk result (λ start. IsTrueStart net.now chart.now.cut start) }
+    layout: &Layout,
+    start: Start,
+    goal: u64,
+    workers: u32,
+    gate: &G,
+) -> Result<Vec<Region>, NoMemory>
+    requires fits { Fits layout.now.net layout.now.chart.cut start }
+    requires lawful { AreLawful layout.now.net layout.now.chart.cut start.steps }
+    requires before { (r : ℕ) → r < region_count layout.now.chart.cut → slice_index start.steps r ≤ goal }
+    requires in_time { goal ≤ layout.now.net.steps }
+    requires workers { (1 ≤ workers) × (workers ≤ 16) }
+    ensures { IfOk result (λ regions. AllStand layout.now.net layout.now.chart start 0 (replicate (region_count layout.now.chart.cut) goal) regions.items) }
 {
-    let _steps = net.steps;
+    let setup = Setup::new(layout, start, 0);
+    regions_from(rt, alloc, &setup, goal, workers, gate)
+}
+
+// Where the regions of a cutting start behind the last part.
+fn part_start(alloc: Global, last: Option<Part<'_>>, layout: &Layout) -> Result<Start, NoMemory>
+    requires last { IsLastPart layout.now.net last }
+    ensures steps { IfOk result (λ start. start.steps ≡ replicate (region_count layout.now.chart.cut) (step_of last.entry)) }
+    ensures fits { IfOk result (λ start. Fits layout.now.net layout.now.chart.cut start) }
+    ensures lawful { IfOk result (λ start. AreLawful layout.now.net layout.now.chart.cut start.steps) }
+    ensures true_start { IfOk result (λ start. IsTrueStart layout.now.net layout.now.chart.cut start) }
+{
     match last {
-        Some(part) => even_start(alloc, net, &part.chart, &part.regions, chart),
-        None => Start::zero(alloc, net, chart),
+        Some(part) => even_start(alloc, &part.layout, &part.regions, layout),
+        None => Start::zero(alloc, layout),
     }
 }
 
 // The report of a part that ends at the last step.
-fn part_report(alloc: Global, net: &Net, part: &Part) -> Result<Vec<u8>, NoMemory>
-    requires part { IsPart net.now part.now }
-    requires ended { part.now.step ≡ net.now.steps }
-    ensures { IfOk result (λ text. text.items ≡ report_of net.now 0) }
+fn part_report(alloc: Global, part: &Part) -> Result<Vec<u8>, NoMemory>
+    requires part { IsPart part.now.layout.net part.now }
+    requires ended { part.now.step ≡ part.now.layout.net.steps }
+    ensures { IfOk result (λ text. text.items ≡ report_of part.now.layout.net 0) }
 {
-    let _steps = net.steps;
-    let text = report_from(alloc, net, &part.chart, &part.regions)?;
+    let text = report_from(alloc, &part.layout, &part.regions)?;
     Ok(text)
 }

@@ -1,6 +1,5 @@
 ghost use Rattle.std.specs.Prelude.{◌≡◌, ◌≤◌, IfErr, IfOk, None, Some, length, replicate};
 ghost use Rattle.command_words.specs.Words.{IsInRange};
-ghost use Rattle.region_cut.specs.Chart.{chart_of};
 ghost use Rattle.region_cut.specs.Cuttings.{region_count};
 ghost use Rattle.region_step.specs.Standing.{AllStand};
 ghost use Rattle.region_step.specs.Start.{IsTrueStart};
@@ -14,13 +13,13 @@ ghost use Rattle.workerless_call.specs.Task.{task_of};
 use call_ending::{Cause, Line, Refusal};
 use command_words::Request;
 use delay_report::report_from;
-use network_file::{Net, NetRefusal};
+use network_file::NetRefusal;
 use network_run::regions_from;
 use no_memory::NoMemory;
-use region_cut::Chart;
+use region_cut::Layout;
 use region_slots::Gate;
-use region_step::{Region, Start};
-use saved_run::{LoadFault, LoadRefusal, load};
+use region_step::{Region, Setup, Start};
+use saved_run::{LoadFault, LoadRefusal, Saved, load};
 use std::alloc::Global;
 use std::thread::Threads;
 use workerless_call::refused;
@@ -42,15 +41,9 @@ pub fn resume_text<R: Threads + Sync, G: Gate>(
         Err(LoadRefusal::Fault(fault)) => return Err(unsaved(alloc, fault)),
         Err(LoadRefusal::NoMemory) => return Err(Refusal::NoMemory),
     };
-    let text = report_on(
-        rt,
-        alloc,
-        &saved.net,
-        &saved.chart,
-        &saved.start,
-        request.workers,
-        gate,
-    )?;
+    let Saved { net, chart, start } = saved;
+    let layout = Layout::of(&net, chart);
+    let text = report_on(rt, alloc, &layout, start, request.workers, gate)?;
     Ok(text)
 }
 
@@ -58,24 +51,20 @@ pub fn resume_text<R: Threads + Sync, G: Gate>(
 fn report_on<R: Threads + Sync, G: Gate>(
     rt: &R,
     alloc: Global,
-    net: &Net,
-    chart: &Chart,
-    start: &Start,
+    layout: &Layout,
+    start: Start,
     workers: u32,
     gate: &G,
 ) -> Result<Vec<u8>, NoMemory>
-    requires chart { chart.now ≡ chart_of net.now chart.now.cut }
-    requires one_each { length chart.now.cut ≡ length net.now.cells }
-    requires can_start { CanStart net.now chart.now.cut start.now }
+    requires can_start { CanStart layout.now.net layout.now.chart.cut start }
     requires workers { (1 ≤ workers) × (workers ≤ 16) }
-    ensures text { IfOk result (λ text. text.items ≡ report_from net.now chart.now.cut start.now) }
+    ensures text { IfOk result (λ text. text.items ≡ report_from layout.now.net layout.now.chart.cut start) }
 
     // Of a true start it is the report of the plain recurrences.
-    ensures plain { IfOk result (λ text. IsTrueStart net.now chart.now.cut start.now → text.items ≡ report_of net.now 0) }
+    ensures plain { IfOk result (λ text. IsTrueStart layout.now.net layout.now.chart.cut start → text.items ≡ report_of layout.now.net 0) }
 {
-    let _steps = net.steps;
-    let regions = last_regions_from(rt, alloc, net, chart, start, workers, gate)?;
-    let text = report_from(alloc, net, chart, &regions)?;
+    let regions = last_regions_from(rt, alloc, layout, start, workers, gate)?;
+    let text = report_from(alloc, layout, &regions)?;
     Ok(text)
 }
 
@@ -83,19 +72,18 @@ fn report_on<R: Threads + Sync, G: Gate>(
 fn last_regions_from<R: Threads + Sync, G: Gate>(
     rt: &R,
     alloc: Global,
-    net: &Net,
-    chart: &Chart,
-    start: &Start,
+    layout: &Layout,
+    start: Start,
     workers: u32,
     gate: &G,
 ) -> Result<Vec<Region>, NoMemory>
-    requires chart { chart.now ≡ chart_of net.now chart.now.cut }
-    requires can_start { CanStart net.now chart.now.cut start.now }
+    requires can_start { CanStart layout.now.net layout.now.chart.cut start }
     requires workers { (1 ≤ workers) × (workers ≤ 16) }
-    ensures { IfOk result (λ regions. AllStand net.now chart.now start.now 0 (replicate (region_count chart.now.cut) net.now.steps) regions.items) }
+    ensures { IfOk result (λ regions. AllStand layout.now.net layout.now.chart start 0 (replicate (region_count layout.now.chart.cut) layout.now.net.steps) regions.items) }
 {
-    let last = net.steps;
-    regions_from(rt, alloc, net, chart, start, 0, last, workers, gate)
+    let net = layout.net();
+    let setup = Setup::new(layout, start, 0);
+    regions_from(rt, alloc, &setup, net.steps, workers, gate)
 }
 
 // The refusal of a text by its first fault.

@@ -15,7 +15,7 @@ use region_slots::Gate;
 use saved_run::save_text;
 use std::alloc::Global;
 use std::thread::Threads;
-use workerless_call::{chart_asked, network_in};
+use workerless_call::{layout_asked, network_in};
 
 /// The saved text of a network whose regions workers take near a step.
 pub fn saved_text<R: Threads + Sync, G: Gate>(
@@ -52,9 +52,10 @@ fn saved_near<R: Threads + Sync, G: Gate>(
 {
     let _steps = net.steps;
     let until = u64::from(request.until);
-    let chart = chart_asked(alloc, net, request)?;
-    let _regions = chart.regions();
-    let room = room_near(rt, alloc, net, &chart, until, request.workers, gate)?;
-    let text = save_text(alloc, &chart, &room, input)?;
+    let layout = layout_asked(alloc, net, request)?;
+    let _own = layout.net();
+    let _regions = layout.regions();
+    let room = room_near(rt, alloc, &layout, until, request.workers, gate)?;
+    let text = save_text(alloc, &layout, &room, input)?;
     Ok(text)
 }

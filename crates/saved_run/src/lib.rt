@@ -2,9 +2,9 @@
 //! one step, opened again in another cutting of the network (`even_start`).
 #![tactic(auto)]
 
-mod chart_in;
 mod fault;
 mod head;
+mod layout_in;
 mod lines;
 mod loading;
 mod number;

@@ -15,8 +15,8 @@ ghost use Rattle.saved_run.specs.Reading.{IsSavedText, content_of};
 ghost use Rattle.saved_run.specs.SavedText.{saved_text};
 ghost use Rattle.saved_run.specs.declared.fault.LoadRefusal.TheVariants.{NoMemory};
 
-use crate::chart_in::chart_in;
 use crate::fault::{LoadFault, LoadRefusal};
+use crate::layout_in::layout_in;
 use crate::reading::read_content;
 use crate::saved::Saved;
 use crate::saved_head::SavedHead;
@@ -84,9 +84,10 @@ fn started(alloc: Global, net: Net, head: SavedHead) -> Result<Saved, LoadRefusa
     ensures one_each { IfOk result (λ saved. length saved.chart.cut ≡ length saved.net.cells) }
     ensures refusal { IfErr result (λ refusal. (network : List ℕ) → network_of network ≡ Ok net → IsContentRefusal (content_in head network) refusal) }
 {
-    let chart = chart_in(alloc, &net, &head)?;
+    let layout = layout_in(alloc, &net, &head)?;
     let start = start_in(alloc, head)?;
-    if can_start(&start, &net, &chart) {
+    if can_start(&start, &layout) {
+        let chart = layout.into_chart();
         Ok(Saved { net, chart, start })
     } else {
         Err(LoadRefusal::Fault(LoadFault::Start))

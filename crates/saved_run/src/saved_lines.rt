@@ -9,7 +9,7 @@ use crate::row_line::RowLine;
 use flow_model::Row;
 use line_fields::put_count;
 use no_memory::NoMemory;
-use region_cut::Chart;
+use region_cut::Layout;
 use snapshot::ShotRoom;
 
 /// Appends a line of a word and a count.
@@ -37,30 +37,30 @@ pub(crate) fn put_step_lines(text: &mut Vec<u8>, steps: &[u64]) -> Result<(), No
 /// Appends a line for each cell that the room shows.
 pub(crate) fn put_row_lines(
     text: &mut Vec<u8>,
-    chart: &Chart,
+    layout: &Layout,
     room: &ShotRoom,
 ) -> Result<(), NoMemory>
-    requires room { IsRoomFor chart.now room.now }
-    requires few { length chart.now.cut < 2 ^ 32 }
-    ensures lines { OnOk result (text.new.items ≡ text.old.items ++ lines_of (λ i. row_line (line_shown chart.now.cut room.now i)) (length chart.now.cut)) }
-    ensures numbers { OnOk result ((i : ℕ) → i < length chart.now.cut → IsRowLine (line_shown chart.now.cut room.now i)) }
+    requires room { IsRoomFor layout.now.chart room.now }
+    requires few { length layout.now.chart.cut < 2 ^ 32 }
+    ensures lines { OnOk result (text.new.items ≡ text.old.items ++ lines_of (λ i. row_line (line_shown layout.now.chart.cut room.now i)) (length layout.now.chart.cut)) }
+    ensures numbers { OnOk result ((i : ℕ) → i < length layout.now.chart.cut → IsRowLine (line_shown layout.now.chart.cut room.now i)) }
 {
     for i in 0..room.rows().len() as u32 {
-        put_row_line(text, &line_of(chart, room, i))?;
+        put_row_line(text, &line_of(layout, room, i))?;
     }
     Ok(())
 }
 
 // What is saved of cell `i`.
-fn line_of(chart: &Chart, room: &ShotRoom, i: u32) -> RowLine
-    requires room { IsRoomFor chart.now room.now }
-    requires there { i < length chart.now.cut }
-    ensures line { result ≡ line_shown chart.now.cut room.now i }
+fn line_of(layout: &Layout, room: &ShotRoom, i: u32) -> RowLine
+    requires room { IsRoomFor layout.now.chart room.now }
+    requires there { i < length layout.now.chart.cut }
+    ensures line { result ≡ line_shown layout.now.chart.cut room.now i }
     ensures numbers { IsRowLine result }
 {
     let row = room.rows()[i as usize];
     let earlier = room.earlier()[i as usize];
-    line(chart.region_of(i), row, earlier)
+    line(layout.region_of(i), row, earlier)
 }
 
 // The line of a cell of a region, whose numbers are those of machine words.

@@ -12,7 +12,7 @@ ghost use Rattle.saved_run.specs.Shown.{content_shown};
 
 use crate::saved_lines::{put_counted_line, put_row_lines, put_step_lines};
 use no_memory::NoMemory;
-use region_cut::Chart;
+use region_cut::Layout;
 use snapshot::ShotRoom;
 use std::alloc::Global;
 
@@ -20,30 +20,30 @@ use std::alloc::Global;
 #[tactic(auto, unfolding(crate::specs::SavedText::saved_text))]
 pub fn save_text(
     alloc: Global,
-    chart: &Chart,
+    layout: &Layout,
     room: &ShotRoom,
     network: &[u8],
 ) -> Result<Vec<u8>, NoMemory>
-    requires room { IsRoomFor chart.now room.now }
-    requires few { length chart.now.cut < 2 ^ 32 }
+    requires room { IsRoomFor layout.now.chart room.now }
+    requires few { length layout.now.chart.cut < 2 ^ 32 }
     requires network { length network.now ≤ MOST_BYTES }
-    ensures text { IfOk result (λ text. text.items ≡ saved_text (content_shown chart.now.cut room.now network.now)) }
+    ensures text { IfOk result (λ text. text.items ≡ saved_text (content_shown layout.now.chart.cut room.now network.now)) }
 
     // It is read as the same content.
-    ensures reads { IfOk result (λ text. content_of text.items ≡ Some (content_shown chart.now.cut room.now network.now)) }
+    ensures reads { IfOk result (λ text. content_of text.items ≡ Some (content_shown layout.now.chart.cut room.now network.now)) }
 
     // A shot from a true start is saved as a true start.
-    ensures true_start { IfOk result (λ text. (net : Network) (start : StartLists) → IsTrueShot network.now net chart.now.cut start room.now →
-        BeginsTrue (content_of text.items) net chart.now.cut) }
+    ensures true_start { IfOk result (λ text. (net : Network) (start : StartLists) → IsTrueShot network.now net layout.now.chart.cut start room.now →
+        BeginsTrue (content_of text.items) net layout.now.chart.cut) }
 
     // A shot of a run from step 0 is a moment of it, from which other networks can go on too.
-    ensures moment { IfOk result (λ _. (net : Network) → IsTrueShot network.now net chart.now.cut (zero_start net chart.now.cut) room.now →
-        IsMoment net chart.now.cut (start_in (content_shown chart.now.cut room.now network.now))) }
+    ensures moment { IfOk result (λ _. (net : Network) → IsTrueShot network.now net layout.now.chart.cut (zero_start net layout.now.chart.cut) room.now →
+        IsMoment net layout.now.chart.cut (start_in (content_shown layout.now.chart.cut room.now network.now))) }
 {
     let mut text = Vec::new(alloc);
-    put_counted_line(&mut text, b"saved,1", u64::from(chart.regions()))?;
+    put_counted_line(&mut text, b"saved,1", u64::from(layout.regions()))?;
     put_step_lines(&mut text, room.steps())?;
-    put_row_lines(&mut text, chart, room)?;
+    put_row_lines(&mut text, layout, room)?;
     text.extend_from_slice(b"net\n")?;
     text.extend_from_slice(network)?;
     Ok(text)

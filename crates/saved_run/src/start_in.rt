@@ -1,14 +1,12 @@
 ghost use Rattle.std.specs.Prelude.{◌≡◌, ◌↔◌, IfOk, IsTrue, length, map, []};
-ghost use Rattle.region_cut.specs.Chart.{chart_of};
 ghost use Rattle.saved_run.specs.Heads.{content_in};
 ghost use Rattle.saved_run.specs.Loading.{CanStart, start_in};
 
 use crate::row_line::RowLine;
 use crate::saved_head::SavedHead;
 use flow_model::Row;
-use network_file::Net;
 use no_memory::NoMemory;
-use region_cut::Chart;
+use region_cut::Layout;
 use region_step::Start;
 use std::alloc::Global;
 use step_words::is_lawful;
@@ -41,10 +39,8 @@ fn earlier_of(alloc: Global, lines: &[RowLine]) -> Result<Vec<u64>, NoMemory>
 }
 
 /// Whether the regions can be opened at a start, with neighbours at most one step apart.
-pub(crate) fn can_start(start: &Start, net: &Net, chart: &Chart) -> bool
-    requires chart { chart.now ≡ chart_of net.now chart.now.cut }
-    requires one_each { length chart.now.cut ≡ length net.now.cells }
-    ensures { IsTrue result ↔ CanStart net.now chart.now.cut start.now }
+pub(crate) fn can_start(start: &Start, layout: &Layout) -> bool
+    ensures { IsTrue result ↔ CanStart layout.now.net layout.now.chart.cut start.now }
 {
-    start.fits(net, chart) && is_lawful(&start.steps, net, chart)
+    start.fits(layout) && is_lawful(&start.steps, layout)
 }

@@ -7,22 +7,21 @@ use flow_model::Row;
 use line_fields::{put_count, put_signed};
 use network_file::Net;
 use no_memory::NoMemory;
-use region_cut::{Chart, crosses};
+use region_cut::{Layout, crosses};
 
 /// Appends a line for each connector that touches cells of more than one region, by its flight.
 pub(crate) fn put_flight_lines(
     text: &mut Vec<u8>,
-    net: &Net,
-    chart: &Chart,
+    layout: &Layout,
     rows: &[Row],
 ) -> Result<(), NoMemory>
-    requires rows { length rows.now ≡ length net.now.cells }
-    requires one_each { length chart.now.cut ≡ length net.now.cells }
-    ensures lines { OnOk result (text.new.items ≡ text.old.items ++ flight_lines net.now chart.now.cut rows.now) }
+    requires rows { length rows.now ≡ length layout.now.net.cells }
+    ensures lines { OnOk result (text.new.items ≡ text.old.items ++ flight_lines layout.now.net layout.now.chart.cut rows.now) }
     ensures kept { StartsWith text.new.items text.old.items }
 {
+    let net = layout.net();
     for k in 0..net.connectors.len() as u32 {
-        if crosses(net, chart, k) {
+        if crosses(layout, k) {
             put_flight_line(text, net, rows, k)?;
         }
     }

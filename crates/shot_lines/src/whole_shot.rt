@@ -8,27 +8,24 @@ use crate::region_lines::put_region_lines;
 use crate::row_lines::put_row_lines;
 use flow_ledger::Books;
 use line_fields::{put_count, put_signed};
-use network_file::Net;
 use no_memory::NoMemory;
-use region_cut::Chart;
+use region_cut::Layout;
 use snapshot::ShotRoom;
 
 /// Appends shot `number` of a room (docs/FORMAT.md, "The shots"): its books, the step of each region, the flight of each
 /// connector between regions, and the row of each cell. Where memory is refused the text is as it was.
 pub fn shot_text(
-    net: &Net,
-    chart: &Chart,
+    layout: &Layout,
     room: &ShotRoom,
     number: u32,
     text: &mut Vec<u8>,
 ) -> Result<(), NoMemory>
-    requires room { IsRoomFor chart.now room.now }
-    requires one_each { length chart.now.cut ≡ length net.now.cells }
-    ensures text { OnOk result (text.new.items ≡ text.old.items ++ shot_lines net.now chart.now.cut number room.now.steps room.now.rows) }
+    requires room { IsRoomFor layout.now.chart room.now }
+    ensures text { OnOk result (text.new.items ≡ text.old.items ++ shot_lines layout.now.net layout.now.chart.cut number room.now.steps room.now.rows) }
     ensures unchanged { OnErr result (text.new.items ≡ text.old.items) }
 {
     let before = text.len();
-    let done = put_shot(text, net, chart, room, number);
+    let done = put_shot(text, layout, room, number);
     if done.is_err() {
         text.truncate(before);
     }
@@ -38,19 +35,18 @@ pub fn shot_text(
 #[tactic(auto, unfolding(crate::specs::ShotText::shot_lines))]
 fn put_shot(
     text: &mut Vec<u8>,
-    net: &Net,
-    chart: &Chart,
+    layout: &Layout,
     room: &ShotRoom,
     number: u32,
 ) -> Result<(), NoMemory>
-    requires room { IsRoomFor chart.now room.now }
-    requires one_each { length chart.now.cut ≡ length net.now.cells }
-    ensures lines { OnOk result (text.new.items ≡ text.old.items ++ shot_lines net.now chart.now.cut number room.now.steps room.now.rows) }
+    requires room { IsRoomFor layout.now.chart room.now }
+    ensures lines { OnOk result (text.new.items ≡ text.old.items ++ shot_lines layout.now.net layout.now.chart.cut number room.now.steps room.now.rows) }
     ensures kept { StartsWith text.new.items text.old.items }
 {
+    let net = layout.net();
     put_books_line(text, number, &room.books(net))?;
     put_region_lines(text, room.steps())?;
-    put_flight_lines(text, net, chart, room.rows())?;
+    put_flight_lines(text, layout, room.rows())?;
     put_row_lines(text, &net.cells, room.rows())?;
     Ok(())
 }

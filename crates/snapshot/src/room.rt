@@ -2,7 +2,7 @@ use flow_ledger::{Books, books, flight};
 use flow_model::{Row, first_rows};
 use network_file::Net;
 use no_memory::NoMemory;
-use region_cut::Chart;
+use region_cut::Layout;
 use region_step::Region;
 use std::alloc::Global;
 use std::marker::Model;
@@ -33,13 +33,13 @@ impl ShotRoom {
     ghost use Rattle.snapshot.specs.RunLaws.{Balances, IsLinkFlow, IsStepFlow};
 
     /// A room that shows all regions at step 0.
-    pub fn new(alloc: Global, net: &Net, chart: &Chart) -> Result<ShotRoom, NoMemory>
-        requires one_each { length chart.now.cut ≡ length net.now.cells }
-        ensures first { IfOk result (λ room. room ≡ first_room net.now chart.now) }
-        ensures room { IfOk result (IsRoomFor chart.now) }
+    pub fn new(alloc: Global, layout: &Layout) -> Result<ShotRoom, NoMemory>
+        ensures first { IfOk result (λ room. room ≡ first_room layout.now.net layout.now.chart) }
+        ensures room { IfOk result (IsRoomFor layout.now.chart) }
     {
+        let net = layout.net();
         let cells = net.cells.len();
-        let steps = vec![in alloc; 0; chart.regions() as usize]?;
+        let steps = vec![in alloc; 0; layout.regions() as usize]?;
         let earlier = vec![in alloc; 0; cells]?;
         let mut rows = vec![in alloc; Row {
             n: 0,
@@ -56,15 +56,15 @@ impl ShotRoom {
     }
 
     /// Shows a region at its step.
-    pub fn fill(&mut self, chart: &Chart, region: &Region)
-        requires room { IsRoomFor chart.now self.old }
-        requires region { IsOf chart.now region.now }
-        ensures room { IsRoomFor chart.now self.new }
-        ensures shows { ShowsRegion chart.now self.new region.now }
-        ensures others { StaysBeside chart.now self.old self.new region.now.state.number }
+    pub fn fill(&mut self, layout: &Layout, region: &Region)
+        requires room { IsRoomFor layout.now.chart self.old }
+        requires region { IsOf layout.now.chart region.now }
+        ensures room { IsRoomFor layout.now.chart self.new }
+        ensures shows { ShowsRegion layout.now.chart self.new region.now }
+        ensures others { StaysBeside layout.now.chart self.old self.new region.now.state.number }
     {
-        let _regions = chart.regions();
-        let cells = chart.cells(region.number());
+        let _regions = layout.regions();
+        let cells = layout.cells(region.number());
         for p in 0..cells.len() {
             let i = cells[p] as usize;
             let place = p as u32;

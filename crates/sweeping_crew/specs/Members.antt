@@ -13,7 +13,7 @@ AreMembersOf field members = (k : ℕ) (d : Member) → k < length members → I
 pub record IsDriven (field : FieldValue) (goal sweeps : ℕ) (old new : Member) : Type 0 where
   pub belongs : IsPassOf field new.pass
   pub same : (new.pass.id ≡ old.pass.id) × (new.first ≡ old.first)
-  pub driven : HasDriven (region_count field.terms.chart.now.cut) goal sweeps old.first old.pass.knows new.pass.knows new.driven
+  pub driven : HasDriven (region_count field.terms.setup.now.chart.cut) goal sweeps old.first old.pass.knows new.pass.knows new.driven
 
 -- and of each member of a crew
 pub record AreDriven (field : FieldValue) (goal sweeps : ℕ) (old new : List Member) : Type 0 where

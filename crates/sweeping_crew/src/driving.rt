@@ -18,10 +18,10 @@ pub fn drive<G: Gate>(
     gate: &G,
 ) -> Driven
     requires belongs { IsPassOf field.now pass.old }
-    requires there { first < region_count field.now.terms.chart.now.cut }
-    requires in_time { goal ≤ field.now.terms.net.now.steps }
+    requires there { first < region_count field.now.terms.setup.now.chart.cut }
+    requires in_time { goal ≤ field.now.terms.setup.now.net.steps }
     ensures belongs { IsPassOf field.now pass.new × (pass.new.id ≡ pass.old.id) }
-    ensures driven { HasDriven (region_count field.now.terms.chart.now.cut) goal sweeps first pass.old.knows pass.new.knows result }
+    ensures driven { HasDriven (region_count field.now.terms.setup.now.chart.cut) goal sweeps first pass.old.knows pass.new.knows result }
     ensures told { AreTold (G.told_held gate.now) (G.told_freed gate.now) pass.old.knows.log pass.new.knows.log }
 {
     let mut pauses = Pauses::none();
@@ -39,11 +39,11 @@ fn drive_pausing<G: Gate>(
     pauses: &mut Pauses,
 ) -> Driven
     requires belongs { IsPassOf field.now pass.old }
-    requires there { first < region_count field.now.terms.chart.now.cut }
-    requires in_time { goal ≤ field.now.terms.net.now.steps }
+    requires there { first < region_count field.now.terms.setup.now.chart.cut }
+    requires in_time { goal ≤ field.now.terms.setup.now.net.steps }
     requires none { pauses.old ≡ 0 }
     ensures belongs { IsPassOf field.now pass.new × (pass.new.id ≡ pass.old.id) }
-    ensures driven { HasDriven (region_count field.now.terms.chart.now.cut) goal sweeps first pass.old.knows pass.new.knows result }
+    ensures driven { HasDriven (region_count field.now.terms.setup.now.chart.cut) goal sweeps first pass.old.knows pass.new.knows result }
     ensures told { AreTold (G.told_held gate.now) (G.told_freed gate.now) pass.old.knows.log pass.new.knows.log }
     ensures paused { pauses.new ≤ sweeps }
 {

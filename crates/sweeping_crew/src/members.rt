@@ -18,13 +18,13 @@ pub fn crew<R: Threads + Sync, G: Gate>(
     gate: &G,
 )
     requires members { AreMembersOf field.now members.old }
-    requires in_time { goal ≤ field.now.terms.net.now.steps }
+    requires in_time { goal ≤ field.now.terms.setup.now.net.steps }
     ensures driven { AreDriven field.now goal sweeps members.old members.new }
     ensures told { AreMembersTold (G.told_held gate.now) (G.told_freed gate.now) members.old members.new }
 {
     let threads = members.len().max(1);
     let work = move |_k: usize, member: &mut Member|
-        requires { IsMemberOf field.now member.old × (goal ≤ field.now.terms.net.now.steps) }
+        requires { IsMemberOf field.now member.old × (goal ≤ field.now.terms.setup.now.net.steps) }
         ensures { IsDriven field.entry.now goal sweeps member.old member.new × AreTold (G.told_held gate.entry.now) (G.told_freed gate.entry.now) member.old.pass.knows.log member.new.pass.knows.log }
     { drive_member(field, member, goal, sweeps, gate) };
     for_each_mut(rt, members, threads, &work);
@@ -33,7 +33,7 @@ pub fn crew<R: Threads + Sync, G: Gate>(
 // Drives with a member's pass.
 fn drive_member<G: Gate>(field: &Field, member: &mut Member, goal: u64, sweeps: u32, gate: &G)
     requires member { IsMemberOf field.now member.old }
-    requires in_time { goal ≤ field.now.terms.net.now.steps }
+    requires in_time { goal ≤ field.now.terms.setup.now.net.steps }
     ensures driven { IsDriven field.now goal sweeps member.old member.new }
     ensures told { AreTold (G.told_held gate.now) (G.told_freed gate.now) member.old.pass.knows.log member.new.pass.knows.log }
 {

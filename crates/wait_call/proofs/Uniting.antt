@@ -20,7 +20,7 @@ pub seats-belong : (field : FieldValue) (passes : List PassValue) → All (IsSea
 seats-belong field passes seats = λ k d within. (seats k d within).belongs
 
 -- and have come to the last step once they are brought there
-pub brought-come : (field : FieldValue) (goal : ℕ) (old new : List PassValue) → goal ≡ field.terms.net.now.steps → All (IsSeat field) old → AreBrought field goal old new → All (HasCome field) new
+pub brought-come : (field : FieldValue) (goal : ℕ) (old new : List PassValue) → goal ≡ field.terms.setup.now.net.steps → All (IsSeat field) old → AreBrought field goal old new → All (HasCome field) new
 brought-come field goal old new last seats brought = λ k d within.
     let inside : k < length old = omega (arith, within, brought.one_each) in
     let was = seats k d inside in

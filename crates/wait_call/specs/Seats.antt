@@ -8,9 +8,9 @@ use Rattle.parked_crew.specs.Parking.{HasSeenAll}
 pub record IsSeat (field : FieldValue) (pass : PassValue) : Type 0 where
   pub belongs : IsPassOf field pass
   pub share : pass.knows.share ≡ 1
-  pub reach : pass.knows.reach ≤ field.terms.net.now.steps
+  pub reach : pass.knows.reach ≤ field.terms.setup.now.net.steps
 
 -- one that has seen all regions at the last step besides
 pub record HasCome (field : FieldValue) (pass : PassValue) : Type 0 where
   pub seat : IsSeat field pass
-  pub seen : HasSeenAll (region_count field.terms.chart.now.cut) field.terms.net.now.steps pass.knows
+  pub seen : HasSeenAll (region_count field.terms.setup.now.chart.cut) field.terms.setup.now.net.steps pass.knows

@@ -50,7 +50,7 @@ fn report_of_run<R: Threads + Wait + Sync, G: Gate>(
     ensures { IfOk result (λ text. text.items ≡ report_of net.now 0) }
 {
     let _steps = net.steps;
-    let chart = charted(alloc, net, REGIONS)?;
-    let regions = last_regions(rt, alloc, net, &chart, workers, gate)?;
-    run_report(alloc, net, &chart, &regions, 0)
+    let layout = charted(alloc, net, REGIONS)?;
+    let regions = last_regions(rt, alloc, &layout, workers, gate)?;
+    run_report(alloc, &layout, &regions, 0)
 }

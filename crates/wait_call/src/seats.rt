@@ -10,7 +10,7 @@ use region_slots::{Field, Pass};
 pub(crate) fn share_off(field: &Field, pass: &mut Pass, passes: &mut Vec<Pass>, many: u32)
     requires belongs { IsPassOf field.now pass.old }
     requires shares { pass.old.knows.share ≡ many + 1 }
-    requires reach { pass.old.knows.reach ≤ field.now.terms.net.now.steps }
+    requires reach { pass.old.knows.reach ≤ field.now.terms.setup.now.net.steps }
     requires nobody { passes.old.items ≡ [] }
     requires room { many ≤ vec_capacity passes.old }
     ensures belongs { IsPassOf field.now pass.new }
@@ -27,13 +27,13 @@ pub(crate) fn share_off(field: &Field, pass: &mut Pass, passes: &mut Vec<Pass>, 
 /// Unites a pass with all others, where these have seen all regions at the last step.
 pub(crate) fn unite_all(field: &Field, pass: &mut Pass, passes: &mut Vec<Pass>)
     requires belongs { IsPassOf field.now pass.old }
-    requires reach { pass.old.knows.reach ≤ field.now.terms.net.now.steps }
+    requires reach { pass.old.knows.reach ≤ field.now.terms.setup.now.net.steps }
     requires come { All (HasCome field.now) passes.old.items }
     requires some { 1 ≤ length passes.old.items }
     ensures belongs { IsPassOf field.now pass.new }
     ensures share { pass.new.knows.share ≡ pass.old.knows.share + length passes.old.items }
-    ensures reach { pass.new.knows.reach ≤ field.now.terms.net.now.steps }
-    ensures seen { HasSeenAll (region_count field.now.terms.chart.now.cut) field.now.terms.net.now.steps pass.new.knows }
+    ensures reach { pass.new.knows.reach ≤ field.now.terms.setup.now.net.steps }
+    ensures seen { HasSeenAll (region_count field.now.terms.setup.now.chart.cut) field.now.terms.setup.now.net.steps pass.new.knows }
 {
     while let Some(other) = passes.pop() {
         field.unite(pass, other);

@@ -1,5 +1,4 @@
 ghost use Rattle.std.specs.Prelude.{◌≡◌, ◌+◌, ◌≤◌, IfOk, All, [], length, replicate, vec_capacity};
-ghost use Rattle.region_cut.specs.Chart.{chart_of};
 ghost use Rattle.region_cut.specs.Cuttings.{region_count};
 ghost use Rattle.region_step.specs.Standing.{AllStand};
 ghost use Rattle.region_step.specs.Start.{zero_start};
@@ -8,35 +7,33 @@ ghost use Rattle.parked_crew.specs.Parking.{HasSeenAll};
 ghost use Rattle.wait_call.specs.Seats.{HasCome, IsSeat};
 
 use crate::seats::{share_off, unite_all};
-use network_file::Net;
 use no_memory::NoMemory;
 use parked_crew::{Board, parked};
-use region_cut::Chart;
+use region_cut::Layout;
 use region_slots::{Closed, Field, Gate, Pass};
-use region_step::{Region, Start};
+use region_step::{Region, Setup};
 use std::alloc::Global;
 use std::sync::Wait;
 use std::thread::Threads;
 
-/// The regions of a chart at the last step, recorded at none, taken there from step 0 by so many workers that wait where they
+/// The regions of a network that is cut, at the last step, recorded at none, taken there from step 0 by so many workers that wait where they
 /// would sweep in vain. All memory is taken before the first step.
 pub(crate) fn last_regions<R: Threads + Wait + Sync, G: Gate>(
     rt: &R,
     alloc: Global,
-    net: &Net,
-    chart: &Chart,
+    layout: &Layout,
     workers: u32,
     gate: &G,
 ) -> Result<Vec<Region>, NoMemory>
-    requires chart { chart.now ≡ chart_of net.now chart.now.cut }
     requires workers { (1 ≤ workers) × (workers ≤ 16) }
-    ensures { IfOk result (λ regions. AllStand net.now chart.now (zero_start net.now chart.now.cut) 0
-        (replicate (region_count chart.now.cut) net.now.steps) regions.items) }
+    ensures { IfOk result (λ regions. AllStand layout.now.net layout.now.chart (zero_start layout.now.net layout.now.chart.cut) 0
+        (replicate (region_count layout.now.chart.cut) layout.now.net.steps) regions.items) }
 {
+    let net = layout.net();
     let last = net.steps;
-    let start = Start::zero(alloc, net, chart)?;
+    let setup = Setup::zero(alloc, layout, 0)?;
     let mut passes = Vec::with_capacity(alloc, workers as usize)?;
-    let (field, mut pass) = Field::open(alloc, net, chart, &start, 0, workers + 1)?;
+    let (field, mut pass) = Field::open(alloc, &setup, workers + 1)?;
     take_to_last(rt, &field, &mut pass, &mut passes, workers, last, gate);
     let Closed { steps: _, regions } = field.close(pass);
     Ok(regions)
@@ -58,11 +55,11 @@ fn take_to_last<R: Threads + Wait + Sync, G: Gate>(
     requires reach { pass.old.knows.reach ≤ last }
     requires nobody { passes.old.items ≡ [] }
     requires room { workers ≤ vec_capacity passes.old }
-    requires last { last ≡ field.now.terms.net.now.steps }
+    requires last { last ≡ field.now.terms.setup.now.net.steps }
     ensures belongs { IsPassOf field.now pass.new }
     ensures share { pass.new.knows.share ≡ pass.old.knows.share }
     ensures reach { pass.new.knows.reach ≤ last }
-    ensures seen { HasSeenAll (region_count field.now.terms.chart.now.cut) last pass.new.knows }
+    ensures seen { HasSeenAll (region_count field.now.terms.setup.now.chart.cut) last pass.new.knows }
 {
     share_off(field, pass, passes, workers);
     park(rt, field, passes, last, gate);
@@ -78,7 +75,7 @@ fn park<R: Threads + Wait + Sync, G: Gate>(
     gate: &G,
 )
     requires seats { All (IsSeat field.now) passes.old.items }
-    requires last { last ≡ field.now.terms.net.now.steps }
+    requires last { last ≡ field.now.terms.setup.now.net.steps }
     ensures one_each { length passes.new.items ≡ length passes.old.items }
     ensures come { All (HasCome field.now) passes.new.items }
 {

@@ -1,14 +1,13 @@
 ghost use Rattle.std.specs.Prelude.{◌≡◌, ◌≤◌};
-ghost use Rattle.region_cut.specs.Chart.{chart_of};
 ghost use Rattle.region_slots.specs.FieldView.{IsPassOf};
 
 use crate::meeting::Meeting;
 use network_file::{MOST_BYTES, Net};
 use no_memory::NoMemory;
 use parked_crew::{Board, parked};
-use region_cut::{Chart, charted};
+use region_cut::{Layout, charted};
 use region_slots::{Field, Pass};
-use region_step::Start;
+use region_step::Setup;
 use std::alloc::Global;
 use std::process::Abort;
 use std::sync::Wait;
@@ -23,23 +22,20 @@ pub(crate) fn two_members<R: Abort + Threads + Wait + Sync>(
 ) -> Result<(), Fail> {
     assert!(rt; text.len() <= MOST_BYTES);
     let net = Net::read(alloc, text)?;
-    let chart = charted(alloc, &net, 4)?;
-    on_field(rt, alloc, &net, &chart)?;
+    let layout = charted(alloc, &net, 4)?;
+    on_field(rt, alloc, &layout)?;
     Ok(())
 }
 
-// The same of a network and its chart.
+// The same of a network that is cut.
 fn on_field<R: Abort + Threads + Wait + Sync>(
     rt: &R,
     alloc: Global,
-    net: &Net,
-    chart: &Chart,
-) -> Result<(), NoMemory>
-    requires chart { chart.now ≡ chart_of net.now chart.now.cut }
-{
-    let last = net.steps;
-    let start = Start::zero(alloc, net, chart)?;
-    let (field, pass) = Field::open(alloc, net, chart, &start, 0, 2)?;
+    layout: &Layout,
+) -> Result<(), NoMemory> {
+    let last = layout.net().steps;
+    let setup = Setup::zero(alloc, layout, 0)?;
+    let (field, pass) = Field::open(alloc, &setup, 2)?;
     meet(rt, &field, pass, last);
     Ok(())
 }
@@ -48,7 +44,7 @@ fn on_field<R: Abort + Threads + Wait + Sync>(
 fn meet<R: Abort + Threads + Wait + Sync>(rt: &R, field: &Field, mut pass: Pass, last: u64)
     requires belongs { IsPassOf field.now pass }
     requires two { pass.knows.share ≡ 2 }
-    requires in_time { last ≤ field.now.terms.net.now.steps }
+    requires in_time { last ≤ field.now.terms.setup.now.net.steps }
 {
     let gate = Meeting::new();
     let other = field.share(&mut pass);

@@ -42,8 +42,8 @@ abbrev AllStay : (count goal : ℕ) (old new : View) → Type 0
 AllStay count goal old new = (r : ℕ) → r < count → goal - slice_index new.seen r ≡ goal - slice_index old.seen r
 
 -- Then none has stayed below the goal: one that was found short was so of a lower one, down to the lowest.
-all-reach : (terms : Terms) (old new : View) (goal : ℕ) (driven : Driven) (n r : ℕ) → IsSweep terms old new goal driven → driven.moved + driven.held ≡ 0 → AllStay (region_count terms.chart.now.cut) goal old new →
-    r < region_count terms.chart.now.cut → slice_index old.seen r < n → goal ≤ slice_index new.seen r
+all-reach : (terms : Terms) (old new : View) (goal : ℕ) (driven : Driven) (n r : ℕ) → IsSweep terms old new goal driven → driven.moved + driven.held ≡ 0 → AllStay (region_count terms.setup.now.chart.cut) goal old new →
+    r < region_count terms.setup.now.chart.cut → slice_index old.seen r < n → goal ≤ slice_index new.seen r
 all-reach terms old new goal driven zero r sweep nothing stay within low = absurd (omega (arith, low))
 all-reach terms old new goal driven (suc n) r sweep nothing stay within low = elim (sweep.each r within) [
   | inl reached ↦ reached
@@ -58,9 +58,9 @@ all-reach terms old new goal driven (suc n) r sweep nothing stay within low = el
 ]
 
 pub nearer : (terms : Terms) (old new : View) (goal : ℕ) (driven : Driven) → IsSweep terms old new goal driven → old.share ≡ terms.seats → driven.all ≡ false →
-    steps_left (region_count terms.chart.now.cut) goal new < steps_left (region_count terms.chart.now.cut) goal old
+    steps_left (region_count terms.setup.now.chart.cut) goal new < steps_left (region_count terms.setup.now.chart.cut) goal old
 nearer terms old new goal driven sweep whole below =
-    let count : ℕ = region_count terms.chart.now.cut in
+    let count : ℕ = region_count terms.setup.now.chart.cut in
     let now : ℕ → ℕ = λ r. goal - slice_index new.seen r in
     let before : ℕ → ℕ = λ r. goal - slice_index old.seen r in
     elim (same-or-less now before 0 count (λ p. omega (arith, sweep.counted.keeps.seen.later p))) [

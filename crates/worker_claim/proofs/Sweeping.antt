@@ -13,14 +13,14 @@ use Rattle.worker_claim.proofs.Turning.{AreAdded, Came, came-later, came-more, c
 -- turns on the regions from one on, and then on those before it
 pub record IsSweep (terms : Terms) (old new : View) (goal : ℕ) (driven : Driven) : Type 0 where
   pub counted : IsCounted terms old new goal driven
-  pub turns : turns_of driven ≡ region_count terms.chart.now.cut
-  pub each : (r : ℕ) → r < region_count terms.chart.now.cut → Came terms old new goal r driven
-  pub all : IsTrue driven.all → driven.ended ≡ region_count terms.chart.now.cut
-  pub not_all : driven.all ≡ false → driven.ended ≢ region_count terms.chart.now.cut
+  pub turns : turns_of driven ≡ region_count terms.setup.now.chart.cut
+  pub each : (r : ℕ) → r < region_count terms.setup.now.chart.cut → Came terms old new goal r driven
+  pub all : IsTrue driven.all → driven.ended ≡ region_count terms.setup.now.chart.cut
+  pub not_all : driven.all ≡ false → driven.ended ≢ region_count terms.setup.now.chart.cut
 
-pub round-sweep : (terms : Terms) (old view new : View) (first goal : ℕ) (one other both : Driven) → first ≤ region_count terms.chart.now.cut → AreAdded one other both →
-    HasTurned terms old view first (region_count terms.chart.now.cut) goal one → HasTurned terms view new 0 first goal other →
-    (IsTrue both.all → both.ended ≡ region_count terms.chart.now.cut) → (both.all ≡ false → both.ended ≢ region_count terms.chart.now.cut) → IsSweep terms old new goal both
+pub round-sweep : (terms : Terms) (old view new : View) (first goal : ℕ) (one other both : Driven) → first ≤ region_count terms.setup.now.chart.cut → AreAdded one other both →
+    HasTurned terms old view first (region_count terms.setup.now.chart.cut) goal one → HasTurned terms view new 0 first goal other →
+    (IsTrue both.all → both.ended ≡ region_count terms.setup.now.chart.cut) → (both.all ≡ false → both.ended ≢ region_count terms.setup.now.chart.cut) → IsSweep terms old new goal both
 round-sweep terms old view new first goal one other both there added before after all not_all = record {
   counted = counted-more terms old view new goal one other both added before.counted after.counted;
   turns = omega (arith, before.turns, after.turns, added.moved, added.held, added.behind, added.ended);
@@ -42,14 +42,14 @@ both regions one other = record {
   all = nat_eq (one.ended + other.ended) regions;
 }
 
-pub added-up : (terms : Terms) (old view new : View) (first goal regions : ℕ) (one other : Driven) → first ≤ region_count terms.chart.now.cut → regions ≡ region_count terms.chart.now.cut →
-    HasTurned terms old view first (region_count terms.chart.now.cut) goal one → HasTurned terms view new 0 first goal other → IsSweep terms old new goal (both regions one other)
+pub added-up : (terms : Terms) (old view new : View) (first goal regions : ℕ) (one other : Driven) → first ≤ region_count terms.setup.now.chart.cut → regions ≡ region_count terms.setup.now.chart.cut →
+    HasTurned terms old view first (region_count terms.setup.now.chart.cut) goal one → HasTurned terms view new 0 first goal other → IsSweep terms old new goal (both regions one other)
 added-up terms old view new first goal regions one other there is before after =
     round-sweep terms old view new first goal one other (both regions one other) there record { moved = refl; held = refl; behind = refl; ended = refl } before after
     (λ all. eqb-true (one.ended + other.ended) regions all ∙ is) (λ not_all same. eqb-false (one.ended + other.ended) regions not_all (same ∙ sym is))
 
-pub round-swept : (terms : Terms) (old view new : View) (first goal : ℕ) (one other both : Driven) → HasTurned terms old view first (region_count terms.chart.now.cut) goal one → HasTurned terms view new 0 first goal other →
-    IsSweep terms old new goal both → HasSwept (region_count terms.chart.now.cut) goal 1 old new both
+pub round-swept : (terms : Terms) (old view new : View) (first goal : ℕ) (one other both : Driven) → HasTurned terms old view first (region_count terms.setup.now.chart.cut) goal one → HasTurned terms view new 0 first goal other →
+    IsSweep terms old new goal both → HasSwept (region_count terms.setup.now.chart.cut) goal 1 old new both
 round-swept terms old view new first goal one other both before after sweep = record {
   keeps = sweep.counted.keeps;
   tried = λ r within. elim (cases_lt r first) [

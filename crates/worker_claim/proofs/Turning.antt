@@ -100,7 +100,7 @@ turned-none terms view from goal = record {
 }
 
 -- a turn on one region
-turned-at : (terms : Terms) (old new : View) (goal r : ℕ) (driven : Driven) → r < region_count terms.chart.now.cut → IsWithin old new goal → IsTried old new r → turns_of driven ≡ 1 →
+turned-at : (terms : Terms) (old new : View) (goal r : ℕ) (driven : Driven) → r < region_count terms.setup.now.chart.cut → IsWithin old new goal → IsTried old new r → turns_of driven ≡ 1 →
     length new.log ≡ length old.log + driven.moved → sum new.held_found ≡ sum old.held_found + driven.held → new.short_found ≡ old.short_found + driven.behind → (driven.ended ≢ 0 → goal ≤ slice_index new.seen r) →
     (driven.behind ≢ 0 → IsShort terms old new goal r) → (old.share ≡ terms.seats → driven.held ≡ 0) → (driven.moved ≢ 0 → (slice_index old.seen r < goal) × (slice_index old.seen r < slice_index new.seen r)) → Came terms old new goal r driven →
     HasTurned terms old new r (r + 1) goal driven
@@ -125,7 +125,7 @@ turned-at terms old new goal r driven there keeps tried one moved held behind en
   each = λ p low high. let is : p ≡ r = omega (arith, low, high) in subst (λ k. Came terms old new goal k driven) (sym is) came;
 }
 
-pub turned-one : (terms : Terms) (old new : View) (goal r : ℕ) (answer : Turn) → r < region_count terms.chart.now.cut → HasCounts (region_count terms.chart.now.cut) old → IsWithin old new goal →
+pub turned-one : (terms : Terms) (old new : View) (goal r : ℕ) (answer : Turn) → r < region_count terms.setup.now.chart.cut → HasCounts (region_count terms.setup.now.chart.cut) old → IsWithin old new goal →
     (answer ≡ Held → new ≡ found_taken old r) → (old.share ≡ terms.seats → answer ≢ Held) →
     ((s : ℕ) → answer ≡ Ended s → (goal ≤ s) × (new ≡ took_at old r s) × (slice_index new.seen r ≡ s) × (slice_index old.seen r ≤ s)) →
     ((q s : ℕ) → answer ≡ Behind q s → IsBehind terms old new goal r q s) → ((s : ℕ) → answer ≡ Moved s → IsMoved terms old new goal r s) →
@@ -151,7 +151,7 @@ turned-one terms old new goal r (Behind q s) there has keeps held never ended be
     let short : IsShort terms old new goal r = record {
       q = q;
       s = s;
-      there = (neighbours-there terms.net.now terms.chart.now r q is.beside).1;
+      there = (neighbours-there terms.setup.now.net terms.setup.now.chart r q is.beside).1;
       below = is.below;
       own = is.own;
       other = is.other;

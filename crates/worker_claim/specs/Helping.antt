@@ -14,7 +14,7 @@ use Rattle.worker_claim.specs.declared.helper.Helper.{Helper}
 -- a helper with a member of the field, and a nest made for so many regions as the field has
 pub record IsHelperOf (field : FieldValue) (helper : Helper) : Type 0 where
   pub member : IsMemberOf field helper.member
-  pub nest : helper.nest.regions ≡ region_count field.terms.chart.now.cut
+  pub nest : helper.nest.regions ≡ region_count field.terms.setup.now.chart.cut
 
 abbrev pub AreHelpersOf : FieldValue → List Helper → Type 0
 AreHelpersOf field helpers = (k : ℕ) (d : Helper) → k < length helpers → IsHelperOf field (slice_index_or helpers k d)
@@ -42,7 +42,7 @@ pub record IsKept (field : FieldValue) (old new : Helper) : Type 0 where
 -- what so many sweeps' worth of turns leave of a helper
 pub record IsHelped (field : FieldValue) (goal sweeps : ℕ) (old new : Helper) : Type 0 where
   pub kept : IsKept field old new
-  pub helped : HasHelped (region_count field.terms.chart.now.cut) goal (sweeps * region_count field.terms.chart.now.cut) old.member.pass.knows new.member.pass.knows new.member.driven
+  pub helped : HasHelped (region_count field.terms.setup.now.chart.cut) goal (sweeps * region_count field.terms.setup.now.chart.cut) old.member.pass.knows new.member.pass.knows new.member.driven
 
 -- and of each helper of a crew
 pub record AreHelped (field : FieldValue) (goal sweeps : ℕ) (old new : List Helper) : Type 0 where

@@ -39,7 +39,7 @@ turns_of driven = driven.moved + driven.held + driven.behind + driven.ended
 pub record IsShort (terms : Terms) (old new : View) (goal r : ℕ) : Type 0 where
   pub q : ℕ
   pub s : ℕ
-  pub there : q < region_count terms.chart.now.cut
+  pub there : q < region_count terms.setup.now.chart.cut
   pub below : s + 1 < goal
   pub own : (slice_index old.seen r ≤ s + 1) × (s + 1 ≤ slice_index new.seen r)
   pub other : (slice_index old.seen q ≤ s) × (s ≤ slice_index new.seen q)
@@ -51,16 +51,16 @@ pub record IsCounted (terms : Terms) (old new : View) (goal : ℕ) (driven : Dri
   pub moved : length new.log ≡ length old.log + driven.moved
   pub held : sum new.held_found ≡ sum old.held_found + driven.held
   pub behind : new.short_found ≡ old.short_found + driven.behind
-  pub ended : driven.ended ≢ 0 → (r : ℕ) × (r < region_count terms.chart.now.cut) × (goal ≤ slice_index new.seen r)
-  pub short : driven.behind ≢ 0 → (r : ℕ) × (r < region_count terms.chart.now.cut) × IsShort terms old new goal r
+  pub ended : driven.ended ≢ 0 → (r : ℕ) × (r < region_count terms.setup.now.chart.cut) × (goal ≤ slice_index new.seen r)
+  pub short : driven.behind ≢ 0 → (r : ℕ) × (r < region_count terms.setup.now.chart.cut) × IsShort terms old new goal r
   pub never_held : old.share ≡ terms.seats → driven.held ≡ 0
-  pub risen : driven.moved ≢ 0 → (r : ℕ) × (r < region_count terms.chart.now.cut) × (slice_index old.seen r < goal) × (slice_index old.seen r < slice_index new.seen r)
+  pub risen : driven.moved ≢ 0 → (r : ℕ) × (r < region_count terms.setup.now.chart.cut) × (slice_index old.seen r < goal) × (slice_index old.seen r < slice_index new.seen r)
 
 -- at most so many turns, and where `all` is true all regions were seen at goal or past it, each by a turn
 pub record HasWorked (terms : Terms) (old new : View) (goal most : ℕ) (driven : Driven) : Type 0 where
   pub counted : IsCounted terms old new goal driven
   pub within : turns_of driven ≤ most
-  pub all : IsTrue driven.all → (region_count terms.chart.now.cut ≤ driven.ended) × AllReach (region_count terms.chart.now.cut) goal new
+  pub all : IsTrue driven.all → (region_count terms.setup.now.chart.cut ≤ driven.ended) × AllReach (region_count terms.setup.now.chart.cut) goal new
 
 -- one turn on each region from one number to below another
 pub record HasTurned (terms : Terms) (old new : View) (from to goal : ℕ) (driven : Driven) : Type 0 where

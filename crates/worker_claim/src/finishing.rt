@@ -13,11 +13,11 @@ use region_slots::{Field, Gate, Pass};
 pub fn finish<G: Gate>(field: &Field, pass: &mut Pass, goal: u64, gate: &G)
     requires belongs { IsPassOf field.now pass.old }
     requires whole { pass.old.knows.share ≡ field.now.terms.seats }
-    requires in_time { goal ≤ field.now.terms.net.now.steps }
+    requires in_time { goal ≤ field.now.terms.setup.now.net.steps }
     ensures belongs { IsPassOf field.now pass.new × (pass.new.id ≡ pass.old.id) }
     ensures keeps { IsWithin pass.old.knows pass.new.knows goal }
     ensures told { AreTold (G.told_held gate.now) (G.told_freed gate.now) pass.old.knows.log pass.new.knows.log }
-    ensures done { AllReach (region_count field.now.terms.chart.now.cut) goal pass.new.knows }
+    ensures done { AllReach (region_count field.now.terms.setup.now.chart.cut) goal pass.new.knows }
 {
     let mut all = false;
     while !all {

@@ -28,7 +28,7 @@ impl Helper {
     /// or past it: on regions whose numbers come from the deques, and in sweeps where none comes.
     pub(crate) fn help<G: Gate>(&mut self, field: &Field, goal: u64, sweeps: u32, gate: &G)
         requires helper { IsHelperOf field.now self.old }
-        requires in_time { goal ≤ field.now.terms.net.now.steps }
+        requires in_time { goal ≤ field.now.terms.setup.now.net.steps }
         ensures helped { IsHelped field.now goal sweeps self.old self.new }
         ensures told { AreTold (G.told_held gate.now) (G.told_freed gate.now) self.old.member.pass.knows.log self.new.member.pass.knows.log }
     {
@@ -48,7 +48,7 @@ impl Helper {
         pauses: &mut Pauses,
     ) -> Driven
         requires helper { IsHelperOf field.now self.old }
-        requires in_time { goal ≤ field.now.terms.net.now.steps }
+        requires in_time { goal ≤ field.now.terms.setup.now.net.steps }
         requires none { pauses.old ≡ 0 }
         ensures kept { IsKept field.now self.old self.new }
         ensures worked { HasWorked field.now.terms self.old.member.pass.knows self.new.member.pass.knows goal budget result }
@@ -76,7 +76,7 @@ impl Helper {
     // has popped and doesn't come to.
     fn work<G: Gate>(&mut self, field: &Field, goal: u64, left: u64, vain: u32, gate: &G) -> Driven
         requires helper { IsHelperOf field.now self.old }
-        requires in_time { goal ≤ field.now.terms.net.now.steps }
+        requires in_time { goal ≤ field.now.terms.setup.now.net.steps }
         requires some { 1 ≤ left }
         ensures kept { IsKept field.now self.old self.new }
         ensures worked { HasWorked field.now.terms self.old.member.pass.knows self.new.member.pass.knows goal left result }
@@ -104,8 +104,8 @@ impl Helper {
         gate: &G,
     ) -> Driven
         requires helper { IsHelperOf field.now self.old }
-        requires there { region < region_count field.now.terms.chart.now.cut }
-        requires in_time { goal ≤ field.now.terms.net.now.steps }
+        requires there { region < region_count field.now.terms.setup.now.chart.cut }
+        requires in_time { goal ≤ field.now.terms.setup.now.net.steps }
         requires some { 1 ≤ left }
         ensures kept { IsKept field.now self.old self.new }
         ensures worked { HasWorked field.now.terms self.old.member.pass.knows self.new.member.pass.knows goal left result }
@@ -124,7 +124,7 @@ impl Helper {
     // A sweep, or as many turns of one as are left. The numbers that there was no memory for are pushed again.
     fn sweep<G: Gate>(&mut self, field: &Field, goal: u64, left: u64, gate: &G) -> Driven
         requires helper { IsHelperOf field.now self.old }
-        requires in_time { goal ≤ field.now.terms.net.now.steps }
+        requires in_time { goal ≤ field.now.terms.setup.now.net.steps }
         requires some { 1 ≤ left }
         ensures kept { IsKept field.now self.old self.new }
         ensures worked { HasWorked field.now.terms self.old.member.pass.knows self.new.member.pass.knows goal left result }

@@ -18,13 +18,13 @@ pub fn crew_hints<R: Threads + Sync, G: Gate>(
     gate: &G,
 )
     requires helpers { AreHelpersOf field.now helpers.old }
-    requires in_time { goal ≤ field.now.terms.net.now.steps }
+    requires in_time { goal ≤ field.now.terms.setup.now.net.steps }
     ensures helped { AreHelped field.now goal sweeps helpers.old helpers.new }
     ensures told { AreHelpersTold (G.told_held gate.now) (G.told_freed gate.now) helpers.old helpers.new }
 {
     let threads = helpers.len().max(1);
     let work = move |_k: usize, helper: &mut Helper|
-        requires { IsHelperOf field.now helper.old × (goal ≤ field.now.terms.net.now.steps) }
+        requires { IsHelperOf field.now helper.old × (goal ≤ field.now.terms.setup.now.net.steps) }
         ensures { IsHelped field.entry.now goal sweeps helper.old helper.new × AreTold (G.told_held gate.entry.now) (G.told_freed gate.entry.now) helper.old.member.pass.knows.log helper.new.member.pass.knows.log }
     { helper.help(field, goal, sweeps, gate) };
     for_each_mut(rt, helpers, threads, &work);

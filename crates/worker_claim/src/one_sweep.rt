@@ -12,16 +12,16 @@ use region_slots::{Field, Gate, Pass};
 /// One turn on each region, in order of number from `first` on and round.
 pub fn sweep<G: Gate>(field: &Field, pass: &mut Pass, goal: u64, first: u32, gate: &G) -> Driven
     requires belongs { IsPassOf field.now pass.old }
-    requires there { first < region_count field.now.terms.chart.now.cut }
-    requires in_time { goal ≤ field.now.terms.net.now.steps }
+    requires there { first < region_count field.now.terms.setup.now.chart.cut }
+    requires in_time { goal ≤ field.now.terms.setup.now.net.steps }
     ensures belongs { IsPassOf field.now pass.new × (pass.new.id ≡ pass.old.id) }
-    ensures swept { HasSwept (region_count field.now.terms.chart.now.cut) goal 1 pass.old.knows pass.new.knows result }
+    ensures swept { HasSwept (region_count field.now.terms.setup.now.chart.cut) goal 1 pass.old.knows pass.new.knows result }
     ensures counted { IsCounted field.now.terms pass.old.knows pass.new.knows goal result }
-    ensures order { pass.new.knows.tried ≡ pass.old.knows.tried ++ round_from (region_count field.now.terms.chart.now.cut) first }
-    ensures all { IsTrue result.all ↔ (result.ended ≡ region_count field.now.terms.chart.now.cut) }
+    ensures order { pass.new.knows.tried ≡ pass.old.knows.tried ++ round_from (region_count field.now.terms.setup.now.chart.cut) first }
+    ensures all { IsTrue result.all ↔ (result.ended ≡ region_count field.now.terms.setup.now.chart.cut) }
     ensures told { AreTold (G.told_held gate.now) (G.told_freed gate.now) pass.old.knows.log pass.new.knows.log }
     ensures nearer { pass.old.knows.share ≡ field.now.terms.seats → result.all ≡ false →
-        steps_left (region_count field.now.terms.chart.now.cut) goal pass.new.knows < steps_left (region_count field.now.terms.chart.now.cut) goal pass.old.knows }
+        steps_left (region_count field.now.terms.setup.now.chart.cut) goal pass.new.knows < steps_left (region_count field.now.terms.setup.now.chart.cut) goal pass.old.knows }
 {
     let regions = field.regions();
     let later = turns(field, pass, goal, first, regions, gate);
@@ -47,8 +47,8 @@ pub(crate) fn turns<G: Gate>(
 ) -> Driven
     requires belongs { IsPassOf field.now pass.old }
     requires some { from ≤ to }
-    requires there { to ≤ region_count field.now.terms.chart.now.cut }
-    requires in_time { goal ≤ field.now.terms.net.now.steps }
+    requires there { to ≤ region_count field.now.terms.setup.now.chart.cut }
+    requires in_time { goal ≤ field.now.terms.setup.now.net.steps }
     ensures belongs { IsPassOf field.now pass.new × (pass.new.id ≡ pass.old.id) }
     ensures turned { HasTurned field.now.terms pass.old.knows pass.new.knows from to goal result }
     ensures order { pass.new.knows.tried ≡ pass.old.knows.tried ++ range_with_len from (to - from) }

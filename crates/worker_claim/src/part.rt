@@ -18,8 +18,8 @@ pub(crate) fn sweep_within<G: Gate>(
     gate: &G,
 ) -> Driven
     requires belongs { IsPassOf field.now pass.old }
-    requires there { first < region_count field.now.terms.chart.now.cut }
-    requires in_time { goal ≤ field.now.terms.net.now.steps }
+    requires there { first < region_count field.now.terms.setup.now.chart.cut }
+    requires in_time { goal ≤ field.now.terms.setup.now.net.steps }
     requires some { 1 ≤ left }
     ensures belongs { IsPassOf field.now pass.new × (pass.new.id ≡ pass.old.id) }
     ensures worked { HasWorked field.now.terms pass.old.knows pass.new.knows goal left result }
@@ -42,9 +42,9 @@ fn part<G: Gate>(
     gate: &G,
 ) -> Driven
     requires belongs { IsPassOf field.now pass.old }
-    requires there { first < region_count field.now.terms.chart.now.cut }
-    requires in_time { goal ≤ field.now.terms.net.now.steps }
-    requires fewer { many < region_count field.now.terms.chart.now.cut }
+    requires there { first < region_count field.now.terms.setup.now.chart.cut }
+    requires in_time { goal ≤ field.now.terms.setup.now.net.steps }
+    requires fewer { many < region_count field.now.terms.setup.now.chart.cut }
     ensures belongs { IsPassOf field.now pass.new × (pass.new.id ≡ pass.old.id) }
     ensures worked { HasWorked field.now.terms pass.old.knows pass.new.knows goal many result }
     ensures told { AreTold (G.told_held gate.now) (G.told_freed gate.now) pass.old.knows.log pass.new.knows.log }

@@ -15,7 +15,7 @@ pub fn watch<G: Gate>(
     gate: &G,
 ) -> Shot
     requires watcher { IsPassOf field.now watcher.old }
-    requires room { IsRoomFor field.now.terms.chart.now room.old }
+    requires room { IsRoomFor field.now.terms.setup.now.chart room.old }
     requires tries { 1 ≤ tries }
     ensures watched { IsWatched field.now tries watcher.old watcher.new room.old room.new result }
     ensures told { G.told_watched gate.now false × G.told_watched gate.now true }

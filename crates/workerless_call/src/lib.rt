@@ -29,6 +29,6 @@ pub use cut_mode::cut_text;
 pub use input::input_of;
 pub use network_input::{network_in, refused};
 pub use recording::{large_record, records_too_much};
-pub use used_cutting::chart_asked;
+pub use used_cutting::layout_asked;
 pub use used_regions::regions_wanted;
 pub use words::request_of;

@@ -1,7 +1,6 @@
 ghost use Rattle.std.specs.Prelude.{◌≡◌, ◌≤◌, IfOk, length, min};
 ghost use Rattle.command_words.specs.Words.{IsInRange};
 ghost use Rattle.network_file.specs.declared.limits.TheConstants.{MOST_REGIONS};
-ghost use Rattle.region_cut.specs.Chart.{chart_of};
 ghost use Rattle.cut_grow.specs.Grown.{IsGrown};
 ghost use Rattle.workerless_call.specs.UsedCutting.{IsCuttingOf};
 
@@ -10,20 +9,19 @@ use command_words::Request;
 use cut_grow::grow;
 use network_file::Net;
 use no_memory::NoMemory;
-use region_cut::{Chart, Cut, CutRefusal, charted};
+use region_cut::{Cut, CutRefusal, Layout, charted};
 use std::alloc::Global;
 
-/// The chart of a network in the regions that its file gives, or else in even or in grown ones, as is asked for.
-pub fn chart_asked(alloc: Global, net: &Net, request: Request) -> Result<Chart, NoMemory>
+/// A network in the regions that its file gives, or else in even or in grown ones, as is asked for.
+pub fn layout_asked(alloc: Global, net: &Net, request: Request) -> Result<Layout<'_>, NoMemory>
     requires in_range { IsInRange request }
-    ensures chart { IfOk result (λ chart. chart ≡ chart_of net.now chart.cut) }
-    ensures one_each { IfOk result (λ chart. length chart.cut ≡ length net.now.cells) }
-    ensures cutting { IfOk result (λ chart. IsCuttingOf net.now request chart.cut) }
+    ensures network { IfOk result (λ layout. layout.net ≡ net.now) }
+    ensures cutting { IfOk result (λ layout. IsCuttingOf net.now request layout.chart.cut) }
 {
     let regions = regions_wanted(net, request);
     if request.grown && net.regions.is_empty() {
         let cut = grown_cut(alloc, net, regions)?;
-        return Chart::new(alloc, net, cut);
+        return Layout::new(alloc, net, cut);
     }
     charted(alloc, net, regions)
 }

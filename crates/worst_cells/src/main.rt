@@ -56,8 +56,8 @@ fn told(cause: Cause, line: &'static [u8]) -> Refusal {
 // The lines for a network: its worst cells after all steps.
 fn lines<R: Threads + Sync>(rt: &R, alloc: Global, net: &Net) -> Result<Vec<u8>, NoMemory> {
     let _steps = net.steps;
-    let chart = charted(alloc, net, 16)?;
-    let regions = last_regions(rt, alloc, net, &chart, 0, 4, &OpenGate)?;
-    let rows = run_rows(alloc, net, &chart, &regions)?;
+    let layout = charted(alloc, net, 16)?;
+    let regions = last_regions(rt, alloc, &layout, 0, 4, &OpenGate)?;
+    let rows = run_rows(alloc, &layout, &regions)?;
     worst_cells(alloc, &net.cells, &rows, CELLS)
 }

@@ -8,8 +8,8 @@ use Rattle.delay_report.proofs.last_totals.put_last_totals.Goals as goal
 pub returns : goal.returns
 returns c = record {
   recurrences = λ start every end.
-      let sound = subst IsNetwork c.net.view_is c.net.invariant in
-      let last = end-rows_of c.args.net.now c.args.chart.now start every c.args.regions.now sound c.requires.chart c.requires.one_each end in
-      let rows = c.in_ok-_places.ensures.rows (state_at c.args.net.now c.args.net.now.steps) last in
-      c.in_ok-put_total_line.ensures ∙ ap (λ shown. c.args.text.now.items ++ total_line c.args.net.now shown) (c.deref.ensures.value ∙ rows);
+      let sound = subst IsNetwork (c.net.view_is ∙ c.net-net.ensures.network) c.net.invariant in
+      let last = end-rows_of c.args.layout.now.net c.args.layout.now.chart start every c.args.regions.now sound c.net-net.ensures.charted c.net-net.ensures.one_each end in
+      let rows = c.in_ok-_places.ensures.rows (state_at c.args.layout.now.net c.args.layout.now.net.steps) last in
+      (rw c.net-net.ensures.network at c.in_ok-put_total_line.ensures) ∙ ap (λ shown. c.args.text.now.items ++ total_line c.args.layout.now.net shown) (c.deref.ensures.value ∙ rows);
 }

@@ -11,6 +11,6 @@ abbrev pub invariant-loop-t : goal.invariant-loop-t
 invariant-loop-t l = record {
   few : l.k ≤ l.t;
   count : l.k ≡ length (before l.net.steps l.every l.t);
-  lines : (note : ℕ → ℕ → Note) → AreNotesOf l.by_cell.chart.now l.by_cell.regions.now (recorded l.net.steps l.every 0 l.net.steps) note →
+  lines : (note : ℕ → ℕ → Note) → AreNotesOf l.by_cell.layout.now.chart l.by_cell.regions.now (recorded l.net.steps l.every 0 l.net.steps) note →
       l.text.items ≡ l.initial.text.items ++ note_lines l.net.cells note (before l.net.steps l.every l.t);
 }

@@ -8,10 +8,10 @@ use Rattle.delay_report.proofs.whole_report.report.Goals as goal
 
 pub returns-clause-balance : goal.returns-clause-balance
 returns-clause-balance c = λ start rows end are.
-    let sound = subst IsNetwork c.net.view_is c.net.invariant in
-    let last = end-rows_of c.args.net.now c.args.chart.now start c.args.every c.args.regions.now sound c.requires.chart c.requires.one_each end in
-    let same = sym (c.in_ok-places.ensures.rows rows are) ∙ c.in_ok-places.ensures.rows (state_at c.args.net.now c.args.net.now.steps) last in
-    rw same (state-balance c.args.net.now c.args.net.now.steps sound (omega arith))
+    let sound = subst IsNetwork (c.net.view_is ∙ c.net-net.ensures.network) c.net.invariant in
+    let last = end-rows_of c.args.layout.now.net c.args.layout.now.chart start c.args.every c.args.regions.now sound c.net-net.ensures.charted c.net-net.ensures.one_each end in
+    let same = sym (c.in_ok-places.ensures.rows rows are) ∙ c.in_ok-places.ensures.rows (state_at c.args.layout.now.net c.args.layout.now.net.steps) last in
+    rw same (state-balance c.args.layout.now.net c.args.layout.now.net.steps sound (omega arith))
 
 pub returns-clause-text : goal.returns-clause-text
 unfolding report_with
@@ -20,7 +20,7 @@ returns-clause-text c = search rules
 pub returns-clause-recurrences : goal.returns-clause-recurrences
 unfolding report_of
 returns-clause-recurrences c = λ start end.
-    let sound = subst IsNetwork c.net.view_is c.net.invariant in
-    let notes = end-notes_of c.args.net.now c.args.chart.now start c.args.every c.args.regions.now sound c.requires.chart end in
-    let rows = end-rows_of c.args.net.now c.args.chart.now start c.args.every c.args.regions.now sound c.requires.chart c.requires.one_each end in
-    returns-clause-text c (state_note c.args.net.now) (state_at c.args.net.now c.args.net.now.steps) notes rows
+    let sound = subst IsNetwork (c.net.view_is ∙ c.net-net.ensures.network) c.net.invariant in
+    let notes = end-notes_of c.args.layout.now.net c.args.layout.now.chart start c.args.every c.args.regions.now sound c.net-net.ensures.charted end in
+    let rows = end-rows_of c.args.layout.now.net c.args.layout.now.chart start c.args.every c.args.regions.now sound c.net-net.ensures.charted c.net-net.ensures.one_each end in
+    returns-clause-text c (state_note c.args.layout.now.net) (state_at c.args.layout.now.net c.args.layout.now.net.steps) notes rows

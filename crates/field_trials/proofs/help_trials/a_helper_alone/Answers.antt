@@ -1,4 +1,4 @@
-use Rattle.std.proofs.Common.{◌≡◌, [], ◌∷◌, sym, subst}
+use Rattle.std.proofs.Common.{[], sym, subst}
 use Rattle.std.proofs.lemmas.List.Elements.{All-cons, All-nil}
 use Rattle.worker_claim.specs.Helping.{AreHelpersOf, IsHelperOf}
 use Rattle.field_trials.proofs.help_trials.a_helper_alone.Goals as goal

@@ -12,20 +12,20 @@ use Rattle.network_run.proofs.taken_regions.regions_from.Goals as goal
 pub returns-clause-stand : goal.returns-clause-stand
 returns-clause-stand g c =
     let same = c.take_to.ensures.terms ∙ c.in_ok-run.ensures.terms in
-    let first : region_count c.take_to.new.self.terms.chart.now.cut ≡ region_count c.in_ok-run.run'.terms.chart.now.cut = ap (λ (t : Terms). region_count t.chart.now.cut) c.take_to.ensures.terms in
-    let count : region_count c.take_to.new.self.terms.chart.now.cut ≡ region_count c.args.chart.now.cut = ap (λ (t : Terms). region_count t.chart.now.cut) same in
-    subst (λ (t : Terms). AllStand t.net.now t.chart.now t.start.now t.every (replicate (region_count t.chart.now.cut) c.args.goal) c.close.result.items) same
+    let first : region_count c.take_to.new.self.terms.setup.now.chart.cut ≡ region_count c.in_ok-run.run'.terms.setup.now.chart.cut = ap (λ (t : Terms). region_count t.setup.now.chart.cut) c.take_to.ensures.terms in
+    let count : region_count c.take_to.new.self.terms.setup.now.chart.cut ≡ region_count c.args.setup.now.chart.cut = ap (λ (t : Terms). region_count t.setup.now.chart.cut) same in
+    subst (λ (t : Terms). AllStand t.setup.now.net t.setup.now.chart t.setup.now.start t.setup.now.every (replicate (region_count t.setup.now.chart.cut) c.args.goal) c.close.result.items) same
     (c.close.ensures.stand c.args.goal (λ r there. c.take_to.ensures.done r (omega (arith, there, first))) c.take_to.ensures.reach
-    (λ r there. omega (arith, ap (λ (t : Terms). slice_index t.start.now.steps r) same, c.requires.before r (omega (arith, there, count)))))
+    (λ r there. omega (arith, ap (λ (t : Terms). slice_index t.setup.now.start.steps r) same, c.requires.before r (omega (arith, there, count)))))
 
 pub returns-clause-told : goal.returns-clause-told
 returns-clause-told g c = λ done.
     let held : ℕ → ℕ → Type 0 = g.G.Gate.told_held c.args.gate.now in
     let freed : ℕ → ℕ → Type 0 = g.G.Gate.told_freed c.args.gate.now in
     let same = c.take_to.ensures.terms ∙ c.in_ok-run.ensures.terms in
-    let first : region_count c.take_to.new.self.terms.chart.now.cut ≡ region_count c.in_ok-run.run'.terms.chart.now.cut = ap (λ (t : Terms). region_count t.chart.now.cut) c.take_to.ensures.terms in
+    let first : region_count c.take_to.new.self.terms.setup.now.chart.cut ≡ region_count c.in_ok-run.run'.terms.setup.now.chart.cut = ap (λ (t : Terms). region_count t.setup.now.chart.cut) c.take_to.ensures.terms in
     let log = c.take_to.new.self.knows.log in
     let told : AreTold held freed [] log = subst (λ own. AreTold held freed own log) (ap (λ (v : View). v.log) c.in_ok-run.ensures.knows) c.take_to.ensures.told in
-    subst (λ (t : Terms). HasToldFrom held freed (region_count t.chart.now.cut) t.start.now.steps c.args.goal) same
-    (told-logged held freed (region_count c.take_to.new.self.terms.chart.now.cut) c.take_to.new.self.terms.start.now.steps c.args.goal log
+    subst (λ (t : Terms). HasToldFrom held freed (region_count t.setup.now.chart.cut) t.setup.now.start.steps c.args.goal) same
+    (told-logged held freed (region_count c.take_to.new.self.terms.setup.now.chart.cut) c.take_to.new.self.terms.setup.now.start.steps c.args.goal log
     (c.close.ensures.logged c.args.goal (λ r there. c.take_to.ensures.done r (omega (arith, there, first)))) told)

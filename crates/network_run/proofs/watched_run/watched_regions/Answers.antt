@@ -2,7 +2,7 @@ use Rattle.std.specs.Prelude.{replicate, slice_index}
 use Rattle.std.proofs.Common.{◌≡◌, ℕ, [], refl, ap, subst, ◌∙◌, arith}
 use Rattle.region_cut.specs.Cuttings.{region_count}
 use Rattle.region_step.specs.Standing.{AllStand}
-use Rattle.region_step.specs.Start.{StartLists}
+use Rattle.region_step.specs.Setup.{SetupValue}
 use Rattle.region_step.proofs.Steps.{zero_start-at}
 use Rattle.border_rows.specs.declared.view.Terms.{Terms}
 use Rattle.border_rows.specs.declared.view.View.{View}
@@ -14,13 +14,15 @@ use Rattle.network_run.proofs.watched_run.watched_regions.Goals as goal
 pub returns-clause-stand : goal.returns-clause-stand
 returns-clause-stand g c =
     let taken = c.in_ok-take_shots.ensures in
-    let last : ℕ = c.args.net.now.steps in
+    let last : ℕ = c.args.layout.now.net.steps in
     let same = taken.terms refl ∙ c.in_ok-run.ensures.terms in
-    let count : region_count c.take_shots.new.self.terms.chart.now.cut ≡ region_count c.args.chart.now.cut = ap (λ (t : Terms). region_count t.chart.now.cut) same in
-    let zero : (r : ℕ) → slice_index c.take_shots.new.self.terms.start.now.steps r ≡ 0 =
-    λ r. ap (λ (t : Terms). slice_index t.start.now.steps r) same ∙ ap (λ (start : StartLists). slice_index start.steps r) c.in_ok-start.ensures.start ∙ zero_start-at c.args.net.now c.args.chart.now.cut r in
-    subst (λ (start : StartLists). AllStand c.args.net.now c.args.chart.now start c.args.every (replicate (region_count c.args.chart.now.cut) last) c.close.result.items) c.in_ok-start.ensures.start
-    (subst (λ (t : Terms). AllStand t.net.now t.chart.now t.start.now t.every (replicate (region_count t.chart.now.cut) last) c.close.result.items) same
+    let setup = c.in_ok-setup.ensures.setup in
+    let count : region_count c.take_shots.new.self.terms.setup.now.chart.cut ≡ region_count c.args.layout.now.chart.cut =
+    ap (λ (t : Terms). region_count t.setup.now.chart.cut) same ∙ ap (λ (s : SetupValue). region_count s.chart.cut) setup in
+    let zero : (r : ℕ) → slice_index c.take_shots.new.self.terms.setup.now.start.steps r ≡ 0 =
+    λ r. ap (λ (t : Terms). slice_index t.setup.now.start.steps r) same ∙ ap (λ (s : SetupValue). slice_index s.start.steps r) setup ∙ zero_start-at c.args.layout.now.net c.args.layout.now.chart.cut r in
+    subst (λ (s : SetupValue). AllStand s.net s.chart s.start s.every (replicate (region_count s.chart.cut) last) c.close.result.items) setup
+    (subst (λ (t : Terms). AllStand t.setup.now.net t.setup.now.chart t.setup.now.start t.setup.now.every (replicate (region_count t.setup.now.chart.cut) last) c.close.result.items) same
     (c.close.ensures.stand last (λ r there. taken.last refl r (omega (arith, there, count))) (taken.reach refl) (λ r there. omega (arith, zero r))))
 
 pub returns-clause-told : goal.returns-clause-told
@@ -28,14 +30,16 @@ returns-clause-told g c = λ done.
     let held : ℕ → ℕ → Type 0 = g.G.Gate.told_held c.args.gate.now in
     let freed : ℕ → ℕ → Type 0 = g.G.Gate.told_freed c.args.gate.now in
     let taken = c.in_ok-take_shots.ensures in
-    let last : ℕ = c.args.net.now.steps in
+    let last : ℕ = c.args.layout.now.net.steps in
     let same = taken.terms refl ∙ c.in_ok-run.ensures.terms in
-    let count : region_count c.take_shots.new.self.terms.chart.now.cut ≡ region_count c.args.chart.now.cut = ap (λ (t : Terms). region_count t.chart.now.cut) same in
-    let zero : (r : ℕ) → slice_index c.take_shots.new.self.terms.start.now.steps r ≡ 0 =
-    λ r. ap (λ (t : Terms). slice_index t.start.now.steps r) same ∙ ap (λ (start : StartLists). slice_index start.steps r) c.in_ok-start.ensures.start ∙ zero_start-at c.args.net.now c.args.chart.now.cut r in
+    let setup = c.in_ok-setup.ensures.setup in
+    let count : region_count c.take_shots.new.self.terms.setup.now.chart.cut ≡ region_count c.args.layout.now.chart.cut =
+    ap (λ (t : Terms). region_count t.setup.now.chart.cut) same ∙ ap (λ (s : SetupValue). region_count s.chart.cut) setup in
+    let zero : (r : ℕ) → slice_index c.take_shots.new.self.terms.setup.now.start.steps r ≡ 0 =
+    λ r. ap (λ (t : Terms). slice_index t.setup.now.start.steps r) same ∙ ap (λ (s : SetupValue). slice_index s.start.steps r) setup ∙ zero_start-at c.args.layout.now.net c.args.layout.now.chart.cut r in
     let log = c.take_shots.new.self.knows.log in
     let told : AreTold held freed [] log = subst (λ own. AreTold held freed own log) (ap (λ (v : View). v.log) c.in_ok-run.ensures.knows) (taken.told refl) in
     subst (λ n. HasTold held freed n last) count
-    (told-zero held freed (region_count c.take_shots.new.self.terms.chart.now.cut) c.take_shots.new.self.terms.start.now.steps last zero
-    (told-logged held freed (region_count c.take_shots.new.self.terms.chart.now.cut) c.take_shots.new.self.terms.start.now.steps last log
+    (told-zero held freed (region_count c.take_shots.new.self.terms.setup.now.chart.cut) c.take_shots.new.self.terms.setup.now.start.steps last zero
+    (told-logged held freed (region_count c.take_shots.new.self.terms.setup.now.chart.cut) c.take_shots.new.self.terms.setup.now.start.steps last log
     (c.close.ensures.logged last (λ r there. taken.last refl r (omega (arith, there, count)))) told))

@@ -5,6 +5,6 @@ use Rattle.plan_choice.proofs.whole_run.take_to_end.Given as goal
 
 abbrev pub invariant-loop-step : goal.invariant-loop-step
 invariant-loop-step l = record {
-  stands : Stands l.net l.chart (zero_start l.net l.chart.cut) 0 0 l._step l.region;
-  in_bounds : HasRowsInBounds l.net l.chart l.region.state;
+  stands : Stands l.layout.net l.layout.chart (zero_start l.layout.net l.layout.chart.cut) 0 0 l._step l.region;
+  in_bounds : HasRowsInBounds l.layout.net l.layout.chart l.region.state;
 }

@@ -4,11 +4,14 @@ use Rattle.region_cut.specs.Cuttings.{region_count}
 use Rattle.plan_choice.proofs.WholeRun.{one-stands}
 use Rattle.plan_choice.proofs.whole_run.whole_delay.Goals as goal
 
-pub run_delay-requires-clause-stand : goal.run_delay-requires-clause-stand
-run_delay-requires-clause-stand c =
-    let one : region_count c.in_ok-chart.chart.cut ≡ 1 = ap region_count c.in_ok-chart.ensures.cut ∙ c.in_ok-whole.ensures.one in (
-      0,
-      rw (c.deref.ensures.value, c.in_ok-push.ensures.items, c.new-regions.ensures.items)
-          (one-stands c.args.net.now c.in_ok-chart.chart (zero_start c.args.net.now c.in_ok-chart.chart.cut) 0 c.args.net.now.steps c.in_ok-last_region.field-0 one
-          c.in_ok-last_region.ensures),
-    )
+pub run_delay-requires : goal.run_delay-requires
+run_delay-requires c =
+    let one : region_count c.in_ok-layout.layout.chart.cut ≡ 1 = ap region_count c.in_ok-layout.ensures.cut ∙ c.in_ok-whole.ensures.one in
+    record {
+      stand = (
+        0,
+        rw (c.deref.ensures.value, c.in_ok-push.ensures.items, c.new-regions.ensures.items)
+            (one-stands c.in_ok-layout.layout.net c.in_ok-layout.layout.chart (zero_start c.in_ok-layout.layout.net c.in_ok-layout.layout.chart.cut) 0 c.in_ok-layout.layout.net.steps c.in_ok-last_region.field-0 one
+            c.in_ok-last_region.ensures),
+      );
+    }

@@ -13,7 +13,7 @@ use Rattle.region_slots.proofs.first_words.fill.Goals as goal
 
 pub loop-j-init : goal.loop-j-init
 loop-j-init c =
-    let chart = c.args.chart.now in
+    let chart = c.args.layout.now.chart in
     let step : c.index-step.result.now ≡ slice_index c.args.start.now.steps c.args.r =
     c.index-step.ensures ∙ ap (λ start. get_or start.steps c.args.r c.index-step.result.now) c.start.view_is ∙
     get_or_default c.args.start.now.steps c.args.r c.index-step.result.now 0 (omega (arith, c.requires.steps, c.requires.there)) in
@@ -22,7 +22,7 @@ loop-j-init c =
 
 pub overflow_cast-j : goal.overflow_cast-j
 overflow_cast-j c =
-    let chart = c.args.chart.now in
+    let chart = c.args.layout.now.chart in
     omega (
       arith,
       c.loop-j-test.true,
@@ -34,7 +34,7 @@ overflow_cast-j c =
 
 pub loop-j-preserved : goal.loop-j-preserved
 loop-j-preserved c =
-    let chart = c.args.chart.now in
+    let chart = c.args.layout.now.chart in
     let start = c.args.start.now in
     let r = c.args.r in
     let j = c.loop-j.j in
@@ -59,7 +59,7 @@ loop-j-preserved c =
 
 pub returns-clause-filled : goal.returns-clause-filled
 returns-clause-filled c =
-    let chart = c.args.chart.now in
+    let chart = c.args.layout.now.chart in
     let end : c.loop-j.j ≡ width_at (widths_of chart) c.args.r =
     omega (arith, c.loop-j-test.false, c.loop-j.auto.j-end, ap length c.border-border.ensures.list, width_at-widths_of chart c.args.r) in
     record { step = c.loop-j.invariant.step; rows = rw (← end) c.loop-j.invariant.rows }

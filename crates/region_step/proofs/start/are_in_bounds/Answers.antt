@@ -5,6 +5,6 @@ use Rattle.region_step.proofs.start.are_in_bounds.Goals as goal
 
 pub loop-i-preserved : goal.loop-i-preserved
 loop-i-preserved c j below = elim (cases_eq j c.loop-i.i) [
-  | inl same ↦ subst (IsCellInBounds c.args.net.now c.args.chart.now.cut c.args.start.now) (sym same) (c.is_cell_in_bounds.ensures.0 cc)
+  | inl same ↦ subst (IsCellInBounds c.args.layout.now.net c.args.layout.now.chart.cut c.args.start.now) (sym same) (c.is_cell_in_bounds.ensures.0 cc)
   | inr other ↦ c.loop-i.invariant j (omega (arith, below, other))
 ]

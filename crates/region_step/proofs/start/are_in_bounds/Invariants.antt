@@ -3,4 +3,4 @@ use Rattle.region_step.specs.Start.{IsCellInBounds}
 use Rattle.region_step.proofs.start.are_in_bounds.Given as goal
 
 abbrev pub invariant-loop-i : goal.invariant-loop-i
-invariant-loop-i l = (j : ℕ) → j < l.i → IsCellInBounds l.net l.chart.cut l.start j
+invariant-loop-i l = (j : ℕ) → j < l.i → IsCellInBounds l.layout.net l.layout.chart.cut l.start j

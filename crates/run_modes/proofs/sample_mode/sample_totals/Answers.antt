@@ -10,9 +10,10 @@ use Rattle.delay_report.proofs.Standing.{end-zero, stand-rows}
 use Rattle.run_modes.specs.SampleMode.{sample_line, sample_of}
 use Rattle.run_modes.proofs.sample_mode.sample_totals.Goals as goal
 
-pub put_last_totals-requires-clause-rows : goal.put_last_totals-requires-clause-rows
-put_last_totals-requires-clause-rows g c =
-    rw c.deref.ensures.value (stand-rows c.args.net.now c.in_ok-chart.chart (zero_start c.args.net.now c.in_ok-chart.chart.cut) 0 _ _ c.in_ok-regions.ensures.stand)
+pub put_last_totals-requires : goal.put_last_totals-requires
+put_last_totals-requires g c = record {
+  rows = rw c.deref.ensures.value (stand-rows c.in_ok-layout.layout.net c.in_ok-layout.layout.chart (zero_start c.in_ok-layout.layout.net c.in_ok-layout.layout.chart.cut) 0 _ _ c.in_ok-regions.ensures.stand);
+}
 
 sample-is : (size seed : ℕ) (net : Network) → sample_of size seed net ≡ sample_line size seed net ++ total_line net (state_at net net.steps)
 unfolding sample_of
@@ -21,16 +22,16 @@ sample-is size seed net = refl
 pub returns-clause-text : goal.returns-clause-text
 returns-clause-text g c =
     let net = c.args.net.now in
-    let cut : List ℕ = c.in_ok-chart.chart.cut in
-    let stand = subst (AllStand net c.in_ok-chart.chart (zero_start net cut) 0 (replicate (region_count cut) net.steps)) (sym c.deref.ensures.value) c.in_ok-regions.ensures.stand in
-    c.in_ok-put_last_totals.ensures.recurrences (zero_start net cut) 0 (end-zero net c.in_ok-chart.chart 0 c.deref.result.now stand) ∙
+    let cut : List ℕ = c.in_ok-layout.layout.chart.cut in
+    let stand = subst (AllStand net c.in_ok-layout.layout.chart (zero_start net cut) 0 (replicate (region_count cut) net.steps)) (sym c.deref.ensures.value) (rw c.in_ok-layout.ensures.network at c.in_ok-regions.ensures.stand) in
+    (rw c.in_ok-layout.ensures.network at c.in_ok-put_last_totals.ensures.recurrences) (zero_start net cut) 0 (end-zero net c.in_ok-layout.layout.chart 0 c.deref.result.now stand) ∙
     ap (λ (first : List ℕ). first ++ total_line net (state_at net net.steps)) (c.in_ok-put_sample_line.ensures ∙ ap (λ (first : List ℕ). first ++ sample_line c.args.request.size c.args.request.seed net) c.new-text.ensures.items) ∙ sym (sample-is c.args.request.size c.args.request.seed net)
 
 pub returns-clause-told : goal.returns-clause-told
 returns-clause-told g c = λ done. record {
-  cut = c.in_ok-chart.chart.cut;
-  own = c.in_ok-chart.ensures.own;
-  even = λ none. c.in_ok-chart.ensures.even none ∙
+  cut = c.in_ok-layout.layout.chart.cut;
+  own = c.in_ok-layout.ensures.own;
+  even = λ none. c.in_ok-layout.ensures.even none ∙
       ap (λ (n : ℕ). even_cutting (length c.args.net.now.cells) (min n (length c.args.net.now.cells))) c.regions_wanted.ensures.wanted;
-  told = c.in_ok-regions.ensures.told refl;
+  told = rw c.in_ok-layout.ensures.network at (c.in_ok-regions.ensures.told refl);
 }

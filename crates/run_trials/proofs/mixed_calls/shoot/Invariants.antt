@@ -3,4 +3,4 @@ use Rattle.region_slots.specs.FieldView.{IsPassOf}
 use Rattle.run_trials.proofs.mixed_calls.shoot.Given as goal
 
 abbrev pub invariant-loop : goal.invariant-loop
-invariant-loop l = IsPassOf l.field l.pass × IsRoomFor l.chart l.room
+invariant-loop l = IsPassOf l.field l.pass × IsRoomFor l.layout.chart l.room

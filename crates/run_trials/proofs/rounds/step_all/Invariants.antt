@@ -3,6 +3,6 @@ use Rattle.run_trials.proofs.rounds.step_all.Given as goal
 
 abbrev pub invariant-loop-r : goal.invariant-loop-r
 invariant-loop-r g l = record {
-  at : AllAt (g.B.Body.is_in l.net l.chart) g.B.Body.state l.net l.chart l.t l.bodies;
-  told : AllTold g.B.Body.state l.net l.chart l.r l.bodies;
+  at : AllAt (g.B.Body.is_in l.layout.net l.layout.chart) g.B.Body.state l.layout.net l.layout.chart l.t l.bodies;
+  told : AllTold g.B.Body.state l.layout.net l.layout.chart l.r l.bodies;
 }

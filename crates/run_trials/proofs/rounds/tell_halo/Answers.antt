@@ -16,8 +16,8 @@ use Rattle.run_trials.proofs.rounds.tell_halo.Goals as goal
 
 pub overflow_cast-j : goal.overflow_cast-j
 overflow_cast-j g c =
-    let here = ground c.args.net.now c.args.chart.now.cut c.args.chart.now c.args.r (subst IsNetwork c.net.view_is c.net.invariant) c.requires.chart c.requires.there in
-    omega (arith, c.loop-j-test.true, ap length c.halo-halo.ensures.list, length-map (list_at c.args.chart.now.halo c.args.r) (λ halo. halo.cell), here.few_halo)
+    let here = ground c.args.layout.now.net c.args.layout.now.chart.cut c.args.layout.now.chart c.args.r (subst IsNetwork (c.net.view_is ∙ c.net-net.ensures.network) c.net.invariant) c.net-net.ensures.charted c.requires.there in
+    omega (arith, c.loop-j-test.true, ap length c.halo-halo.ensures.list, length-map (list_at c.args.layout.now.chart.halo c.args.r) (λ halo. halo.cell), here.few_halo)
 
 blank : Halo
 blank = record { cell = 0; region = 0; place = 0 }
@@ -25,8 +25,8 @@ blank = record { cell = 0; region = 0; place = 0 }
 pub loop-j-preserved : goal.loop-j-preserved
 unfolding blank
 loop-j-preserved g c =
-    let net : Network = c.args.net.now in
-    let chart : ChartLists = c.args.chart.now in
+    let net : Network = c.args.layout.now.net in
+    let chart : ChartLists = c.args.layout.now.chart in
     let r : ℕ = c.args.r in
     let j : ℕ = c.loop-j.j in
     let other : Halo = get_or c.halo-halo.result.now j blank in

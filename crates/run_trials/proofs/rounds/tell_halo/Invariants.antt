@@ -5,7 +5,7 @@ use Rattle.run_trials.proofs.rounds.tell_halo.Given as goal
 
 abbrev pub invariant-loop-j : goal.invariant-loop-j
 invariant-loop-j g l = record {
-  at : AllAt (g.B.Body.is_in l.net l.chart) g.B.Body.state l.net l.chart l.t l.bodies;
-  told : (body : _) → IsTold l.net l.chart l.j (g.B.Body.state (slice_index_or l.bodies l.r body));
+  at : AllAt (g.B.Body.is_in l.layout.net l.layout.chart) g.B.Body.state l.layout.net l.layout.chart l.t l.bodies;
+  told : (body : _) → IsTold l.layout.net l.layout.chart l.j (g.B.Body.state (slice_index_or l.bodies l.r body));
   others : (q : ℕ) (body : _) → q ≢ l.r → slice_index_or l.bodies q body ≡ slice_index_or l.initial.bodies q body;
 }

@@ -1,27 +1,34 @@
-use Rattle.std.proofs.Common.{length, sym, ap, ◌∙◌, arith}
-use Rattle.region_cut.specs.Chart.{chart_of}
-use Rattle.saved_modes.specs.Recutting.{step_of}
+use Rattle.std.proofs.Common.{ap, arith, refl, subst, sym}
+use Rattle.saved_modes.specs.Recutting.{IsLastPart, IsPart, step_of}
+use Rattle.saved_modes.specs.declared.recutting.Part.{Part}
 use Rattle.saved_modes.proofs.RecutParts.{start-below}
 use Rattle.saved_modes.proofs.recutting.next_part.Goals as goal
 
-pub regions_from-requires-clause-before : goal.regions_from-requires-clause-before
-regions_from-requires-clause-before g c = λ lifetimes outlive r within.
-    omega (arith, start-below c.in_ok-start.start c.in_ok-chart.chart.cut (step_of c.args.last) c.args.goal c.in_ok-start.ensures.steps c.requires.later r within)
+pub part_start-requires : goal.part_start-requires
+part_start-requires g c = record { last = subst (λ net. IsLastPart net c.args.last) (sym c.in_ok-layout.ensures.network) c.requires.last }
+
+pub part_regions-requires-clause-before : goal.part_regions-requires-clause-before
+part_regions-requires-clause-before g c = λ lifetimes outlive r within.
+    omega (arith, start-below c.in_ok-start.start c.in_ok-layout.layout.chart.cut (step_of c.args.last) c.args.goal c.in_ok-start.ensures.steps c.requires.later r within)
+
+pub part_regions-requires-clause-in_time : goal.part_regions-requires-clause-in_time
+part_regions-requires-clause-in_time g c = λ lifetimes outlive. omega (arith, c.requires.in_time, ap (λ net. net.steps) c.in_ok-layout.ensures.network)
 
 pub returns-clause-part : goal.returns-clause-part
-returns-clause-part g c = record {
-  charted = c.in_ok-chart.ensures.chart ∙ ap (chart_of c.args.net.now) (sym c.in_ok-chart.ensures.cut);
-  one_each = ap length c.in_ok-chart.ensures.cut ∙ c.requires.one_each;
-  in_time = c.requires.in_time;
-  start = c.in_ok-start.start;
-  at = record {
-    fits = c.in_ok-start.ensures.fits;
-    started = λ r within. omega (arith, start-below c.in_ok-start.start c.in_ok-chart.chart.cut (step_of c.args.last) c.args.goal c.in_ok-start.ensures.steps c.requires.later r within);
-    stand = c.in_ok-regions.ensures.stand;
-  };
-  from = record {
-    true_start = c.in_ok-start.ensures.true_start;
-    lawful = c.in_ok-start.ensures.lawful;
-    below = λ some r within. start-below c.in_ok-start.start c.in_ok-chart.chart.cut (step_of c.args.last) c.args.goal c.in_ok-start.ensures.steps c.requires.later r within;
-  };
-}
+returns-clause-part g c =
+    let part : Part = record { step = c.args.goal; layout = c.in_ok-layout.layout; regions = c.in_ok-regions.regions } in
+    subst (λ net. IsPart net part) c.in_ok-layout.ensures.network (record {
+      network = refl;
+      in_time = omega (arith, c.requires.in_time, ap (λ net. net.steps) c.in_ok-layout.ensures.network);
+      start = c.in_ok-start.start;
+      at = record {
+        fits = c.in_ok-start.ensures.fits;
+        started = λ r within. omega (arith, start-below c.in_ok-start.start c.in_ok-layout.layout.chart.cut (step_of c.args.last) c.args.goal c.in_ok-start.ensures.steps c.requires.later r within);
+        stand = c.in_ok-regions.ensures;
+      };
+      from = record {
+        true_start = c.in_ok-start.ensures.true_start;
+        lawful = c.in_ok-start.ensures.lawful;
+        below = λ some r within. start-below c.in_ok-start.start c.in_ok-layout.layout.chart.cut (step_of c.args.last) c.args.goal c.in_ok-start.ensures.steps c.requires.later r within;
+      };
+    })

@@ -1,15 +1,13 @@
 use Rattle.saved_run.specs.Reading.{content_of}
-use Rattle.saved_modes.proofs.Resuming.{gone-on, loaded-charted, loaded-starts, why-none}
+use Rattle.saved_modes.proofs.Resuming.{gone-on, loaded-starts, why-none}
 use Rattle.saved_modes.proofs.resume_mode.resume_text.Goals as goal
 
-pub report_on-requires-clause-chart : goal.report_on-requires-clause-chart
-report_on-requires-clause-chart g c = λ lifetimes outlive. loaded-charted _ _ _ _ c.in-Ok.ensures.loaded
-
 pub report_on-requires-clause-can_start : goal.report_on-requires-clause-can_start
-report_on-requires-clause-can_start g c = λ lifetimes outlive. loaded-starts _ _ _ _ c.in-Ok.ensures.loaded
+report_on-requires-clause-can_start g c = λ lifetimes outlive. rw c.of-layout.ensures (loaded-starts _ _ _ _ c.in-Ok.ensures.loaded)
 
 pub returns-clause-text : goal.returns-clause-text
 returns-clause-text g c = (
   why-none (content_of c.args.input.now) c.in-Ok.saved.net c.in-Ok.saved.chart c.in-Ok.saved.start c.in-Ok.ensures.loaded,
-  gone-on (content_of c.args.input.now) c.in-Ok.saved.net c.in-Ok.saved.chart c.in-Ok.saved.start c.in_ok-text.text.items c.in-Ok.ensures.loaded c.in_ok-text.ensures.text c.in_ok-text.ensures.plain,
+  gone-on (content_of c.args.input.now) c.in-Ok.saved.net c.in-Ok.saved.chart c.in-Ok.saved.start c.in_ok-text.text.items c.in-Ok.ensures.loaded
+      (rw c.of-layout.ensures at c.in_ok-text.ensures.text) (rw c.of-layout.ensures at c.in_ok-text.ensures.plain),
 )

@@ -1,5 +1,5 @@
-use Rattle.std.proofs.Common.{◌≡◌, ℕ, List, arith, ap, subst, ◌∙◌}
-use Rattle.network_file.specs.Network.{IsNetwork}
+use Rattle.std.proofs.Common.{ℕ, List, length, arith, ap, subst, ◌∙◌}
+use Rattle.network_file.specs.Network.{IsNetwork, Network}
 use Rattle.network_file.proofs.NetworkFacts.{few_cells}
 use Rattle.network_file.specs.Cutting.{IsCutting}
 use Rattle.region_step.specs.Start.{zero_start}
@@ -11,30 +11,30 @@ use Rattle.saved_modes.proofs.Saved.{shown-run}
 use Rattle.saved_modes.proofs.save_mode.saved_near.Goals as goal
 
 pub save_text-requires-clause-few : goal.save_text-requires-clause-few
-save_text-requires-clause-few g c = omega (arith, c.in_ok-chart.ensures.one_each, few_cells c.args.net.now (subst IsNetwork c.net.view_is c.net.invariant))
+save_text-requires-clause-few g c = omega (arith, (c.net-own.ensures.one_each ∙ ap (λ (n : Network). length n.cells) c.in_ok-layout.ensures.network), few_cells c.args.net.now (subst IsNetwork c.net.view_is c.net.invariant))
 
 pub returns : goal.returns
 returns g c =
     let net = c.args.net.now in
     let sound = subst IsNetwork c.net.view_is c.net.invariant in
-    let used : List ℕ = c.in_ok-chart.chart.cut in
+    let used : List ℕ = c.in_ok-layout.layout.chart.cut in
     let shot : IsTrueShot c.args.input.now net used (zero_start net used) c.in_ok-room.room = record {
       network = c.requires.network;
       sound = sound;
-      cutting = subst (λ cells. IsCutting cells used) c.in_ok-chart.ensures.one_each c.regions-regions.ensures.sound.cutting;
+      cutting = subst (λ cells. IsCutting cells used) (c.net-own.ensures.one_each ∙ ap (λ (n : Network). length n.cells) c.in_ok-layout.ensures.network) c.regions-regions.ensures.sound.cutting;
       fits = zero_start-fits net used sound;
       from = zero_start-lawful net used;
       true_start = zero_start-true net used;
-      snapshot = c.in_ok-room.ensures.snapshot;
+      snapshot = rw c.in_ok-layout.ensures.network at c.in_ok-room.ensures.snapshot;
     } in
-    let near : IsSavedNear net c.in_ok-chart.chart.cut c.from-until.result c.args.input.now c.in_ok-text.text.items = record {
+    let near : IsSavedNear net c.in_ok-layout.layout.chart.cut c.from-until.result c.args.input.now c.in_ok-text.text.items = record {
       steps = c.in_ok-room.room.steps;
-      stand = c.in_ok-room.ensures.near;
-      saved = c.in_ok-text.ensures.text ∙ ap saved_text (shown-run net c.in_ok-chart.chart.cut c.in_ok-room.room sound c.in_ok-chart.ensures.one_each c.in_ok-room.ensures.snapshot c.args.input.now);
+      stand = rw c.in_ok-layout.ensures.network at c.in_ok-room.ensures.near;
+      saved = c.in_ok-text.ensures.text ∙ ap saved_text (shown-run net c.in_ok-layout.layout.chart.cut c.in_ok-room.room sound (c.net-own.ensures.one_each ∙ ap (λ (n : Network). length n.cells) c.in_ok-layout.ensures.network) (rw c.in_ok-layout.ensures.network at c.in_ok-room.ensures.snapshot) c.args.input.now);
       begins = c.in_ok-text.ensures.true_start net (zero_start net used) shot;
     } in
     record {
       cut = used;
-      cutting = c.in_ok-chart.ensures.cutting;
-      near = subst (λ until. IsSavedNear net c.in_ok-chart.chart.cut until c.args.input.now c.in_ok-text.text.items) c.from-until.ensures near;
+      cutting = c.in_ok-layout.ensures.cutting;
+      near = subst (λ until. IsSavedNear net c.in_ok-layout.layout.chart.cut until c.args.input.now c.in_ok-text.text.items) c.from-until.ensures near;
     }

@@ -19,8 +19,8 @@ fill-requires-clause-room c = c.loop-r.invariant.0
 
 pub loop-r-preserved : goal.loop-r-preserved
 loop-r-preserved c =
-    let net : Network = c.args.net.now in
-    let chart : ChartLists = c.args.chart.now in
+    let net : Network = c.args.layout.now.net in
+    let chart : ChartLists = c.args.layout.now.chart in
     let regions : List RegionValue = c.args.regions.now in
     let start : StartLists = c.requires.stand.0 in
     let every : ℕ = c.requires.stand.1 in

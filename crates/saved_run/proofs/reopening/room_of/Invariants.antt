@@ -6,5 +6,5 @@ use Rattle.saved_run.proofs.reopening.room_of.Given as goal
 
 -- the first regions are shown
 abbrev pub invariant-loop-r : goal.invariant-loop-r
-invariant-loop-r l = IsRoomFor l.chart l.room ×
-    ((q : ℕ) (region : RegionValue) → q < l.r → ShowsRegion l.chart l.room (slice_index_or l.regions q region))
+invariant-loop-r l = IsRoomFor l.layout.chart l.room ×
+    ((q : ℕ) (region : RegionValue) → q < l.r → ShowsRegion l.layout.chart l.room (slice_index_or l.regions q region))

@@ -8,6 +8,6 @@ use Rattle.saved_run.proofs.saved_lines.put_row_lines.Given as goal
 -- the lines of the cells before cell i
 abbrev pub invariant-loop-i : goal.invariant-loop-i
 invariant-loop-i l = record {
-  lines : l.text.items ≡ l.initial.text.items ++ lines_of (λ i. row_line (line_shown l.chart.cut l.room i)) l.i;
-  numbers : (k : ℕ) → k < l.i → IsRowLine (line_shown l.chart.cut l.room k);
+  lines : l.text.items ≡ l.initial.text.items ++ lines_of (λ i. row_line (line_shown l.layout.chart.cut l.room i)) l.i;
+  numbers : (k : ℕ) → k < l.i → IsRowLine (line_shown l.layout.chart.cut l.room k);
 }

@@ -14,23 +14,23 @@ pub returns-clause-text : goal.returns-clause-text
 unfolding saved_text
 returns-clause-text c =
     let count : c.from.result ≡ length c.args.room.now.steps = omega (arith, c.from.ensures, c.regions.ensures.count, c.requires.room.steps) in
-    rw (c.in_ok-extend_from_slice-2.ensures.items, c.in_ok-extend_from_slice.ensures.items, c.in_ok-put_row_lines.ensures.lines, c.in_ok-put_step_lines.ensures.lines, c.in_ok-put_counted_line.ensures, c.new-text.ensures.items, c.steps.ensures, count, row_lines-shown c.args.chart.now.cut c.args.room.now) refl
+    rw (c.in_ok-extend_from_slice-2.ensures.items, c.in_ok-extend_from_slice.ensures.items, c.in_ok-put_row_lines.ensures.lines, c.in_ok-put_step_lines.ensures.lines, c.in_ok-put_counted_line.ensures, c.new-text.ensures.items, c.steps.ensures, count, row_lines-shown c.args.layout.now.chart.cut c.args.room.now) refl
 
 pub returns-clause-reads : goal.returns-clause-reads
 returns-clause-reads c =
-    let content = content_shown c.args.chart.now.cut c.args.room.now c.args.network.now in
+    let content = content_shown c.args.layout.now.chart.cut c.args.room.now c.args.network.now in
     let is_content : IsContent content = record {
       some = omega (arith, c.requires.room.steps);
       few = omega (arith, c.requires.room.steps, c.regions.ensures.count, c.regions.ensures.few);
       steps = rw c.steps.ensures at c.in_ok-put_step_lines.ensures.numbers;
-      rows = rows-shown c.args.chart.now.cut c.args.room.now c.in_ok-put_row_lines.ensures.numbers;
+      rows = rows-shown c.args.layout.now.chart.cut c.args.room.now c.in_ok-put_row_lines.ensures.numbers;
       network = c.requires.network;
     } in
     ap content_of (returns-clause-text c) ∙ content_of-saved_text content is_content
 
 pub returns-clause-true_start : goal.returns-clause-true_start
 returns-clause-true_start c = λ net start shot.
-    subst (λ found. BeginsTrue found net c.args.chart.now.cut) (sym (returns-clause-reads c)) (shot-has_true_start c.args.network.now net c.args.chart.now.cut start c.args.room.now shot)
+    subst (λ found. BeginsTrue found net c.args.layout.now.chart.cut) (sym (returns-clause-reads c)) (shot-has_true_start c.args.network.now net c.args.layout.now.chart.cut start c.args.room.now shot)
 
 pub returns-clause-moment : goal.returns-clause-moment
-returns-clause-moment c = λ net shot. shown-moment c.args.network.now net c.args.chart.now.cut c.args.room.now shot
+returns-clause-moment c = λ net shot. shown-moment c.args.network.now net c.args.layout.now.chart.cut c.args.room.now shot

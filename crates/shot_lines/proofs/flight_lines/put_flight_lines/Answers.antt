@@ -15,14 +15,14 @@ returns-in_err-put_flight_line-clause-kept c =
 
 pub loop-k-preserved : goal.loop-k-preserved
 loop-k-preserved c =
-    let net = c.args.net.now in
-    let cut = c.args.chart.now.cut in
+    let net = c.args.layout.now.net in
+    let cut = c.args.layout.now.chart.cut in
     let rows = c.args.rows.now in
     elim c.if-crosses.branch [
       | then-crosses+in_ok-put_flight_line w ↦
           let yes_k : crosses cut (connector_at net.connectors c.loop-k.k) ≡ true = sym c.crosses.ensures ∙ w.if-crosses.true in
           let more = flights_before-crosses net cut rows c.loop-k.k yes_k in
-          rw (w.text-is, w.in_ok-put_flight_line.ensures.line, c.loop-k.invariant, more) (simp append_assoc)
+          rw (w.text-is, w.in_ok-put_flight_line.ensures.line, c.net-net.ensures.network, c.loop-k.invariant, more) (simp append_assoc)
       | else-crosses w ↦
           let no_k : crosses cut (connector_at net.connectors c.loop-k.k) ≡ false = sym c.crosses.ensures ∙ w.if-crosses.false in
           let same = flights_before-stays net cut rows c.loop-k.k no_k in
@@ -31,7 +31,7 @@ loop-k-preserved c =
 
 pub returns-clause-lines : goal.returns-clause-lines
 returns-clause-lines c =
-    let connectors : length c.net.inside.connectors.items ≡ length c.args.net.now.connectors = ap (λ net. length net.connectors) c.net.view_is in
-    let all : c.loop-k.k ≡ length c.args.net.now.connectors = omega (arith, connectors, c.net.inside.connectors.ok.0) in
-    c.loop-k.invariant ∙ ap (λ k. c.args.text.now.items ++ flights_before c.args.net.now c.args.chart.now.cut c.args.rows.now k) all ∙
-    ap (λ lines. c.args.text.now.items ++ lines) (flights_before-all c.args.net.now c.args.chart.now.cut c.args.rows.now)
+    let connectors : length c.net.inside.connectors.items ≡ length c.args.layout.now.net.connectors = ap (λ net. length net.connectors) (c.net.view_is ∙ c.net-net.ensures.network) in
+    let all : c.loop-k.k ≡ length c.args.layout.now.net.connectors = omega (arith, connectors, c.net.inside.connectors.ok.0) in
+    c.loop-k.invariant ∙ ap (λ k. c.args.text.now.items ++ flights_before c.args.layout.now.net c.args.layout.now.chart.cut c.args.rows.now k) all ∙
+    ap (λ lines. c.args.text.now.items ++ lines) (flights_before-all c.args.layout.now.net c.args.layout.now.chart.cut c.args.rows.now)

@@ -13,7 +13,7 @@ use Rattle.sweeping_crew.proofs.driving.drive_pausing.Goals as goal
 
 pub then-driven-requires : goal.then-driven-requires
 then-driven-requires g c =
-    let room = row_fits c.loop-made.made (region_count c.args.field.now.terms.chart.now.cut) 4294967295 4294967295 (omega (arith, c.loop-made-test.true, c.ranges.sweeps.fits)) (omega arith) in
+    let room = row_fits c.loop-made.made (region_count c.args.field.now.terms.setup.now.chart.cut) 4294967295 4294967295 (omega (arith, c.loop-made-test.true, c.ranges.sweeps.fits)) (omega arith) in
     omega (arith, room, c.loop-made.invariant.3.turns, c.sweep-swept.ensures.swept.turns)
 
 pub loop-made-preserved : goal.loop-made-preserved
@@ -23,14 +23,14 @@ loop-made-preserved g c =
       omega (arith, c.loop-made-test.true),
       c.sweep-swept.ensures.belongs.0,
       c.sweep-swept.ensures.belongs.1 ∙ c.loop-made.invariant.2,
-      subst (λ (d : Driven). HasSwept (region_count c.args.field.now.terms.chart.now.cut) c.args.goal (c.loop-made.made + 1) c.args.pass.now.knows c.sweep-swept.new.pass.knows d) (sym c.then-driven.ensures)
+      subst (λ (d : Driven). HasSwept (region_count c.args.field.now.terms.setup.now.chart.cut) c.args.goal (c.loop-made.made + 1) c.args.pass.now.knows c.sweep-swept.new.pass.knows d) (sym c.then-driven.ensures)
           (swept-more _ _ _ _ _ _ one other (added one other) record { moved = refl; held = refl; behind = refl; ended = refl } c.if-not-driven.true refl c.loop-made.invariant.3
           c.sweep-swept.ensures.swept),
       omega (arith, c.pause_where.ensures, c.loop-made.invariant.4),
-      rounds-more c.args.pass.now.knows.tried c.loop-made.pass.knows.tried c.sweep-swept.new.pass.knows.tried (region_count c.args.field.now.terms.chart.now.cut) c.args.first c.loop-made.made
+      rounds-more c.args.pass.now.knows.tried c.loop-made.pass.knows.tried c.sweep-swept.new.pass.knows.tried (region_count c.args.field.now.terms.setup.now.chart.cut) c.args.first c.loop-made.made
           c.loop-made.invariant.5 c.sweep-swept.ensures.order,
       λ some.
-          subst (λ (d : Driven). IsLast (region_count c.args.field.now.terms.chart.now.cut) c.args.goal (c.loop-made.made + 1) c.args.pass.now.knows c.sweep-swept.new.pass.knows d.all) (sym c.then-driven.ensures)
+          subst (λ (d : Driven). IsLast (region_count c.args.field.now.terms.setup.now.chart.cut) c.args.goal (c.loop-made.made + 1) c.args.pass.now.knows c.sweep-swept.new.pass.knows d.all) (sym c.then-driven.ensures)
           record {
             sweeps = c.loop-made.made;
             one_less = refl;
@@ -51,8 +51,8 @@ loop-made-init g c = (
   omega arith,
   c.requires.belongs,
   refl,
-  subst (λ (d : Driven). HasSwept (region_count c.args.field.now.terms.chart.now.cut) c.args.goal 0 c.args.pass.now.knows c.args.pass.now.knows d) (sym c.none-driven.ensures)
-      (swept-none c.args.pass.now.knows (region_count c.args.field.now.terms.chart.now.cut) c.args.goal),
+  subst (λ (d : Driven). HasSwept (region_count c.args.field.now.terms.setup.now.chart.cut) c.args.goal 0 c.args.pass.now.knows c.args.pass.now.knows d) (sym c.none-driven.ensures)
+      (swept-none c.args.pass.now.knows (region_count c.args.field.now.terms.setup.now.chart.cut) c.args.goal),
   omega (arith, c.requires.none),
   sym (append-nil c.args.pass.now.knows.tried),
   λ some. absurd (some refl),

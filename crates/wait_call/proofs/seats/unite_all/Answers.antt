@@ -30,6 +30,6 @@ loop-other-preserved c =
       inr (λ r there. omega (
         arith,
         ap (λ v. slice_index v.seen r) knows,
-        united-all c.loop-other.pass.knows other.knows (region_count field.terms.chart.now.cut) field.terms.net.now.steps inv.0.counts.seen one.seen r there,
+        united-all c.loop-other.pass.knows other.knows (region_count field.terms.setup.now.chart.cut) field.terms.setup.now.net.steps inv.0.counts.seen one.seen r there,
       )),
     )

@@ -9,8 +9,8 @@ use Rattle.wait_call.proofs.seats.unite_all.Given as goal
 -- with the first that is united the pass has seen all regions at the last step
 abbrev pub invariant-loop-other : goal.invariant-loop-other
 invariant-loop-other l = IsPassOf l.field l.pass × (l.pass.knows.share + length l.passes.items ≡ l.initial.pass.knows.share + length l.initial.passes.items)
-    × (l.pass.knows.reach ≤ l.field.terms.net.now.steps) × All (HasCome l.field) l.passes.items
-    × ((1 ≤ length l.passes.items) ⊎ HasSeenAll (region_count l.field.terms.chart.now.cut) l.field.terms.net.now.steps l.pass.knows)
+    × (l.pass.knows.reach ≤ l.field.terms.setup.now.net.steps) × All (HasCome l.field) l.passes.items
+    × ((1 ≤ length l.passes.items) ⊎ HasSeenAll (region_count l.field.terms.setup.now.chart.cut) l.field.terms.setup.now.net.steps l.pass.knows)
 
 abbrev pub decreases-loop-other : goal.decreases-loop-other
 decreases-loop-other l = length l.passes.items

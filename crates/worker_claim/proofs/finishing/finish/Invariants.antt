@@ -8,9 +8,9 @@ use Rattle.worker_claim.specs.Telling.{AreTold}
 use Rattle.worker_claim.proofs.finishing.finish.Given as goal
 
 abbrev pub invariant-loop-all : goal.invariant-loop-all
-invariant-loop-all g l = IsPassOf l.field l.pass × (l.pass.id ≡ l.initial.pass.id) × IsWithin l.initial.pass.knows l.pass.knows l.goal × (IsTrue l.all → AllReach (region_count l.field.terms.chart.now.cut) l.goal l.pass.knows) ×
+invariant-loop-all g l = IsPassOf l.field l.pass × (l.pass.id ≡ l.initial.pass.id) × IsWithin l.initial.pass.knows l.pass.knows l.goal × (IsTrue l.all → AllReach (region_count l.field.terms.setup.now.chart.cut) l.goal l.pass.knows) ×
     AreTold (g.G.Gate.told_held l.gate) (g.G.Gate.told_freed l.gate) l.initial.pass.knows.log l.pass.knows.log
 
 -- each sweep brings a region nearer, and the last one finds all at the goal
 abbrev pub decreases-loop-all : goal.decreases-loop-all
-decreases-loop-all g l = if l.all then 0 else 1 + steps_left (region_count l.field.terms.chart.now.cut) l.goal l.pass.knows
+decreases-loop-all g l = if l.all then 0 else 1 + steps_left (region_count l.field.terms.setup.now.chart.cut) l.goal l.pass.knows

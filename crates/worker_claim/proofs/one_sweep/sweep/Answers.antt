@@ -11,7 +11,7 @@ use Rattle.worker_claim.proofs.one_sweep.sweep.Goals as goal
 pub returns-clause-swept : goal.returns-clause-swept
 returns-clause-swept g c =
     let terms : Terms = c.args.field.now.terms in
-    let later : HasTurned terms c.args.pass.now.knows c.turns-later.new.pass.knows c.args.first (region_count terms.chart.now.cut) c.args.goal c.turns-later.result =
+    let later : HasTurned terms c.args.pass.now.knows c.turns-later.new.pass.knows c.args.first (region_count terms.setup.now.chart.cut) c.args.goal c.turns-later.result =
     subst (λ n. HasTurned terms c.args.pass.now.knows c.turns-later.new.pass.knows c.args.first n c.args.goal c.turns-later.result) c.regions-regions.ensures c.turns-later.ensures.turned in
     round-swept terms c.args.pass.now.knows c.turns-later.new.pass.knows c.turns-earlier.new.pass.knows c.args.first c.args.goal c.turns-later.result c.turns-earlier.result _ later c.turns-earlier.ensures.turned
     (added-up terms c.args.pass.now.knows c.turns-later.new.pass.knows c.turns-earlier.new.pass.knows c.args.first c.args.goal c.from.result c.turns-later.result c.turns-earlier.result (omega (arith, c.requires.there))
@@ -20,7 +20,7 @@ returns-clause-swept g c =
 pub returns-clause-nearer : goal.returns-clause-nearer
 returns-clause-nearer g c = λ whole below.
     let terms : Terms = c.args.field.now.terms in
-    let later : HasTurned terms c.args.pass.now.knows c.turns-later.new.pass.knows c.args.first (region_count terms.chart.now.cut) c.args.goal c.turns-later.result =
+    let later : HasTurned terms c.args.pass.now.knows c.turns-later.new.pass.knows c.args.first (region_count terms.setup.now.chart.cut) c.args.goal c.turns-later.result =
     subst (λ n. HasTurned terms c.args.pass.now.knows c.turns-later.new.pass.knows c.args.first n c.args.goal c.turns-later.result) c.regions-regions.ensures c.turns-later.ensures.turned in
     nearer terms c.args.pass.now.knows c.turns-earlier.new.pass.knows c.args.goal _
     (added-up terms c.args.pass.now.knows c.turns-later.new.pass.knows c.turns-earlier.new.pass.knows c.args.first c.args.goal c.from.result c.turns-later.result c.turns-earlier.result (omega (arith, c.requires.there))
@@ -29,7 +29,7 @@ returns-clause-nearer g c = λ whole below.
 pub returns-clause-counted : goal.returns-clause-counted
 returns-clause-counted g c =
     let terms : Terms = c.args.field.now.terms in
-    let later : HasTurned terms c.args.pass.now.knows c.turns-later.new.pass.knows c.args.first (region_count terms.chart.now.cut) c.args.goal c.turns-later.result =
+    let later : HasTurned terms c.args.pass.now.knows c.turns-later.new.pass.knows c.args.first (region_count terms.setup.now.chart.cut) c.args.goal c.turns-later.result =
     subst (λ n. HasTurned terms c.args.pass.now.knows c.turns-later.new.pass.knows c.args.first n c.args.goal c.turns-later.result) c.regions-regions.ensures c.turns-later.ensures.turned in
     (added-up terms c.args.pass.now.knows c.turns-later.new.pass.knows c.turns-earlier.new.pass.knows c.args.first c.args.goal c.from.result c.turns-later.result c.turns-earlier.result (omega (arith, c.requires.there))
     (c.from.ensures ∙ c.regions-regions.ensures) later c.turns-earlier.ensures.turned).counted
@@ -37,7 +37,7 @@ returns-clause-counted g c =
 pub returns-clause-all : goal.returns-clause-all
 returns-clause-all g c =
     let terms : Terms = c.args.field.now.terms in
-    let later : HasTurned terms c.args.pass.now.knows c.turns-later.new.pass.knows c.args.first (region_count terms.chart.now.cut) c.args.goal c.turns-later.result =
+    let later : HasTurned terms c.args.pass.now.knows c.turns-later.new.pass.knows c.args.first (region_count terms.setup.now.chart.cut) c.args.goal c.turns-later.result =
     subst (λ n. HasTurned terms c.args.pass.now.knows c.turns-later.new.pass.knows c.args.first n c.args.goal c.turns-later.result) c.regions-regions.ensures c.turns-later.ensures.turned in
     let is = added-up terms c.args.pass.now.knows c.turns-later.new.pass.knows c.turns-earlier.new.pass.knows c.args.first c.args.goal c.from.result c.turns-later.result c.turns-earlier.result
     (omega (arith, c.requires.there)) (c.from.ensures ∙ c.regions-regions.ensures) later c.turns-earlier.ensures.turned in
@@ -45,7 +45,7 @@ returns-clause-all g c =
 
 pub returns-clause-order : goal.returns-clause-order
 returns-clause-order g c =
-    order-round c.args.pass.now.knows.tried c.turns-later.new.pass.knows.tried c.turns-earlier.new.pass.knows.tried (region_count c.args.field.now.terms.chart.now.cut) c.regions-regions.result c.args.first
+    order-round c.args.pass.now.knows.tried c.turns-later.new.pass.knows.tried c.turns-earlier.new.pass.knows.tried (region_count c.args.field.now.terms.setup.now.chart.cut) c.regions-regions.result c.args.first
     c.regions-regions.ensures c.turns-later.ensures.order c.turns-earlier.ensures.order
 
 pub returns-clause-told : goal.returns-clause-told

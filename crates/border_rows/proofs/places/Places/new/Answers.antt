@@ -13,33 +13,33 @@ loop-r-init c = search rules
 pub overflow_cast-width : goal.overflow_cast-width
 overflow_cast-width c =
     let next =
-    next_words c.args.chart.now c.loop-r.r c.loop-r.words (length c.border.result.now) c.regions-r-end.ensures.sound c.requires
+    next_words c.args.layout.now.chart c.loop-r.r c.loop-r.words (length c.border.result.now) c.regions-r-end.ensures.sound c.requires
     (omega (arith, c.regions-r-end.ensures.count)) c.loop-r.invariant.words (ap length c.border.ensures.list) in
     omega (arith, next.2)
 
 pub end-words-requires : goal.end-words-requires
 end-words-requires c =
     let next =
-    next_words c.args.chart.now c.loop-r.r c.loop-r.words (length c.border.result.now) c.regions-r-end.ensures.sound c.requires
+    next_words c.args.layout.now.chart c.loop-r.r c.loop-r.words (length c.border.result.now) c.regions-r-end.ensures.sound c.requires
     (omega (arith, c.regions-r-end.ensures.count)) c.loop-r.invariant.words (ap length c.border.ensures.list) in
     next.2
 
 pub loop-r-preserved : goal.loop-r-preserved
 loop-r-preserved c =
     let next =
-    next_words c.args.chart.now c.loop-r.r c.loop-r.words (length c.border.result.now) c.regions-r-end.ensures.sound c.requires
+    next_words c.args.layout.now.chart c.loop-r.r c.loop-r.words (length c.border.result.now) c.regions-r-end.ensures.sound c.requires
     (omega (arith, c.regions-r-end.ensures.count)) c.loop-r.invariant.words (ap length c.border.ensures.list) in
     record {
       spans =
           c.in_ok-push.ensures.items ∙
-          one_span_more (widths_of c.args.chart.now) c.loop-r.spans.items c.loop-r.r c.loop-r.words (length c.border.result.now) c.loop-r.invariant.spans c.loop-r.invariant.words next.0;
+          one_span_more (widths_of c.args.layout.now.chart) c.loop-r.spans.items c.loop-r.r c.loop-r.words (length c.border.result.now) c.loop-r.invariant.spans c.loop-r.invariant.words next.0;
       words = c.end-words.ensures ∙ next.1;
     }
 
 pub invariant_of-result : goal.invariant_of-result
 invariant_of-result c =
-    let widths : List ℕ = widths_of c.args.chart.now in
-    let end : c.loop-r.r ≡ length widths = omega (arith, c.loop-r.auto.r-end, c.regions-r-end.ensures.count, length-widths_of c.args.chart.now c.regions-r-end.ensures.sound) in
+    let widths : List ℕ = widths_of c.args.layout.now.chart in
+    let end : c.loop-r.r ≡ length widths = omega (arith, c.loop-r.auto.r-end, c.regions-r-end.ensures.count, length-widths_of c.args.layout.now.chart c.regions-r-end.ensures.sound) in
     let are : c.loop-r.spans.items ≡ spans_of widths = rw (← end) c.loop-r.invariant.spans in
     let back : widths_in c.loop-r.spans.items ≡ widths = ap widths_in are ∙ widths_in-spans_of widths in
     record {
@@ -49,7 +49,7 @@ invariant_of-result c =
 
 pub returns : goal.returns
 returns c =
-    let widths : List ℕ = widths_of c.args.chart.now in
-    let end : c.loop-r.r ≡ length widths = omega (arith, c.loop-r.auto.r-end, c.regions-r-end.ensures.count, length-widths_of c.args.chart.now c.regions-r-end.ensures.sound) in
+    let widths : List ℕ = widths_of c.args.layout.now.chart in
+    let end : c.loop-r.r ≡ length widths = omega (arith, c.loop-r.auto.r-end, c.regions-r-end.ensures.count, length-widths_of c.args.layout.now.chart c.regions-r-end.ensures.sound) in
     let are : c.loop-r.spans.items ≡ spans_of widths = rw (← end) c.loop-r.invariant.spans in
     ap widths_in are ∙ widths_in-spans_of widths

@@ -7,5 +7,5 @@ use Rattle.delay_report.proofs.by_cell.ByCell.rows.Given as goal
 abbrev pub invariant-loop-i : goal.invariant-loop-i
 invariant-loop-i l = record {
   one_each : length l.rows.items ≡ l.i;
-  rows : (rows : List Row) → AreRowsOf l.self.chart.now l.self.regions.now rows → (k : ℕ) → k < l.i → row_at l.rows.items k ≡ row_at rows k;
+  rows : (rows : List Row) → AreRowsOf l.self.layout.now.chart l.self.regions.now rows → (k : ℕ) → k < l.i → row_at l.rows.items k ≡ row_at rows k;
 }

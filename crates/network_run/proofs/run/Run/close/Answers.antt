@@ -13,7 +13,7 @@ returns-clause-stand c =
     let knows : View = c.self.inside.pass.knows in
     let closed = c.close-regions.ensures in
     subst (λ (run : RunValue). StandWhereTheyCame run c.close-regions.result.regions.items) c.self.view_is
-    (λ goal came low early. all-ended terms terms.net.now terms.chart.now terms.start.now terms.every goal knows c.close-regions.result.steps.items c.close-regions.result.regions.items
+    (λ goal came low early. all-ended terms terms.setup.now.net terms.setup.now.chart terms.setup.now.start terms.setup.now.every goal knows c.close-regions.result.steps.items c.close-regions.result.regions.items
     refl refl refl refl closed.stand closed.lawful closed.later came (λ r there. omega (arith, closed.reached r there, early r there, low)))
 
 pub returns-clause-logged : goal.returns-clause-logged
@@ -22,4 +22,4 @@ returns-clause-logged c =
     let knows : View = c.self.inside.pass.knows in
     let closed = c.close-regions.ensures in
     subst IsLoggedWhereTheyCame c.self.view_is
-    (λ goal came. logged-ended terms.start.now (region_count terms.chart.now.cut) c.close-regions.result.steps.items knows.log goal closed.logged (λ r there. omega (arith, came r there, closed.later r there)))
+    (λ goal came. logged-ended terms.setup.now.start (region_count terms.setup.now.chart.cut) c.close-regions.result.steps.items knows.log goal closed.logged (λ r there. omega (arith, came r there, closed.later r there)))

@@ -11,16 +11,16 @@ use Rattle.network_run.proofs.run.Run.show_near.Goals as goal
 
 pub returns-clause-near : goal.returns-clause-near
 returns-clause-near g c =
-    let net : Network = c.args.net.now in
+    let net : Network = c.args.layout.now.net in
     let terms : Terms = c.args.self.now.terms in
-    let cut : List ℕ = terms.chart.now.cut in
+    let cut : List ℕ = terms.setup.now.chart.cut in
     let room : RoomValue = c.show_on_the_way.new.room in
-    let steps : c.net.inside.steps ≡ net.steps = ap (λ n. n.steps) c.net.view_is in
+    let steps : c.net.inside.steps ≡ net.steps = ap (λ n. n.steps) (c.net.view_is ∙ c.net-net.ensures.network) in
     let same = c.take_to.ensures.terms in
     let shows : IsSnapshot net cut (zero_start net cut) room = rw (same, c.requires.network, c.requires.start) at c.show_on_the_way.ensures.snapshot in
-    let count : region_count c.take_to.new.self.terms.chart.now.cut ≡ region_count cut = ap (λ (t : Terms). region_count t.chart.now.cut) same in
-    let zero : (r : ℕ) → slice_index c.take_to.new.self.terms.start.now.steps r ≡ 0 =
-    λ r. ap (λ (t : Terms). slice_index t.start.now.steps r) same ∙ ap (λ start. slice_index start.steps r) c.requires.start ∙ zero_start-at net cut r in
+    let count : region_count c.take_to.new.self.terms.setup.now.chart.cut ≡ region_count cut = ap (λ (t : Terms). region_count t.setup.now.chart.cut) same in
+    let zero : (r : ℕ) → slice_index c.take_to.new.self.terms.setup.now.start.steps r ≡ 0 =
+    λ r. ap (λ (t : Terms). slice_index t.setup.now.start.steps r) same ∙ ap (λ start. slice_index start.steps r) c.requires.start ∙ zero_start-at net cut r in
     record {
       lawful = shows.lawful;
       between = λ r there.

@@ -23,8 +23,8 @@ not-busy (Busy r) other = absurd (other r refl)
 
 pub returns-in_default-clause-between : goal.returns-in_default-clause-between
 returns-in_default-clause-between g c = λ r there.
-    let here : r < region_count c.self.inside.field.terms.chart.now.cut = omega (arith, there, ap (λ (run : RunValue). region_count run.terms.chart.now.cut) c.self.view_is) in
-    let begun = ap (λ (run : RunValue). slice_index run.terms.start.now.steps r) c.self.view_is in
+    let here : r < region_count c.self.inside.field.terms.setup.now.chart.cut = omega (arith, there, ap (λ (run : RunValue). region_count run.terms.setup.now.chart.cut) c.self.view_is) in
+    let begun = ap (λ (run : RunValue). slice_index run.terms.setup.now.start.steps r) c.self.view_is in
     let shot = c.drive_watched-shot.ensures.watched.shot in
     let low : c.drive_watched-shot.new.watcher.knows.reach ≤ c.args.goal = omega (arith, shot.unmoved.reach, c.enlist.ensures.knows.1, ap (λ (run : RunValue). run.knows.reach) c.self.view_is, c.requires.reach) in
     let reach = c.dismiss.ensures.reach c.args.goal low c.drive_watched-shot.ensures.enlisted in
@@ -38,8 +38,8 @@ returns-in_default-clause-between g c = λ r there.
 
 pub returns-in-Busy-clause-between : goal.returns-in-Busy-clause-between
 returns-in-Busy-clause-between g c = λ r there.
-    let here : r < region_count c.self.inside.field.terms.chart.now.cut = omega (arith, there, ap (λ (run : RunValue). region_count run.terms.chart.now.cut) c.self.view_is) in
-    let begun = ap (λ (run : RunValue). slice_index run.terms.start.now.steps r) c.self.view_is in
+    let here : r < region_count c.self.inside.field.terms.setup.now.chart.cut = omega (arith, there, ap (λ (run : RunValue). region_count run.terms.setup.now.chart.cut) c.self.view_is) in
+    let begun = ap (λ (run : RunValue). slice_index run.terms.setup.now.start.steps r) c.self.view_is in
     let shot = c.drive_watched-shot.ensures.watched.shot in
     let low : c.drive_watched-shot.new.watcher.knows.reach ≤ c.args.goal = omega (arith, shot.unmoved.reach, c.enlist.ensures.knows.1, ap (λ (run : RunValue). run.knows.reach) c.self.view_is, c.requires.reach) in
     let reach = c.dismiss.ensures.reach c.args.goal low c.drive_watched-shot.ensures.enlisted in

@@ -17,29 +17,29 @@ use Rattle.network_run.proofs.run.Run.take_shots.Goals as goal
 
 pub loop-i-preserved : goal.loop-i-preserved
 loop-i-preserved g c =
-    let net : Network = c.args.net.now in
-    let cut : List ℕ = c.args.chart.now.cut in
+    let net : Network = c.args.layout.now.net in
+    let cut : List ℕ = c.args.layout.now.chart.cut in
     let i : ℕ = c.loop-i.i in
     let inv = c.loop-i.invariant in
     let came = c.show_on_the_way.ensures in
     let room : RoomValue = c.show_on_the_way.new.room in
-    let sound : IsNetwork net = subst IsNetwork c.net.view_is c.net.invariant in
+    let sound : IsNetwork net = subst IsNetwork (c.net.view_is ∙ c.net-net.ensures.network) c.net.invariant in
     let same = inv.0 in
     let terms : Terms = c.args.self.now.terms in
-    let same_net = ap (λ (t : Terms). t.net.now) same ∙ c.requires.network.0 in
-    let same_chart = ap (λ (t : Terms). t.chart.now) same ∙ c.requires.network.1 in
-    let same_start = ap (λ (t : Terms). t.start.now) same ∙ c.requires.start in
-    let goal : c.goal_at-goal.result ≡ goal_of net.steps c.args.shots (i + 1) = c.goal_at-goal.ensures.goal in
-    let fits : IsRoomFor c.args.chart.now room = subst (λ chart. IsRoomFor chart room) same_chart came.room in
+    let same_net = ap (λ (t : Terms). t.setup.now.net) same ∙ c.requires.network.0 in
+    let same_chart = ap (λ (t : Terms). t.setup.now.chart) same ∙ c.requires.network.1 in
+    let same_start = ap (λ (t : Terms). t.setup.now.start) same ∙ c.requires.start in
+    let goal : c.goal_at-goal.result ≡ goal_of net.steps c.args.shots (i + 1) = c.goal_at-goal.ensures.goal ∙ ap (λ (n : Network). goal_of n.steps c.args.shots (i + 1)) c.net-net.ensures.network in
+    let fits : IsRoomFor c.args.layout.now.chart room = subst (λ chart. IsRoomFor chart room) same_chart came.room in
     let shows : IsSnapshot net cut (zero_start net cut) room = rw (same_net, same_chart, same_start) at came.snapshot in
-    let count : region_count c.loop-i.self.terms.chart.now.cut ≡ region_count cut = ap (λ chart. region_count chart.cut) same_chart in
-    let zero : (r : ℕ) → slice_index c.loop-i.self.terms.start.now.steps r ≡ 0 = λ r. ap (λ start. slice_index start.steps r) same_start ∙ zero_start-at net cut r in
+    let count : region_count c.loop-i.self.terms.setup.now.chart.cut ≡ region_count cut = ap (λ chart. region_count chart.cut) same_chart in
+    let zero : (r : ℕ) → slice_index c.loop-i.self.terms.setup.now.start.steps r ≡ 0 = λ r. ap (λ start. slice_index start.steps r) same_start ∙ zero_start-at net cut r in
     let shot : IsShotBetween net cut (goal_of net.steps c.args.shots i) (goal_of net.steps c.args.shots (i + 1)) room.steps =
     shot-between net cut (goal_of net.steps c.args.shots i) (goal_of net.steps c.args.shots (i + 1)) room.steps sound shows.lawful
     (λ r there.
     let between = came.between r (omega (arith, there, count)) in
     (omega (arith, inv.3 r there, between.0), omega (arith, between.1, zero r, goal))) in
-    let rows : room.rows ≡ rows_at net cut room.steps = shown-rows net c.args.chart.now room sound c.requires.one_each fits shows in
+    let rows : room.rows ≡ rows_at net cut room.steps = shown-rows net c.args.layout.now.chart room sound c.net-net.ensures.one_each fits shows in
     let text : c.shot_text.new.text.items ≡ c.loop-i.text.items ++ shot_lines net cut (i + 1) room.steps (rows_at net cut room.steps) =
     c.in_ok-shot_text.ensures.text ∙ ap (λ (shown : List Row). c.loop-i.text.items ++ shot_lines net cut (i + 1) room.steps shown) rows in (
       came.terms ∙ same,

@@ -9,7 +9,7 @@ use Rattle.network_run.proofs.run.Run.take_shots.Given as goal
 
 -- so many shots are taken, and the run has come to the last one's goal
 abbrev pub invariant-loop-i : goal.invariant-loop-i
-invariant-loop-i g l = (l.self.terms ≡ l.initial.self.terms) × IsRoomFor l.chart l.room ×
-    (l.self.knows.reach ≤ goal_of l.net.steps l.shots l.i) × AllReach (region_count l.chart.cut) (goal_of l.net.steps l.shots l.i) l.self.knows ×
-    AreFirstShots l.net l.chart.cut l.shots l.i l.text.items ×
+invariant-loop-i g l = (l.self.terms ≡ l.initial.self.terms) × IsRoomFor l.layout.chart l.room ×
+    (l.self.knows.reach ≤ goal_of l.layout.net.steps l.shots l.i) × AllReach (region_count l.layout.chart.cut) (goal_of l.layout.net.steps l.shots l.i) l.self.knows ×
+    AreFirstShots l.layout.net l.layout.chart.cut l.shots l.i l.text.items ×
     AreTold (g.G.Gate.told_held l.gate) (g.G.Gate.told_freed l.gate) l.initial.self.knows.log l.self.knows.log

@@ -9,7 +9,7 @@ use Rattle.plain_region.proofs.plain.PlainRegion.border_now.Goals as goal
 pub returns : goal.returns
 returns c = λ p within same.
     let r : ℕ = c.args.self.now.state.number in
-    let cells : List ℕ = list_at c.args.chart.now.cells r in
+    let cells : List ℕ = list_at c.args.layout.now.chart.cells r in
     let rising = (c.regions-cells.ensures.sound.regions r c.requires.of.there).cells in
     let q : ℕ = slice_index c.args.self.now.layout.border c.args.j in
     let place = c.requires.of.border.each c.args.j c.requires.there in

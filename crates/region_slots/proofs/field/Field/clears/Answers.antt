@@ -31,15 +31,15 @@ load_neighbour_step-s-requires-clause-seat c =
 pub load_neighbour_step-s-requires-clause-working : goal.load_neighbour_step-s-requires-clause-working
 load_neighbour_step-s-requires-clause-working c =
     let terms : Terms = c.args.self.now.terms in
-    let chart : c.self.inside.chart.now ≡ terms.chart.now = sym c.self.invariant.1 ∙ ap (λ field. field.terms.chart.now) c.self.view_is in
+    let chart : c.self.inside.layout.now.chart ≡ terms.setup.now.chart = sym c.self.invariant.1 ∙ ap (λ field. field.terms.setup.now.chart) c.self.view_is in
     let field : IsTableFor terms c.args.self.now.table = subst (λ (f : FieldValue). IsTableFor f.terms f.table) c.self.view_is c.self.invariant.3 in
-    let list : c.neighbours-neighbours.result.now ≡ list_at terms.chart.now.neighbours c.args.region = c.neighbours-neighbours.ensures.list ∙ ap (λ (lists : ChartLists). list_at lists.neighbours c.args.region) chart in
+    let list : c.neighbours-neighbours.result.now ≡ list_at terms.setup.now.chart.neighbours c.args.region = c.neighbours-neighbours.ensures.list ∙ ap (λ (lists : ChartLists). list_at lists.neighbours c.args.region) chart in
     let at = c.requires.at in
     let has : HasLooked c.args.seat.now.me.0 c.loop-k.seat.me.0 at.hold = c.loop-k.invariant.3 at.hold at.works in
     let q : ℕ = get_or c.neighbours-neighbours.result.now c.loop-k.k 0 in
-    let listed : Contains (list_at terms.chart.now.neighbours c.args.region) q = subst (λ l. Contains l q) list (Contains-get_or c.neighbours-neighbours.result.now c.loop-k.k 0 c.loop-k-test.true) in
-    let near : are_neighbours terms.net.now.connectors terms.chart.now.cut c.args.region q ≡ true = listed-near terms c.args.self.now.table c.args.region q field c.requires.there listed in
-    (has.now, has.works, subst (λ r. are_neighbours terms.net.now.connectors terms.chart.now.cut r q ≡ true) (sym (has.region ∙ at.region)) near)
+    let listed : Contains (list_at terms.setup.now.chart.neighbours c.args.region) q = subst (λ l. Contains l q) list (Contains-get_or c.neighbours-neighbours.result.now c.loop-k.k 0 c.loop-k-test.true) in
+    let near : are_neighbours terms.setup.now.net.connectors terms.setup.now.chart.cut c.args.region q ≡ true = listed-near terms c.args.self.now.table c.args.region q field c.requires.there listed in
+    (has.now, has.works, subst (λ r. are_neighbours terms.setup.now.net.connectors terms.setup.now.chart.cut r q ≡ true) (sym (has.region ∙ at.region)) near)
 
 pub returns-then-s-step-clause-same : goal.returns-then-s-step-clause-same
 returns-then-s-step-clause-same c =
@@ -50,20 +50,20 @@ returns-then-s-step-clause-same c =
 pub returns-then-s-step-clause-short : goal.returns-then-s-step-clause-short
 returns-then-s-step-clause-short c = λ p t is.
     let terms : Terms = c.args.self.now.terms in
-    let chart : c.self.inside.chart.now ≡ terms.chart.now = sym c.self.invariant.1 ∙ ap (λ field. field.terms.chart.now) c.self.view_is in
+    let chart : c.self.inside.layout.now.chart ≡ terms.setup.now.chart = sym c.self.invariant.1 ∙ ap (λ field. field.terms.setup.now.chart) c.self.view_is in
     let field : IsTableFor terms c.args.self.now.table = subst (λ (f : FieldValue). IsTableFor f.terms f.table) c.self.view_is c.self.invariant.3 in
-    let list : c.neighbours-neighbours.result.now ≡ list_at terms.chart.now.neighbours c.args.region = c.neighbours-neighbours.ensures.list ∙ ap (λ (lists : ChartLists). list_at lists.neighbours c.args.region) chart in
+    let list : c.neighbours-neighbours.result.now ≡ list_at terms.setup.now.chart.neighbours c.args.region = c.neighbours-neighbours.ensures.list ∙ ap (λ (lists : ChartLists). list_at lists.neighbours c.args.region) chart in
     let at = c.requires.at in
     let has = c.loop-k.invariant.3 at.hold at.works in
     let q : ℕ = get_or c.neighbours-neighbours.result.now c.loop-k.k 0 in
-    let listed : Contains (list_at terms.chart.now.neighbours c.args.region) q = subst (λ l. Contains l q) list (Contains-get_or c.neighbours-neighbours.result.now c.loop-k.k 0 c.loop-k-test.true) in
-    let near : are_neighbours terms.net.now.connectors terms.chart.now.cut c.args.region q ≡ true = listed-near terms c.args.self.now.table c.args.region q field c.requires.there listed in
+    let listed : Contains (list_at terms.setup.now.chart.neighbours c.args.region) q = subst (λ l. Contains l q) list (Contains-get_or c.neighbours-neighbours.result.now c.loop-k.k 0 c.loop-k-test.true) in
+    let near : are_neighbours terms.setup.now.net.connectors terms.setup.now.chart.cut c.args.region q ≡ true = listed-near terms c.args.self.now.table c.args.region q field c.requires.there listed in
     let s : ℕ = c.load_neighbour_step-s.result in
     let told = c.load_neighbour_step-s.ensures.short has.now has.works (omega (arith, c.if-s-step.true, has.step, at.step)) in
     let view : c.load_neighbour_step-s.new.seat.me.0 ≡ found_short c.loop-k.seat.me.0 c.args.region q s =
     ap (λ m. m.0) told.0 ∙ ap (λ r. found_short c.loop-k.seat.me.0 r q s) (has.region ∙ at.region) in
     let short : HasFallenShort c.args.seat.now.me.0 (found_short c.loop-k.seat.me.0 c.args.region q s) c.args.region q s =
-    falls-short c.args.seat.now.me.0 c.loop-k.seat.me.0 at.hold c.args.region q s has c.load_neighbour_step-s.ensures.later (omega (arith, (neighbours-there terms.net.now terms.chart.now c.args.region q near).1, has.still.alike.seen.long, c.requires.long)) in
+    falls-short c.args.seat.now.me.0 c.loop-k.seat.me.0 at.hold c.args.region q s has c.load_neighbour_step-s.ensures.later (omega (arith, (neighbours-there terms.setup.now.net terms.setup.now.chart c.args.region q near).1, has.still.alike.seen.long, c.requires.long)) in
     let there : IsAt (found_short c.loop-k.seat.me.0 c.args.region q s) c.args.region c.args.step =
     record {
       hold = has.now;
@@ -73,7 +73,7 @@ returns-then-s-step-clause-short c = λ p t is.
     } in
     let one : q ≡ p = (pair-same q s p t is).0 in
     let two : s ≡ t = (pair-same q s p t is).1 in
-    let beside : ℕ → Type 0 = λ n. are_neighbours terms.net.now.connectors terms.chart.now.cut c.args.region n ≡ true in
+    let beside : ℕ → Type 0 = λ n. are_neighbours terms.setup.now.net.connectors terms.setup.now.chart.cut c.args.region n ≡ true in
     subst (λ n. HasFallenShort c.args.seat.now.me.0 c.load_neighbour_step-s.new.seat.me.0 c.args.region p n × (n + 1 ≡ c.args.step) × IsAt c.load_neighbour_step-s.new.seat.me.0 c.args.region c.args.step × beside p) two
     (subst (λ n. HasFallenShort c.args.seat.now.me.0 c.load_neighbour_step-s.new.seat.me.0 c.args.region n s × (s + 1 ≡ c.args.step) × IsAt c.load_neighbour_step-s.new.seat.me.0 c.args.region c.args.step × beside n) one
     (subst (λ (v : View). HasFallenShort c.args.seat.now.me.0 v c.args.region q s × (s + 1 ≡ c.args.step) × IsAt v c.args.region c.args.step × beside q) (sym view)
@@ -82,19 +82,19 @@ returns-then-s-step-clause-short c = λ p t is.
 pub loop-k-preserved : goal.loop-k-preserved
 loop-k-preserved c =
     let terms : Terms = c.args.self.now.terms in
-    let chart : c.self.inside.chart.now ≡ terms.chart.now = sym c.self.invariant.1 ∙ ap (λ field. field.terms.chart.now) c.self.view_is in
+    let chart : c.self.inside.layout.now.chart ≡ terms.setup.now.chart = sym c.self.invariant.1 ∙ ap (λ field. field.terms.setup.now.chart) c.self.view_is in
     let field : IsTableFor terms c.args.self.now.table = subst (λ (f : FieldValue). IsTableFor f.terms f.table) c.self.view_is c.self.invariant.3 in
-    let list : c.neighbours-neighbours.result.now ≡ list_at terms.chart.now.neighbours c.args.region = c.neighbours-neighbours.ensures.list ∙ ap (λ (lists : ChartLists). list_at lists.neighbours c.args.region) chart in
+    let list : c.neighbours-neighbours.result.now ≡ list_at terms.setup.now.chart.neighbours c.args.region = c.neighbours-neighbours.ensures.list ∙ ap (λ (lists : ChartLists). list_at lists.neighbours c.args.region) chart in
     let at = c.requires.at in
     let has : HasLooked c.args.seat.now.me.0 c.loop-k.seat.me.0 at.hold = c.loop-k.invariant.3 at.hold at.works in
     let q : ℕ = get_or c.neighbours-neighbours.result.now c.loop-k.k 0 in
-    let listed : Contains (list_at terms.chart.now.neighbours c.args.region) q = subst (λ l. Contains l q) list (Contains-get_or c.neighbours-neighbours.result.now c.loop-k.k 0 c.loop-k-test.true) in
-    let near : are_neighbours terms.net.now.connectors terms.chart.now.cut c.args.region q ≡ true = listed-near terms c.args.self.now.table c.args.region q field c.requires.there listed in
+    let listed : Contains (list_at terms.setup.now.chart.neighbours c.args.region) q = subst (λ l. Contains l q) list (Contains-get_or c.neighbours-neighbours.result.now c.loop-k.k 0 c.loop-k-test.true) in
+    let near : are_neighbours terms.setup.now.net.connectors terms.setup.now.chart.cut c.args.region q ≡ true = listed-near terms c.args.self.now.table c.args.region q field c.requires.there listed in
     let s : ℕ = c.load_neighbour_step-s.result in
     let past : c.args.step ≤ s = omega (arith, c.if-s-step.false) in
     let told = c.load_neighbour_step-s.ensures.near has.now has.works (omega (arith, past, has.step, at.step)) in
     let view : c.load_neighbour_step-s.new.seat.me.0 ≡ cleared c.loop-k.seat.me.0 q s = ap (λ m. m.0) told in
-    let there : q < region_count terms.chart.now.cut = (neighbours-there terms.net.now terms.chart.now c.args.region q near).1 in
+    let there : q < region_count terms.setup.now.chart.cut = (neighbours-there terms.setup.now.net terms.setup.now.chart c.args.region q near).1 in
     let own : slice_index (slice_set c.loop-k.seat.me.0.seen q s) q ≡ s = get_or-set_same c.loop-k.seat.me.0.seen q s 0 (omega (arith, there, has.still.alike.seen.long, c.requires.long)) in (
       c.load_neighbour_step-s.ensures.same.0 ∙ c.loop-k.invariant.0,
       c.load_neighbour_step-s.ensures.same.1 ∙ c.loop-k.invariant.1,
@@ -120,12 +120,12 @@ loop-k-preserved c =
 pub returns-clause-cleared : goal.returns-clause-cleared
 returns-clause-cleared c = λ none.
     let terms : Terms = c.args.self.now.terms in
-    let chart : c.self.inside.chart.now ≡ terms.chart.now = sym c.self.invariant.1 ∙ ap (λ field. field.terms.chart.now) c.self.view_is in
+    let chart : c.self.inside.layout.now.chart ≡ terms.setup.now.chart = sym c.self.invariant.1 ∙ ap (λ field. field.terms.setup.now.chart) c.self.view_is in
     let field : IsTableFor terms c.args.self.now.table = subst (λ (f : FieldValue). IsTableFor f.terms f.table) c.self.view_is c.self.invariant.3 in
-    let list : c.neighbours-neighbours.result.now ≡ list_at terms.chart.now.neighbours c.args.region = c.neighbours-neighbours.ensures.list ∙ ap (λ (lists : ChartLists). list_at lists.neighbours c.args.region) chart in
+    let list : c.neighbours-neighbours.result.now ≡ list_at terms.setup.now.chart.neighbours c.args.region = c.neighbours-neighbours.ensures.list ∙ ap (λ (lists : ChartLists). list_at lists.neighbours c.args.region) chart in
     let at = c.requires.at in
     let has : HasLooked c.args.seat.now.me.0 c.loop-k.seat.me.0 at.hold = c.loop-k.invariant.3 at.hold at.works in
-    let found : (q : ℕ) → are_neighbours terms.net.now.connectors terms.chart.now.cut c.args.region q ≡ true →
+    let found : (q : ℕ) → are_neighbours terms.setup.now.net.connectors terms.setup.now.chart.cut c.args.region q ≡ true →
     (i : ℕ) × (i < c.loop-k.k) × (slice_index c.neighbours-neighbours.result.now i ≡ q) =
     λ q near.
     let here = near-listed terms c.args.self.now.table c.args.region q field c.requires.there near in
@@ -135,7 +135,7 @@ returns-clause-cleared c = λ none.
         all = λ hold q works near.
             let is : hold ≡ has.now = same-hold c.loop-k.seat.me.0.holds has.now hold has.works.later works.later has.works.holds works.holds in
             let region : hold.region ≡ c.args.region = ap (λ (h : Hold). h.region) is ∙ has.region ∙ at.region in
-            let here = found q (subst (λ r. are_neighbours terms.net.now.connectors terms.chart.now.cut r q ≡ true) region near) in
+            let here = found q (subst (λ r. are_neighbours terms.setup.now.net.connectors terms.setup.now.chart.cut r q ≡ true) region near) in
             subst (λ p. Contains hold.cleared p) here.2 (c.loop-k.invariant.4 hold here.0 works here.1);
       },
       (λ q near. let here = found q near in subst (λ p. c.args.step ≤ slice_index c.loop-k.seat.me.0.seen p) here.2 (c.loop-k.invariant.5 here.0 here.1)),

@@ -19,14 +19,14 @@ use Rattle.region_slots.proofs.field.Field.close.Goals as goal
 
 pub push_reserved-requires : goal.push_reserved-requires
 push_reserved-requires c =
-    let chart : ChartLists = c.self.inside.chart.now in
+    let chart : ChartLists = c.self.inside.layout.now.chart in
     let words : List ℕ = slots_items c.close_with-closed.result.words in
     let long : length c.loop-r.steps.items ≡ c.loop-r.r = ap length c.loop-r.invariant.1 ∙ length-map-range_with_len (step_of chart words) 0 c.loop-r.r in
     omega (arith, long, c.loop-r.steps.ok, c.loop-r.invariant.3, c.loop-r-test.true, c.regions.ensures.count)
 
 pub loop-r-preserved : goal.loop-r-preserved
 loop-r-preserved c =
-    let chart : ChartLists = c.self.inside.chart.now in
+    let chart : ChartLists = c.self.inside.layout.now.chart in
     let words : List ℕ = slots_items c.close_with-closed.result.words in
     let regions : List RegionValue = slots_items c.close_with-closed.result.slots in
     let r : ℕ = c.loop-r.r in
@@ -67,18 +67,18 @@ closed c =
     let inv = c.loop-r.invariant in
     let same_terms : terms ≡ c.args.self.terms = ap (λ field. field.terms) c.self.view_is in
     let knows : view ≡ c.args.pass.knows = ap (λ pass. pass.knows) c.pass.view_is in
-    let chart : terms.chart.now ≡ c.self.inside.chart.now = c.self.invariant.1 in
+    let chart : terms.setup.now.chart ≡ c.self.inside.layout.now.chart = c.self.invariant.1 in
     let all : view.share ≡ terms.seats = ap (λ (v : View). v.share) knows ∙ c.requires.whole ∙ ap (λ (t : Terms). t.seats) (sym same_terms) in
-    let is : IsClosed terms view (steps_of terms.chart.now words) regions =
+    let is : IsClosed terms view (steps_of terms.setup.now.chart words) regions =
     closing terms c.pass.inside.seat.id view words regions all c.pass.invariant.holds c.close_with-closed.ensures.values.2 in
-    let count : c.loop-r.r ≡ region_count terms.chart.now.cut =
+    let count : c.loop-r.r ≡ region_count terms.setup.now.chart.cut =
     omega (arith, c.loop-r-test.false, c.regions.ensures.count, inv.0, ap (λ (chart : ChartLists). region_count chart.cut) chart) in
-    let steps : c.loop-r.steps.items ≡ steps_of terms.chart.now words =
-    inv.1 ∙ ap (λ (chart : ChartLists). map (step_of chart words) (range_with_len 0 c.loop-r.r)) (sym chart) ∙ ap (λ n. map (step_of terms.chart.now words) (range_with_len 0 n)) count in
+    let steps : c.loop-r.steps.items ≡ steps_of terms.setup.now.chart words =
+    inv.1 ∙ ap (λ (chart : ChartLists). map (step_of chart words) (range_with_len 0 c.loop-r.r)) (sym chart) ∙ ap (λ n. map (step_of terms.setup.now.chart words) (range_with_len 0 n)) count in
     let items : c.loop-r.regions.items ≡ regions = inv.2 ∙ take_all c.loop-r.r regions (omega (arith, count, is.one_each)) in
     subst (λ (t : Terms). IsClosed t c.args.pass.knows c.loop-r.steps.items c.loop-r.regions.items) same_terms
     (subst (λ (v : View). IsClosed terms v c.loop-r.steps.items c.loop-r.regions.items) knows
-    (subst (λ l. IsClosed terms view l c.loop-r.regions.items) (sym steps) (subst (λ l. IsClosed terms view (steps_of terms.chart.now words) l) (sym items) is)))
+    (subst (λ l. IsClosed terms view l c.loop-r.regions.items) (sym steps) (subst (λ l. IsClosed terms view (steps_of terms.setup.now.chart words) l) (sym items) is)))
 
 pub returns-clause-stand : goal.returns-clause-stand
 returns-clause-stand c = (closed c).stand

@@ -20,12 +20,12 @@ loop-j-init c =
 pub overflow_cast-j-end : goal.overflow_cast-j-end
 overflow_cast-j-end c =
     let terms : Terms = c.args.self.now.terms in
-    let net : c.self.inside.net.now ≡ terms.net.now = sym c.self.invariant.0 ∙ ap (λ field. field.terms.net.now) c.self.view_is in
-    let chart : c.self.inside.chart.now ≡ terms.chart.now = sym c.self.invariant.1 ∙ ap (λ field. field.terms.chart.now) c.self.view_is in
+    let net : c.self.inside.layout.now.net ≡ terms.setup.now.net = sym c.self.invariant.0 ∙ ap (λ field. field.terms.setup.now.net) c.self.view_is in
+    let chart : c.self.inside.layout.now.chart ≡ terms.setup.now.chart = sym c.self.invariant.1 ∙ ap (λ field. field.terms.setup.now.chart) c.self.view_is in
     let field : IsTableFor terms c.args.self.now.table = subst (λ (f : FieldValue). IsTableFor f.terms f.table) c.self.view_is c.self.invariant.3 in
     let list = c.border-border.ensures.list ∙ ap (λ (lists : ChartLists). list_at lists.border c.args.region) chart in
-    let few = words-fit terms.chart.now field.chart record { net = terms.net.now; sound = field.sound; charted = field.charted } in
-    omega (arith, ap length list, width_at-widths_of terms.chart.now c.args.region, few, base-le-words (widths_of terms.chart.now) c.args.region (within-widths terms.chart.now c.args.region field.chart c.requires.there))
+    let few = words-fit terms.setup.now.chart field.chart record { net = terms.setup.now.net; sound = field.sound; charted = field.charted } in
+    omega (arith, ap length list, width_at-widths_of terms.setup.now.chart c.args.region, few, base-le-words (widths_of terms.setup.now.chart) c.args.region (within-widths terms.setup.now.chart c.args.region field.chart c.requires.there))
 
 pub store_border_word-requires-clause-working : goal.store_border_word-requires-clause-working
 store_border_word-requires-clause-working c =

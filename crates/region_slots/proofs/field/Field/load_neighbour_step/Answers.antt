@@ -12,22 +12,22 @@ pub step-word-requires : goal.step-word-requires
 step-word-requires c =
     let terms = c.self.inside.table.shared.key in
     let same_terms : terms ≡ c.args.self.now.terms = ap (λ field. field.terms) c.self.view_is in
-    let chart : terms.chart.now ≡ c.self.inside.chart.now = c.self.invariant.1 in
-    let places : c.self.inside.places ≡ widths_of terms.chart.now = c.self.invariant.2 ∙ ap widths_of (sym chart) in
+    let chart : terms.setup.now.chart ≡ c.self.inside.layout.now.chart = c.self.invariant.1 in
+    let places : c.self.inside.places ≡ widths_of terms.setup.now.chart = c.self.invariant.2 ∙ ap widths_of (sym chart) in
     let hold = c.requires.working.0 in
-    let near : are_neighbours terms.net.now.connectors terms.chart.now.cut hold.region c.args.neighbour ≡ true = rw same_terms c.requires.working.2 in
-    let there = (neighbours-there terms.net.now terms.chart.now hold.region c.args.neighbour near).1 in
-    omega (arith, within-widths terms.chart.now c.args.neighbour c.self.invariant.3.chart there, ap length places)
+    let near : are_neighbours terms.setup.now.net.connectors terms.setup.now.chart.cut hold.region c.args.neighbour ≡ true = rw same_terms c.requires.working.2 in
+    let there = (neighbours-there terms.setup.now.net terms.setup.now.chart hold.region c.args.neighbour near).1 in
+    omega (arith, within-widths terms.setup.now.chart c.args.neighbour c.self.invariant.3.chart there, ap length places)
 
 pub load-requires : goal.load-requires
 load-requires c =
     let terms = c.self.inside.table.shared.key in
     let same_terms : terms ≡ c.args.self.now.terms = ap (λ field. field.terms) c.self.view_is in
     let same_table : c.self.inside.table.shared.table_id ≡ c.args.self.now.table = ap (λ field. field.table) c.self.view_is in
-    let chart : terms.chart.now ≡ c.self.inside.chart.now = c.self.invariant.1 in
-    let places : c.self.inside.places ≡ widths_of terms.chart.now = c.self.invariant.2 ∙ ap widths_of (sym chart) in
+    let chart : terms.setup.now.chart ≡ c.self.inside.layout.now.chart = c.self.invariant.1 in
+    let places : c.self.inside.places ≡ widths_of terms.setup.now.chart = c.self.invariant.2 ∙ ap widths_of (sym chart) in
     let table = c.self.invariant.3 in
-    let place : c.step-word.result ≡ step_place (widths_of terms.chart.now) c.args.neighbour = c.step-word.ensures.place ∙ ap (λ widths. step_place widths c.args.neighbour) places in
+    let place : c.step-word.result ≡ step_place (widths_of terms.setup.now.chart) c.args.neighbour = c.step-word.ensures.place ∙ ap (λ widths. step_place widths c.args.neighbour) places in
     let there : c.step-word.result < c.self.inside.table.shared.table_id.words = omega (arith, c.step-word.ensures.there, ap words_of places, table.words) in (
       c.requires.seat.table ∙ sym same_table,
       there,
@@ -35,12 +35,12 @@ load-requires c =
     )
 
 -- the word that was read is the neighbour's
-read-word : (c : goal.After-load) → c.step-word.result ≡ step_place (widths_of c.args.self.now.terms.chart.now) c.args.neighbour
+read-word : (c : goal.After-load) → c.step-word.result ≡ step_place (widths_of c.args.self.now.terms.setup.now.chart) c.args.neighbour
 read-word c =
     let terms = c.self.inside.table.shared.key in
     let same_terms : terms ≡ c.args.self.now.terms = ap (λ field. field.terms) c.self.view_is in
-    let chart : terms.chart.now ≡ c.self.inside.chart.now = c.self.invariant.1 in
-    let places : c.self.inside.places ≡ widths_of c.args.self.now.terms.chart.now = c.self.invariant.2 ∙ ap widths_of (sym chart) ∙ ap (λ (t : Terms). widths_of t.chart.now) same_terms in
+    let chart : terms.setup.now.chart ≡ c.self.inside.layout.now.chart = c.self.invariant.1 in
+    let places : c.self.inside.places ≡ widths_of c.args.self.now.terms.setup.now.chart = c.self.invariant.2 ∙ ap widths_of (sym chart) ∙ ap (λ (t : Terms). widths_of t.setup.now.chart) same_terms in
     c.step-word.ensures.place ∙ ap (λ widths. step_place widths c.args.neighbour) places
 
 pub returns-clause-near : goal.returns-clause-near

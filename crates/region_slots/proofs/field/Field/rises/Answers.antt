@@ -13,7 +13,7 @@ use Rattle.region_slots.proofs.field.Field.rises.Goals as goal
 
 pub publish_step-requires-clause-working : goal.publish_step-requires-clause-working
 publish_step-requires-clause-working c =
-    let width : ℕ = width_at (widths_of c.args.self.now.terms.chart.now) c.args.region in
+    let width : ℕ = width_at (widths_of c.args.self.now.terms.setup.now.chart) c.args.region in
     let at = c.requires.at in
     let view : c.fills.new.seat.me.0 ≡ wrote_many c.args.seat.now.me.0 width =
     ap (λ m. m.0) c.fills.ensures.written ∙ ap (λ (v : View). wrote_many v width) (ap (λ m. m.0) c.advances.ensures.advanced.1 ∙ ap (λ m. m.0) c.tells.ensures.told.1) in (
@@ -27,7 +27,7 @@ publish_step-requires-clause-working c =
 
 pub free-requires-clause-state : goal.free-requires-clause-state
 free-requires-clause-state c =
-    let width : ℕ = width_at (widths_of c.args.self.now.terms.chart.now) c.args.region in
+    let width : ℕ = width_at (widths_of c.args.self.now.terms.setup.now.chart) c.args.region in
     let at = c.requires.at in
     let view : c.fills.new.seat.me.0 ≡ wrote_many c.args.seat.now.me.0 width =
     ap (λ m. m.0) c.fills.ensures.written ∙ ap (λ (v : View). wrote_many v width) (ap (λ m. m.0) c.advances.ensures.advanced.1 ∙ ap (λ m. m.0) c.tells.ensures.told.1) in
@@ -43,12 +43,12 @@ free-requires-clause-state c =
       at.region,
       at.works.known,
       ap (λ m. m.1) c.publish_step.ensures.risen ∙ ap (λ m. m.1) c.fills.ensures.written ∙ ap (λ m. m.1) advanced.1,
-      subst (λ n. Stands terms.net.now terms.chart.now terms.start.now terms.every r (n + 1) advanced.0) (sym at.step) advanced.2,
+      subst (λ n. Stands terms.setup.now.net terms.setup.now.chart terms.setup.now.start terms.setup.now.every r (n + 1) advanced.0) (sym at.step) advanced.2,
     )
 
 pub returns-clause-later : goal.returns-clause-later
 returns-clause-later c =
-    let width : ℕ = width_at (widths_of c.args.self.now.terms.chart.now) c.args.region in
+    let width : ℕ = width_at (widths_of c.args.self.now.terms.setup.now.chart) c.args.region in
     let view : c.fills.new.seat.me.0 ≡ wrote_many c.args.seat.now.me.0 width =
     ap (λ m. m.0) c.fills.ensures.written ∙ ap (λ (v : View). wrote_many v width) (ap (λ m. m.0) c.advances.ensures.advanced.1 ∙ ap (λ m. m.0) c.tells.ensures.told.1) in
     subst (λ (v : View). slice_index v.seen c.args.region ≤ c.args.step + 1) view c.publish_step.ensures.later

@@ -35,7 +35,7 @@ returns-in-Some-clause-idle c =
 pub returns-in-Some-clause-counts : goal.returns-in-Some-clause-counts
 returns-in-Some-clause-counts c =
     let stopped = c.gathers.ensures.stopped c.in-Some.region c.in-Some.is in
-    let count : ℕ = region_count c.args.self.now.terms.chart.now.cut in
+    let count : ℕ = region_count c.args.self.now.terms.setup.now.chart.cut in
     subst (HasCounts count) (sym (ap (λ m. m.0) c.gives_back.ensures.given)) (counts-freed count c.gathers.new.seat.me.0 stopped.counts)
 
 pub returns-in-Some-clause-in_time : goal.returns-in-Some-clause-in_time
@@ -78,7 +78,7 @@ returns-clause-shot c =
     let field : IsTableFor terms c.args.self.now.table = subst (λ (f : FieldValue). IsTableFor f.terms f.table) c.self.view_is c.self.invariant.3 in
     let old : View = c.args.seat.now.me.0 in
     let me : Mine = c.gathers.new.seat.me in
-    let has : HasGathered terms old (region_count terms.chart.now.cut) me = c.gathers.ensures.all c.in_default.is in
+    let has : HasGathered terms old (region_count terms.setup.now.chart.cut) me = c.gathers.ensures.all c.in_default.is in
     let together = c.sees_together.ensures in
     let same : c.shows.new.seat.me ≡ (gathered me.0, me.1) = c.shows.ensures.same.2 ∙ together.moment in
     let view : c.gives_back-2.new.seat.me.0 ≡ record (gathered me.0) { holds = [] } = ap (λ m. m.0) c.gives_back-2.ensures.given ∙ ap (λ (m : Mine). record m.0 { holds = [] }) same in

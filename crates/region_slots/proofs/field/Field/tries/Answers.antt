@@ -135,7 +135,7 @@ returns-clause-idle g c =
     let looked = (c.clears.ensures.cleared c.in_default.is).0 in
     let has = looked (known_at (fresh c.args.region) c.load_own_step-step.result) record { later = c.args.seat.now.me.0.holds; holds = ap (λ (v : View). v.holds) view; known = refl; early = refl } in
     let given = c.rises.ensures.risen in
-    let width : ℕ = width_at (widths_of c.args.self.now.terms.chart.now) c.args.region in
+    let width : ℕ = width_at (widths_of c.args.self.now.terms.setup.now.chart) c.args.region in
     record {
       share = λ none. c.requires.seat.share (sym (has.still.alike.share ∙ ap (λ (v : View). v.share) view) ∙ sym (ap (λ m. m.0.share) given) ∙ none);
       holds = ap (λ m. m.0.holds) given ∙
@@ -203,7 +203,7 @@ returns-clause-moved g c = λ s is.
     let old : View = c.args.seat.now.me.0 in
     let now : View = c.clears.new.seat.me.0 in
     let hold : Hold = known_at (fresh r) step in
-    let width : ℕ = width_at (widths_of terms.chart.now) r in
+    let width : ℕ = width_at (widths_of terms.setup.now.chart) r in
     let past : slice_index old.seen r ≤ step = subst (λ m. slice_index m.0.seen r ≤ step) mine c.load_own_step-step.ensures.later in
     let moved = turned-moved terms old now hold r step c.args.goal width (subst (λ (v : View). HasLooked v now hold) view has) past c.if-goal-step.false c.rises.ensures.later c.try_claim.ensures.long
     c.requires.there (c.clears.ensures.cleared c.in_default.is).2 in

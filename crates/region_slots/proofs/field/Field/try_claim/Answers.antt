@@ -8,10 +8,10 @@ compare_exchange-found-requires c =
     let terms = c.self.inside.table.shared.key in
     let same_terms : terms ≡ c.args.self.now.terms = ap (λ field. field.terms) c.self.view_is in
     let same_table : c.self.inside.table.shared.table_id ≡ c.args.self.now.table = ap (λ field. field.table) c.self.view_is in
-    let chart : terms.chart.now ≡ c.self.inside.chart.now = c.self.invariant.1 in
-    let places : c.self.inside.places ≡ widths_of terms.chart.now = c.self.invariant.2 ∙ ap widths_of (sym chart) in
+    let chart : terms.setup.now.chart ≡ c.self.inside.layout.now.chart = c.self.invariant.1 in
+    let places : c.self.inside.places ≡ widths_of terms.setup.now.chart = c.self.invariant.2 ∙ ap widths_of (sym chart) in
     let table = c.self.invariant.3 in
-    let place : c.claim-word.result ≡ claim_place (widths_of terms.chart.now) c.args.region = c.claim-word.ensures.place ∙ ap (λ widths. claim_place widths c.args.region) places in
+    let place : c.claim-word.result ≡ claim_place (widths_of terms.setup.now.chart) c.args.region = c.claim-word.ensures.place ∙ ap (λ widths. claim_place widths c.args.region) places in
     let there : c.claim-word.result < c.self.inside.table.shared.table_id.words = omega (arith, c.claim-word.ensures.there, ap words_of places, table.words) in (
       c.requires.seat.table ∙ sym same_table,
       there,

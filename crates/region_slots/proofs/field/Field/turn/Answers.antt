@@ -15,8 +15,8 @@ returns-clause-belongs g c =
       record {
         table = came.same.1 ∙ ap (λ pass. pass.table) c.pass.view_is ∙ c.requires.belongs.table;
         terms = came.terms ∙ ap (λ (v : View). v.terms) knows ∙ c.requires.belongs.terms;
-        counts = turned-counts c.args.self.now.terms (region_count c.args.self.now.terms.chart.now.cut) c.pass.inside.seat.me.0 c.tries.new.seat.me.0 c.args.goal c.args.region c.tries.result
-            came.held came.ended came.behind came.moved (subst (HasCounts (region_count c.args.self.now.terms.chart.now.cut)) (sym knows) c.requires.belongs.counts);
+        counts = turned-counts c.args.self.now.terms (region_count c.args.self.now.terms.setup.now.chart.cut) c.pass.inside.seat.me.0 c.tries.new.seat.me.0 c.args.goal c.args.region c.tries.result
+            came.held came.ended came.behind came.moved (subst (HasCounts (region_count c.args.self.now.terms.setup.now.chart.cut)) (sym knows) c.requires.belongs.counts);
         in_time = came.seen_in_time;
       },
       came.same.0 ∙ ap (λ pass. pass.id) c.pass.view_is,

@@ -40,6 +40,6 @@ returns-clause-belongs c =
     record {
       table = search rules;
       terms = ap (λ (v : View). v.terms) knows ∙ c.requires.belongs.terms;
-      counts = subst (HasCounts (region_count terms.chart.now.cut)) (sym knows) (counts-united (region_count terms.chart.now.cut) c.args.pass.now.knows c.args.other.knows c.requires.belongs.counts);
+      counts = subst (HasCounts (region_count terms.setup.now.chart.cut)) (sym knows) (counts-united (region_count terms.setup.now.chart.cut) c.args.pass.now.knows c.args.other.knows c.requires.belongs.counts);
       in_time = subst (HasSeenInTime terms) (sym knows) (united-in-time terms c.args.pass.now.knows c.args.other.knows c.requires.belongs.counts c.requires.belongs.in_time c.requires.also.in_time);
     }

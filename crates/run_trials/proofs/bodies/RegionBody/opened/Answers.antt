@@ -10,8 +10,8 @@ use Rattle.run_trials.proofs.bodies.RegionBody.opened.Goals as goal
 pub returns-clause-at_start : goal.returns-clause-at_start
 returns-clause-at_start c =
     IfOk-both c.open.result
-    (λ (body : RegionValue). body.state ≡ grid_state c.args.net.now c.args.chart.now c.args.start.now c.args.every c.args.r (slice_index c.args.start.now.steps c.args.r))
-    (λ (body : RegionValue). HasRowsInBounds c.args.net.now c.args.chart.now body.state)
-    (λ (body : RegionValue). IsAt c.args.net.now c.args.chart.now c.args.r (slice_index c.args.start.now.steps c.args.r) body.state)
-    (λ body is bounds. grid_state-at c.args.net.now c.args.chart.now c.args.start.now c.args.every c.args.r (slice_index c.args.start.now.steps c.args.r) body.state is bounds)
+    (λ (body : RegionValue). body.state ≡ grid_state c.args.layout.now.net c.args.layout.now.chart c.args.start.now c.args.every c.args.r (slice_index c.args.start.now.steps c.args.r))
+    (λ (body : RegionValue). HasRowsInBounds c.args.layout.now.net c.args.layout.now.chart body.state)
+    (λ (body : RegionValue). IsAt c.args.layout.now.net c.args.layout.now.chart c.args.r (slice_index c.args.start.now.steps c.args.r) body.state)
+    (λ body is bounds. grid_state-at c.args.layout.now.net c.args.layout.now.chart c.args.start.now c.args.every c.args.r (slice_index c.args.start.now.steps c.args.r) body.state is bounds)
     c.open.ensures.state c.open.ensures.in_bounds

@@ -1,5 +1,4 @@
 ghost use Rattle.std.specs.Prelude.{◌≡◌, Ok, Some, None, IfErr, IfOk, MatchOption, false, true, length, map};
-ghost use Rattle.region_cut.specs.Chart.{chart_of};
 ghost use Rattle.region_cut.specs.CutFaults.{cut_of};
 ghost use Rattle.saved_run.specs.Charting.{IsChartRefusal, IsCuttingRefusal, are_regions};
 ghost use Rattle.saved_run.specs.Loading.{cutting_by};
@@ -9,22 +8,25 @@ use crate::row_line::RowLine;
 use crate::saved_head::SavedHead;
 use network_file::{MOST_REGIONS, Net};
 use no_memory::NoMemory;
-use region_cut::{Chart, Cut, CutRefusal};
+use region_cut::{Cut, CutRefusal, Layout};
 use std::alloc::Global;
 
-/// The chart of a network that is cut as the row lines of a content say.
-pub(crate) fn chart_in(alloc: Global, net: &Net, head: &SavedHead) -> Result<Chart, LoadRefusal>
-    ensures cutting { IfOk result (λ chart. cutting_by net.now (length head.now.steps.items) head.now.rows.items ≡ Some chart.cut) }
-    ensures chart { IfOk result (λ chart. chart ≡ chart_of net.now chart.cut) }
-    ensures one_each { IfOk result (λ chart. length chart.cut ≡ length net.now.cells) }
+/// A network that is cut as the row lines of a content say.
+pub(crate) fn layout_in<'n>(
+    alloc: Global,
+    net: &'n Net,
+    head: &SavedHead,
+) -> Result<Layout<'n>, LoadRefusal>
+    ensures network { IfOk result (λ layout. layout.net ≡ net.now) }
+    ensures cutting { IfOk result (λ layout. cutting_by net.now (length head.now.steps.items) head.now.rows.items ≡ Some layout.chart.cut) }
     ensures refusal { IfErr result (λ refusal. IsChartRefusal refusal (cutting_by net.now (length head.now.steps.items) head.now.rows.items)) }
 {
     let Some(regions) = region_numbers(alloc, &head.rows)? else {
         return Err(LoadRefusal::Fault(LoadFault::Cutting));
     };
-    let chart = Chart::new(alloc, net, cut_by(alloc, net, &regions)?)?;
-    if chart.regions() as usize == head.steps.len() {
-        Ok(chart)
+    let layout = Layout::new(alloc, net, cut_by(alloc, net, &regions)?)?;
+    if layout.regions() as usize == head.steps.len() {
+        Ok(layout)
     } else {
         Err(LoadRefusal::Fault(LoadFault::Cutting))
     }
