@@ -22,6 +22,7 @@ YIELDS = re.compile(r"(?i)yield|stop|\d_stop")  # what controls a movement that 
 USUAL = 50.0  # km/h, of a link that doesn't say its speed
 BACK = "_back"  # behind the name of the street against the direction of a link that isn't directed
 MOVED = ("mvmt_id", "ib_link_id", "ob_link_id")
+LANES = {"lane": ("lane_num",), "movement": ("start_ib_lane", "end_ib_lane", "start_ob_lane", "end_ob_lane")}  # their numbers
 
 
 def read_folder(folder: str | Path, until: float = inf, links: bool = True) -> Streets:
@@ -91,12 +92,14 @@ class Reader:
     def movements(self) -> None:
         """The movements; where there are none, all but the way back is allowed at each node."""
         rows = read_table(self.folder, "movement")
+        has_0 = any(row.number(column, 1.0) == 0 for name, columns in LANES.items() for row in read_table(self.folder, name)
+                    for column in columns)
         yielding = set()
         for name, row in once(rows, "mvmt_id").items():
             pair = self.pairs[name] = self._pair(row)
             if pair is None:
                 continue
-            lanes = max(1, round(row.number("end_ib_lane", 1.0) - row.number("start_ib_lane", 1.0) + 1))
+            lanes = lanes_between(row.number("start_ib_lane", 1.0), row.number("end_ib_lane", 1.0), has_0)
             yields = bool(YIELDS.match(row.text("ctrl_type")))
             way = self.found.ways.setdefault(pair, Way(0, 0))  # of several movements by lanes from link to link
             way.lanes, way.priority = way.lanes + lanes, way.priority + lanes * (1 if yields else 4)
@@ -240,6 +243,12 @@ def _unit(config: Row, column: str, units: dict[str, float]) -> float | None:
     if said and said not in units:
         raise Problem(f"{config.path}: {column}: expected {' or '.join(units)}, found {said}")
     return units[said] if said else None
+
+
+def lanes_between(first: float, last: float, has_0: bool) -> int:
+    """How many lanes there are from one to another, both with them: .., -2, -1, 1, 2, .., where no lane has the number 0."""
+    left_out = first < 0 < last and not has_0
+    return max(1, round(last - first + 1 - left_out))
 
 
 def phase_spans(phases: list[Row]) -> list[Span]:
