@@ -5,6 +5,7 @@ from __future__ import annotations
 import importlib
 import os
 import sys
+import threading
 from collections.abc import Sequence
 from contextlib import suppress
 from typing import Any, NoReturn
@@ -134,13 +135,15 @@ class LastWord:
 
     def __init__(self) -> None:
         self.told = False
+        self.telling = threading.Lock()  # the thread that ends the process asks for it too
 
     def __call__(self, line: str = "interrupted") -> None:
         """Tells the line, in the place of what a terminal shows in its last one."""
-        if not self.told:
-            self.told = True
-            begin = "\r\x1b[K\x1b[?25h" if sys.stderr.isatty() else ""  # a bar hides the cursor
-            print(f"{begin}{PROGRAM}: {one_line(line)}", file=sys.stderr, flush=True)
+        with self.telling:
+            if not self.told:
+                self.told = True
+                begin = "\r\x1b[K\x1b[?25h" if sys.stderr.isatty() else ""  # a bar hides the cursor
+                print(f"{begin}{PROGRAM}: {one_line(line)}", file=sys.stderr, flush=True)
 
 
 def stop(last_word: LastWord, line: str = "interrupted") -> NoReturn:

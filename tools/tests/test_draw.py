@@ -131,7 +131,7 @@ def test_a_cluster_that_loses_a_worker_gives_the_same_bytes(tool, program, tmp_p
 def test_an_interrupt_loses_the_runs_under_way_alone(tool, program, tmp_path):
     path = written(tmp_path, GATE + UNIFORM)
     words = ["draw", path, "--runs", "9", "-j", "1"]
-    status, err, _ = interrupted(tmp_path, words, stand_in(tmp_path, program, 8, "exec sleep 100"))
+    status, err, _ = interrupted(tmp_path, words, stand_in(tmp_path, program, 8, "exec sleep 1000"))
     assert status == 130 and re.fullmatch(r"ctm-tools: stopped with [1-8] of 9 runs left; the same call goes on with them\n", err)
     status, out, err = tool(*words)
     assert status == 0 and re.match("[1-8] of 9 runs stand in s.draw/runs.csv already", out)
