@@ -59,6 +59,10 @@ function see({ report, against }) {
   show();
 }
 for (const id of ["title", "subtitle", "provenance", "notes"]) byId(id).textContent = data[id];
+const narrow = matchMedia("(max-width: 600px)");
+const tellOrigin = () => { byId("origin").open = !narrow.matches; };
+narrow.addEventListener("change", tellOrigin);
+tellOrigin();
 byId("slider").max = frames - 1;
 byId("slider").addEventListener("input", event => at(+event.target.value));
 byId("play").addEventListener("click", play);

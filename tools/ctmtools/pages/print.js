@@ -22,8 +22,11 @@ function leaveOut(rows) {
     byId("more").textContent = `${late} more rows are left out here.`;
   }
 }
+let originShown;
 function toPaper() {
   state.printing = true;
+  originShown = byId("origin").open;
+  byId("origin").open = true;
   document.documentElement.classList.add("printing");
   show();
   fitPages();
@@ -32,6 +35,7 @@ function toPaper() {
 }
 function toScreen() {
   state.printing = false;
+  byId("origin").open = originShown;
   document.documentElement.classList.remove("printing");
   byId("space").style.height = "";
   byId("more").textContent = "";
