@@ -75,7 +75,7 @@ def _own(source: Source, decimal: str | None) -> Observed:
     for name in ("flow", "speed"):
         rows[name] = numpy.nan
         if name in columns:
-            rows[name] = numbers(texts[columns[name].number], decimal, source.path, name, "a flow" if name == "flow" else "a speed")
+            rows[name] = numbers(texts[columns[name].number], decimal or ".", source.path, name, "a flow" if name == "flow" else "a speed")
     lost = rows.flow.isna() | (rows.end <= rows.start)
     if lost.any():
         raise Problem(f"{source.path}: line {lost.idxmax()}: expected a flow, 0 or more, and an end after the start")

@@ -8,6 +8,7 @@ from typing import Any, TypeVar
 
 import click
 
+from ..detectors.days import ORDERS
 from ..detectors.rules import RULES, rules_of
 from ..detectors.wanted import Wanted
 from ..study.quantities import duration
@@ -17,6 +18,7 @@ OPTIONS = [
     click.option("--station", metavar="NAME", help="The station that is taken."),
     click.option("--dates", multiple=True, metavar="DATE|all|weekdays|monday..",
                  help="The days that are taken; may be given again. By default all."),
+    click.option("--date-order", type=click.Choice(ORDERS), help="Of dates as 03/12/2019, where the files don't tell it."),
     click.option("--average", type=click.Choice(["mean", "median"]), help="Of each time the mean or the median of the days."),
     click.option("--leave-out", multiple=True, metavar="all|RULE|RULE=LIMIT",
                  help=f"Rows of broken detectors: {', '.join(RULES)}, day; may be given again."),

@@ -30,6 +30,7 @@ class Clocks:
     again: numpy.ndarray
     days: dict[str, Day]
     zoned: bool
+    pointed: bool  # whether the dates have points between their numbers
 
 
 def zone_of(name: str) -> zoneinfo.ZoneInfo:
@@ -65,7 +66,11 @@ def clocks_of(source: Source, found: Format, rows: pandas.DataFrame, wanted: Wan
         codes_of = numpy.array([-1 if one is None else place[day_text(one)] for one in days[0]], dtype=int)
         label = pandas.Categorical.from_codes(codes_of[days[1]], categories=texts)
     return Clocks(label, second[codes] if len(second) else second, again[codes] if len(again) else again, known,
-                  bool(zones) and not wanted.zone)
+                  bool(zones) and not wanted.zone, _pointed(rows[(found.date or found.time).number]))
+
+
+def _pointed(texts: pandas.Series) -> bool:
+    return any(re.match(r"\s*[0-9]{1,2}\.[0-9]{1,2}\.[0-9]", text) for text in texts.cat.categories)
 
 
 def _days(source: Source, found: Format, rows: pandas.DataFrame,

@@ -15,11 +15,14 @@ SORTS = {"all": range(7), "weekdays": range(5), "weekends": range(5, 7),
          **{name: range(i, i + 1) for i, name in enumerate(WEEKDAYS)}}
 
 
-def dates_of(days: Iterable[Day], month_first: bool = False) -> dict[Day, datetime.date]:
-    """The dates of days by the one order of day and month in which all of them are dates; none where two orders are possible."""
+ORDERS = ("day-first", "month-first")  # of the day and the month, where the year isn't first
+
+
+def dates_of(days: Iterable[Day], order: str | None = None) -> dict[Day, datetime.date]:
+    """The dates of days by an order of day and month; without one by the only order in which all of them are dates."""
     numbers = [one for one in days if not isinstance(one, str)]
-    found = [[readings(one)[order] for one in numbers] for order in range(3)]
-    whole = [dates for order, dates in enumerate(found) if dates and None not in dates and not (month_first and order == 1)]
+    found = {sort: [readings(one)[i] for one in numbers] for i, sort in enumerate(("year-first", *ORDERS))}
+    whole = [dates for sort, dates in found.items() if dates and None not in dates and sort in (order or sort, "year-first")]
     if not whole or any(dates != whole[0] for dates in whole[1:]):
         return {}
     return {one: date for one, date in zip(numbers, whole[0]) if date}
@@ -28,8 +31,8 @@ def dates_of(days: Iterable[Day], month_first: bool = False) -> dict[Day, dateti
 class Days:
     """The days of some files, each by the text that messages have of it."""
 
-    def __init__(self, name: object, days: Mapping[str, Day], month_first: bool = False) -> None:
-        dates = dates_of(days.values(), month_first)
+    def __init__(self, name: object, days: Mapping[str, Day], order: str | None = None) -> None:
+        dates = dates_of(days.values(), order)
         self.name = name
         self.days = days
         self.dates = {text: dates[one] for text, one in days.items() if one in dates}
@@ -80,7 +83,7 @@ class Days:
         unknown = next((text for text in self.days if text not in self.dates), None)
         if unknown:
             raise Problem(f"{self.name}: {unknown} may be of two months, or is no date, and so it isn't known which days are of "
-                          f"{what}; write the dates as 2019-12-04")
+                          f"{what}; write the dates as 2019-12-04, or say date_order")
 
 
 def hours_of(date: datetime.date, zone: str) -> float:

@@ -37,9 +37,10 @@ def _decoded(path: str | Path, content: bytes) -> str:
     try:
         if content.startswith((codecs.BOM_UTF16_LE, codecs.BOM_UTF16_BE)):
             return content.decode("utf-16")
-        zeros = content[:LOOKED_AT].find(b"\0")
-        if zeros >= 0 and len(content) % 2 == 0:
-            return content.decode("utf-16-le" if zeros % 2 else "utf-16-be")
+        first = content[:LOOKED_AT]
+        for begin, name in ((1, "utf-16-le"), (0, "utf-16-be")):
+            if first[begin::2].count(0) > len(first) / 4 and not first[1 - begin::2].count(0):
+                return content.decode(name)
     except UnicodeDecodeError:
         raise Problem(f"{path}: begins as UTF-16, and isn't whole") from None
     try:

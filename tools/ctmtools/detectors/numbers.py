@@ -13,6 +13,8 @@ import pandas
 from ..problem import Problem
 
 Value = TypeVar("Value")
+NONE = ("nan", "na", "n/a", "null", "none", "-")  # what exports write where there is no number
+THOUSANDS = re.compile(r"[1-9][0-9]{0,2}(?:([.,])[0-9]{3})(?:\1[0-9]{3})*")
 
 
 def number(text: str, decimal: str | None, key: str, what: str = "a count") -> Fraction:
@@ -21,7 +23,7 @@ def number(text: str, decimal: str | None, key: str, what: str = "a count") -> F
     other = "," if sign == "." else "."
     point = re.escape(sign)
     found = re.fullmatch(rf"[+-]?(?:[0-9]+(?:{point}[0-9]*)?|{point}[0-9]+)(?:[eE][+-]?[0-9]{{1,3}})?", written)
-    thousands = re.fullmatch(r"[1-9][0-9]{0,2}(?:([.,])[0-9]{3})(?:\1[0-9]{3})*", written)
+    thousands = THOUSANDS.fullmatch(written)
     if thousands and decimal is None and found:
         raise Problem(f"{key}: \"{written}\" may be {float(written):g} or a number of thousands; write it without "
                       "the point, or say decimal = \".\" in the study")
@@ -59,7 +61,14 @@ def by_text(column: pandas.Series, read: Callable[[str, str], Value], key: Calla
 
 
 def numbers(column: pandas.Series, decimal: str | None, path: object, name: str, what: str = "a count") -> pandas.Series:
-    """The numbers of a column, whose index has the lines of a file; none where a text is blank."""
+    """The numbers of a column, whose index has the lines of a file; none where a text is blank.
+
+    A point is the decimal sign of all where it is that of one: where no sign of thousands could stand.
+    """
+    column = column.cat.rename_categories([text if text.strip().casefold() not in NONE else f" {' ' * i}"
+                                           for i, text in enumerate(column.cat.categories)])
+    if decimal is None and any("." in text and not THOUSANDS.fullmatch(text.strip()) for text in column.cat.categories):
+        decimal = "."
     values = by_text(column, lambda text, key: float(number(text, decimal, key, what)), lambda line: f"{path}: line {line}, {name}")
     found = numpy.array([numpy.nan if value is None else value for value in values], dtype=float)
     return pandas.Series(found[column.cat.codes.to_numpy()] if len(found) else numpy.empty(0), index=column.index, dtype=float)

@@ -36,6 +36,11 @@ class Part:
         """The file."""
         return self.source.path
 
+    @property
+    def date_order(self) -> str | None:
+        """The order of day and month that the format says, or dates with points, as 04.12.2019, whose day comes first."""
+        return "month-first" if self.format.month_first else "day-first" if self.clocks.pointed else None
+
     def per(self) -> str:
         """Of what the flows are, `interval` or `hour`, by the names of columns or by what is asked."""
         columns = [columns["flow"] for columns in self.format.stations.values() if "flow" in columns]
@@ -78,7 +83,8 @@ class Part:
     def _column(self, texts: pandas.Series, column: Column) -> pandas.Series:
         """The numbers of a column: speeds in km/h, occupancies in %, occupied time in s."""
         what = "a count" if column.quantity.sort == "flow" else "a number"
-        found = numbers(texts, self.wanted.decimal, self.path, column.name, what)
+        decimal = self.wanted.decimal or (None if column.quantity.sort == "flow" else ".")
+        found = numbers(texts, decimal, self.path, column.name, what)
         factor = self._factor(column)
         return found if factor == 1 else (found * factor).round(9)
 

@@ -14,7 +14,6 @@ import pandas
 
 from ..problem import Problem
 from ..units import DAY
-from .clocks import Clocks
 from .days import Days
 from .formats import LONG, VEHICLES
 from .parts import Part, part_of
@@ -63,7 +62,7 @@ class Files:
         known: dict[str, Day] = {}
         for part in self.parts:
             known |= part.clocks.days
-        self.days = Days(self.name, known, any(part.format.month_first for part in self.parts))
+        self.days = Days(self.name, known, wanted.date_order or next((part.date_order for part in self.parts if part.date_order), None))
         self.zoned = any(part.clocks.zoned for part in self.parts)
 
     @property
@@ -158,7 +157,7 @@ def _by_its_name(part: Part, several: bool) -> Part:
     if clocks.day is None and several and date:
         one = int(date[1]), int(date[2]), int(date[3])
         day = pandas.Categorical([day_text(one)] * len(part.rows))
-        clocks = Clocks(day, clocks.second, clocks.again, {day_text(one): one}, clocks.zoned)
+        clocks = replace(clocks, day=day, days={day_text(one): one})
     if several and found.sort in (LONG, VEHICLES) and part.station is None:
         station = re.sub(r"^[\s_.-]+|[\s_.-]+$", "", DATE.sub("", name))
         found = replace(found, stations={station: found.stations[None]})

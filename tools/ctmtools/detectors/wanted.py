@@ -22,6 +22,7 @@ class Wanted:
     station_column: str = "station"
     dates: tuple[str, ...] = ()
     date_column: str = "date"
+    date_order: str | None = None
     average: str | None = None
     per: str | None = None
     speed_unit: str | None = None

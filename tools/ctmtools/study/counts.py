@@ -10,12 +10,13 @@ from fractions import Fraction
 from pathlib import Path
 from typing import Any
 
-from ..problem import Problem
-from ..units import DAY
+from ..detectors.days import ORDERS
 from ..detectors.flows import HOUR
 from ..detectors.rules import rules_of
 from ..detectors.several import paths_of
 from ..detectors.wanted import Wanted
+from ..problem import Problem
+from ..units import DAY
 from .count_file import Row, counted
 from .entries import Entries, list_of
 from .plan import Flow
@@ -68,7 +69,7 @@ def wanted_of(table: Entries) -> Wanted:
     average, per = _one_of(table, "average", ("mean", "median")), _one_of(table, "per", ("interval", "hour"))
     wanted = Wanted(column, table.take("time", word, "time"), table.take("station", _text, None),
                     table.take("station_column", word, "station"), (date,) if date else dates, table.take("date_column", word, "date"),
-                    average, per or ("interval" if column else None), None, _one_of(table, "occupancy_unit", ("%", "share")),
+                    _one_of(table, "date_order", ORDERS), average, per or ("interval" if column else None), None, _one_of(table, "occupancy_unit", ("%", "share")),
                     table.take("interval", duration, None), _one_of(table, "missing", MISSING), separator,
                     table.take("decimal", word, None), table.take("zone", word, None), None if lanes is None else float(lanes),
                     rules_of(table.take("leave_out", _texts, ()), table.key("leave_out")), table.take("holidays", _dates, ()))
