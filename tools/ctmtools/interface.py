@@ -201,7 +201,7 @@ def read_detectors(files: str | Path | Sequence[str | Path], **options: Any) -> 
     from .detectors.reading import read, times_of
 
     found = read(files, wanted_by(**options))
-    frame = found.rows.assign(time=times_of(found))
+    frame = found.rows.assign(time=times_of(found), station=found.rows.station.astype(str))
     frame = frame[["station", "time", "flow", "speed", "occupancy", "density", "observed", "lanes", "file", "line"]]
     frame["file"] = [str(found.files.parts[int(file)].path) for file in frame.file]
     frame.attrs = {"told": found.lines, "left_out": found.left[["station", "day", "second", "flow", "rule", "line"]],

@@ -34,7 +34,7 @@ class Days:
     def __init__(self, name: object, days: Mapping[str, Day], order: str | None = None) -> None:
         dates = dates_of(days.values(), order)
         self.name = name
-        self.days = days
+        self.days = dict(sorted(days.items(), key=lambda pair: dates[pair[1]])) if len(dates) == len(days) else days
         self.dates = {text: dates[one] for text, one in days.items() if one in dates}
         self.free: set[str] = set()  # those that are holidays
 

@@ -67,12 +67,12 @@ class Files:
 
     @property
     def stations(self) -> list[str]:
-        """The stations that the files have, in their order; one without a name where they name none."""
+        """The stations that the files have, by their names; one without a name where they name none."""
         found: dict[str, None] = {}
         for part in self.parts:
             for name in part.format.stations if part.station is None else part.station.categories:
                 found[name or ""] = None
-        return list(found)
+        return sorted(found)
 
     @property
     def formats(self) -> list[str]:
@@ -103,9 +103,8 @@ class Files:
                 taken &= part.clocks.day.isin(days)
             if taken.any():
                 frames.append(part.numbers(taken).assign(file=i))
-        stations = pandas.CategoricalDtype(self.stations)
-        order = pandas.CategoricalDtype(list(self.days.days) or [""])
-        frames = [frame.astype({"station": stations, "day": order}) for frame in frames]
+        order = {"station": self.stations, "day": list(self.days.days) or [""]}
+        frames = [frame.assign(**{name: frame[name].cat.set_categories(names) for name, names in order.items()}) for frame in frames]
         found = pandas.concat(frames, ignore_index=True) if len(frames) != 1 else frames[0]
         if self.wanted.station is not None and "" not in self.stations:
             found = found[found.station == self._station(self.wanted.station)].reset_index(drop=True)
