@@ -402,3 +402,17 @@ def test_the_next_day_of_a_study_that_passes_midnight(formats, tmp_path):
     wanted = [made("101", DAYS[0], 84600 + 300 * i)[0] for i in range(6)] + [made("101", DAYS[1], 300 * i)[0] for i in range(6)]
     assert [float(row[2]) for row in demands(made_of)] == pytest.approx([count / 30 for count in wanted], abs=1e-6)
     assert clock(84600) == "23:30" and build(read_study(tmp_path / "study.toml")).text == made_of.text
+
+
+def test_a_sweep_knows_each_file_of_counts_of_gates_and_of_trips(tmp_path):
+    from ctmtools.plans.searching import moved_to
+    from ctmtools.sweeps.task import Task, fingerprint
+
+    values = {"gates": {"g": {"demand": {"counts": "c-*.csv"}}}, "trips": [{"demand": {"counts": ["t.csv"]}}]}
+    marks = set()
+    for name, content in (("c-1.csv", "1"), ("c-2.csv", "2"), ("t.csv", "3"), ("t.csv", "4"), ("other.csv", "5")):
+        (tmp_path / name).write_text(content)
+        marks.add(fingerprint(Task(values, str(tmp_path / "s.toml"), {}, "")))
+    assert len(marks) == 4  # another file changes nothing
+    moved = moved_to(values, tmp_path / "s.toml", tmp_path / "kept/best.toml")
+    assert moved["gates"]["g"]["demand"]["counts"] == "../c-*.csv" and moved["trips"][0]["demand"]["counts"] == ["../t.csv"]

@@ -97,14 +97,16 @@ def hour_lines(files: Files, days: Iterable[str]) -> list[str]:
 
 
 def left_lines(left: pandas.DataFrame, rules: Iterable[Rule], files: Files) -> list[str]:
-    """A line for each rule by which rows were left out, with how many, and where the first stands."""
-    lines = []
+    """A line for each rule by which rows were left out, with how many and where the first stands, and one for the other rules."""
+    lines, none = [], []
     for rule in [*rules, SECOND_HOUR]:
         rows = left[left.rule == (rule.name if isinstance(rule, Rule) else rule)]
-        if len(rows) or isinstance(rule, Rule):
-            first = rows.sort_values(["file", "line"]).iloc[0] if len(rows) else None
-            lines.append(f"left out: {len(rows):,} by {rule}" + ("" if first is None else f", the first in {files.where(first)}"))
-    return lines
+        if len(rows):
+            first = rows.sort_values(["file", "line"]).iloc[0]
+            lines.append(f"left out: {len(rows):,} by {rule}, the first in {files.where(first)}")
+        elif isinstance(rule, Rule):
+            none.append(str(rule))
+    return lines + ([f"left out: none by {', '.join(none)}"] if none else [])
 
 
 def averaged(frame: pandas.DataFrame, how: str) -> pandas.DataFrame:

@@ -62,8 +62,11 @@ def counted(paths: Sequence[Path], wanted: Wanted, passes_midnight: bool) -> Cou
         rows = _unwound(files.name, _rows(files, frame))
     else:
         lines += hour_lines(files, chosen)
-        rows = _rows(files, _of_days(files, frame, chosen, behind))
-        lines += [f"{wanted.average} of {len(chosen)} days"] if len(chosen) > 1 else []
+        taken = _of_days(files, frame, chosen, behind)
+        rows = _rows(files, taken)
+        if len(chosen) > 1:
+            fewer = int((taken.days < len(chosen)).sum())
+            lines.append(f"{wanted.average} of {len(chosen)} days" + (f", of {fewer} intervals of fewer" if fewer else ""))
     return Counted(files.name, _rising(files.name, rows), files.dated, hourly, files.interval(), lines + more)
 
 
@@ -74,7 +77,7 @@ def _numbers(files: Files, days: Sequence[str] | None) -> tuple[pandas.DataFrame
         return frame, files.per() == "hour", []
     frame, left, interval = kept_rows(files, None if days is None else list(days))
     hourly = files.per() == "hour"
-    lines = [line for line in left_lines(left, files.wanted.leave_out, files)]
+    lines = [line for line in left_lines(left, files.wanted.leave_out, files) if "none by" not in line]
     return frame.assign(amount=frame.flow if hourly else frame.flow * interval / HOUR), hourly, lines
 
 
@@ -115,7 +118,8 @@ def _of_days(files: Files, frame: pandas.DataFrame, chosen: Sequence[str], behin
     if len(twice):
         raise Problem(f"{files.place(twice.iloc[0])} is of a day and a time that stand there already")
     groups = both.sort_values("second", kind="stable").groupby("second", as_index=False)
-    found = groups.agg({"amount": files.wanted.average, "line": "first", "file": "first"})
+    found = groups.agg(amount=("amount", files.wanted.average or "mean"), days=("amount", "count"), line=("line", "first"),
+                       file=("file", "first"))
     return found.assign(amount=found.amount.round(6))
 
 
