@@ -416,3 +416,38 @@ def test_a_sweep_knows_each_file_of_counts_of_gates_and_of_trips(tmp_path):
     assert len(marks) == 4  # another file changes nothing
     moved = moved_to(values, tmp_path / "s.toml", tmp_path / "kept/best.toml")
     assert moved["gates"]["g"]["demand"]["counts"] == "../c-*.csv" and moved["trips"][0]["demand"]["counts"] == ["../t.csv"]
+
+
+DATED = "".join(f"a,2019-12-04 06:{5 * i:02d},{i}\n" for i in range(6))
+
+
+@pytest.mark.parametrize("content, terms", [
+    (HEAD + DATED, {}), ((HEAD + DATED).replace("\n", "\r\n"), {}), ((HEAD + DATED).replace("\n", "\r"), {}), ("\ufeff" + HEAD + DATED, {}),
+    ((HEAD + DATED).replace(",", ";"), {}), ((HEAD + DATED).replace(",", "\t"), {}), ((HEAD + DATED).replace(",", "|"), {"separator": "|"}),
+    (HEAD + "".join(reversed(DATED.splitlines(True))), {}), ("\n" + HEAD + "\n" + DATED.replace("\n", "\n\n"), {}), ((HEAD + DATED).replace("\n", ",\n"), {}),
+    ((HEAD + DATED).replace("a,", '"a",'), {}), (HEAD + DATED.replace("2019-12-04", "04.12.2019"), {}), (HEAD.upper() + DATED, {}),
+    (HEAD + DATED.replace(",3\n", ",3.0\n"), {}), (HEAD.replace("count", "flow (veh/h)") + "".join(
+        f"a,2019-12-04 06:{5 * i:02d},{12 * i}\n" for i in range(6)), {})])
+def test_one_table_in_many_spellings(tmp_path, content, terms):
+    (tmp_path / "d.csv").write_bytes(content.encode())
+    found = read_detectors(tmp_path / "d.csv", **terms)
+    assert found.flow.tolist() == [0, 12, 24, 36, 48, 60] and set(found.station) == {"a"} and found.time.iloc[5] == pandas.Timestamp("2019-12-04 06:25")
+
+
+@pytest.mark.parametrize("content, terms, told", [
+    (HEAD + DATED + HEAD, {}, 'line 8, time: expected a time such as'), (HEAD + DATED + DATED, {}, "line 8 has the same time as line 2 of station a"),
+    ((HEAD + DATED).replace(",", ";").replace(";3\n", ";3,5\n"), {}, 'line 5, count: expected a count, found "3,5"; say decimal = ","'),
+    (HEAD + DATED.replace(",3\n", ",1e400\n"), {}, 'line 5, count: expected a count, found "1e400"'), (HEAD + DATED, {"separator": ";;"}, "a separator is one character"),
+    (HEAD + "a,2019-02-30T06:00Z,1\n", {"zone": "Europe/Berlin"}, "2019-02-30T06:00Z is of no date"), (HEAD + "a,2019-12-04 06:00,\n", {"interval": "5 min"}, "has no flow in any row"),
+    (HEAD + "a,23:55,1\na,00:00,2\n", {}, "line 3 is of an earlier time than line 2, and no dates tell of which day"), ("\ufeff", {}, "no column of times"),
+    (HEAD + DATED.replace("2019-12-04 ", ""), {"dates": ["weekdays"]}, "has no dates"), (HEAD + DATED, {"interval": "0 s"}, "an interval is above 0")])
+def test_what_an_adversary_tries(tmp_path, content, terms, told):
+    (tmp_path / "d.csv").write_bytes(content.encode())
+    assert told in problem(read_detectors, tmp_path / "d.csv", **terms)
+
+
+def test_a_calibration_past_midnight_is_refused(formats, tmp_path):
+    from .corridor import HEAD as STUDY_HEAD
+    corridor(tmp_path, head=STUDY_HEAD.replace("06:00", "23:30"), end="00:30")
+    told = problem(read_observed, formats["counts"][0], wanted_by(dates=("2019-12-03",)), {"101": "m.0.5"}, read_study(tmp_path / "study.toml"))
+    assert "the study passes midnight" in told

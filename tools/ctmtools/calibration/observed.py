@@ -88,6 +88,8 @@ def _own(source: Source, decimal: str | None) -> Observed:
 def _of_stations(paths: Sequence[Path], wanted: Wanted, places: Mapping[str, str], study: Study) -> Observed:
     """The rows of stations that stand in the study, within its time, of one day or the mean or median of several."""
     found = read(paths, wanted)
+    if found.files.dated and study.start + study.duration > DAY:
+        raise Problem(f"{found.files.name}: the study passes midnight; for that a file with the columns {', '.join(NEEDED)} is read")
     if wanted.average is None and found.rows.day.nunique() > 1:
         raise Problem(f"{found.files.name}: has several days, {named(list(map(str, found.rows.day.unique())))}; choose one by --dates, or "
                       "say --average mean or median")

@@ -107,7 +107,10 @@ def _local(source: Source, found: Format, times: pandas.Series, moments: list[Mo
         offset = re.fullmatch(r"([+-])([0-9]{2}):?([0-9]{2})", "+00:00" if one.zone == "Z" else one.zone)
         assert offset
         ahead = datetime.timedelta(hours=int(offset[2]), minutes=int(offset[3])) * (-1 if offset[1] == "-" else 1)
-        midnight = datetime.datetime(*one.day, tzinfo=datetime.timezone(ahead))
+        try:
+            midnight = datetime.datetime(*one.day, tzinfo=datetime.timezone(ahead))
+        except ValueError:
+            raise Problem(f"{source.path}: {found.time.name}: {text} is of no date") from None
         shown = (midnight + datetime.timedelta(seconds=one.seconds)).astimezone(zone)
         seconds = shown.hour * 3600 + shown.minute * 60 + shown.second
         local.append(Moment((shown.year, shown.month, shown.day), seconds, None))

@@ -17,6 +17,10 @@ DIGITS = 6  # of the decimals of all numbers, so that those of two units are the
 
 def with_flows(files: Files, frame: pandas.DataFrame) -> tuple[pandas.DataFrame, float]:
     """The rows in the order of stations and times with flows in vehicles/h, and the seconds of their interval."""
+    if not files.dated:
+        _check_order(files, frame)
+    if frame.amount.isna().all() and VEHICLES not in files.formats:
+        raise Problem(f"{files.name}: has no flow in any row")
     if VEHICLES in files.formats:
         frame = _of_vehicles(files, frame)
         per, interval = "interval", _asked(files)
@@ -34,6 +38,16 @@ def with_flows(files: Files, frame: pandas.DataFrame) -> tuple[pandas.DataFrame,
     measures = ["flow", "speed", "occupancy", "density", "observed"]
     frame[measures] = frame[measures].round(DIGITS)
     return frame, interval
+
+
+def _check_order(files: Files, frame: pandas.DataFrame) -> None:
+    """Refuses rows without dates whose times go back, as behind midnight: which day they are of isn't known."""
+    rows = frame.sort_values("station", kind="stable", ignore_index=True)
+    back = (rows.moment.diff() < 0) & (rows.station == rows.station.shift())
+    if back.any():
+        row = rows.loc[back.idxmax()]
+        raise Problem(f"{files.place(row)} is of an earlier time than {files.where(rows.loc[back.idxmax() - 1])}, and no dates tell of which "
+                      "day")
 
 
 def _asked(files: Files) -> float:

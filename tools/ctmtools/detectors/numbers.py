@@ -14,6 +14,7 @@ from ..problem import Problem
 
 Value = TypeVar("Value")
 NONE = ("nan", "na", "n/a", "null", "none", "-")  # what exports write where there is no number
+MOST = 10 ** 9  # no number of a detector is greater
 THOUSANDS = re.compile(r"[1-9][0-9]{0,2}(?:([.,])[0-9]{3})(?:\1[0-9]{3})*")
 
 
@@ -69,6 +70,12 @@ def numbers(column: pandas.Series, decimal: str | None, path: object, name: str,
                                            for i, text in enumerate(column.cat.categories)])
     if decimal is None and any("." in text and not THOUSANDS.fullmatch(text.strip()) for text in column.cat.categories):
         decimal = "."
-    values = by_text(column, lambda text, key: float(number(text, decimal, key, what)), lambda line: f"{path}: line {line}, {name}")
+    def read(text: str, key: str) -> float:
+        value = number(text, decimal, key, what)
+        if value > MOST:
+            raise Problem(f"{key}: expected {what}, found \"{text}\"")
+        return float(value)
+
+    values = by_text(column, read, lambda line: f"{path}: line {line}, {name}")
     found = numpy.array([numpy.nan if value is None else value for value in values], dtype=float)
     return pandas.Series(found[column.cat.codes.to_numpy()] if len(found) else numpy.empty(0), index=column.index, dtype=float)

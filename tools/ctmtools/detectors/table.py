@@ -61,6 +61,8 @@ def _with_blank(rows: pandas.DataFrame, columns: Sequence[int]) -> pandas.DataFr
 def source_of(path: str | Path, separator: str | None = None) -> Source:
     """The text of a file as a table; without a separator that which its first line has, else a comma."""
     path, text = Path(path), text_of(path)
+    if separator is not None and (len(separator) != 1 or separator in "\n\""):
+        raise Problem(f"{path}: a separator is one character, found \"{separator}\"")
     plain = re.sub(r'"[^"]*"', "", text) if '"' in text else text
     if plain.count("\n") < text.count("\n"):
         raise Problem(f"{path}: a field in quotes goes over several lines, or a quote is left open")
