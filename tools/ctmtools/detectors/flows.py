@@ -46,8 +46,8 @@ def _check_order(files: Files, frame: pandas.DataFrame) -> None:
     back = (rows.moment.diff() < 0) & (rows.station == rows.station.shift())
     if back.any():
         row = rows.loc[back.idxmax()]
-        raise Problem(f"{files.place(row)} is of an earlier time than {files.where(rows.loc[back.idxmax() - 1])}, and no dates tell of which "
-                      "day")
+        before = files.where(rows.loc[back.idxmax() - 1])
+        raise Problem(f"{files.place(row)} is of an earlier time than {before}, and no dates tell of which day")
 
 
 def _asked(files: Files) -> float:

@@ -63,7 +63,8 @@ def format_of(source: Source, wanted: Wanted) -> Format:
     if first[:2] == ["timestamp", "station"] and "total flow" in first:
         for i, (name, found) in enumerate(zip(PEMS_FIRST, first)):
             if found != name and not (i == 4 and found == "direction"):
-                raise Problem(f"{source.path}: line {source.head} is of {PEMS}, and column {i + 1} of that is {name}, found {source.first[i]}")
+                raise Problem(f"{source.path}: line {source.head} is of {PEMS}, and column {i + 1} of that is {name}, found "
+                              f"{source.first[i]}")
         return _pems(source, source.head + 1)
     if wanted.column is not None:
         return _chosen(source, wanted)
@@ -113,7 +114,8 @@ def _by_names(source: Source, wanted: Wanted) -> Format:
                           f"{named(source.first)}")
         return Format(sort, source.head + 1, time, {None: own}, date, station, end)
     if not others:
-        raise Problem(f"{source.path}: line {source.head} has no column but {named(source.first)}; flows or counts are missing{_hint(source)}")
+        raise Problem(f"{source.path}: line {source.head} has no column but {named(source.first)}; flows or counts are missing"
+                      f"{_hint(source)}")
     return Format(WIDE, source.head + 1, time, _wide(source, others), date, None, end)
 
 

@@ -41,9 +41,12 @@ def number(text: str, decimal: str | None, key: str, what: str = "a count") -> F
 
 def by_text(column: pandas.Series, read: Callable[[str, str], Value], key: Callable[[int], str],
             blanks: bool = False) -> list[Value | None]:
-    """What each distinct text of a column reads as, in the order of its categories; None where it is nowhere, or blank and blanks aren't read.
+    """What each distinct text of a column reads as, in the order of its categories.
 
-    `read` takes a text and its key, and `key` makes one of a line. Of several texts that can't be read the first in the file is told.
+    It is None where a text is nowhere, or is blank and blanks aren't read.
+
+    `read` takes a text and its key, and `key` makes one of a line. Of several texts that can't be read the first in the file is
+    told.
     """
     codes, texts = column.cat.codes.to_numpy(), column.cat.categories
     places = numpy.full(len(texts), -1)

@@ -91,7 +91,8 @@ class Files:
         """Of what the flows of all files are, `interval` or `hour`."""
         said = {part.per(): part for part in self.parts}
         if len(said) > 1:
-            raise Problem(f"{said['interval'].path} has vehicles in the interval, and {said['hour'].path} vehicles/h; read them by themselves")
+            raise Problem(f"{said['interval'].path} has vehicles in the interval, and {said['hour'].path} vehicles/h; read them by "
+                          "themselves")
         return next(iter(said))
 
     def rows(self, days: Sequence[str] | None) -> pandas.DataFrame:
@@ -124,7 +125,8 @@ class Files:
         late = (frame.second == DAY) & frame.day.isin(list(self.days.dates))
         if late.any():
             nexts = {text: self._next(date + datetime.timedelta(days=1)) for text, date in self.days.dates.items()}
-            frame["day"] = frame.day.cat.add_categories([text for text in dict.fromkeys(nexts.values()) if text not in frame.day.cat.categories])
+            new = [text for text in dict.fromkeys(nexts.values()) if text not in frame.day.cat.categories]
+            frame["day"] = frame.day.cat.add_categories(new)
             frame.loc[late, "day"] = frame.day[late].map(nexts)
             frame.loc[late, "second"] = 0
             day = day + late

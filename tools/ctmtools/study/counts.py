@@ -69,7 +69,8 @@ def wanted_of(table: Entries) -> Wanted:
     average, per = _one_of(table, "average", ("mean", "median")), _one_of(table, "per", ("interval", "hour"))
     wanted = Wanted(column, table.take("time", word, "time"), table.take("station", _text, None),
                     table.take("station_column", word, "station"), (date,) if date else dates, table.take("date_column", word, "date"),
-                    _one_of(table, "date_order", ORDERS), average, per or ("interval" if column else None), None, _one_of(table, "occupancy_unit", ("%", "share")),
+                    _one_of(table, "date_order", ORDERS), average, per or ("interval" if column else None), None,
+                    _one_of(table, "occupancy_unit", ("%", "share")),
                     table.take("interval", duration, None), _one_of(table, "missing", MISSING), separator,
                     table.take("decimal", word, None), table.take("zone", word, None), None if lanes is None else float(lanes),
                     rules_of(table.take("leave_out", _texts, ()), table.key("leave_out")), table.take("holidays", _dates, ()))
