@@ -32,13 +32,14 @@ COMMANDS = {"build": "Make the network file of a study.", "run": "Run a study or
             "optimise": "Search for the timing of signals with the least delay.",
             "branch": "Run several futures of a saved moment.",
             "meter": "Run ramp meters with feedback.",
+            "detectors": "Tell what files of detectors have, and leave out what is broken.",
             "calibrate": "Find values by which a study is nearest to detectors.",
             "diagram": "Fit flow and density to a detector's data."}
 # The modules of commands whose names aren't theirs.
 MODULES = {"export": "exporting", "import": "importing", "travel-time": "travel_time"}
 PACKAGES = {"click": "python3-click", "pandas": "python3-pandas", "numpy": "python3-numpy",
             "matplotlib": "python3-matplotlib", "networkx": "python3-networkx", "distributed": "python3-distributed",
-            "scipy": "python3-scipy", "pyproj": "python3-pyproj"}
+            "scipy": "python3-scipy", "pyproj": "python3-pyproj", "holidays": "python3-holidays"}
 EPILOG = """\b
 Examples:
   ctm-tools run examples/bottleneck.toml

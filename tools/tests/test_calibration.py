@@ -165,7 +165,7 @@ def pd(values):
 
 @pytest.mark.parametrize("text, wanted", [
     ("place,start,end\nm.1,06:00,07:00\n", "has no column flow"), ("place,start,end,flow\n", "has no rows"),
-    ("place,start,end,flow\nm.1,06:00,07:00,x\n", "line 2: expected a flow"),
+    ("place,start,end,flow\nm.1,06:00,07:00,x\n", "line 2, flow: expected a flow"),
     ("place,start,end,flow\nm.1,06:00,06:00,5\n", "line 2: expected a flow, 0 or more, and an end after"),
     ("place,start,end,flow\nm.1,soon,06:00,5\n", "line 2, start: expected a clock time")])
 def test_mistakes_in_the_file_of_detectors(tmp_path, text, wanted):
