@@ -6,13 +6,14 @@ import re
 import tempfile
 from collections.abc import Sequence
 from dataclasses import replace
+from math import pi, sqrt
 from pathlib import Path
 
 from ..problem import Problem
 from ..study.coordinates import DEGREES, moved
 from . import osm_map, osm_roads
 from .map_places import Place, notes_of
-from .osm_ends import Ends, drop_ways_to_nowhere, middle
+from .osm_ends import Ends, drop_ways_to_nowhere, metres, middle
 from .osm_map import Map, Point, Way, way_of
 from .standard_programs import call
 from .streets import Street, Streets
@@ -26,6 +27,7 @@ WORDS = {"output.street-names": "true", "no-turnarounds": "true", "junctions.joi
          "osm.turn-lanes": "true", "xml-validation": "never", "xml-validation.net": "never"}
 UNREAD = re.compile(r"Value of key 'maxspeed[^']*' is not numeric \(.*\) in edge '(.*)'\.")
 JOINED = re.compile(r"cluster|joined")  # how the names of nodes begin that netconvert made of several
+SIDEWAYS = 5.5  # m/s2, the acceleration in a turn that netconvert takes for the most
 STOP_LINE = 25.0  # metres before a junction within which netconvert takes a signal for the junction's
 GUESSED_SPEED, GUESSED_LANES = "speed", "lanes"
 SAYS = {
@@ -34,7 +36,7 @@ SAYS = {
     "dead end": "streets end within the map, and have a gate or an exit there",
     "barred": "ways are barred to cars and left out",
     "missing": "ways miss nodes that aren't in the file, past which they go straight",
-    GUESSED_SPEED: "ways have no speed on the map, and that of their class",
+    GUESSED_SPEED: "ways have no speed on the map, and that of their class, or of their radius",
     GUESSED_LANES: "ways have no number of lanes on the map, or none that says both directions, and have a guess",
     "joined": "junctions are made of several nodes, as those of carriageways side by side",
     "roundabout": "roundabouts are rings of streets, on which who drives round has priority",
@@ -101,6 +103,7 @@ class Reader:
     def __init__(self, found: Map, ways: dict[str, Way], net: Net, path: str) -> None:
         self.map, self.ways, self.net, self.path = found, ways, net, path
         self.places: list[Place] = []
+        self.radii: dict[str, float] = {}  # in metres, of the roundabouts whose speed is by it
         self.streets = streets_of(replace(net, roundabouts=[]), path)  # whose places are told here
         self.streets.title = re.sub(r"\.(gz|bz2|pbf|xml|osm)\b", "", Path(path).name)
         if not self.streets.streets:
@@ -120,7 +123,7 @@ class Reader:
         self.places += drop_ways_to_nowhere(self.streets, ends)
         self.places += ends.within()
         for nodes in self.net.roundabouts:
-            self._tell_roundabout(nodes)
+            self._take_roundabout(nodes)
         self._tell_junctions()
         self._tell_signals()
 
@@ -139,13 +142,19 @@ class Reader:
                 found.setdefault(node, []).append(street)
         return found
 
-    def _tell_roundabout(self, nodes: Sequence[str]) -> None:
-        """Says that a roundabout is a ring of streets, at the middle of its nodes."""
+    def _take_roundabout(self, nodes: Sequence[str]) -> None:
+        """Says that a roundabout is a ring of streets, which have the speed of its radius where the map says none."""
         own = [street for street in self.streets.streets.values() if street.start in nodes and street.end in nodes]
-        if own:
-            at = [self._at(node) for node in nodes if any(node in (street.start, street.end) for street in own)]
-            round_ = 1000 * sum(street.length for street in own)
-            self.places.append(Place("roundabout", own[0].title, middle(at), f"a ring of {len(own)} streets of {round_:.0f} m in all"))
+        if not own:
+            return
+        round_ = sum(metres(one, two) for street in own for one, two in zip(street.points, street.points[1:]))
+        at = middle([street.points[0] for street in own])
+        self.places.append(Place("roundabout", own[0].title, at, f"a ring of {len(own)} streets of {round_:.0f} m in all"))
+        for street in own:
+            radius = round_ / 2 / pi
+            if not osm_roads.says(way_of(street.name, self.ways), osm_roads.SPEEDS):
+                self.radii[street.name] = radius
+                street.speed = min(street.speed, round(3.6 * sqrt(SIDEWAYS * radius), 1))
 
     def _tell_junctions(self) -> None:
         """Says which junctions netconvert made of several nodes."""
@@ -177,7 +186,8 @@ class Reader:
         for name, own in streets.items():
             way, first = self.ways[name], own[0]
             if not osm_roads.says(way, osm_roads.SPEEDS) or name in unread:
-                self.places.append(Place(GUESSED_SPEED, way.title, first.points[0], f"{first.speed:.0f} km/h by the class {way.kind}"))
+                by = f"a radius of {self.radii[first.name]:.0f} m" if first.name in self.radii else f"the class {way.kind}"
+                self.places.append(Place(GUESSED_SPEED, way.title, first.points[0], f"{first.speed:.0f} km/h by {by}"))
             lanes = " and ".join(str(count) for count in dict.fromkeys(street.lanes for street in own))
             if not osm_roads.says(way, osm_roads.LANES):
                 self.places.append(Place(GUESSED_LANES, way.title, first.points[0], f"{lanes} by the class {way.kind}"))
