@@ -6,6 +6,7 @@ streets, a gap, and some that lead nowhere.
 """
 
 import csv
+import datetime
 import gzip
 import shutil
 import subprocess
@@ -13,9 +14,11 @@ from pathlib import Path
 
 import pytest
 
-from ctmtools import Problem, build, import_osm, read_report, read_study
+from ctmtools import Problem, build, import_osm, queues_of, read_report, read_study
 from ctmtools.imports.osm import box_of, read_map
 from ctmtools.imports.osm_roads import CLASSES, classes_of
+
+from .examples import EXAMPLES
 
 TOWN = Path(__file__).parent / "maps/town.osm"
 HEAD = '<?xml version="1.0"?>\n<osm version="0.6">\n'
@@ -127,12 +130,31 @@ def test_the_table_filled_in_is_the_demand_of_the_study(tool, program):
 
 
 def test_trips_filled_in_choose_their_ways(tool, program):
-    assert tool("import", "osm", TOWN, "--trips", "--roads", "motorway,primary,secondary", "--step", "4 s", "-o", "t.toml")[0] == 0
-    filled("t.trips.csv", **{"A 9 to Seestraße": 300, "Seestraße to A 9": 200})
+    assert tool("import", "osm", TOWN, "--trips", "--roads", "motorway,primary,secondary", "--step", "4 s", "--until", "20 min", "--after",
+                "10 min", "-o", "t.toml")[0] == 0
+    filled("t.trips.csv", **{"A 9 to Seestraße": 60, "Seestraße to A 9": 40})
     status, out, err = tool("assign", "t.toml", "--iterations", "3")
     assert status == 0, err
     report = read_report("t.assigned.report")
-    assert report.total.left == pytest.approx(500, rel=1e-4) and report.cells.come["out-Seestrasse-2"] == pytest.approx(300, rel=0.03)
+    assert report.total.left == pytest.approx(100, rel=1e-4) and report.cells.come["out-Seestrasse-2"] == pytest.approx(60, rel=0.03)
+
+
+def test_the_queue_of_a_lane_drop_on_a_map(tool, program):
+    """Two lanes pass 2·(3600/(1.5 + 7.5/25) - 1) = 3,998 vehicles/h. 4,998 come for an hour and then 2,998 for one."""
+    assert tool("import", "osm", EXAMPLES / "lane-drop.osm", "--until", "2 h", "--headway", "1.5", "--step", "10 s")[0] == 0
+    with open("lane-drop.demand.csv") as file:
+        text = file.read()
+    with open("lane-drop.demand.csv", "w") as file:
+        file.write(text.replace("06:00,0", "06:00,4998").replace("07:00,0", "07:00,2998"))
+    assert tool("run", "lane-drop.toml")[0] == 0
+    report = read_report("lane-drop.report")
+    queue, = queues_of(report).itertuples()
+    # 1,000 wait an hour later, and nobody two hours later: 1,000 vehicle-hours. In the queue stand 400 - 3,998/18 = 177.9
+    # vehicles/km. Its tail moves back at 1,000/(177.9 - 55.5) = 8.17 km/h, until those of 07:00 meet it 7.49 km before the drop,
+    # and then forward at 1,000/(177.9 - 33.3) = 6.92 km/h. Who is the first of all comes to the drop 6 min 40 s after 06:00.
+    assert report.delay_vehicle_hours == pytest.approx(1000, rel=0.001)
+    assert queue.reach == pytest.approx(7.49, abs=0.3) and queue.most_waiting == pytest.approx(1000, rel=0.002)  # cells of 250 m
+    assert abs((queue.cleared - datetime.datetime(1900, 1, 1, 8, 6, 40)).total_seconds()) <= 60
 
 
 def test_a_form_that_is_filled_in_is_not_written_over(tool):
