@@ -117,13 +117,12 @@ class Reader:
             street.speed = round(street.speed, 1)  # which netconvert has in m/s
             street.points = moved(street.points, crs, DEGREES, self.path)
         self.streets.crs = DEGREES
-        nodes = {node for way in self.ways.values() for node in way.nodes}
-        ends = Ends(self.streets, bounds or osm_map.reach(self.map.nodes[node] for node in nodes))
+        ends = Ends(self.streets, bounds or osm_map.reach(self.map.nodes[node] for way in self.ways.values() for node in way.nodes))
         self.places += ends.gaps()
         self.places += drop_ways_to_nowhere(self.streets, ends)
         self.places += ends.within()
-        for nodes in self.net.roundabouts:
-            self._take_roundabout(nodes)
+        for ring in self.net.roundabouts:
+            self._take_roundabout(ring)
         self._tell_junctions()
         self._tell_signals()
 
