@@ -310,6 +310,11 @@ def test_from_python(tmp_path):
     (TOWN.read_text(), ["--roads", "motorway,street"], f'--roads: "street" is no class of road; there are {", ".join(CLASSES)}'),
     (TOWN.read_text(), ["--roads", "tertiary"], "m.osm: has no roads of the classes tertiary, tertiary_link; the classes of its ways "
      "are residential (9), motorway (5), primary (5), motorway_link (2), secondary (2), footway (1)"),
+    (HEAD + "".join(f'<node id="{i}" lat="{48 + y}" lon="{9 + x}"/>' for i, x, y in ((1, 0, 0), (2, .01, 0), (3, .01, .01), (4, 0, .01))) +
+     road(nodes=(1, 2, 3, 4, 1), oneway="yes") + "</osm>", [],
+     "m.osm: no road leads from an end of a street to another, so no vehicle could drive there"),
+    (TOWN.read_text(), ["--until", "30 h"], "--until: with --after it is more than a day, and an hour of the file of demand would "
+     "be of two days"),
     (TOWN.read_text(), ["-o", "m.txt"], "m.txt: a study's name ends with .toml")])
 def test_what_is_refused(tool, tmp_path, content, words, cause):
     (tmp_path / "m.osm").write_text(content)

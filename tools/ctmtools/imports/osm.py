@@ -22,7 +22,7 @@ from .sumo_net import Net
 
 Box = tuple[float, float, float, float]  # west, south, east and north
 PACKED = (".pbf", ".bz2", ".o5m")  # what osmium alone can read
-WORDS = {"output.street-names": "true", "no-turnarounds": "true", "junctions.join": "true", "roundabouts.guess": "true",
+WORDS = {"no-turnarounds": "true", "junctions.join": "true", "max-join-ids": "1000", "roundabouts.guess": "true",
          "tls.guess-signals": "true", "tls.discard-simple": "true", "tls.join": "true", "tls.default-type": "static",
          "osm.turn-lanes": "true", "xml-validation": "never", "xml-validation.net": "never"}
 UNREAD = re.compile(r"Value of key 'maxspeed[^']*' is not numeric \(.*\) in edge '(.*)'\.")
@@ -65,7 +65,7 @@ def read_map(path: str, classes: Sequence[str], box: Box | None, step: float) ->
     """
     where = path if box is None else f"{path}: box {','.join(f'{value:g}' for value in box)}"
     with tempfile.TemporaryDirectory() as folder:
-        found = osm_map.read(_xml(path, classes, box, Path(folder)), where)
+        found = osm_map.read(_xml(path, box, Path(folder)), where)
         ways, barred = osm_roads.chosen(found, classes, where)
         network, said = Path(folder) / "map.net.xml", Path(folder) / "roads.osm.xml"
         osm_map.write(found, ways, said)
@@ -81,7 +81,7 @@ def read_map(path: str, classes: Sequence[str], box: Box | None, step: float) ->
     return reader.streets, reader.places
 
 
-def _xml(path: str, classes: Sequence[str], box: Box | None, folder: Path) -> Path:
+def _xml(path: str, box: Box | None, folder: Path) -> Path:
     """The map as XML: the file itself, or what osmium makes of it."""
     if not Path(path).is_file():
         raise Problem(f"{path}: there is no such file")
@@ -92,7 +92,7 @@ def _xml(path: str, classes: Sequence[str], box: Box | None, folder: Path) -> Pa
         source = cut
     if source.suffix in PACKED:
         roads = folder / "map.osm"
-        call("osmium", ["tags-filter", str(source), f"w/highway={','.join(classes)}", "r/type=restriction", "-o", str(roads)], path)
+        call("osmium", ["tags-filter", str(source), "w/highway", "r/type=restriction", "-o", str(roads)], path)
         return roads
     return source
 
@@ -105,7 +105,7 @@ class Reader:
         self.places: list[Place] = []
         self.radii: dict[str, float] = {}  # in metres, of the roundabouts whose speed is by it
         self.streets = streets_of(replace(net, roundabouts=[]), path)  # whose places are told here
-        self.streets.title = re.sub(r"\.(gz|bz2|pbf|xml|osm)\b", "", Path(path).name)
+        self.streets.title = re.sub(r"\.(gz|bz2|pbf|o5m|xml|osm)\b", "", Path(path).name)
         if not self.streets.streets:
             raise Problem(f"{path}: netconvert made no street for cars of it")
 
@@ -120,6 +120,8 @@ class Reader:
         ends = Ends(self.streets, bounds or osm_map.reach(self.map.nodes[node] for way in self.ways.values() for node in way.nodes))
         self.places += ends.gaps()
         self.places += drop_ways_to_nowhere(self.streets, ends)
+        if not self.streets.streets:
+            raise Problem(f"{self.path}: no road leads from an end of a street to another, so no vehicle could drive there")
         self.places += ends.within()
         for ring in self.net.roundabouts:
             self._take_roundabout(ring)
@@ -173,9 +175,9 @@ class Reader:
             self.places.append(Place("signal", names, self._at(node), f"a fixed program of netconvert's with a cycle of {cycle:g} s"))
             kept |= set(re.findall(r"-?\d+", node)) | {node}
             kept |= {other for street in by_node[node] for other in (street.start, street.end) if 1000 * street.length <= STOP_LINE}
-        for node in sorted(self.map.signals & {node for way in self.ways.values() for node in way.nodes} - kept):
-            way = next(way for way in self.ways.values() if node in way.nodes)
-            self.places.append(Place("signal left out", way.title, self.map.nodes[node], "no junction there has a program"))
+        titles = {node: way.title for way in self.ways.values() for node in way.nodes if node in self.map.signals}
+        for node in sorted(titles.keys() - kept):
+            self.places.append(Place("signal left out", titles[node], self.map.nodes[node], "no junction there has a program"))
 
     def tell_guesses(self, unread: set[str]) -> None:
         """Says of which ways the speed or the lanes are a guess; of `unread` netconvert couldn't read the speed."""

@@ -2,6 +2,7 @@
 
 from __future__ import annotations
 
+import re
 from bisect import bisect
 from collections.abc import Iterator, Sequence
 from math import cos, hypot, radians
@@ -84,7 +85,7 @@ def metres(one: Point, two: Point) -> float:
 
 def drop_ways_to_nowhere(streets: Streets, ends: Ends) -> list[Place]:
     """Drops the streets that lie on no way from a gate to an exit, and those that no way joins to the map's edge or to most
-    others; gives what is told of them, a place for each street of a name."""
+    others; gives what is told of them, a place for each way."""
     graph = networkx.DiGraph(list(streets.ways))
     graph.add_nodes_from(streets.streets)
     causes = dict.fromkeys(streets.streets, "")
@@ -100,7 +101,7 @@ def drop_ways_to_nowhere(streets: Streets, ends: Ends) -> list[Place]:
         if part is not largest and not edge.intersection(part):
             causes.update(dict.fromkeys(part, "it is joined to no other road and lies within the map"))
     gone = {name: cause for name, cause in causes.items() if cause}
-    told = {streets.streets[name].title: Place("left out", streets.streets[name].title, streets.streets[name].points[0], cause)
+    told = {re.sub(r"^-|#.*", "", name): Place("left out", streets.streets[name].title, streets.streets[name].points[0], cause)
             for name, cause in reversed(gone.items())}
     for name in gone:
         del streets.streets[name]
