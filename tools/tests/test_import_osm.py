@@ -17,6 +17,7 @@ import pytest
 from ctmtools import Problem, build, import_osm, queues_of, read_report, read_study
 from ctmtools.imports.osm import box_of, read_map
 from ctmtools.imports.osm_roads import CLASSES, classes_of
+from ctmtools.imports.road_names import short_name
 
 from .examples import EXAMPLES
 
@@ -125,7 +126,7 @@ def test_the_table_filled_in_is_the_demand_of_the_study(tool, program):
     assert report.total.entered == pytest.approx(2 * 3000 + 2 * 400 + 200) and report.total.left == pytest.approx(7000)
     # Nobody leaves the motorway to the south, and of the other one lane of four is the off-ramp's.
     assert report.cells.come["out-A-9-4"] == pytest.approx(3000)
-    assert report.cells.come[[cell for cell in report.cells.index if cell.startswith("motorway-lin")]].iloc[0] == \
+    assert report.cells.come[[cell for cell in report.cells.index if cell.startswith("Motorway-lin")]].iloc[0] == \
         pytest.approx(750, rel=0.001)
 
 
@@ -273,7 +274,25 @@ def test_names_of_all_letters_and_signs(tool, tmp_path):
     assert list(study.roads) == ["a\\b south", "Улица Ленина north"]
     assert [row["street"] for row in csv.DictReader(open("m.demand.csv"))] == ["a\\b"] * 2 + ["Улица Ленина"] * 2
     cells = {road: row[0] for road, row in build(study).units.roads.items()}
-    assert cells == {"a\\b south": "a-b001", "Улица Ленина north": "road001"}
+    assert cells == {"a\\b south": "A-b001", "Улица Ленина north": "Road001"}
+
+
+def test_ways_of_no_length_and_over_the_nodes_of_others(tmp_path):
+    (tmp_path / "m.osm").write_text(HEAD + "".join(
+        f'<node id="{i}" lat="{48 + y}" lon="{9 + x}"/>' for i, x, y in ((1, 0, 0), (2, 0, .01), (3, 0, .01), (4, .01, .01))) +
+        road(lanes="2") + road(name="2", nodes=(2, 3), lanes="2") + road(name="3", nodes=(3, 4), lanes="2") +
+        road(name="4", nodes=(3, 4), lanes="2", ref="B 4") + "</osm>")
+    found, places = read_map(str(tmp_path / "m.osm"), CLASSES, None, 2)
+    assert [(place.street, place.what) for place in places if place.kind == "no street"] == [
+        ("primary 2", "it has no length"), ("B 4", "primary 3 lies over the same nodes")]
+    assert ("1", "3") in found.ways  # on both sides of what has no length
+
+
+@pytest.mark.parametrize("title, names", [("in-A", ["In-A", "In-A-2"]), ("", ["Road", "Road-2"]), ("Ärger Straße 12", [
+    "Arger-Strass", "Arger-Stra-2"]), ("9. Mai", ["9-Mai", "9-Mai-2"])])
+def test_short_names(title, names):
+    first = short_name(title, set())
+    assert [first, short_name(title, {first})] == names
 
 
 def test_a_way_past_nodes_that_are_not_in_the_file(tmp_path):

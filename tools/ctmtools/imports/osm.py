@@ -28,11 +28,13 @@ WORDS = {"no-turnarounds": "true", "junctions.join": "true", "max-join-ids": "10
 UNREAD = re.compile(r"Value of key 'maxspeed[^']*' is not numeric \(.*\) in edge '(.*)'\.")
 JOINED = re.compile(r"cluster|joined")  # how the names of nodes begin that netconvert made of several
 SIDEWAYS = 5.5  # m/s2, the acceleration in a turn that netconvert takes for the most
+NO_LENGTH = 0.1  # metres
 STOP_LINE = 25.0  # metres before a junction within which netconvert takes a signal for the junction's
 GUESSED_SPEED, GUESSED_LANES = "speed", "lanes"
 SAYS = {
     "left out": "ways lead nowhere and are left out",
     "gap": "gaps lie between streets that go on behind them, and stay",
+    "no street": "ways are no streets: of no length, over the nodes of others, or within junctions",
     "dead end": "streets end within the map, and have a gate or an exit there",
     "barred": "ways are barred to cars and left out",
     "missing": "ways miss nodes that aren't in the file, past which they go straight",
@@ -118,6 +120,7 @@ class Reader:
             street.points = moved(street.points, crs, DEGREES, self.path)
         self.streets.crs = DEGREES
         ends = Ends(self.streets, bounds or osm_map.reach(self.map.nodes[node] for way in self.ways.values() for node in way.nodes))
+        self._tell_vanished()
         self.places += ends.gaps()
         self.places += drop_ways_to_nowhere(self.streets, ends)
         if not self.streets.streets:
@@ -127,6 +130,18 @@ class Reader:
             self._take_roundabout(ring)
         self._tell_junctions()
         self._tell_signals()
+
+    def _tell_vanished(self) -> None:
+        """Says of which ways netconvert made no street: of no length, over the nodes of others, or within junctions."""
+        there = {way_of(name, self.ways).name for name in self.streets.streets}
+        over = {frozenset(self.ways[name].nodes): self.ways[name].title for name in there}
+        for way in self.ways.values():
+            if way.name not in there:
+                points = [self.map.nodes[node] for node in way.nodes]
+                why = "it has no length" if sum(map(metres, points, points[1:])) < NO_LENGTH else \
+                    f"{over[frozenset(way.nodes)]} lies over the same nodes" if frozenset(way.nodes) in over else \
+                    "it lies within a junction"
+                self.places.append(Place("no street", way.title, points[0], why))
 
     def _at(self, node: str) -> Point:
         """Where a node of the network lies."""

@@ -33,7 +33,8 @@ class Way:
     @property
     def title(self) -> str:
         """The name of the street, or its number, or where it has neither its class and its number on the map."""
-        return self.tags.get("name") or self.tags.get("ref") or f"{self.kind} {self.name}"
+        said = (one_line(self.tags.get(key, "")) for key in ("name", "ref"))
+        return next((name for name in said if name), f"{self.kind} {self.name}")
 
 
 @dataclass

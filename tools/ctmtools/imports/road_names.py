@@ -35,6 +35,7 @@ def short_name(title: str, taken: Collection[str]) -> str:
     """A name for cells: the first letters of a street's, without their accents, and a number where that is taken."""
     plain = unicodedata.normalize("NFKD", title.translate(LETTERS))
     name = re.sub(r"[^A-Za-z0-9]+", "-", plain.encode("ascii", "ignore").decode()).strip("-") or "road"
+    name = name[0].upper() + name[1:]  # in- and out- are before the names of gates and exits
     number, found = 1, name[:LONGEST_NAME].rstrip("-")
     while found in taken:
         number += 1
