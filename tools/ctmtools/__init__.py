@@ -10,8 +10,8 @@ speed (km/h) over time, `totals(report)` its delays (vehicle-hours) by cell, `qu
 `compare(first, second)` what two of them differ by, `plot(report, kind)` a picture, and `page(report)` a page for a browser.
 
 `read_detectors(files)` reads files of detectors in whatever format they come. `assign`, `choose`, `draw`, `optimise`, `meter`,
-`calibrate` and `diagram` are the commands of their names, `import_sumo` and `import_gmns` make studies of
-other programs' networks.
+`calibrate` and `diagram` are the commands of their names; `import_sumo`, `import_gmns` and `import_osm` make studies of other
+programs' networks and of maps.
 """
 
 from __future__ import annotations
@@ -27,6 +27,7 @@ if TYPE_CHECKING:
     from .interface import diagram as diagram
     from .interface import draw as draw
     from .interface import import_gmns as import_gmns
+    from .interface import import_osm as import_osm
     from .interface import import_sumo as import_sumo
     from .interface import meter as meter
     from .interface import optimise as optimise
@@ -56,8 +57,8 @@ HOMES = {"Network": "network_file.network", "Problem": "problem", "Report": "rep
          "chain_of": "report.travel", "compare": "report.comparing", "queues_of": "report.states",
          "read_network": "network_file.network", "read_report": "report.reading", "read_study": "study.reading",
          "states": "report.states", "totals": "report.states", "travel_times": "report.travel",
-         **dict.fromkeys(("assign", "build", "calibrate", "choose", "diagram", "draw", "import_gmns", "import_sumo", "meter", "optimise", "page",
-                          "plot", "read_detectors", "run", "sweep"), "interface")}
+         **dict.fromkeys(("assign", "build", "calibrate", "choose", "diagram", "draw", "import_gmns", "import_osm", "import_sumo", "meter",
+                          "optimise", "page", "plot", "read_detectors", "run", "sweep"), "interface")}
 __all__ = sorted(HOMES)
 
 

@@ -236,6 +236,14 @@ def import_gmns(folder: str | Path, output: str | Path, **options: Any) -> Study
     return _imported("gmns", folder, output, options)
 
 
+def import_osm(map_file: str | Path, output: str | Path, **options: Any) -> Study:
+    """The study that `ctm-tools import osm` makes of a map of OpenStreetMap and writes to `output`; its options are the command's.
+
+    Beside it stand the table to fill in, NAME.demand.csv or NAME.trips.csv, and what became of the map, NAME.places.csv.
+    """
+    return _imported("osm", map_file, output, options)
+
+
 def _imported(kind: str, source: str | Path, output: str | Path, options: Mapping[str, Any]) -> Study:
     """The study that an import writes by the command's own words, whose lines aren't told."""
     import click

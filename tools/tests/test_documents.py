@@ -14,7 +14,7 @@ COMMANDS_IN = {"README.md": 17, "tools/README.md": 7, "examples/README.md": 18, 
                "tools/docs/networks.md": 1, "tools/docs/calibration.md": 0, "tools/docs/saved.md": 6,
                "tools/docs/plans.md": 2, "tools/docs/pages.md": 3, "tools/docs/counts.md": 0, "tools/docs/detectors.md": 1, "tools/docs/queues.md": 0, "tools/docs/sweeps.md": 1,
                "tools/docs/python.md": 0, "tools/docs/units.md": 0, "tools/docs/uncertainty.md": 1, "tools/docs/routes.md": 2,
-               "tools/docs/yields.md": 0}  # and how many there are at least
+               "tools/docs/yields.md": 0, "tools/docs/maps.md": 4}  # and how many there are at least
 PAGES = sorted(str(path.relative_to(TOP)) for path in
                [*TOP.glob("*.md"), *TOP.glob("docs/*.md"), *TOP.glob("tools/docs/*.md"), TOP / "tools/README.md",
                 TOP / "examples/README.md"])
@@ -49,7 +49,8 @@ LEFT_OUT = {
 
 # What stands for what a reader puts in.
 GIVEN = {"STUDY.toml": "examples/bottleneck.toml", "NET.csv": "bottleneck.csv", "PICTURE": "time-space",
-         "REPORT": "bottleneck.report", "A B": "bottleneck.report bottleneck.report", "KEY=VALUES": "demand=0.9,1"}
+         "REPORT": "bottleneck.report", "A B": "bottleneck.report bottleneck.report", "KEY=VALUES": "demand=0.9,1",
+         "MAP.osm": "examples/lane-drop.osm"}
 
 # Nothing here may build the program: `./ctm` is the one under test, but for the launcher's own page.
 STAND_IN = """#!/usr/bin/env bash

@@ -2,7 +2,7 @@
 
 from __future__ import annotations
 
-from collections.abc import Iterator
+from collections.abc import Callable, Iterator
 
 from .streets import Movement, Streets, named
 from .traffic import Traffic
@@ -18,11 +18,11 @@ def heeded(found: Streets, traffic: Traffic) -> Heeded:
     return {way: others[way] for way in sorted(others, key=lambda way: (-driven[way], way)) if others[way]}
 
 
-def told(giving: Heeded) -> Iterator[str]:
+def told(giving: Heeded, called: Callable[[Movement], str]) -> Iterator[str]:
     """Which movements run unopposed over others that they cross, and which give way only in a queue where they meet."""
     crossing = [way for way, others in giving.items() if any(other[1] != way[1] for other in others)]
     meeting = [way for way in giving if way not in crossing]
     for ways, says in ((crossing, "that give way to others run unopposed, so their delay is too low"),
                        (meeting, "give way to others only where these meet them in a queue, so their delay is too low")):
         if ways:
-            yield f"{len(ways)} movements {says}: {named([' to '.join(way) for way in ways], MOST_NAMED)}"
+            yield f"{len(ways)} movements {says}: {named([called(way) for way in ways], MOST_NAMED)}"

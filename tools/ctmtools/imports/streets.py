@@ -15,7 +15,7 @@ class Street:
     """A street in one direction between two nodes: km, lanes, km/h, and its points on the map.
 
     These are in km, or in the coordinate system of the network. `capacity` is that of all lanes in vehicles/h, where it
-    is known; `classes` are those of the vehicles that may use it.
+    is known; `classes` are those of the vehicles that may use it; `title` is what it is called on the map, where it is.
     """
 
     name: str
@@ -27,6 +27,7 @@ class Street:
     points: list[tuple[float, float]] = field(default_factory=list)
     capacity: float | None = None
     classes: frozenset[str] = CARS
+    title: str = ""
 
     @property
     def seconds(self) -> float:

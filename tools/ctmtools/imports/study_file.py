@@ -14,10 +14,10 @@ from ..study.quantities import clock
 from ..study.rounding import told
 from ..study.writing import quoted
 from . import giving_way
+from .road_names import LONGEST_NAME, apart, heading, short_name
 from .streets import Movement, Street, Streets, Way
 from .traffic import EXIT, GATE, Traffic
 
-LONGEST_NAME = 12  # letters, so that a movement's cell has a name that a network file allows
 LOCAL_DECIMALS = 5  # of a km
 CHANGED = 0.01  # shares of a span that differ by less are those of the whole time
 
@@ -26,7 +26,8 @@ CHANGED = 0.01  # shares of a span that differ by less are those of the whole ti
 class Terms:
     """What a study needs beside the network: seconds of a step, the clock time of 0, the time, and the lanes' terms.
 
-    `gap` are the metres of a standing vehicle, `headway` the seconds between two that follow each other.
+    `gap` are the metres of a standing vehicle, `headway` the seconds between two that follow each other; `counts` is the
+    file beside the study of which its gates take their demand, where there is one.
     """
 
     step: float
@@ -34,6 +35,7 @@ class Terms:
     duration: float
     gap: float = 7.5
     headway: float = 1.4
+    counts: str | None = None
 
     @property
     def wave(self) -> float:
@@ -50,11 +52,6 @@ class Terms:
         return f"{whole // 3600:02d}:{whole // 60 % 60:02d}:{whole % 60:02d}"
 
 
-def study_text(found: Streets, traffic: Traffic, terms: Terms) -> str:
-    """The text of the study file."""
-    return "\n".join(Writer(found, traffic, terms).lines()) + "\n"
-
-
 class Writer:
     """Writes the study: streets that follow each other as one road, and what joins roads at the nodes."""
 
@@ -67,8 +64,14 @@ class Writer:
             self.into.setdefault(two, []).append(one)
         self.joints = self._joints()
         self.chains = self._chains()
-        self.names = self._names()
+        self.names: dict[str, str] = {}
+        self.cells: dict[str, str] = {}
+        self._name_roads()
         self.giving = giving_way.heeded(found, traffic)
+
+    def text(self) -> str:
+        """The text of the study file."""
+        return "\n".join(self.lines()) + "\n"
 
     def lines(self) -> Iterator[str]:
         """The lines of the study."""
@@ -134,25 +137,34 @@ class Writer:
             chains.append(chain)
         return chains
 
-    def _names(self) -> dict[str, str]:
-        """The names of roads, gates and exits in the study: for a chain's first and last street that of its road."""
-        names: dict[str, str] = {}
+    def _name_roads(self) -> None:
+        """Names roads, their cells, gates and exits: for a chain's first and last street that of its road."""
         taken: set[str] = set()
         for number, chain in enumerate(self.chains, 1):
-            name = re.sub(r"[^A-Za-z0-9_-]", "_", chain[0])
-            if len(name) > LONGEST_NAME or name in taken:
-                name = f"r{number}"
-            taken.add(name)
+            title = self.found.streets[chain[0]].title
+            if title:
+                road = apart(f"{title} {self._direction(chain)}".rstrip(), taken)
+                name = short_name(title, taken)
+            else:
+                name = re.sub(r"[^A-Za-z0-9_-]", "_", chain[0])
+                road = name = f"r{number}" if len(name) > LONGEST_NAME or name in taken else name
+            taken |= {road, name}
             for street in chain:
-                names[street] = name
-                names[GATE + street], names[EXIT + street] = f"in-{name}", f"out-{name}"
-        return names
+                self.names[street], self.cells[street] = road, name
+                self.names[GATE + street], self.names[EXIT + street] = f"in-{name}", f"out-{name}"
+
+    def _direction(self, chain: Sequence[str]) -> str:
+        """Where a road leads, from its first point to its last; nowhere where it has no points or comes back."""
+        points = [point for street in chain for point in self.found.streets[street].points]
+        return heading(points[0], points[-1], self.found.crs) if points else ""
 
     def _road(self, chain: Sequence[str]) -> Iterator[str]:
         streets = [self.found.streets[street] for street in chain]
         if list(chain) != [self.names[chain[0]]]:
             yield f"# {', '.join(chain[:8])}{f' and {len(chain) - 8} more' if len(chain) > 8 else ''}"
         yield f"[roads.{quoted(self.names[chain[0]])}]"
+        if self.cells[chain[0]] != self.names[chain[0]]:
+            yield f"cells = {quoted(self.cells[chain[0]])}"
         yield f"length = {sum(street.length for street in streets):.6g}  # km"
         points = [point for street in streets for point in street.points]
         if len(points) > 1:
@@ -202,6 +214,10 @@ class Writer:
                 yield f"into = {quoted(self.names[street])}"
             else:
                 yield f"capacity = {self._capacity(street):.6g}"
+            if self.terms.counts:
+                yield f"demand = {self._counted(street)}"
+                yield ""
+                continue
             rows = self.found.gates.get(street, []) if not self.found.trips else [
                 (span * self.traffic.interval, min((span + 1) * self.traffic.interval, self.terms.duration), vehicles *
                  hour) for span, vehicles in enumerate(self.traffic.demand(street))]
@@ -220,6 +236,11 @@ class Writer:
         found = self.found.streets[street]
         return found.capacity or found.lanes * self.terms.saturation(found.speed)
 
+    def _counted(self, street: str) -> str:
+        """The demand of a gate by its rows in the file of counts."""
+        return (f"{{ counts = {quoted(self.terms.counts or '')}, column = \"vehicles\", station = "
+                f"{quoted(self.names[GATE + street])}, station_column = \"gate\", interval = \"60 min\" }}")
+
     def _demand(self, row: tuple[float, float, float]) -> str:
         return f"{{ start = {self._time(row[0])}, end = {self._time(row[1])}, flow = {row[2]:.6g} }}"
 
@@ -229,7 +250,7 @@ class Writer:
     def _node(self, comes: list[str], leaves: list[str]) -> Iterator[str]:
         """What joins roads, gates and exits at a node: nothing, a merge, a diverge or a junction."""
         signal = any(self._signalled(street) for street in comes)
-        yielding = [f"{one} to {two}" for one in comes for two in leaves if (one, two) in self.giving]
+        yielding = [self._moving((one, two)) for one in comes for two in leaves if (one, two) in self.giving]
         if yielding:
             yield f"# Give way to others, and don't wait for them here: {', '.join(yielding)}"
         if len(comes) == len(leaves) == 1:
@@ -345,19 +366,28 @@ class Writer:
             notes.append(f"{left} of {len(self.found.streets)} streets, on which nobody drives, are left out")
         split = [way for way in self.traffic.ways() if way in self.found.ways and len(self.found.ways[way].green) > 1]
         if split:
-            notes.append(f"{len(split)} movements are green several times in a cycle, as {split[0][0]} to {split[0][1]}; "
+            notes.append(f"{len(split)} movements are green several times in a cycle, as {self._moving(split[0])}; "
                          "the longest of them is kept")
-        notes += giving_way.told(self.giving)
+        notes += giving_way.told(self.giving, self._moving)
         dark = [way for way in self.traffic.ways() if self._dark(way)]
         if dark:
-            notes.append(f"{len(dark)} movements at signals are never green in their program, as {dark[0][0]} to "
-                         f"{dark[0][1]}; they are closed, and hold up all behind them")
+            notes.append(f"{len(dark)} movements at signals are never green in their program, as {self._moving(dark[0])}; "
+                         "they are closed, and hold up all behind them")
         short = [street for chain in self.chains for street in [chain] if sum(self.found.streets[one].length
                  for one in street) < self._cell(chain[0]) / 2]
         if short:
             notes.append(f"{len(short)} roads are shorter than half a cell and become one, as "
-                         f"{told(sum(self.found.streets[one].length for one in short[0]) * 1000)} m at {short[0][0]}")
+                         f"{told(sum(self.found.streets[one].length for one in short[0]) * 1000)} m at "
+                         f"{self._called(short[0][0])}")
         return notes
+
+    def _called(self, street: str) -> str:
+        """What messages call a street: its own name, or where that is a map's number the name of its road."""
+        return self.names[street] if street in self.found.streets and self.found.streets[street].title else street
+
+    def _moving(self, movement: Movement) -> str:
+        """What messages call a movement."""
+        return " to ".join(self._called(street) for street in movement)
 
     def _cell(self, street: str) -> float:
         return self.found.streets[street].speed * self.terms.step / 3600

@@ -19,8 +19,13 @@ YIELDING = ("priority", "right_before_left", "left_before_right", "allway_stop",
 
 
 def read_network(path: str | Path) -> Streets:
-    """The streets of a network file of SUMO, without trips, read by sumolib where that is there and can read the file."""
-    return streets_of(sumolib_net.read(path) or sumo_net.read(path), str(path))
+    """The streets of a network file of SUMO, without trips."""
+    return streets_of(read_net(path), str(path))
+
+
+def read_net(path: str | Path) -> Net:
+    """What a network file of SUMO says, read by sumolib where that is there and can read the file."""
+    return sumolib_net.read(path) or sumo_net.read(path)
 
 
 def streets_of(net: Net, place: str) -> Streets:
@@ -191,4 +196,4 @@ def _note_junctions(net: Net, found: Streets) -> None:
         found.notes.append(f"{yielding} junctions without a signal: where streams meet, giving way is kept as "
                            "priorities; streams that only cross don't heed each other")
     if net.roundabouts:
-        found.notes.append(f"{net.roundabouts} roundabouts: who drives round has priority as at other junctions")
+        found.notes.append(f"{len(net.roundabouts)} roundabouts: who drives round has priority as at other junctions")

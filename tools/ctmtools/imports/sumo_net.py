@@ -96,7 +96,7 @@ class Net:
     links: list[Link] = field(default_factory=list)
     logics: list[Logic] = field(default_factory=list)
     nodes: dict[str, Node] = field(default_factory=dict)
-    roundabouts: int = 0
+    roundabouts: list[list[str]] = field(default_factory=list)  # the nodes of each
     location: Location | None = None
 
 
@@ -109,7 +109,7 @@ def read_xml(path: str | Path, *tags: str) -> Element:
     """The root of an XML file, which has to be of one of some tags."""
     check_root(path, *tags)
     try:
-        with _open(path) as file:
+        with opened(path) as file:
             return ElementTree.parse(file).getroot()
     except (ElementTree.ParseError, EOFError) as error:
         raise Problem(f"{path}: no XML: {one_line(error)}") from None
@@ -118,7 +118,7 @@ def read_xml(path: str | Path, *tags: str) -> Element:
 def check_root(path: str | Path, *tags: str) -> None:
     """Refuses a file that is no XML, or whose root is of none of some tags."""
     try:
-        with _open(path) as file:
+        with opened(path) as file:
             _, root = next(iter(ElementTree.iterparse(file, events=("start",))))
     except (ElementTree.ParseError, StopIteration, EOFError, gzip.BadGzipFile) as error:
         raise Problem(f"{path}: no XML: {one_line(error) or 'the file is empty'}") from None
@@ -128,7 +128,7 @@ def check_root(path: str | Path, *tags: str) -> None:
         raise Problem(f"{path}: expected <{'> or <'.join(tags)}>, found <{root.tag}>")
 
 
-def _open(path: str | Path) -> BufferedIOBase:
+def opened(path: str | Path) -> BufferedIOBase:
     """The file to read from, unpacked where its name ends with .gz."""
     return gzip.GzipFile(path) if Path(path).suffix == ".gz" else open(path, "rb")
 
@@ -150,7 +150,7 @@ def _net(root: Element, name: str) -> Net:
     links = [_link(link, onward) for link in root.iter("connection") if not link.get("from", "").startswith(INTERNAL)]
     logics = [_logic(logic) for logic in root.iter("tlLogic")]
     where = root.find("location")
-    return Net(name, edges, links, logics, nodes, sum(1 for _ in root.iter("roundabout")),
+    return Net(name, edges, links, logics, nodes, [ring.get("nodes", "").split() for ring in root.iter("roundabout")],
                None if where is None else location(where.get("netOffset", "0,0"), where.get("projParameter", "!")))
 
 

@@ -42,7 +42,7 @@ def _net(path: str | Path) -> Net:
     logics = [_logic(signal.getID(), program) for signal in net.getTrafficLights() for program in
               signal.getPrograms().values()]
     where = net._location  # whose projection sumolib says by no call
-    return Net(name_of(path), [_edge(edge) for edge in edges], links, logics, nodes, len(net.getRoundabouts()),
+    return Net(name_of(path), [_edge(edge) for edge in edges], links, logics, nodes, [list(ring.getNodes()) for ring in net.getRoundabouts()],
                location(where["netOffset"], where["projParameter"]) if where else None)
 
 
