@@ -1,7 +1,8 @@
 """When who enters a leg leaves it: at free flow, or by the cumulative curves of a run.
 
 A chain is left in the order in which it was entered: who enters it as the N-th leaves it when N have left. So two curves
-tell all of it, that of who comes to its first cell and that of who leaves its last one.
+tell all of it, that of who comes to its first cell, behind those who stand in the chain at the start, and that of who leaves
+its last one.
 """
 
 from __future__ import annotations
@@ -62,6 +63,8 @@ class Passings:
         places = {cell: place for place, cell in enumerate(legs.network.cells.index)}
         self.first = numpy.array([places[chain[0]] for chain in legs.chains])
         self.last = numpy.array([places[chain[-1]] for chain in legs.chains])
+        self.cells = numpy.array([places[cell] for chain in legs.chains for cell in chain])
+        self.begins = numpy.cumsum([0, *map(len, legs.chains[:-1])])  # of the chains among these
         self.closed = [list(self._closed(chain)) for chain in legs.chains]
 
     def _closed(self, chain: Iterable[str]) -> Iterable[tuple[int, int, int]]:
@@ -83,6 +86,7 @@ class Passings:
         grid = _finer(recorded)
         departed, held = report.departed.to_numpy(), report.occupancy.to_numpy()
         come = numpy.ascontiguousarray((held[:, self.first] + departed[:, self.first]).T)
+        come += (numpy.add.reduceat(held[0, self.cells], self.begins) - held[0, self.first])[:, None]
         gone = numpy.ascontiguousarray(departed[:, self.last].T)
         return Passing(self.legs, grid, numpy.array([
             numpy.maximum(_queued(recorded, numpy.interp(grid, recorded, come[chain]), gone[chain]),
