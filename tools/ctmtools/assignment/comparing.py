@@ -33,10 +33,10 @@ def compare_pairs(first: Sequence[WayRow], second: Sequence[WayRow]) -> pandas.D
 
 def pair_changes(first: Report, second: Report) -> Iterator[str]:
     """What is told of the pairs of two reports beside which ways stand; nothing where they don't."""
-    ways = ways_of_report(first), ways_of_report(second)
-    if ways[0] is None or ways[1] is None:
+    one, two = ways_of_report(first), ways_of_report(second)
+    if one is None or two is None:
         return
-    frame = compare_pairs(*ways)
+    frame = compare_pairs(one, two)
     gained, lost = int((frame.rise <= -LEAST).sum()), int((frame.rise >= LEAST).sum())
     yield (f"\nOf {len(frame)} pairs {gained} gained and {lost} lost; the mean from gate to exit in min, the greatest "
            "changes:\n")

@@ -38,6 +38,7 @@ class Passing:
             for chain in leg.chains:
                 moments = numpy.interp(moments, self.grid, self.chains[chain])
             self.left[number] = moments
+        self._along: dict[Way, list[Numbers]] = {}
 
     def through(self, leg: int, entered: Numbers) -> Numbers:
         """When those leave a leg that enter it at some moments."""
@@ -45,12 +46,14 @@ class Passing:
         return numpy.interp(entered, self.grid, self.left[leg]) + beyond
 
     def along(self, way: Way, entered: Numbers) -> list[Numbers]:
-        """When those leave each leg of a way that set out at some moments."""
-        found, moments = [], entered
-        for leg in way:
-            moments = self.through(leg, moments)
-            found.append(moments)
-        return found
+        """When those leave each leg of a way that set out at some moments, which are the same in all calls for a way."""
+        if way not in self._along:
+            found, moments = [], entered
+            for leg in way:
+                moments = self.through(leg, moments)
+                found.append(moments)
+            self._along[way] = found
+        return self._along[way]
 
 
 class Passings:
