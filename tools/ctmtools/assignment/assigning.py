@@ -29,6 +29,7 @@ from .trickle import let_through
 from .ways_file import WayRow, rows_of
 
 RECORDED = 6  # so often in an interval of choice the runs are recorded, where steps and the program allow it
+LEAST_RECORDED = 60  # so often in a run at least
 
 Numbers = numpy.ndarray
 
@@ -59,10 +60,14 @@ class Assignment:
         builder = Builder(study)
         self.shared = SharedNetwork(builder)
         self.network: Network = self.shared.built.network
+        if self.network.demands.empty:
+            raise Problem(f"{study.path}: trips: nobody sets out, to a millionth of a vehicle in a step")
         self.legs = Legs(self.network)
         self.passings = Passings(self.legs)
         self.passing: Passing = self.passings.free()
         self.departures: Departures = departures_of(study, self.network.steps)
+        self.shared.built.rounding.note("routing.interval", min(study.routing.interval, study.duration),
+                                        self.departures.width * study.step, "s")
         self.forks = forks_of(builder, self.legs)
         refuse_shares(builder, self.legs)
         self.ahead = exits_ahead(self.legs, list(dict.fromkeys(trips.into for trips in study.trips)))
@@ -70,7 +75,8 @@ class Assignment:
         self.choices: list[Choice] = [given_choice(study, self.legs, self.shared.built.units, trips, self.departures)
                                       for trips in study.trips]
         self.every = max(recording_step(self.network.steps, len(self.network.cells)),
-                         self.departures.width // RECORDED)
+                         min(self.departures.width // RECORDED, self.network.steps // LEAST_RECORDED))
+        self.crowded: set[tuple[str, str]] = set()  # the pairs for whose quickest ways there is no room
         self.times: list[Numbers] = []
         self.parts: list[Numbers] = []
         self.report: Report | None = None
@@ -120,7 +126,8 @@ class Assignment:
         """Adds to each pair that seeks ways those of the least time in each interval."""
         seeking = [choice for choice in self.choices if not choice.closed]
         search = Search(self.passing, self.network.steps)
-        middles = [self.departures.begins(i) + self.departures.width / 2 for i in range(self.departures.intervals)]
+        self.crowded.clear()
+        middles = [self.departures.middle(i) for i in range(self.departures.intervals)]
         by_exit: dict[str, list[Choice]] = {}
         for choice in seeking:
             by_exit.setdefault(choice.into, []).append(choice)
@@ -129,8 +136,8 @@ class Assignment:
         for (into, _), found in zip(wanted, search.ways(wanted)):
             for place, choice in enumerate(by_exit[into]):
                 for way in dict.fromkeys(found[place * len(middles):(place + 1) * len(middles)]):
-                    if way is not None:
-                        choice.put(way)
+                    if way is not None and not choice.put(way):
+                        self.crowded.add((choice.source, choice.into))
 
     def _measure(self) -> None:
         self.times = [times_of(choice, vehicles, self.departures, self.passing)

@@ -7,6 +7,8 @@ from collections.abc import Iterator, Sequence
 import numpy
 
 from ..report.page import table, told
+from ..report.reading import Report
+from ..study.plan import Study
 from ..units import clock_text
 from .assigning import Assignment, Round
 from .ways_file import THEN, WayRow
@@ -27,6 +29,10 @@ def not_settled(assignment: Assignment, rounds: Sequence[Round], gap: float) -> 
         why = "it still falls, so more rounds help" if last.gap.relative < STALLED * before else \
             "it no longer falls: a shorter interval of choice or a longer study may help"
         yield f"warning: after {last.number} rounds {which}, above {gap:g}; {why}{_most_of(assignment)}"
+    if assignment.crowded:
+        source, into = min(assignment.crowded)
+        yield (f"warning: {len(assignment.crowded)} pairs have as many ways as routing.ways says, and quicker ones were found, as "
+               f"from {source} to {into}; more ways may help")
     assert assignment.report is not None  # a round was made
     inside = float(assignment.report.total.inside)
     if inside > 1:
@@ -59,6 +65,14 @@ def rounded_lines(assignment: Assignment) -> Iterator[str]:
                "asked")
     elif found.of:
         yield "All shares are modelled as asked, to 0.1 % of the lesser branch."
+
+
+def settled_lines(study: Study, last: Round, report: Report) -> Iterator[str]:
+    """What the run of the written study has otherwise than the last round, where it works out what passes."""
+    delay = report.delay_vehicle_hours
+    if (study.yields or study.actuated) and told(delay) != told(last.delay):
+        yield (f"\nwarning: who gives way, and greens that follow traffic, are worked out in the run of the written study alone, "
+               f"which has {told(delay)} vehicle-hours of delay; drivers chose without them")
 
 
 def pair_lines(rows: Sequence[WayRow]) -> Iterator[str]:

@@ -14,7 +14,7 @@ import pandas
 from ..assignment.assigning import Assignment, Round
 from ..assignment.diversion import ways_of_study
 from ..assignment.task import MEASURES, AssignTask, begun, measure_assigned, measures, step_of
-from ..assignment.told import not_settled, pair_lines, rounded_lines
+from ..assignment.told import not_settled, pair_lines, rounded_lines, settled_lines
 from ..assignment.writing import drawn, places_of, written
 from ..files import write
 from ..problem import Problem
@@ -77,6 +77,8 @@ def command(source: str, earlier: str | None, informed: str | None, after: str |
     report, ways = written(assignment, values, places)
     drawn(rounds, ways, report, assignment.departures.width, places)
     _tell(assignment, rounds, gap, ways)
+    for line in settled_lines(assignment.study, rounds[-1], report):
+        click.echo(line)
     click.echo(f"\n{places.study}, {places.report}, {places.ways}, {', '.join(map(str, places.pictures))}")
 
 

@@ -17,6 +17,7 @@ from .frames import Frames, bounds_of, steps_an_hour
 from .networks import is_measured, network_of, roads_of
 from .provenance import provenance
 from .tables import differing, reports_of, table_of, unlike_lines
+from .ways import ways_of
 
 NEAR = 0.99  # of the greatest density, from which on a frame counts as one of the densest
 MOST_TITLES = 3  # in the title of a page
@@ -45,7 +46,7 @@ def data_of(reports: Sequence[Report], background: Background | None = None) -> 
             "networks": networks, "reports": shown, "opening": opening(frames),
             "tables": {"roads": table_of(reports), "cells": differing(reports, names), "told": unlike_lines(reports, names),
                        "reports": reports_of(reports, names) if len(reports) > 1 else None},
-            "background": background.told() if background else None}
+            "ways": ways_of(reports), "background": background.told() if background else None}
 
 
 def _need_alike(reports: Sequence[Report]) -> None:

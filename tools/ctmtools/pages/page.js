@@ -20,6 +20,7 @@ function show() {
   drawMap();
   drawSpace();
   drawCurves();
+  drawWays();
   fitTable();
   mark();
 }
@@ -90,5 +91,6 @@ addEventListener("resize", show);
 addEventListener("beforeprint", toPaper);
 addEventListener("afterprint", toScreen);
 fillRoads();
+fillPairs();
 drawTables();
 show();

@@ -108,10 +108,11 @@ class Expansion:
     def _part(self, i: int, ways: list[Way]) -> None:
         """Parts an approach into the cells of its movements."""
         source, number = self.crossing.sources[i], 0
+        approach = source
         while len(ways) > 2:
             number += 1
             like = self._approach(i) or self._lane(ways[0])[0]
-            rest = self._cell(f"{source}-fork{number}", f"{self._cells(source)}-fork{number}", like, like.lanes)
+            rest = self._cell(f"{approach}-fork{number}", f"{self._cells(approach)}-fork{number}", like, like.lanes)
             self._diverge(source, [self._name(ways[0]), rest], ways)
             source, ways = rest, ways[1:]
             for way in ways:
