@@ -235,7 +235,7 @@ def test_a_network_that_sumolib_can_not_read_is_read_by_its_xml(files):
 def canonical(found):
     """A network whatever the order of its connections and of its signals."""
     return (found.name, found.edges, sorted(found.links, key=repr), sorted(found.logics, key=repr), found.nodes, found.roundabouts,
-            found.location)
+            found.on_the_left, found.location)
 
 
 # The tools can do without sumolib, and in the full check no case may be skipped: where it isn't there, these are none.

@@ -22,11 +22,13 @@ def not_settled(assignment: Assignment, rounds: Sequence[Round], gap: float) -> 
     last = rounds[-1]
     if not last.settled(gap):
         which = f"the gap is {last.gap.relative:.4f}" if last.gap.relative >= gap else \
-            f"{last.moved:.2%} of what comes to branches still moves between them"
+            f"{last.moved:.2%} of what comes to branches still moves between them" if last.moved >= gap else \
+            f"what passes of those who give way still moves by {last.limits:.1%}"
         before = rounds[-LAST - 1].gap.relative if len(rounds) > LAST else float("inf")
         why = "it still falls, so more rounds help" if last.gap.relative < STALLED * before else \
             "it no longer falls: a shorter interval of choice or a longer study may help"
-        yield f"warning: after {last.number} rounds {which}, above {gap:g}; {why}{_most_of(assignment)}"
+        limit = f", above {gap:g}" if last.gap.relative >= gap or last.moved >= gap else ""
+        yield f"warning: after {last.number} rounds {which}{limit}; {why}{_most_of(assignment)}"
     assert assignment.report is not None  # a round was made
     inside = float(assignment.report.total.inside)
     if inside > 1:

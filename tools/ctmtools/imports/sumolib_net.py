@@ -24,7 +24,7 @@ def read(path: str | Path) -> Net | None:
     check_root(path, "net")
     try:
         return _net(path)
-    except (KeyError, IndexError, AttributeError, ValueError):
+    except (KeyError, IndexError, AttributeError, TypeError, ValueError):
         return None
     except SAXParseException as error:
         raise Problem(f"{path}: no XML: {one_line(error.getMessage())}") from None

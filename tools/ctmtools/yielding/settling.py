@@ -56,22 +56,27 @@ def settled(study: Study, run: Run, done: Done | None = None, shares_follow: boo
     runs, moves = 0, [float("inf")]
     while True:
         report, runs = run(built, every), runs + 1
-        wanted = _wanted(ones, report)
+        wanted = wanted_of(ones, report)
         moves = [one.move(rates) for one, rates in zip(ones, wanted)]
         if done:
             done(1, f"limits move by {max(moves):.1%}" if runs > 1 else "without giving way")
         if max(moves) <= LEAST_MOVE or runs == MOST_RUNS:
             break
-        for one, rates in zip(ones, wanted):
-            one.take(rates, 1.0 if runs == 1 else DAMPING)
-        study = replace(study, yields=[replace(one.of, capacities=one.capacities()) for one in ones])
+        study = limited(study, ones, wanted, 1.0 if runs == 1 else DAMPING)
         built = build(study, shares_follow)
     if done:
         done(MOST_RUNS - runs, "")
     return Settled(study, _with_told(built, ones, moves, runs), runs, max(moves))
 
 
-def _wanted(ones: Sequence[Yielding], report: Report) -> list[Numbers]:
+def limited(study: Study, ones: Sequence[Yielding], wanted: Sequence[Numbers], part: float) -> Study:
+    """The study with limits that go a part of the way to what is wanted."""
+    for one, rates in zip(ones, wanted):
+        one.take(rates, part)
+    return replace(study, yields=[replace(one.of, capacities=one.capacities()) for one in ones])
+
+
+def wanted_of(ones: Sequence[Yielding], report: Report) -> list[Numbers]:
     """What passes of each by the flows of a run. Who gives way in turn to one that gives way is held up by its queue too."""
     potential = {one.cell: one.potential(report) for one in ones}
     unsignalled = {one.cell: one for one in ones if one.green is None}
