@@ -191,6 +191,14 @@ def test_greens_between_a_least_and_a_most_follow_traffic(told):
     assert "1 signals follow traffic, each green between its least and its most" in out and len(read_study("n.toml").actuated) == 1
 
 
+def test_a_street_alone_at_a_signal_follows_traffic_too(told):
+    out = told("GGGr", "rrrG", logic="actuated", limits='minDur="0" maxDur="9999"', flows={"w p": 300})
+    (signal,) = study()["signals"]
+    # A green lasts a second or more, and an hour at most.
+    assert signal["actuated"] == {"least": 1, "most": 3600, "gap": 3} and "1 signals follow traffic" in out
+    assert len(read_study("n.toml").actuated) == 1
+
+
 @pytest.mark.parametrize("phases, why", [
     (("GgGr", "rrrG"), "some are green there for who gives way: J"),
     (("GrGr", "rGrG"), "movements of one approach have greens of their own: J")])

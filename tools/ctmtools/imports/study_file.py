@@ -16,7 +16,7 @@ from ..study.rounding import told
 from ..study.writing import quoted
 from .giving_way import GivingWay
 from .greens import Following, kept_green, stages, stages_of
-from .streets import Movement, Program, Street, Streets, Way
+from .streets import Movement, Program, Stage, Street, Streets, Way
 from .traffic import EXIT, GATE, Traffic
 
 HOUR = 3600
@@ -295,6 +295,9 @@ class Writer:
             yield f"cycle = {program.cycle:g}"
             yield f"green = {green:g}"
             yield f"first_green = {(program.offset + start) % program.cycle:g}"
+            if self.found.streets[one].end in self.following.nodes:
+                own = [program.stages[k] for k in stages_of(self._way((one, two)), program)]
+                yield from (f"actuated = {_actuated(stage)}" for stage in own[:1] if stage.least < stage.most)
             yield ""
 
     def _dark(self, way: Movement) -> bool:
@@ -348,8 +351,7 @@ class Writer:
         if node in self.following.nodes:
             for k, stage in enumerate(program.stages):
                 own = [way for way in ways if k in stages_of(self._way(way), program)]
-                follows = f", actuated = {{ least = {max(1, stage.least):g}, most = {min(HOUR, stage.most):g}, gap = " \
-                          f"{stage.gap:g} }}" if stage.least < stage.most else ""
+                follows = f", actuated = {_actuated(stage)}" if stage.least < stage.most else ""
                 if own:
                     yield f"start = {stage.start:g}, green = {stage.lasting:g}, movements = [{self._listed(own)}]{follows}"
         elif any(way in self.giving.taken for way in ways):
@@ -414,6 +416,11 @@ class Writer:
 
     def _cell(self, street: str) -> float:
         return self.found.streets[street].speed * self.terms.step / 3600
+
+
+def _actuated(stage: Stage) -> str:
+    """How a green follows traffic; its least is above 0, and it ends some time."""
+    return f"{{ least = {max(1, stage.least):g}, most = {min(HOUR, stage.most):g}, gap = {stage.gap:g} }}"
 
 
 def _parts(rows: Sequence[Sequence[float]]) -> list[list[float]]:
