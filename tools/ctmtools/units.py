@@ -141,3 +141,13 @@ def units_text(units: Units) -> str:
     if cells:
         lines.append('  "cells": {\n' + cells + "\n  }")
     return "{\n" + ",\n".join(lines) + "\n}\n"
+
+
+def cell_of(road: str, units: Units, at: float | None = None) -> str:
+    """The cell at the end of a road, or that before the boundary nearest to a km of it; a gate is its own."""
+    cells = units.roads.get(road)
+    if cells is None:
+        return road
+    if at is None:
+        return cells[-1]
+    return min(cells, key=lambda name: abs(units.cells[name]["to_km"] - at))

@@ -53,10 +53,11 @@ def test_ways_that_find_no_room_are_told(tool, tmp_path, recording_program):
     assert status == 0 and "1 pairs have as many ways as routing.ways says, and quicker ones were found, as from home to work" in out, err
 
 
-def test_the_run_of_the_written_study_has_who_gives_way(tool, tmp_path, recording_program):
-    (tmp_path / "s.toml").write_text(TWO_WAYS.replace("priorities = [1, 2]", 'priorities = [1, 2]\nyields_to = "short"'))
-    status, out, err = tool("assign", "s.toml", "--iterations", "6")
-    assert status == 0 and "are worked out in the run of the written study alone" in out, err
+def test_the_run_of_the_written_study_has_greens_that_follow_traffic(tool, tmp_path, recording_program):
+    signal = '[[signals]]\nroad = "b"\ncycle = 60\ngreen = 30\nactuated = { least = 10, most = 40, gap = 10 }\n'
+    (tmp_path / "s.toml").write_text(TWO_WAYS + signal)
+    status, out, err = tool("assign", "s.toml", "--iterations", "2")
+    assert status == 0 and "greens that follow traffic are worked out in the run of the written study alone" in out, err
 
 
 @pytest.fixture(scope="module")

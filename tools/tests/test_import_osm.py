@@ -103,6 +103,15 @@ def test_streets_lie_where_the_map_has_them():
         pytest.approx(place, abs=0.1) for place in ((0, 0), (150, 200), (405.86, 385.86))]
 
 
+def test_who_gives_way_has_the_names_of_the_map(tool):
+    _, out, _ = tool("import", "osm", TOWN)
+    assert "by the gaps of their kind: Münchner Straße west to Kreisel north-west, " in out
+    assert "don't take gaps as on streets: motorway_link 112 north-west to A 9 north 3\n" in out  # a ramp of 80 km/h onto 120 km/h
+    text = Path("town.toml").read_text()
+    # The ring has four arms, and nobody comes in from the on-ramp.
+    assert text.count('kind = "roundabout"') == 3 and 'yields_to = [["Kreisel north-east", "Kreisel north-west"]]' in text
+
+
 def filled(name, **vehicles):
     """Fills in the vehicles of the first hour in a table, by the name of a street, or of two for a pair."""
     with open(name) as file:
@@ -118,7 +127,7 @@ def filled(name, **vehicles):
 
 
 def test_the_table_filled_in_is_the_demand_of_the_study(tool, program):
-    status, out, _ = tool("import", "osm", TOWN, "--step", "4 s")
+    status, out, _ = tool("import", "osm", TOWN, "--step", "5 s")
     assert status == 0 and out.splitlines()[0] == "town.toml: 46 streets, 2 signals"
     filled("town.demand.csv", **{"A 9": 3000, "Ring": 400, "Münchner Straße": 200})
     assert tool("run", "town.toml", "--every", "300")[0] == 0
@@ -131,7 +140,7 @@ def test_the_table_filled_in_is_the_demand_of_the_study(tool, program):
 
 
 def test_trips_filled_in_choose_their_ways(tool, program):
-    assert tool("import", "osm", TOWN, "--trips", "--roads", "motorway,primary,secondary", "--step", "4 s", "--until", "20 min", "--after",
+    assert tool("import", "osm", TOWN, "--trips", "--roads", "motorway,primary,secondary", "--step", "5 s", "--until", "20 min", "--after",
                 "10 min", "-o", "t.toml")[0] == 0
     filled("t.trips.csv", **{"A 9 to Seestraße": 60, "Seestraße to A 9": 40})
     status, out, err = tool("assign", "t.toml", "--iterations", "3")

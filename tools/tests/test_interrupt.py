@@ -13,11 +13,13 @@ import time
 import pytest
 
 from .examples import EXAMPLES, TOOLS
+from .test_actuated import FOLLOW, STUDY
 
 SOON = 2.0  # seconds, on a machine that has nothing else to do
 STREET = str(EXAMPLES / "arterial-0.toml")
 OFFSETS = ["--vary", "signals.offset=0:110:10"]
 DETECTORS = "place,start,end,flow\nc.1,07:15,07:45,800\n"
+ACTUATED = STUDY.format(a=540, b=360, first=FOLLOW, follow=FOLLOW, more="")
 CALIBRATE = ["calibrate", STREET, "--observed", "seen.csv", "--vary", "demand=0.7:1.1"]
 
 
@@ -97,6 +99,7 @@ CASES = {
     "sweep on processes": (["sweep", STREET, *OFFSETS, "-j", "2"], 8, r"stopped with \d+ of 12 runs left; the same call goes on"),
     "choose": (["choose", STREET, "--vary", "signals.offset=0:110:5"], 2, "stopped with 7 of 23 plans left; the same call goes on"),
     "optimise": (["optimise", EXAMPLES / "arterial-ten.toml", "--signals"], 3, "stopped after 32 runs; the same call goes on"),
+    "run of greens that follow traffic": (["run", "actuated.toml"], 12, "stopped; the same call goes on from the greens in actuated.actuated.json"),
     "meter": (["meter", EXAMPLES / "feedback.toml"], 12, "stopped; the same call goes on from the last interval"),
     "calibrate": (CALIBRATE, 6, r"stopped after \d+ runs; the same call goes on"),
     "branch": (["branch", TOOLS / "tests/studies/corridor.saved", "corridor.csv", "corridor.csv"], 1, "interrupted"),
@@ -107,6 +110,7 @@ CASES = {
 def test_an_interrupt_ends_it_soon_with_one_line(tmp_path, program, case):
     words, call, line = CASES[case]
     (tmp_path / "seen.csv").write_text(DETECTORS)
+    (tmp_path / "actuated.toml").write_text(ACTUATED)
     saved = (TOOLS / "tests/studies/corridor.saved").read_bytes()
     (tmp_path / "corridor.csv").write_bytes(saved.partition(b"\nnet\n")[2])
     before = {path.name for path in tmp_path.iterdir()}
@@ -152,6 +156,17 @@ def test_a_metered_run_goes_on_to_the_same_rates(tool, tmp_path, program):
     assert not (tmp_path / "feedback-metered.meter.json").exists()
     assert tool(*words)[0] == 0
     assert gone_on == [(tmp_path / name).read_bytes() for name in ("rates.csv", "feedback-metered.report", "feedback-metered.csv")]
+
+
+def test_a_run_of_greens_goes_on_to_the_same_ones(tool, tmp_path, program):
+    (tmp_path / "actuated.toml").write_text(ACTUATED)
+    words, names = ["run", "actuated.toml", "-o", "out.report"], ("out.report", "out.csv", "out.units.json")
+    assert interrupted(tmp_path, words, stand_in(tmp_path, program, 12, "exec sleep 100"))[0] == 130
+    assert (tmp_path / "out.actuated.json").exists()
+    gone_on = tool(*words)
+    files = [(tmp_path / name).read_bytes() for name in names]
+    assert gone_on[0] == 0 and not (tmp_path / "out.actuated.json").exists()
+    assert tool(*words) == gone_on and files == [(tmp_path / name).read_bytes() for name in names]
 
 
 @pytest.mark.parametrize("case", ["run", "sweep on processes", "branch"])

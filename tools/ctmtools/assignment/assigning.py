@@ -3,7 +3,7 @@
 from __future__ import annotations
 
 from collections.abc import Iterator
-from dataclasses import dataclass
+from dataclasses import dataclass, replace
 
 import numpy
 
@@ -14,6 +14,8 @@ from ..report.reading import Report
 from ..running import run
 from ..study.network_text import Builder
 from ..study.plan import Study
+from ..yielding.settling import DAMPING, LEAST_MOVE, limited, wanted_of
+from ..yielding.yielding import Yielding
 from .choices import Choice
 from .departures import Departures, departures_of
 from .forks import Rounded, exits_ahead, forks_of, parts_of, refuse_shares
@@ -36,17 +38,21 @@ Numbers = numpy.ndarray
 
 @dataclass(frozen=True)
 class Round:
-    """What a round came to: its gap, how far the loads of branches moved, delay in vehicle-hours, who changed before it."""
+    """What a round came to: its gap, how far the loads of branches moved, delay in vehicle-hours, who changed before it.
+
+    `limits` is the most by which what passes of those who give way would move, as a part of it.
+    """
 
     number: int
     gap: Gap
     moved: float
     delay: float
     changed: float
+    limits: float = 0.0
 
     def settled(self, gap: float) -> bool:
-        """Whether hardly anybody would gain by another way, and shares are those of the times that they lead to."""
-        return self.gap.relative < gap and self.moved < gap
+        """Whether hardly anybody would gain by another way, and shares and limits are those of the times that they lead to."""
+        return self.gap.relative < gap and self.moved < gap and self.limits <= LEAST_MOVE
 
 
 class Assignment:
@@ -57,6 +63,7 @@ class Assignment:
             raise Problem(f"{study.path}: trips: are missing; without them nobody chooses a way")
         self.study, self.workers, self.program = study, workers, program
         self.let_through = let_through(study)
+        study.yields = [replace(one, capacities=[]) for one in study.yields]  # the rounds work out what passes
         builder = Builder(study)
         self.shared = SharedNetwork(builder)
         self.network: Network = self.shared.built.network
@@ -68,6 +75,8 @@ class Assignment:
         self.departures: Departures = departures_of(study, self.network.steps)
         self.shared.built.rounding.note("routing.interval", min(study.routing.interval, study.duration),
                                         self.departures.width * study.step, "s")
+        self.yielding = [Yielding(one, study, self.shared.built) for one in study.yields]
+        self.limits_moved = 0.0
         self.forks = forks_of(builder, self.legs)
         refuse_shares(builder, self.legs)
         self.ahead = exits_ahead(self.legs, list(dict.fromkeys(trips.into for trips in study.trips)))
@@ -103,10 +112,11 @@ class Assignment:
             found, again = gap_of(self.choices, self.departures, self.times), self._loaded()
             assert self.report is not None  # the run gave it
             shifted = moved(counts, again, self.bounds, self.departures.width)
-            done = Round(number, found, shifted, self.report.units.hours(self.report.total.delay), changed)
+            done = Round(number, found, shifted, self.report.units.hours(self.report.total.delay), changed, self.limits_moved)
             yield done
             if done.settled(gap) or number == iterations:
                 return
+            self._limit(1.0 if number == 1 else DAMPING)
             changed = swap(self.choices, self.departures, self.times, pace.next(found.relative))
             counts = self._loaded()
 
@@ -121,6 +131,13 @@ class Assignment:
         self.text, self.report = run(content, self.study.path.name, self.shared.built.units, self.every, self.workers,
                                      self.program, network=self.network)
         self.passing = self.passings.of(self.report)
+        self.wanted = wanted_of(self.yielding, self.report)
+        self.limits_moved = max((one.move(rates) for one, rates in zip(self.yielding, self.wanted)), default=0.0)
+
+    def _limit(self, part: float) -> None:
+        """Has those who give way pass in the next round what the flows of the last one let, a part of the way there."""
+        if self.yielding:
+            self.shared = SharedNetwork(Builder(limited(self.study, self.yielding, self.wanted, part)))
 
     def _find(self) -> None:
         """Adds to each pair that seeks ways those of the least time in each interval."""

@@ -24,11 +24,13 @@ def not_settled(assignment: Assignment, rounds: Sequence[Round], gap: float) -> 
     last = rounds[-1]
     if not last.settled(gap):
         which = f"the gap is {last.gap.relative:.4f}" if last.gap.relative >= gap else \
-            f"{last.moved:.2%} of what comes to branches still moves between them"
+            f"{last.moved:.2%} of what comes to branches still moves between them" if last.moved >= gap else \
+            f"what passes of those who give way still moves by {last.limits:.1%}"
         before = rounds[-LAST - 1].gap.relative if len(rounds) > LAST else float("inf")
         why = "it still falls, so more rounds help" if last.gap.relative < STALLED * before else \
             "it no longer falls: a shorter interval of choice or a longer study may help"
-        yield f"warning: after {last.number} rounds {which}, above {gap:g}; {why}{_most_of(assignment)}"
+        limit = f", above {gap:g}" if last.gap.relative >= gap or last.moved >= gap else ""
+        yield f"warning: after {last.number} rounds {which}{limit}; {why}{_most_of(assignment)}"
     if assignment.crowded:
         source, into = min(assignment.crowded)
         yield (f"warning: {len(assignment.crowded)} pairs have as many ways as routing.ways says, and quicker ones were found, as "
@@ -70,9 +72,14 @@ def rounded_lines(assignment: Assignment) -> Iterator[str]:
 def settled_lines(study: Study, last: Round, report: Report) -> Iterator[str]:
     """What the run of the written study has otherwise than the last round, where it works out what passes."""
     delay = report.delay_vehicle_hours
-    if (study.yields or study.actuated) and told(delay) != told(last.delay):
-        yield (f"\nwarning: who gives way, and greens that follow traffic, are worked out in the run of the written study alone, "
-               f"which has {told(delay)} vehicle-hours of delay; drivers chose without them")
+    if told(delay) == told(last.delay):
+        return
+    if study.actuated:
+        yield (f"\nwarning: greens that follow traffic are worked out in the run of the written study alone, which has "
+               f"{told(delay)} vehicle-hours of delay; drivers chose without them")
+    elif study.yields:
+        yield (f"\nThe run of the written study works out anew what passes of those who give way; it has {told(delay)} "
+               "vehicle-hours of delay.")
 
 
 def pair_lines(rows: Sequence[WayRow]) -> Iterator[str]:

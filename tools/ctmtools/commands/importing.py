@@ -42,7 +42,7 @@ def command() -> None:
 Example:
   ctm-tools import sumo town.net.xml --routes town.rou.xml --until "1 h" -o town.toml
 
-Edges with the lanes for cars, connections, fixed-time signals; of the route files vehicles, trips and flows, which give
+Edges with the lanes for cars, connections, who gives way, signals; of the route files vehicles, trips and flows, which give
 demand and turning shares by --interval. Streets on which nobody drives are left out.""")
 @click.argument("network", metavar="NET.net.xml", type=click.Path())
 @click.option("--routes", metavar="FILE.rou.xml", type=click.Path(), multiple=True,

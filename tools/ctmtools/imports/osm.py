@@ -5,7 +5,6 @@ from __future__ import annotations
 import re
 import tempfile
 from collections.abc import Sequence
-from dataclasses import replace
 from math import pi, sqrt
 from pathlib import Path
 
@@ -106,7 +105,7 @@ class Reader:
         self.map, self.ways, self.net, self.path = found, ways, net, path
         self.places: list[Place] = []
         self.radii: dict[str, float] = {}  # in metres, of the roundabouts whose speed is by it
-        self.streets = streets_of(replace(net, roundabouts=[]), path)  # whose places are told here
+        self.streets = streets_of(net, path)
         self.streets.title = re.sub(r"\.(gz|bz2|pbf|o5m|xml|osm)\b", "", Path(path).name)
         if not self.streets.streets:
             raise Problem(f"{path}: netconvert made no street for cars of it")
@@ -126,7 +125,7 @@ class Reader:
         if not self.streets.streets:
             raise Problem(f"{self.path}: no road leads from an end of a street to another, so no vehicle could drive there")
         self.places += ends.within()
-        for ring in self.net.roundabouts:
+        for ring in self.net.ring_nodes:
             self._take_roundabout(ring)
         self._tell_junctions()
         self._tell_signals()

@@ -174,6 +174,9 @@ class Expansion:
 
     def _actuated(self) -> ActuatedJunction:
         """The greens of the junction where some of them follow traffic."""
+        if self.crossing.yields:
+            raise Problem(f"{self.crossing.yields[0].place}: who gives way at a signal does so in fixed greens, and those of this "
+                          "junction follow traffic")
         crossing, cycle = self.crossing, self.crossing.cycle or Fraction(0)
         apart = next((way for way in self.movements if self._stop_line(way) != crossing.sources[way[0]]), None)
         if apart:
@@ -185,8 +188,8 @@ class Expansion:
             pause = behind - phase.start - phase.green
             if pause < 0:
                 raise Problem(f"{crossing.place}.phases[{i + 1}]: greens that follow traffic stand one behind the other")
-            roads = list(dict.fromkeys(crossing.sources[i] for i, _ in phase.movements))
-            found.append(ActuatedPhase(roads, phase.green, phase.actuation, pause))
+            roads = dict.fromkeys(crossing.sources[i] for i, _ in phase.movements)
+            found.append(ActuatedPhase([(road, None) for road in roads], phase.green, phase.actuation, pause))
         return ActuatedJunction(found, crossing.offset + crossing.phases[0].start, crossing.place)
 
     def _stop_line(self, movement: Way) -> str:
