@@ -12,6 +12,7 @@ from tree import copy, lay_documents, lay_programs, lay_tools, put
 DEBIAN = TOP / "packaging/debian"
 PYTHON = "lib/python3/dist-packages"
 MACHINE = "amd64"
+MAPS = ("sumo", "osmium-tool")  # which make networks of maps
 
 
 def make_deb(built: Built, work: Path) -> Path:
@@ -55,7 +56,7 @@ def lay_control(root: Path, built: Built, work: Path) -> None:
     needed = [libraries(root, work), "python3 (>= 3.11)", *python_packages()]
     put(control / "control", (DEBIAN / "control.in").read_text().format(
         version=built.version, machine=MACHINE, size=size, needed=", ".join(needed),
-        recommended=", ".join([*python_packages("calibration"), "node-d3"]), suggested=", ".join(python_packages("dask"))))
+        recommended=", ".join([*python_packages("calibration"), "node-d3"]), suggested=", ".join([*python_packages("dask"), *MAPS])))
 
 
 def libraries(root: Path, work: Path) -> str:

@@ -18,6 +18,7 @@ echo "by $*"
 """
 CRATES = "low:\nlong: low\nside: low\nother:\ntop: long side\nctm_program: top other\nctm_wait: top\nunused: low\n"
 JOBS = 4
+PATIENCE = 600  # seconds that a call may take at most, since a machine that is busy takes long over what is quick
 SECONDS = {"low": 0.2, "long": 1.2, "side": 0.3, "other": 0.3, "top": 0.2, "ctm_program": 0.2, "ctm_wait": 0.2, "unused": 9}
 
 
@@ -70,7 +71,7 @@ class Repository:
     def call(self, *words, given=b"", **how):
         """The status of ./ctm or of another command, and what it wrote on out and err, as text."""
         process = self.start(*words, stdin=subprocess.PIPE, **how)
-        out, err = process.communicate(given, timeout=60)
+        out, err = process.communicate(given, timeout=PATIENCE)
         return process.returncode, out.decode(), err.decode()
 
     def events(self, *kinds):

@@ -11,7 +11,7 @@ import time
 
 import pytest
 from conftest import TOP
-from launched import JOBS
+from launched import JOBS, PATIENCE
 
 
 def test_crates_are_proved_side_by_side_the_longest_chain_first(repository):
@@ -61,37 +61,53 @@ def test_a_proof_that_memory_is_too_small_for_is_tried_with_one_job(repository):
 
 @pytest.mark.parametrize("number", [signal.SIGINT, signal.SIGTERM, signal.SIGHUP])
 def test_an_interrupted_build_leaves_nothing_behind(repository, number):
-    (repository.top / "crates/long/src/seconds").write_text("77\n")
+    (repository.top / "crates/long/src/seconds").write_text("7777\n")
     process = repository.start("run")
     while not repository.log.exists() or "began long" not in repository.log.read_text():
         time.sleep(0.01)
     process.send_signal(number)
-    _, err = process.communicate(timeout=30)
+    _, err = process.communicate(timeout=PATIENCE)
     assert process.returncode == 125
     assert b"interrupted, so nothing was run" in err
     assert not any(repository.passing.iterdir())
-    sleeping = subprocess.run(["pgrep", "-f", f"^sleep {77 / JOBS:g}$"], stdout=subprocess.PIPE)
-    assert sleeping.stdout == b""
+    deadline = time.monotonic() + PATIENCE
+    while subprocess.run(["pgrep", "-f", f"^sleep {7777 / JOBS:g}$"], stdout=subprocess.DEVNULL).returncode == 0:
+        assert time.monotonic() < deadline
+        time.sleep(0.05)
+
+
+def held_by_rt(repository, crate):
+    """Locks a crate, as `rt` does that works in it; gives what is to be closed."""
+    held = os.open(repository.top / "crates" / crate, os.O_RDONLY)
+    fcntl.flock(held, fcntl.LOCK_EX)
+    return held
+
+
+def said(process, line):
+    """Reads what a call says until it says a line; whether it does."""
+    return line in iter(process.stderr.readline, b"")
 
 
 def test_a_crate_in_which_rt_works_is_waited_for(repository):
     """`rt ci` locks all crates, and moves what was made in them."""
-    held = os.open(repository.top / "crates/long", os.O_RDONLY)
-    fcntl.flock(held, fcntl.LOCK_EX)
+    held = held_by_rt(repository, "long")
     process = repository.start("run")
-    for line in process.stderr:
-        if line == b"./ctm: waiting for rt, which works in crates/long\n":
-            break
+    assert said(process, b"./ctm: waiting for rt, which works in crates/long\n")
     assert "long" not in repository.proved()
     os.close(held)
-    assert b"6 of 6: ctm_program" in process.communicate(timeout=60)[1] and process.returncode == 0
+    assert b"6 of 6: ctm_program" in process.communicate(timeout=PATIENCE)[1] and process.returncode == 0
 
 
 def test_two_calls_at_once_build_once(repository):
-    calls = [repository.start("run") for _ in range(2)]
-    told = b"".join(call.communicate(timeout=60)[1] for call in calls)
-    assert [call.returncode for call in calls] == [0, 0]
-    assert told.count(b"another ./ctm is building here") == 1
+    held = held_by_rt(repository, "long")
+    first = repository.start("run")
+    assert said(first, b"./ctm: waiting for rt, which works in crates/long\n")
+    second = repository.start("run")
+    assert said(second, b"./ctm: another ./ctm is building here; waiting for it\n")
+    os.close(held)
+    assert b"another ./ctm" not in first.communicate(timeout=PATIENCE)[1]
+    second.communicate(timeout=PATIENCE)
+    assert (first.returncode, second.returncode) == (0, 0)
     assert sorted(repository.proved()) == ["ctm_program", "long", "low", "other", "side", "top"]
 
 

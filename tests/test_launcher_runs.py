@@ -8,6 +8,7 @@ import time
 from pathlib import Path
 
 from conftest import TOP
+from launched import PATIENCE
 
 
 def test_the_first_call_builds_and_runs(repository):
@@ -44,7 +45,7 @@ def test_refused_words_build_nothing(repository):
 def test_the_program_takes_the_place_of_the_launcher(built):
     """So a signal to ./ctm reaches the program, and none is left behind."""
     process = built.start("run", stdin=subprocess.PIPE)
-    deadline = time.monotonic() + 20
+    deadline = time.monotonic() + PATIENCE
     while b"out/ctm_program" not in Path(f"/proc/{process.pid}/cmdline").read_bytes():
         assert time.monotonic() < deadline
         time.sleep(0.01)
@@ -99,7 +100,7 @@ def test_an_edit_while_it_builds_is_built_by_the_next_call(repository):
     while not repository.log.exists() or "began long" not in repository.log.read_text():
         time.sleep(0.01)
     repository.edit("low", "// changed while it was built\n")
-    _, err = process.communicate(timeout=60)
+    _, err = process.communicate(timeout=PATIENCE)
     assert process.returncode == 0
     assert b"a source was changed meanwhile" in err
     assert "low" in repository.call("run")[2]

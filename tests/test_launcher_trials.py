@@ -46,14 +46,16 @@ def test_a_trial_that_breaks_off_is_no_result(repository):
 
 
 def test_an_input_that_pauses_is_read_whole(repository):
-    """rt itself takes an input for ended that is silent for two seconds."""
-    repository.trial.write_text("timeout 0.5 cat; " + ENDED % (0, 0, 0))
+    """rt itself takes an input for ended that is silent for two seconds, so it is begun when all is there."""
+    begun = repository.top.parent / "begun"
+    repository.trial.write_text(f"touch {begun}; cat; " + ENDED % (0, 0, 0))
     process = repository.start("--try", "run", stdin=subprocess.PIPE)
     process.stdin.write(b"one\n")
     process.stdin.flush()
     time.sleep(1)
+    assert not begun.exists()
     out, _ = process.communicate(b"two\n")
-    assert (process.returncode, out) == (0, b"one\ntwo\n")
+    assert (process.returncode, out) == (0, b"one\ntwo\n") and begun.exists()
 
 
 @pytest.mark.parametrize("mode, read", [("run", b"16777217\n"), ("resume", b"67108865\n")])

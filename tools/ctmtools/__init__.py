@@ -9,8 +9,9 @@ speed (km/h) over time, `totals(report)` its delays (vehicle-hours) by cell, `qu
 `travel_times(report, chain_of(report, road="m"), every=900)` the travel times along a chain of cells,
 `compare(first, second)` what two of them differ by, `plot(report, kind)` a picture, and `page(report)` a page for a browser.
 
-`assign`, `choose`, `draw`, `optimise`, `meter` and `calibrate` are the commands of their names, `import_sumo` and `import_gmns` make studies of
-other programs' networks.
+`read_detectors(files)` reads files of detectors in whatever format they come. `assign`, `choose`, `draw`, `optimise`, `meter`,
+`calibrate` and `diagram` are the commands of their names; `import_sumo`, `import_gmns` and `import_osm` make studies of other
+programs' networks and of maps.
 """
 
 from __future__ import annotations
@@ -23,13 +24,16 @@ if TYPE_CHECKING:
     from .interface import build as build
     from .interface import calibrate as calibrate
     from .interface import choose as choose
+    from .interface import diagram as diagram
     from .interface import draw as draw
     from .interface import import_gmns as import_gmns
+    from .interface import import_osm as import_osm
     from .interface import import_sumo as import_sumo
     from .interface import meter as meter
     from .interface import optimise as optimise
     from .interface import page as page
     from .interface import plot as plot
+    from .interface import read_detectors as read_detectors
     from .interface import run as run
     from .interface import sweep as sweep
     from .network_file.network import Network as Network
@@ -53,8 +57,8 @@ HOMES = {"Network": "network_file.network", "Problem": "problem", "Report": "rep
          "chain_of": "report.travel", "compare": "report.comparing", "queues_of": "report.states",
          "read_network": "network_file.network", "read_report": "report.reading", "read_study": "study.reading",
          "states": "report.states", "totals": "report.states", "travel_times": "report.travel",
-         **dict.fromkeys(("assign", "build", "calibrate", "choose", "draw", "import_gmns", "import_sumo", "meter", "optimise", "page",
-                          "plot", "run", "sweep"), "interface")}
+         **dict.fromkeys(("assign", "build", "calibrate", "choose", "diagram", "draw", "import_gmns", "import_osm", "import_sumo", "meter",
+                          "optimise", "page", "plot", "read_detectors", "run", "sweep"), "interface")}
 __all__ = sorted(HOMES)
 
 

@@ -5,6 +5,7 @@ from __future__ import annotations
 import importlib
 import os
 import sys
+import threading
 from collections.abc import Sequence
 from contextlib import suppress
 from typing import Any, NoReturn
@@ -31,13 +32,14 @@ COMMANDS = {"build": "Make the network file of a study.", "run": "Run a study or
             "optimise": "Search for the timing of signals with the least delay.",
             "branch": "Run several futures of a saved moment.",
             "meter": "Run ramp meters with feedback.",
+            "detectors": "Tell what files of detectors have, and leave out what is broken.",
             "calibrate": "Find values by which a study is nearest to detectors.",
             "diagram": "Fit flow and density to a detector's data."}
 # The modules of commands whose names aren't theirs.
 MODULES = {"export": "exporting", "import": "importing", "travel-time": "travel_time"}
 PACKAGES = {"click": "python3-click", "pandas": "python3-pandas", "numpy": "python3-numpy",
             "matplotlib": "python3-matplotlib", "networkx": "python3-networkx", "distributed": "python3-distributed",
-            "scipy": "python3-scipy", "pyproj": "python3-pyproj"}
+            "scipy": "python3-scipy", "pyproj": "python3-pyproj", "holidays": "python3-holidays"}
 EPILOG = """\b
 Examples:
   ctm-tools run examples/bottleneck.toml
@@ -134,13 +136,15 @@ class LastWord:
 
     def __init__(self) -> None:
         self.told = False
+        self.telling = threading.Lock()  # the thread that ends the process asks for it too
 
     def __call__(self, line: str = "interrupted") -> None:
         """Tells the line, in the place of what a terminal shows in its last one."""
-        if not self.told:
-            self.told = True
-            begin = "\r\x1b[K\x1b[?25h" if sys.stderr.isatty() else ""  # a bar hides the cursor
-            print(f"{begin}{PROGRAM}: {one_line(line)}", file=sys.stderr, flush=True)
+        with self.telling:
+            if not self.told:
+                self.told = True
+                begin = "\r\x1b[K\x1b[?25h" if sys.stderr.isatty() else ""  # a bar hides the cursor
+                print(f"{begin}{PROGRAM}: {one_line(line)}", file=sys.stderr, flush=True)
 
 
 def stop(last_word: LastWord, line: str = "interrupted") -> NoReturn:

@@ -37,7 +37,7 @@ def guard_report(path: Path) -> None:
 
 
 def write_network(built: Built, target: Path) -> None:
-    """Writes a built network, and its units beside it, which keep what the old ones say of the report there."""
+    """Writes a built network, and its units beside it, which keep what the old ones say of the report and the ways there."""
     path, units = units_path(target), built.units
     try:
         old = read_units(path)
@@ -46,6 +46,7 @@ def write_network(built: Built, target: Path) -> None:
     marked(units, built.text.encode(), built.network.steps)
     units.network = beside(target, path)
     units.report_checksum, units.report_network = old.report_checksum, old.report_network
+    units.ways_checksum, units.ways_network, units.ways_interval = old.ways_checksum, old.ways_network, old.ways_interval
     write(target, built.text)
     write_units(path, units)
 

@@ -23,6 +23,7 @@ if TYPE_CHECKING:
     import pandas
     from matplotlib.figure import Figure
 
+    from .calibration.diagram import Triangle
     from .calibration.fitting import Fitted
     from .moments.metered_run import MeteredRun
     from .uncertainty.results import Results
@@ -169,20 +170,56 @@ def meter(study: str | Path | Study, output: str | Path | None = None, meters: S
     return metered_run(build_study(replace(read, meters=[])), read.path, chosen, None if output is None else Path(output))
 
 
-def calibrate(study: str | Path, observed: str | Path, vary: Mapping[str, tuple[float, float]], output: str | Path | None = None,
-              runs: int = 80, first: int = 16, starts: int = 3, jobs: int = 1, dask: str | None = None) -> Fitted:
+def calibrate(study: str | Path, observed: str | Path | Sequence[str | Path], vary: Mapping[str, tuple[float, float]],
+              output: str | Path | None = None, runs: int = 80, first: int = 16, starts: int = 3, jobs: int = 1,
+              dask: str | None = None, at: Mapping[str, str] | None = None, **options: Any) -> Fitted:
     """The values of a study's keys by which it comes nearest to detectors: `values`, and in `as_well` those that do as well.
 
-    `observed` is a file of detectors, and `vary` has for each key the bounds of its value. With the folder `output` the distances
-    of all runs are kept there, and a calibration that was stopped goes on.
+    `observed` is a file of detectors, or several, and `vary` has for each key the bounds of its value. `at` says where stations
+    stand, and the other options how their files are read, as for `read_detectors`. With the folder `output` the distances of all
+    runs are kept there, and a calibration that was stopped goes on.
     """
     from .calibration.fitting import Range
     from .calibration.fitting import calibrate as calibrate_study
     from .calibration.observed import read_observed
+    from .commands.detector_options import wanted_by
 
     ranges = [Range(key, float(low), float(high)) for key, (low, high) in vary.items()]
-    return calibrate_study(study, read_observed(observed), ranges, runs, None, first, jobs, dask, starts,
+    seen = read_observed(observed, wanted_by(**options), at, read_study(study))
+    return calibrate_study(study, seen, ranges, runs, None, first, jobs, dask, starts,
                            None if output is None else Path(output))
+
+
+def read_detectors(files: str | Path | Sequence[str | Path], **options: Any) -> pandas.DataFrame:
+    """The rows of files of detectors: station, time, flow, speed, occupancy, density, observed, lanes, file, line.
+
+    The options are those of `ctm-tools detectors`: `station="400001"`, `dates=["weekdays"]`, `average="median"`,
+    `leave_out=["all"]`, `interval="5 min"`, `lanes=3`. Times are local; without dates they are of 1 January 1900. In
+    `frame.attrs` stand the lines of the command in `told`, the rows that were `left_out` with their `rule`, and `interval_s`.
+    """
+    from .commands.detector_options import wanted_by
+    from .detectors.reading import read, times_of
+
+    found = read(files, wanted_by(**options))
+    frame = found.rows.assign(time=times_of(found), station=found.rows.station.astype(str))
+    frame = frame[["station", "time", "flow", "speed", "occupancy", "density", "observed", "lanes", "file", "line"]]
+    frame["file"] = [str(found.files.parts[int(file)].path) for file in frame.file]
+    frame.attrs = {"told": found.lines, "left_out": found.left[["station", "day", "second", "flow", "rule", "line"]],
+                   "interval_s": found.interval, "units": {"flow": "vehicles/h", "speed": "km/h", "occupancy": "%",
+                                                           "density": "vehicles/km"}}
+    return frame
+
+
+def diagram(files: str | Path | Sequence[str | Path], lanes: float | None = None, vehicle_length: float | None = None,
+            **options: Any) -> Triangle:
+    """The triangle of flow and density that fits a detector's data: speed, capacity, wave and jam of a lane.
+
+    `vehicle_length`, in m, makes densities of occupancies, and the other options are those of `read_detectors`.
+    """
+    from .calibration.diagram import fit, read_states
+    from .commands.detector_options import wanted_by
+
+    return fit(read_states(files, lanes, wanted_by(**options), vehicle_length))
 
 
 def import_sumo(network: str | Path, output: str | Path, **options: Any) -> Study:
@@ -197,6 +234,14 @@ def import_sumo(network: str | Path, output: str | Path, **options: Any) -> Stud
 def import_gmns(folder: str | Path, output: str | Path, **options: Any) -> Study:
     """The study that `ctm-tools import gmns` makes of a folder in GMNS and writes to `output`; its options are the command's."""
     return _imported("gmns", folder, output, options)
+
+
+def import_osm(map_file: str | Path, output: str | Path, **options: Any) -> Study:
+    """The study that `ctm-tools import osm` makes of a map of OpenStreetMap and writes to `output`; its options are the command's.
+
+    Beside it stand the table to fill in, NAME.demand.csv or NAME.trips.csv, and what became of the map, NAME.places.csv.
+    """
+    return _imported("osm", map_file, output, options)
 
 
 def _imported(kind: str, source: str | Path, output: str | Path, options: Mapping[str, Any]) -> Study:

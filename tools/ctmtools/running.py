@@ -49,16 +49,22 @@ def run(content: bytes, name: str, units: Units | None = None, every: int | None
     return answer.out, report
 
 
-def settled_by_runs(study: Study, workers: int | None = None, program: str | None = None, done: Done | None = None) -> Settled:
+def settled_by_runs(study: Study, workers: int | None = None, program: str | None = None, done: Done | None = None,
+                    kept: Path | None = None) -> Settled:
     """The network of a study, with what runs of the program settle: what passes of those who give way, and greens that follow
-    traffic."""
+    traffic.
+
+    Where it has both, each of the runs has greens that follow its traffic. With a file what was reached of greens is kept there.
+    """
+    def followed(built: Built, done: Done | None = None) -> Built:
+        return ActuatedSignals(built, study, Runner(str(study.path)), kept).run(done) if study.actuated else built
+
     def run_built(built: Built, every: int) -> Report:
+        built = followed(built)
         return run(built.text.encode(), str(study.path), built.units, every, workers, program, network=built.network)[1]
 
     found = settled(study, run_built, done)
-    if not study.actuated:
-        return found
-    return dataclasses.replace(found, built=ActuatedSignals(found.built, study, Runner(str(study.path))).run(done))
+    return dataclasses.replace(found, built=followed(found.built, None if study.yields else done))
 
 
 @dataclasses.dataclass
@@ -77,16 +83,16 @@ class Prepared:
     built: Built | None = None
 
 
-def opened(source: str | Path | Study, shown: Shown | None = None) -> Prepared:
+def opened(source: str | Path | Study, shown: Shown | None = None, kept: Path | None = None) -> Prepared:
     """The network of a study, which is built, or that of a file. Nothing is written.
 
     What passes of those who give way, and greens that follow traffic, are worked out by runs; `shown` is told how many of them,
-    or steps, there may be, once.
+    or steps, there may be, once. With a file what was reached of greens is kept there.
     """
     if isinstance(source, Study) or is_study(source):
         study = source if isinstance(source, Study) else read_study(source)
         count = MOST_RUNS if study.yields else round(study.duration / study.step) if study.actuated else 0
-        built = settled_by_runs(study, done=shown(count) if shown and count else None).built
+        built = settled_by_runs(study, done=shown(count) if shown and count else None, kept=kept).built
         return Prepared(study.path, built.text.encode(), built.network, built.units, list(told(built)), built)
     path = Path(source)
     content = read_as(path, "a network")

@@ -13,7 +13,7 @@ from .problem import Problem
 SUFFIX = ".units.json"
 DAY = 24 * 3600
 MILE_KM = 1.609344
-CHECKSUMS = ("network_checksum", "report_checksum", "report_network")
+TIES = ("network_checksum", "report_checksum", "report_network", "ways_checksum", "ways_network", "ways_interval")
 Amount = TypeVar("Amount")  # a number, or a series of numbers
 
 
@@ -27,7 +27,8 @@ class Units:
     `cycles` has the cycle in steps of each signal that the network has as limits, by the cell or the gate of its stop
     line. `crs` is the coordinate system of the points, which are in km of it, where it is known. `network_checksum` and
     `steps` are of the network that the units are of; `report_checksum` is of the report that was last written beside them,
-    and `report_network` of the network that it was run of.
+    and `report_network` of the network that it was run of. `ways_checksum` is of the ways of an assignment that stand beside
+    the report, `ways_network` of the network that it ended in, and `ways_interval` the steps of its intervals of choice.
     """
 
     title: str = ""
@@ -43,6 +44,9 @@ class Units:
     network_checksum: str | None = None
     report_checksum: str | None = None
     report_network: str | None = None
+    ways_checksum: str | None = None
+    ways_network: str | None = None
+    ways_interval: int | None = None
 
     @property
     def known(self) -> bool:
@@ -100,6 +104,13 @@ def time_text(seconds: float, always: bool = False) -> str:
     return f"{hours:02d}:{minutes:02d}" + (f":{rest:02d}" if rest or always else "")
 
 
+def seconds_of_clock(text: str) -> int:
+    """The seconds after midnight of a text of `clock_text`."""
+    time, _, days = text.partition(" +")
+    hours, minutes, seconds = (int(part) for part in (time.split(":") + ["0"])[:3])
+    return hours * 3600 + minutes * 60 + seconds + (int(days.split()[0]) * DAY if days else 0)
+
+
 def units_path(path: str | Path) -> Path:
     """Where the units of a network file or a report stand: beside it, under its name without the ending."""
     path = Path(path)
@@ -115,7 +126,7 @@ def read_units(path: str | Path) -> Units:
         values = json.loads(path.read_text())
         return Units(values.get("title", ""), values.get("step_seconds"), values.get("start_seconds"),
                      values.get("network"), values.get("cells", {}), values.get("roads", {}), values.get("points", {}),
-                     values.get("cycles", {}), values.get("crs"), values.get("steps"), *(values.get(key) for key in CHECKSUMS))
+                     values.get("cycles", {}), values.get("crs"), values.get("steps"), *(values.get(key) for key in TIES))
     except (OSError, ValueError, AttributeError) as error:
         raise Problem(f"{path}: no units file: {error}") from None
 
@@ -124,9 +135,19 @@ def units_text(units: Units) -> str:
     """The text of the units' file, with a line for each cell."""
     cells = ",\n".join(f"    {json.dumps(name)}: {json.dumps(row)}" for name, row in units.cells.items())
     head = {"title": units.title, "step_seconds": units.step, "start_seconds": units.start, "network": units.network,
-            "steps": units.steps, **{key: getattr(units, key) for key in CHECKSUMS},
+            "steps": units.steps, **{key: getattr(units, key) for key in TIES},
             "roads": units.roads, "points": units.points, "cycles": units.cycles, "crs": units.crs}
     lines = [f"  {json.dumps(key)}: {json.dumps(value)}" for key, value in head.items() if value not in (None, {}, "")]
     if cells:
         lines.append('  "cells": {\n' + cells + "\n  }")
     return "{\n" + ",\n".join(lines) + "\n}\n"
+
+
+def cell_of(road: str, units: Units, at: float | None = None) -> str:
+    """The cell at the end of a road, or that before the boundary nearest to a km of it; a gate is its own."""
+    cells = units.roads.get(road)
+    if cells is None:
+        return road
+    if at is None:
+        return cells[-1]
+    return min(cells, key=lambda name: abs(units.cells[name]["to_km"] - at))

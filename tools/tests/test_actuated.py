@@ -10,7 +10,7 @@ from ctmtools.running import opened
 
 STUDY = """step = 1
 start = "07:00"
-end = "07:30"
+end = "07:08"
 [lane]
 free_flow_speed = 36
 wave_speed = 18
@@ -33,7 +33,7 @@ into = ["x", "y"]
 shares = [[1, 0], [0, 1]]
 cycle = 60
 intergreen = 4
-phases = [{{ from = ["a"], green = 26, actuated = {follow} }}, {{ from = ["b"], green = 26, actuated = {follow} }}]
+phases = [{{ from = ["a"], green = 26, actuated = {first} }}, {{ from = ["b"], green = 26, actuated = {follow} }}]
 {more}
 """
 FOLLOW = "{ least = 5, most = 40, gap = 4 }"
@@ -41,7 +41,7 @@ FOLLOW = "{ least = 5, most = 40, gap = 4 }"
 
 def write(tmp_path, a=540, b=360, follow=FOLLOW, more=""):
     path = tmp_path / "study.toml"
-    path.write_text(STUDY.format(a=a, b=b, follow=follow, more=more))
+    path.write_text(STUDY.format(a=a, b=b, first=follow, follow=follow.partition(", permitted")[0], more=more))
     return path
 
 
@@ -83,8 +83,78 @@ def test_build_tells_that_its_greens_are_fixed(tmp_path, tool):
 @pytest.mark.parametrize("changes, why", [
     ({"follow": "{ least = 50, most = 40, gap = 4 }"}, "phases[1].actuated.least: must be above 0 s and at most the most, 40 s"),
     ({"follow": "{ least = 5, most = 40 }"}, "phases[1].actuated.gap: is missing"),
-    ({"more": 'yields = [{ movement = ["a", "x"], yields_to = [["b", "y"]] }]'}, "is permitted in no phase")])
+    ({"more": 'yields = [{ movement = ["a", "x"], yields_to = [["b", "y"]] }]'}, "is permitted in no phase"),
+    ({"follow": FOLLOW + ', permitted = [["a", "x"]]', "more": 'yields = [{ movement = ["a", "x"], yields_to = [["b", "y"]] }]'},
+     "who gives way at a signal does so in fixed greens, and those of this junction follow traffic")])
 def test_what_a_study_cant_mean_is_refused(tmp_path, changes, why):
     with pytest.raises(Problem) as refused:
         read_study(write(tmp_path, **changes))
     assert why in str(refused.value)
+
+
+SIGNALS = STUDY.partition("[[junctions]]")[0].replace("[roads]", "[roads]\nz = {{ length = 0.1, lanes = 1 }}").replace(
+    "x = {{ length = 0.1, lanes = 1 }}\ny = {{ length = 0.1, lanes = 1 }}\n", "").replace(
+    'ox = {{ from = "x" }}\noy = {{ from = "y" }}', 'oz = {{ from = "z" }}') + """[[merges]]
+from = ["a", "b"]
+into = "z"
+priorities = [1, 1]
+[[signals]]
+road = "a"
+cycle = 60
+green = 26
+actuated = {{ least = 5, most = 40, gap = 4 }}
+[[signals]]
+road = "b"
+cycle = 60
+green = 26
+first_green = 30
+{second}
+"""
+
+
+def signals(tmp_path, second="actuated = { least = 5, most = 40, gap = 4 }", a=540, b=360):
+    path = tmp_path / "study.toml"
+    path.write_text(SIGNALS.format(a=a, b=b, second=second))
+    return path
+
+
+def test_signals_whose_roads_merge_take_turns_as_phases_do(tmp_path, recording_program):
+    # As the junction: C = (8 + 2·4 - 4·Y)/(1 - Y) = 28 with Y = 0.3 + 0.2, and greens of y·(C - 4) + 4.
+    found = told(opened(signals(tmp_path)))
+    assert found[:2] == pytest.approx([11.2, 8.8], abs=1.2) and found[2] == pytest.approx(28, abs=2.4)
+
+
+def test_a_signal_without_actuated_keeps_its_green_between_the_others(tmp_path, recording_program):
+    found = told(opened(signals(tmp_path, second="")))
+    # The green of b lasts 26 s, and a's is g = 0.3·(C - 4) + 4 with a cycle of C = g + 34, so 13/0.7 = 18.6.
+    assert found[1] == 26 and found[0] == pytest.approx(18.6, abs=1.5)
+
+
+def test_a_stop_line_alone_has_its_red_between_its_greens(tmp_path, recording_program):
+    text = SIGNALS.format(a=540, b=36, second="").replace('road = "b"\ncycle = 60\ngreen = 26\nfirst_green = 30', "").rpartition("[[signals]]")[0]
+    path = tmp_path / "study.toml"
+    path.write_text(text.replace('road = "a"\ncycle', 'road = "a"\nat = 0.2\ncycle'))
+    # The red lasts 34 s, so its green as above 18.6.
+    assert told(opened(path))[0] == pytest.approx(18.6, abs=1.5)
+
+
+@pytest.mark.parametrize("second, why", [
+    ("actuated = { least = 50, most = 40, gap = 4 }", "signals[2].actuated.least: must be above 0 s and at most the most, 40 s"),
+    ('start = "07:05"', "signals[2].actuated: greens that follow traffic do so for the whole study, without start and end")])
+def test_signals_that_cant_follow_traffic_are_refused(tmp_path, second, why):
+    with pytest.raises(Problem) as refused:
+        read_study(signals(tmp_path, second=second))
+    assert why in str(refused.value)
+
+
+def test_signals_that_merge_have_one_cycle_and_greens_apart(tmp_path):
+    for changed, why in (("cycle = 70", "signals[2].cycle: signals[1] meets it and follows traffic, so both have one cycle"),
+                         ("first_green = 20", "signals[1].green: greens that follow traffic stand one behind the other")):
+        path = signals(tmp_path)
+        text = path.read_text()
+        key = changed.split()[0]
+        head, _, tail = text.rpartition("[[signals]]")
+        path.write_text(head + "[[signals]]" + re.sub(rf"{key} = \d+", changed, tail, count=1))
+        with pytest.raises(Problem) as refused:
+            read_study(path)
+        assert why in str(refused.value)

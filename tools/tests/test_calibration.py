@@ -9,7 +9,9 @@ from ctmtools.calibration.diagram import fit, read_states
 from ctmtools.calibration.fitting import Calibration, by_place, calibrate, distance, geh, range_of
 from ctmtools.calibration.nearest import Reach, around, descend, starts, width_of
 from ctmtools.calibration.observed import modelled, read_observed
+from ctmtools.sweeps import workers
 
+from .clusters import PATIENCE
 from .corridor import HEAD
 
 STUDY = HEAD.format(end="08:00") + """
@@ -129,9 +131,10 @@ def test_a_search_that_begins_at_the_nearest_of_some(tmp_path, recording_program
         calibrate(study(tmp_path), observed, [range_of("lane.wave=1:2")])
 
 
-def test_the_first_runs_on_a_cluster(tmp_path, recording_program):
+def test_the_first_runs_on_a_cluster(tmp_path, recording_program, monkeypatch):
     from distributed import LocalCluster
 
+    monkeypatch.setattr(workers, "PATIENCE", PATIENCE)
     observed = read_observed(seen(tmp_path, run(study(tmp_path, 2000, "known.toml"))))
     with LocalCluster(n_workers=1, threads_per_worker=1, dashboard_address=None) as made:
         found = calibrate(study(tmp_path), observed, [range_of("lane.saturation_flow=1800:2200")], 12, first=3,
@@ -162,7 +165,7 @@ def pd(values):
 
 @pytest.mark.parametrize("text, wanted", [
     ("place,start,end\nm.1,06:00,07:00\n", "has no column flow"), ("place,start,end,flow\n", "has no rows"),
-    ("place,start,end,flow\nm.1,06:00,07:00,x\n", "line 2: expected a flow"),
+    ("place,start,end,flow\nm.1,06:00,07:00,x\n", "line 2, flow: expected a flow"),
     ("place,start,end,flow\nm.1,06:00,06:00,5\n", "line 2: expected a flow, 0 or more, and an end after"),
     ("place,start,end,flow\nm.1,soon,06:00,5\n", "line 2, start: expected a clock time")])
 def test_mistakes_in_the_file_of_detectors(tmp_path, text, wanted):

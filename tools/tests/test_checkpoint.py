@@ -111,12 +111,13 @@ os.replace = replace"""
 
 def test_a_run_that_is_interrupted_says_from_where_it_goes_on(program, tmp_path, monkeypatch, tool, whole):
     monkeypatch.chdir(tmp_path)
-    ended = started(stand_in(tmp_path, program, 4, f"touch {tmp_path}/reached; exec sleep 60"))
+    patient = "from ctmtools import interrupt\ninterrupt.PATIENCE = 100\nfrom ctmtools.command_line import main"
+    ended = started(stand_in(tmp_path, program, 4, f"touch {tmp_path}/reached; exec sleep 1000"), patient)
     while not (tmp_path / "reached").exists():
         assert ended.poll() is None
         time.sleep(0.02)
     ended.send_signal(signal.SIGINT)
-    out, _ = ended.communicate(timeout=30)
+    out, _ = ended.communicate(timeout=600)
     assert ended.returncode == 130 and "ctm-tools: stopped; the same call goes on from 08:00" in out
     status, out, err = tool(*WORDS)
     assert status == 0 and "Goes on from 08:00, which stands in interchange.saved" in out

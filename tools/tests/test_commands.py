@@ -17,7 +17,7 @@ PLOTS = ["time-space", "n-curves", "queue", "delay", "map", "mfd"]
 
 
 @pytest.mark.parametrize("words", [[], *([name] for name in COMMANDS), *(["plot", name] for name in PLOTS),
-                                   ["import", "sumo"], ["import", "gmns"], ["export", "geojson"]],
+                                   ["import", "sumo"], ["import", "gmns"], ["import", "osm"], ["export", "geojson"]],
                          ids=lambda words: " ".join(words) or "all")
 def test_help_has_examples(tool, words):
     status, out, err = tool(*words, "--help")

@@ -2,7 +2,7 @@
 
 import pytest
 
-from ctmtools.study.counts import _number
+from ctmtools.detectors.numbers import number as _number
 from ctmtools.problem import Problem
 
 from .corridor import HEAD

@@ -12,9 +12,9 @@ from .examples import TOOLS
 TOP = TOOLS.parent
 COMMANDS_IN = {"README.md": 17, "tools/README.md": 7, "examples/README.md": 18, "tools/docs/measures.md": 6,
                "tools/docs/networks.md": 1, "tools/docs/calibration.md": 0, "tools/docs/saved.md": 6,
-               "tools/docs/plans.md": 2, "tools/docs/pages.md": 3, "tools/docs/counts.md": 0, "tools/docs/queues.md": 0, "tools/docs/sweeps.md": 1,
+               "tools/docs/plans.md": 2, "tools/docs/pages.md": 3, "tools/docs/counts.md": 0, "tools/docs/detectors.md": 1, "tools/docs/queues.md": 0, "tools/docs/sweeps.md": 1,
                "tools/docs/python.md": 0, "tools/docs/units.md": 0, "tools/docs/uncertainty.md": 1, "tools/docs/routes.md": 2,
-               "tools/docs/yields.md": 0}  # and how many there are at least
+               "tools/docs/yields.md": 0, "tools/docs/maps.md": 4}  # and how many there are at least
 PAGES = sorted(str(path.relative_to(TOP)) for path in
                [*TOP.glob("*.md"), *TOP.glob("docs/*.md"), *TOP.glob("tools/docs/*.md"), TOP / "tools/README.md",
                 TOP / "examples/README.md"])
@@ -34,6 +34,9 @@ LEFT_OUT = {
         "its files are a user's",
     "./ctm-tools draw STUDY.toml": "examples/README.md has one of a study with something uncertain",
     "./ctm-tools diagram detector.csv --lanes 3": "its file is a user's",
+    './ctm-tools detectors "d04_*.txt.gz" --station 400001 --dates weekdays --holidays US-CA --leave-out all -o 400001.csv':
+        "its files are a user's",
+    "./ctm-tools detectors FILE..": "its files are a user's",
     "./ctm-tools branch SAVED STUDY..": "its files are a user's",
     "./ctm-tools assign STUDY.toml": "tools/docs/routes.md has one of a study with trips",
     "./ctm-tools optimise STUDY.toml --signals": "tools/docs/plans.md has one of a study with signals",
@@ -46,7 +49,8 @@ LEFT_OUT = {
 
 # What stands for what a reader puts in.
 GIVEN = {"STUDY.toml": "examples/bottleneck.toml", "NET.csv": "bottleneck.csv", "PICTURE": "time-space",
-         "REPORT": "bottleneck.report", "A B": "bottleneck.report bottleneck.report", "KEY=VALUES": "demand=0.9,1"}
+         "REPORT": "bottleneck.report", "A B": "bottleneck.report bottleneck.report", "KEY=VALUES": "demand=0.9,1",
+         "MAP.osm": "examples/lane-drop.osm"}
 
 # Nothing here may build the program: `./ctm` is the one under test, but for the launcher's own page.
 STAND_IN = """#!/usr/bin/env bash
@@ -163,7 +167,7 @@ def test_the_excerpts_of_the_examples_are_what_the_commands_above_them_write(top
             continue
         excerpts += 1
         assert any(stand_in_order(lines, text) for text in texts_shown(top, recording_program, before, calls)), lines
-    assert excerpts == 20
+    assert excerpts == 22
 
 
 def test_the_example_of_the_first_page_is_the_file_and_its_report(top, recording_program):

@@ -2,11 +2,7 @@
 
 import csv
 import importlib.util
-import os
 import re
-import signal
-import threading
-import time
 from fractions import Fraction
 
 import numpy
@@ -14,6 +10,7 @@ import pandas
 import pytest
 
 from ctmtools import draw, read_study, run
+from ctmtools.kept_rows import KeptRows
 from ctmtools.plots import draws
 from ctmtools.study.plan import Closure, RoadPart
 from ctmtools.uncertainty.draw import drawn
@@ -22,6 +19,7 @@ from ctmtools.uncertainty.incident import happened
 from ctmtools.uncertainty.results import results_of
 from ctmtools.uncertainty.task import Asked
 
+from .clusters import at_row, done_by, kill_a_worker, two_workers, wait_until
 from .examples import EXAMPLES
 from .test_interrupt import interrupted, stand_in
 from .test_pictures import assert_readable
@@ -115,25 +113,17 @@ def test_the_same_seed_gives_the_same_bytes_by_any_number_of_workers_and_going_o
 
 
 @pytest.mark.skipif(importlib.util.find_spec("distributed") is None, reason="python3-distributed is missing")
-def test_a_cluster_that_loses_a_worker_gives_the_same_bytes(tool, program, tmp_path):
-    from distributed import LocalCluster
-
+def test_a_cluster_that_loses_a_worker_gives_the_same_bytes(tool, program, tmp_path, monkeypatch):
+    """One of two workers is killed when all runs are done, of which the results of some lay there alone."""
     path = written(tmp_path, GATE + UNIFORM)
     assert tool("draw", path, "--runs", "40", "-j", "1", "-o", "here")[0] == 0
-    with LocalCluster(n_workers=2, threads_per_worker=1, processes=True, host="127.0.0.1", dashboard_address=None) as cluster:
-        victim = next(iter(cluster.workers.values())).pid
-        over = threading.Event()
+    with two_workers(monkeypatch) as cluster:
+        def lose():
+            wait_until(lambda: done_by(cluster) == 40)
+            kill_a_worker(cluster)
 
-        def end_it():
-            while not over.is_set() and (not os.path.exists("there/runs.csv") or len(open("there/runs.csv").readlines()) < 5):
-                time.sleep(0.01)
-            os.kill(victim, signal.SIGKILL)
-
-        ender = threading.Thread(target=end_it)
-        ender.start()
+        at_row(monkeypatch, KeptRows, 3, lose)
         status, out, err = tool("draw", path, "--runs", "40", "--dask", cluster.scheduler_address, "-o", "there")
-        over.set()
-        ender.join()
     assert status == 0, err
     assert bytes_of(tmp_path / "here") == bytes_of(tmp_path / "there")
 
@@ -141,7 +131,7 @@ def test_a_cluster_that_loses_a_worker_gives_the_same_bytes(tool, program, tmp_p
 def test_an_interrupt_loses_the_runs_under_way_alone(tool, program, tmp_path):
     path = written(tmp_path, GATE + UNIFORM)
     words = ["draw", path, "--runs", "9", "-j", "1"]
-    status, err, _ = interrupted(tmp_path, words, stand_in(tmp_path, program, 8, "exec sleep 100"))
+    status, err, _ = interrupted(tmp_path, words, stand_in(tmp_path, program, 8, "exec sleep 1000"))
     assert status == 130 and re.fullmatch(r"ctm-tools: stopped with [1-8] of 9 runs left; the same call goes on with them\n", err)
     status, out, err = tool(*words)
     assert status == 0 and re.match("[1-8] of 9 runs stand in s.draw/runs.csv already", out)

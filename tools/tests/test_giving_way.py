@@ -1,48 +1,53 @@
-"""Movements of imported networks that give way to others, which the model doesn't know: the import names them."""
+"""Movements of imported networks that give way to others: by which gaps they do in the study, and which can't, and why."""
 
 import re
+import tomllib
 
 import pytest
 
 from ctmtools import build, read_study
+from ctmtools.imports import sumolib_net
+from ctmtools.imports.sumo import read_network
+from ctmtools.running import settled_by_runs
 
 from .test_gmns import TABLES
 
 # A cross of a road from W to E, one from E to W, and one from S. Who turns left from w into n crosses e to o, over a second
 # lane within the junction on which he waits; who comes from s gives way to w to p, which he meets, and to e to o too.
 NET = """<net>
-    <edge id="w" from="W" to="J"><lane index="0" speed="12.5" length="250"/></edge>
-    <edge id="e" from="E" to="J"><lane index="0" speed="12.5" length="250"/></edge>
-    <edge id="s" from="S" to="J"><lane index="0" speed="12.5" length="250"/></edge>
-    <edge id="o" from="J" to="O"><lane index="0" speed="12.5" length="250"/></edge>
-    <edge id="p" from="J" to="P"><lane index="0" speed="12.5" length="250"/></edge>
-    <edge id="n" from="J" to="N"><lane index="0" speed="12.5" length="250"/></edge>
+    <edge id="w" from="W" to="J"><lane index="0" speed="{speed}" length="250"/></edge>
+    <edge id="e" from="E" to="J"><lane index="0" speed="{speed}" length="250"/></edge>
+    <edge id="s" from="S" to="J"><lane index="0" speed="{speed}" length="250"/></edge>
+    <edge id="o" from="J" to="O"><lane index="0" speed="{speed}" length="250"/></edge>
+    <edge id="p" from="J" to="P"><lane index="0" speed="{speed}" length="250"/></edge>
+    <edge id="n" from="J" to="N"><lane index="0" speed="{speed}" length="250"/></edge>
     {signal}
     <junction id="J" type="{sort}" x="0" y="0" incLanes="w_0 e_0 s_0" intLanes=":J_0_0 :J_4_0 :J_2_0 :J_3_0">
         <request index="0" response="0000" foes="1000"/><request index="1" response="0100" foes="0100"/>
         <request index="2" response="0000" foes="0010"/><request index="3" response="{right}" foes="0001"/>
     </junction>
-    <connection from="w" to="p" fromLane="0" toLane="0" via=":J_0_0" {tl}="0" state="M"/>
-    <connection from="w" to="n" fromLane="0" toLane="0" via=":J_1_0" {tl}="1" state="m"/>
-    <connection from="e" to="o" fromLane="0" toLane="0" via=":J_2_0" {tl}="2" state="M"/>
-    <connection from="s" to="p" fromLane="0" toLane="0" via=":J_3_0" {tl}="3" state="m"/>
+    <connection from="w" to="p" fromLane="0" toLane="0" via=":J_0_0" {tl}="0" dir="s" state="M"/>
+    <connection from="w" to="n" fromLane="0" toLane="0" via=":J_1_0" {tl}="1" dir="l" state="m"/>
+    <connection from="e" to="o" fromLane="0" toLane="0" via=":J_2_0" {tl}="2" dir="s" state="M"/>
+    <connection from="s" to="p" fromLane="0" toLane="0" via=":J_3_0" {tl}="3" dir="{turn}" state="{sign}"/>
     <connection from=":J_1" to="n" fromLane="0" toLane="0" via=":J_4_0" state="m"/>
     <connection from=":J_4" to="n" fromLane="0" toLane="0" state="M"/>
+    {more}
 </net>
 """
-SIGNAL = '<tlLogic id="J" type="static" programID="0" offset="0"><phase duration="30" state="{}"/><phase duration="30" state="{}"/></tlLogic>'
+SIGNAL = '<tlLogic id="J" type="{}" programID="0" offset="0"><phase duration="30" state="{}" {}/><phase duration="30" state="{}"/></tlLogic>'
 FLOWS = {"w n": 90, "w p": 300, "e o": 300, "s p": 60}
-UNOPPOSED = "movements that give way to others run unopposed, so their delay is too low: "
-MEETING = "movements give way to others only where these meet them in a queue, so their delay is too low: "
+UNOPPOSED = "movements that give way to others run unopposed, so their delay is too low, since "
 
 
 @pytest.fixture
 def told(tool, tmp_path):
     """What an import tells of the network, with a signal of two phases or without one, and with flows."""
-    def imported(*phases, right="0001", flows=FLOWS):
-        (tmp_path / "n.net.xml").write_text(NET.format(
-            right=right, sort="traffic_light" if phases else "priority", signal=SIGNAL.format(*phases) if phases else "",
-            tl='tl="J" linkIndex' if phases else "none"))
+    def imported(*phases, flows=FLOWS, net=NET, logic="static", limits="", **terms):
+        (tmp_path / "n.net.xml").write_text(net.format(
+            sort="traffic_light" if phases else "priority",
+            signal=SIGNAL.format(logic, phases[0], limits, phases[1]) if phases else "", tl='tl="J" linkIndex' if phases else "none",
+            **{"right": "0001", "speed": 12.5, "turn": "r", "sign": "m", "more": "", **terms}))
         (tmp_path / "n.rou.xml").write_text("<routes>" + "".join(
             f'<flow id="{route}" begin="0" end="3600" number="{count}"><route edges="{route}"/></flow>'
             for route, count in flows.items()) + "</routes>")
@@ -52,6 +57,21 @@ def told(tool, tmp_path):
     return imported
 
 
+def gives_way(out):
+    """The movements of which an import tells that they give way; none where nobody does."""
+    found = re.search(r"\d+ movements give way to others, by the gaps of their kind: (.*)", out)
+    return found and found[1]
+
+
+def study():
+    with open("n.toml", "rb") as file:
+        return tomllib.load(file)
+
+
+def yields_of(joint):
+    return {tuple(one.pop("movement")): one for one in joint["yields"]}
+
+
 def bare(text):
     """The network without the lanes within its junction."""
     return re.sub(r' via="[^"]*"| intLanes="[^"]*"', lambda found: ' intLanes=""' if "int" in found[0] else "",
@@ -59,43 +79,200 @@ def bare(text):
 
 
 @pytest.mark.parametrize("phases, wanted", [((), "w to n, s to p"), (("GgGr", "rrrG"), "w to n"), (("GGGr", "rrrG"), None)])
-def test_a_network_without_lanes_within_junctions_says_who_gives_way(told, monkeypatch, phases, wanted):
-    monkeypatch.setattr(f"{__name__}.NET", bare(NET))
-    found = re.search(f"{UNOPPOSED}(.*)", told(*phases))
-    assert (found and found[1]) == wanted
+def test_a_network_without_lanes_within_junctions_says_who_gives_way(told, phases, wanted):
+    assert gives_way(told(*phases, net=bare(NET))) == wanted
 
 
-def test_movements_that_cross_others_and_those_that_meet_them_are_told_apart(told):
-    out = told()
-    assert f"  1 {UNOPPOSED}w to n\n" in out and f"  1 {MEETING}s to p\n" in out
-    # The study has them at their junction, and they are told by each run.
-    assert "# Give way to others, and don't wait for them here: w to n, s to p" in open("n.toml").read()
-    assert f"1 {UNOPPOSED}w to n" in build(read_study("n.toml")).remarks
+def test_a_left_turn_and_a_side_street_give_way_by_the_gaps_of_their_kind(told):
+    out = told(right="0101")
+    assert gives_way(out) == "w to n, s to p" and UNOPPOSED not in out
+    (junction,) = study()["junctions"]
+    assert yields_of(junction) == {
+        ("w", "n"): {"yields_to": [["e", "o"]], "kind": "major-left"},
+        ("s", "p"): {"yields_to": [["e", "o"], ["w", "p"]], "kind": "minor-right", "control": "give_way"}}
+    # The study is built as it stands.
+    assert len(read_study("n.toml").yields) == 2 and build(read_study("n.toml")).text
 
 
-def test_a_movement_that_crosses_one_and_meets_another_runs_unopposed(told):
-    assert f"  2 {UNOPPOSED}w to n, s to p\n" in told(right="0101")
+def test_what_passes_of_them_is_that_of_the_formula(told, recording_program):
+    told()
+    found = settled_by_runs(read_study("n.toml"))
+    # Through 300 vehicles/h: 300·exp(-300·4.1/3600)/(1 - exp(-300·2.2/3600)) turn left, 300·exp(-300·6.2/3600)/(1 -
+    # exp(-300·3.3/3600)) come out of the side street.
+    names = {one.road: next(float(each.flow) for each in one.capacities if each.start < 3000 < each.end) for one in found.study.yields}
+    assert names == {"w-n": pytest.approx(1272.8, rel=0.01), "s-p": pytest.approx(744.3, rel=0.01)}
 
 
-def test_a_movement_whose_others_have_no_traffic_is_none(told):
+@pytest.mark.parametrize("terms, wanted", [
+    ({"sign": "s"}, {"kind": "minor-right"}), ({"turn": "l"}, {"kind": "minor-left", "control": "give_way"}),
+    ({"turn": "s", "sign": "s"}, {"kind": "minor-through"}), ({"turn": "L", "sign": "="}, {"kind": "minor-left", "control": "give_way"}),
+    ({"more": '<roundabout nodes="J" edges="w p"/>'}, {"kind": "roundabout"})])
+def test_signs_turns_and_roundabouts_say_the_kind(told, terms, wanted):
+    told(**terms)
+    found = yields_of(study()["junctions"][0])["s", "p"]
+    assert found == {"yields_to": [["w", "p"]], **wanted}
+
+
+def test_a_left_turn_that_has_priority_over_a_side_street_counts_twice_there(told):
+    # w to n is a left turn out of the street with priority, to which who drives through from s gives way.
+    told(right="0011", turn="s")
+    assert yields_of(study()["junctions"][0])["s", "p"]["yields_to"] == [["w", "n", 2], ["w", "p"]]
+
+
+def test_where_one_drives_on_the_left_a_right_turn_crosses(told):
+    told(net=NET.replace("<net>", '<net lefthand="true">'), turn="l")
+    found = yields_of(study()["junctions"][0])
+    # The letter l of w to n is a turn to the side on which one drives there.
+    assert found["w", "n"]["kind"] == "minor-right" and found["s", "p"]["kind"] == "minor-right"
+
+
+def test_two_streets_that_merge_are_a_merge(told):
+    out = told(flows={"w p": 300, "s p": 60})
+    (merge,) = study()["merges"]
+    assert gives_way(out) == "s to p"
+    assert (merge["yields_to"], merge["kind"], merge["control"]) == ("w", "minor-right", "give_way")
+
+
+def test_streets_that_only_cross_become_one_junction(told):
+    told(flows={"w n": 90, "e o": 300})
+    (junction,) = study()["junctions"]
+    assert junction["from"] == ["w", "e"] and junction["into"] == ["n", "o"] and junction["shares"] == [[100, 0], [0, 100]]
+
+
+@pytest.mark.parametrize("terms, why", [
+    ({"sign": "w"}, "at an all-way stop nobody has priority: s to p"),
+    ({"sign": "Z"}, "they merge in turn with those whom they meet: s to p"),
+    ({"speed": 30}, "streams that meet at more than 80 km/h don't take gaps as on streets: s to p")])
+def test_who_cant_give_way_is_told_with_the_reason(told, terms, why):
+    out = told(**terms)
+    assert f"  1 {UNOPPOSED}{why}\n" in out and gives_way(out) == "w to n"
+    # The study has it at its junction, and it is told by each run.
+    with open("n.toml") as file:
+        assert "# Give way to others, and don't wait for them here: s to p" in file.read()
+    assert f"1 {UNOPPOSED}{why}" in build(read_study("n.toml")).remarks
+
+
+def test_a_movement_whose_others_have_no_traffic_gives_way_to_nobody(told):
     out = told(flows={"w n": 90, "w p": 300})
-    assert UNOPPOSED not in out and MEETING not in out
+    assert gives_way(out) is None and UNOPPOSED not in out
 
 
 @pytest.mark.parametrize("phases, wanted", [
     (("GgGr", "rrrG"), "w to n"), (("GGGr", "rrrG"), None), (("GgrG", "rrGr"), None), (("GgGr", "rrrg"), "w to n"),
     (("rrGg", "GGrr"), None)])
 def test_at_a_signal_a_green_without_priority_counts_while_the_others_have_theirs(told, phases, wanted):
-    found = re.search(f"{UNOPPOSED}(.*)", told(*phases))
-    assert (found and found[1]) == wanted
+    assert gives_way(told(*phases)) == wanted
 
 
-def test_permitted_phases_and_signs_of_gmns_are_told(tool, tmp_path):
-    (tmp_path / "town").mkdir()
-    for name, text in TABLES.items():
-        (tmp_path / "town" / f"{name}.csv").write_text(text.replace("p2,2,permitted\np4,3", "p2,2,permitted\np2,3"))
-    out = tool("import", "gmns", "town", "-o", "town.toml")[1]
-    assert f"  1 {UNOPPOSED}a to d\n" in out
-    (tmp_path / "town" / "movement.csv").write_text(TABLES["movement"].replace("c,signal,\n", "c,stop,\n"))
-    out = tool("import", "gmns", "town", "-o", "town.toml")[1]
-    assert f"  2 {UNOPPOSED}a to d, b to c\n" in out
+def test_a_green_without_priority_is_permitted_in_its_phase(told):
+    told("GgGr", "rGrG")  # w to n is green without priority for 30 s, and alone then
+    (junction,) = study()["junctions"]
+    assert junction["phases"] == [
+        {"start": 0, "green": 30, "movements": [["w", "n"], ["w", "p"], ["e", "o"]], "permitted": [["w", "n"]]},
+        {"start": 30, "green": 30, "movements": [["w", "n"], ["s", "p"]]}]
+    assert yields_of(junction) == {("w", "n"): {"yields_to": [["e", "o"]], "kind": "permitted-left"}}
+    (one,) = read_study("n.toml").yields
+    assert one.permission.permitted == [(0, 30)]
+
+
+def test_a_movement_that_gives_way_in_the_shorter_of_two_greens_alone_is_told(told):
+    net = NET.replace("{signal}", '<tlLogic id="J" type="static" programID="0" offset="0"><phase duration="10" state="rgGr"/>'
+                      '<phase duration="20" state="GrGr"/><phase duration="30" state="rGrG"/><phase duration="9" state="rrrr"/></tlLogic>')
+    out = told("", "", net=net)
+    assert f"  1 {UNOPPOSED}in the green that is kept of them they don't give way: w to n\n" in out
+
+
+def test_greens_between_a_least_and_a_most_follow_traffic(told):
+    out = told("GGGr", "rrrG", logic="actuated", limits='minDur="5" maxDur="45"')
+    (junction,) = study()["junctions"]
+    assert junction["phases"] == [
+        {"start": 0, "green": 30, "movements": [["w", "n"], ["w", "p"], ["e", "o"]], "actuated": {"least": 5, "most": 45, "gap": 3}},
+        {"start": 30, "green": 30, "movements": [["s", "p"]]}]
+    assert "1 signals follow traffic, each green between its least and its most" in out and len(read_study("n.toml").actuated) == 1
+
+
+def test_a_street_alone_at_a_signal_follows_traffic_too(told):
+    out = told("GGGr", "rrrG", logic="actuated", limits='minDur="0" maxDur="9999"', flows={"w p": 300})
+    (signal,) = study()["signals"]
+    # A green lasts a second or more, and an hour at most.
+    assert signal["actuated"] == {"least": 1, "most": 3600, "gap": 3} and "1 signals follow traffic" in out
+    assert len(read_study("n.toml").actuated) == 1
+
+
+@pytest.mark.parametrize("phases, why", [
+    (("GgGr", "rrrG"), "some are green there for who gives way: J"),
+    (("GrGr", "rGrG"), "movements of one approach have greens of their own: J")])
+def test_greens_that_cant_follow_traffic_are_fixed_and_told(told, phases, why):
+    out = told(*phases, logic="actuated", limits='minDur="5" maxDur="45"')
+    assert f"1 signals that follow traffic keep the lengths of their phases as fixed ones, since {why}" in out
+    assert not any("actuated" in phase for phase in study()["junctions"][0]["phases"])
+
+
+def test_a_signal_of_another_sort_keeps_its_greens(told):
+    out = told("GGGr", "rrrG", logic="delay_based", limits='minDur="5" maxDur="45"')
+    assert "1 signals follow traffic otherwise than by a least and a most of their greens (J); the lengths of their phases are" in out
+
+
+# In the full check no case may be skipped: where sumolib isn't there, this is none.
+if sumolib_net.is_there():
+    def test_sumolib_reads_the_same_of_giving_way(told, tmp_path, monkeypatch):
+        told("GgGr", "rrrG", logic="actuated", limits='minDur="5"', more='<roundabout nodes="J" edges="w p"/>')
+        (tmp_path / "n.net.xml").write_text((tmp_path / "n.net.xml").read_text().replace("<net>", '<net lefthand="true">'))
+        by_library = read_network(tmp_path / "n.net.xml")
+        monkeypatch.setattr(sumolib_net, "is_there", lambda: False)
+        by_text = read_network(tmp_path / "n.net.xml")
+        assert by_library.ways == by_text.ways and by_library.programs == by_text.programs
+        assert by_text.ways["s", "p"].ring == 1 and by_text.programs["J"].stages
+
+
+def gmns(tool, tmp_path, tables):
+    (tmp_path / "town").mkdir(exist_ok=True)
+    for name, text in tables.items():
+        (tmp_path / "town" / f"{name}.csv").write_text(text)
+    return tool("import", "gmns", "town", "-o", "n.toml")
+
+
+UNSIGNALLED = {name: text for name, text in TABLES.items() if not name.startswith("signal")}
+
+
+@pytest.mark.parametrize("control, wanted", [
+    ("yield", {"control": "give_way"}), ("stop", {}), ("stop_2_way", {}), ("no_control", None), ("", None)])
+def test_the_control_of_a_movement_of_gmns_says_how_it_gives_way(tool, tmp_path, control, wanted):
+    status, out, _ = gmns(tool, tmp_path, {**UNSIGNALLED, "movement": TABLES["movement"].replace("c,signal,\n", f"c,{control},\n")})
+    assert status == 0
+    # b comes from the north and turns left into c by its shape, which meets a to c. As neither turns right it crosses a to d, a
+    # left turn out of the street with priority, which counts twice. Three streets meet.
+    joints = study()["junctions"]
+    if wanted is None:
+        assert gives_way(out) is None and "yields" not in joints[0]
+    else:
+        assert yields_of(joints[0]) == {("b", "c"): {"yields_to": [["a", "c"], ["a", "d", 2]], "kind": "minor-left", "legs": 3, **wanted}}
+
+
+def test_a_node_of_gmns_at_which_all_stop_is_told(tool, tmp_path):
+    node = TABLES["node"].replace("y_coord\n", "y_coord,ctrl_type\n").replace("2,1609,0\n", "2,1609,0,stop_4_way\n")
+    node = node.replace("1,0,0\n", "1,0,0,\n").replace("3,3218,0\n", "3,3218,0,\n").replace("4,1609,1609\n", "4,1609,1609,\n")
+    movement = TABLES["movement"].replace("signal", "")
+    _, out, _ = gmns(tool, tmp_path, {**UNSIGNALLED, "node": node, "movement": movement})
+    assert f"3 {UNOPPOSED}at an all-way stop nobody has priority: a to c, a to d, b to c\n" in out
+    _, out, _ = gmns(tool, tmp_path, {**UNSIGNALLED, "node": node.replace("stop_4_way", "stop_2_way"), "movement": movement})
+    assert "1 nodes have a ctrl_type, as stop_2_way, and no movement that says who gives way: 2\n" in out
+
+
+def test_a_node_of_gmns_where_nobody_has_priority_is_told(tool, tmp_path):
+    _, out, _ = gmns(tool, tmp_path, {**UNSIGNALLED, "movement": TABLES["movement"].replace("signal", "stop")})
+    assert "3 movements give way by their ctrl_type, and so do all whom they meet, so none has priority: a to c, a to d, b to c\n" in out
+
+
+def test_a_control_that_gmns_doesnt_know_is_refused_with_its_place(tool, tmp_path):
+    status, _, err = gmns(tool, tmp_path, {**TABLES, "movement": TABLES["movement"].replace("c,signal,\n", "c,yeld,\n")})
+    assert status == 2 and 'movement.csv: line 4, ctrl_type: expected no_control, signal, yield, stop, stop_2_way, stop_4_way' in err
+    assert 'found "yeld"' in err and not (tmp_path / "n.toml").exists()
+
+
+def test_a_permitted_phase_of_gmns_gives_way_in_its_green(tool, tmp_path):
+    _, out, _ = gmns(tool, tmp_path, {**TABLES, "signal_phase_mvmt": TABLES["signal_phase_mvmt"].replace(
+        "p2,2,permitted\np4,3", "p2,2,permitted\np2,3")})
+    assert gives_way(out) == "a to d"
+    (junction,) = study()["junctions"]
+    assert junction["phases"][0]["permitted"] == [["a", "d"]]

@@ -223,6 +223,35 @@ def test_a_movement_from_a_link_that_is_not_directed_takes_the_street_to_its_nod
     assert ("d_back", "c") in read_folder(folder).ways
 
 
+@pytest.mark.parametrize("start, end, other, wanted", [
+    ("-1", "1", "1", 2), ("-2", "2", "1", 4), ("-2", "-1", "1", 2), ("1", "2", "1", 2), ("-1", "1", "0", 3), ("0", "1", "1", 2)])
+def test_lanes_to_the_left_are_negative_and_none_has_the_number_0_unless_the_file_has_it(folder, start, end, other, wanted):
+    """Lanes are numbered .., -2, -1, 1, 2, ..; in a file that has a lane 0 they are numbered through it."""
+    rows = TABLES["movement"].replace("1,2,a,1,2,c", f"1,2,a,{start},{end},c").replace("3,2,b,1,1,c", f"3,2,b,{other},{other},c")
+    (folder / "movement.csv").write_text(rows)
+    assert read_folder(folder).ways["a", "c"].lanes == wanted
+    (folder / "lane.csv").write_text("lane_id,link_id,lane_num\n1,a,0\n")
+    assert read_folder(folder).ways["a", "c"].lanes == int(end) - int(start) + 1
+
+
+# South and west of Johannesburg's zone the numbers grow, and south and west of Prague's: by their own axes.
+@pytest.mark.parametrize("crs, here, east, north", [
+    ("EPSG:2053", "95000,2899000", "94000,2899000", "95000,2898000"), ("EPSG:5513", "1043000,743000", "1043000,742000", "1042000,743000")])
+def test_axes_to_the_south_and_the_west_are_turned(tool, folder, crs, here, east, north):
+    """A link of a km to the east and one of a km to the north are drawn so, but for the angle between the meridians of grids."""
+    (folder / "config.csv").write_text(f"crs,long_length,speed\n{crs},km,km/h\n")
+    (folder / "node.csv").write_text(f"node_id,x_coord,y_coord\n1,{here}\n2,{east}\n3,{north}\n")
+    (folder / "link.csv").write_text("link_id,from_node_id,to_node_id,length,free_speed,lanes\na,2,1,1,50,1\nb,1,3,1,50,1\n")
+    for name in ("movement", "signal_timing_plan", "signal_timing_phase", "signal_phase_mvmt", "signal_coordination", "demand"):
+        (folder / f"{name}.csv").unlink()
+    (folder / "demand.csv").write_text("link_id,start,end,flow\na,0,1800,600\n")
+    assert tool("import", "gmns", folder, "-o", "town.toml")[0] == 0
+    east_end, middle, north_end = build(read_study("town.toml")).units.points["a"]  # the links are one road
+    turned = 0.16  # sine of the angle between the grids' norths, of some 8 degrees at Prague
+    assert [east_end[i] - middle[i] for i in (0, 1)] == pytest.approx([1, 0], abs=turned)
+    assert [north_end[i] - middle[i] for i in (0, 1)] == pytest.approx([0, 1], abs=turned)
+
+
 def test_movements_by_lanes_from_link_to_link_add_up(folder):
     rows = TABLES["movement"].replace("1,2,a,1,2,c,signal,3", "1,2,a,1,1,c,signal,1\n4,2,a,2,2,c,signal,2")
     (folder / "movement.csv").write_text(rows)

@@ -74,9 +74,7 @@ def test_streets_ways_and_signals(files):
     assert a.points == [(-0.25, 0), (0, 0)]
     assert found.ways["a", "c"].lanes == 1 and found.ways["a", "c"].green == [(0, 30)] and found.ways["b", "c"].green == [(34, 60)]
     assert (found.programs["J"].cycle, found.programs["J"].offset) == (60, 10)
-    assert found.notes == ["1 edges that cars may not use are left out",
-                           "1 junctions without a signal: where streams meet, giving way is kept as priorities; streams that "
-                           "only cross don't heed each other"]
+    assert found.notes == ["1 edges that cars may not use are left out"]
 
 
 def test_greens_that_follow_each_other_are_one():
@@ -84,9 +82,10 @@ def test_greens_that_follow_each_other_are_one():
     assert joined([(5, 10), (40, 50)], 60) == [(5, 10), (40, 50)] and joined([(0, 60)], 60) == [(0, 60)]
 
 
-def test_an_actuated_signal_is_told(files):
+def test_an_actuated_signal_without_a_least_and_a_most_is_told(files):
     (files / "town.net.xml").write_text(net("actuated"))
-    assert "1 signals are actuated (J); the lengths of their phases are kept as fixed ones" in read_network(files / "town.net.xml").notes
+    assert "1 signals follow traffic otherwise than by a least and a most of their greens (J); the lengths of their phases are " \
+        "kept as fixed ones" in read_network(files / "town.net.xml").notes
 
 
 def test_trips(files):
@@ -236,7 +235,7 @@ def test_a_network_that_sumolib_can_not_read_is_read_by_its_xml(files):
 def canonical(found):
     """A network whatever the order of its connections and of its signals."""
     return (found.name, found.edges, sorted(found.links, key=repr), sorted(found.logics, key=repr), found.nodes, found.roundabouts,
-            found.location)
+            found.ring_nodes, found.on_the_left, found.location)
 
 
 # The tools can do without sumolib, and in the full check no case may be skipped: where it isn't there, these are none.
@@ -259,7 +258,7 @@ def test_the_study_is_the_same_with_sumolib_and_without(tool, files, monkeypatch
     assert (sumolib_net.read(files / "town.net.xml") is not None) == there
     (files / "roundabout.net.xml").write_text(net().replace("</net>", '<roundabout nodes="C J" edges="c d"/></net>'))
     status, out, err = tool("import", "sumo", "roundabout.net.xml", "--routes", "town.rou.xml", "-o", "town.toml")
-    assert status == 0 and out.startswith("town.toml: 5 streets, 1 signals, 632 vehicles") and "1 roundabouts" in out
+    assert status == 0 and out.startswith("town.toml: 5 streets, 1 signals, 632 vehicles")
     assert tool("import", "sumo", "town.net.xml", "--routes", "town.rou.xml", "-o", "plain.toml")[0] == 0
     assert build(read_study("town.toml")).text.split("\n", 1)[1] == build(read_study("plain.toml")).text.split("\n", 1)[1]
     for text, wanted in (("<net>", "no XML"), ("<routes/>", "expected <net>, found <routes>")):

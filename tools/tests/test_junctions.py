@@ -53,6 +53,17 @@ def test_phases_that_are_green_together_by_their_starts_are_told(tmp_path):
     assert not told[1] and "both green for 15 s" in told[2][0]
 
 
+def test_many_ways_out_of_a_street_with_a_long_name(tmp_path):
+    street, outs = "street-of-many-ways-out", "abcdef"
+    text = HEAD.format(end="07:00") + "[roads]\n" + "".join(f'{road} = {{ length = 1, lanes = 2 }}\n' for road in (street, *outs))
+    text += f'[gates.g]\ninto = "{street}"\ndemand = 600\n[exits]\n' + "".join(f'x{road} = {{ from = "{road}" }}\n' for road in outs)
+    (tmp_path / "study.toml").write_text(text + f'[[junctions]]\nfrom = ["{street}"]\ninto = {[*outs]}\nshares = [[1, 1, 1, 1, 1, 1]]\n')
+    # Each diverge parts one way from the others, 1 to as many as are left; a name has at most 32 letters.
+    forks = [f"{street}4", *(f"{street}-fork{number}.1" for number in range(1, 5))]
+    assert [[row[0], *row[3:]] for row in records(build(read_study(tmp_path / "study.toml")), "diverge")] == \
+        [[fork, "1", str(5 - number)] for number, fork in enumerate(forks)]
+
+
 def test_three_that_lead_to_one_way_out_are_joined_twice(tmp_path):
     made = built(tmp_path, 'from = ["n", "e", "w"]\ninto = ["x"]\nshares = [[1], [1], [1]]\npriorities = [3, 2, 1]\n')
     assert records(made, "merge") == [["n-x1", "e-x1", "x-join1.1", "3", "2"], ["x-join1.1", "w-x1", "x1", "5", "1"]]

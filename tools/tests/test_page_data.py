@@ -37,7 +37,8 @@ def test_the_data_of_a_light():
     assert data["times"] == [f"step {step}" for step in range(41)] and data["clock"] == {"known": False, "bounds": [*range(41)]}
     assert data["subtitle"] == "40 steps. 3 vehicles came, 3 were served, 0 are still inside, delay 6 vehicle-steps"
     assert data["notes"].startswith("Density, flow and speed are means over 1 step. A cell") and data["title"] == "light"
-    assert data["networks"][0]["roads"] == {"all": [1]} and data["opening"] == {"report": 0, "road": "all", "cell": "a", "frame": 9}
+    whole = "all road cells, in the order of the file"
+    assert data["networks"][0]["roads"] == {whole: [1]} and data["opening"] == {"report": 0, "road": whole, "cell": "a", "frame": 9}
     cell = cells_of(data)[1]
     assert (cell["name"], cell["kind"], cell["from"], cell["to"]) == ("a", "road", 0, 1)
 
@@ -68,7 +69,7 @@ def test_two_reports_side_by_side():
     assert (data["title"], data["subtitle"]) == ("made and other", "60 steps")
     # Length, delay, vehicles, delay of each and most in queues; a gate has neither length nor queue.
     table = table_of([one, two])
-    assert [figures(table, i)["all"][:5] for i in (0, 1)] == [[1, 400, 40, 10, 1], [1, 100, 20, 5, 1]]
+    assert [figures(table, i)["all road cells, in the order of the file"][:5] for i in (0, 1)] == [[1, 400, 40, 10, 1], [1, 100, 20, 5, 1]]
     assert [figures(table, i)["gate ga"][:5] for i in (0, 1)] == [[None, 0, 40, 0, None], [None, 0, 20, 0, None]]
     # Came, served, still inside, delay, and how much more than the first.
     assert data["tables"]["reports"]["rows"] == [["made", 40, 40, 0, 400, None, None], ["other", 20, 20, 0, 100, -300, -75]]

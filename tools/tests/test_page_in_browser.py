@@ -213,7 +213,7 @@ def test_it_is_zoomed_dragged_and_played(browser, two):
         browser.execute_script(f"{name}.closest('.pane').querySelector('[data-zoom=\"0\"]').click()")
         assert browser.execute_script(f"return {name}Zoom.k") == 1
     browser.find_element(By.ID, "play").click()
-    WebDriverWait(browser, 20).until(lambda _: text(browser, "time") > "08:01")
+    WebDriverWait(browser, 300).until(lambda _: text(browser, "time") > "08:01")
     browser.find_element(By.ID, "play").click()
     stopped = text(browser, "time")
     assert text(browser, "time") == stopped and browser.get_log("browser") == []
@@ -258,6 +258,25 @@ def test_light_and_dark_on_screens_of_all_widths(browser, two, scheme, paper, wi
     assert body.value_of_css_property("background-color") == paper
     assert browser.execute_script("return document.documentElement.scrollWidth") <= width
     assert browser.get_log("browser") == []
+
+
+def test_five_reports_on_a_narrow_screen(browser, reports, tmp_path):
+    """Their names stand in the table, each above its numbers, and where they come from is told where it is asked for."""
+    found = [read_report(reports("bottleneck")) for _ in range(5)]
+    for number, report in enumerate(found, 1):
+        report.units.title = f"Plan {number} with staggered hours before the lane drop"
+    path = tmp_path / "five.html"
+    path.write_text(page_of(found))
+    opened(browser, path, 420)
+    height = "return document.querySelector(arguments[0]).getBoundingClientRect().height"
+    assert text(browser, "title") == "Plan 1 with staggered hours before the lane drop and 4 other reports"
+    assert browser.execute_script(height, "header") < 120 and browser.execute_script(height, "#compared") < 450
+    assert browser.execute_script("const box = document.querySelector('#reports').parentNode; return box.scrollWidth <= box.clientWidth")
+    assert text(browser, "provenance") == ""
+    browser.find_element(By.CSS_SELECTOR, "#origin summary").click()
+    assert "Page made on" in text(browser, "provenance")
+    opened(browser, path)
+    assert "Page made on" in text(browser, "provenance") and browser.get_log("browser") == []
 
 
 def printed_pages(browser):

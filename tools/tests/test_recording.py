@@ -1,6 +1,7 @@
 """How often a run is recorded, against a search over all it could be, and the sign of life while it runs."""
 
 import io
+import re
 import time
 
 import pytest
@@ -8,6 +9,8 @@ import pytest
 from ctmtools import Problem, program, working
 from ctmtools.command_line import main
 from ctmtools.moments import going_on
+
+from .clusters import wait_until
 
 
 def least(steps, cells):
@@ -40,9 +43,10 @@ def test_a_terminal_shows_a_sign_and_the_seconds(monkeypatch):
     monkeypatch.setattr(working, "BLINK", 0.01)
     shown = Terminal()
     with working.working("ctm is running", shown):
-        time.sleep(0.5)
+        wait_until(lambda: shown.getvalue().count(" s ") >= 2)
     first, second, *_, last = shown.getvalue().split("\r")[1:]
-    assert (first, second) == ("| ctm is running, 0 s ", "/ ctm is running, 0 s ") and last == "\x1b[K"
+    assert re.fullmatch(r"\| ctm is running, \d+ s ", first) and re.fullmatch(r"/ ctm is running, \d+ s ", second)
+    assert last == "\x1b[K"
 
 
 def test_another_stream_gets_nothing(monkeypatch):

@@ -6,21 +6,22 @@ import os
 import signal
 import subprocess
 import sys
-import threading
-import time
 from fractions import Fraction
 
 import pytest
 
 from ctmtools.problem import Problem
 from ctmtools.sweeps import workers
+from ctmtools.sweeps.results import Results
 from ctmtools.sweeps.task import Task, fingerprint, measure
 from ctmtools.sweeps.variations import changed, combinations, variation
 from ctmtools.study.reading import read_values
 
+from .clusters import PATIENCE, at_row, kill_a_worker, two_workers, wait_until
 from .examples import EXAMPLES
 
 STUDY = EXAMPLES / "arterial-0.toml"
+WITH_DASK = pytest.mark.skipif(importlib.util.find_spec("distributed") is None, reason="python3-distributed is missing")
 
 
 def task(program, **changes):
@@ -121,57 +122,34 @@ def test_an_ended_process_loses_nothing(plain, tmp_path):
     assert sorted(done) == list(range(8)) and not any(measured["error"] for measured in done.values())
 
 
-@pytest.mark.skipif(importlib.util.find_spec("distributed") is None, reason="python3-distributed is missing")
-def test_a_lost_worker_of_a_cluster_loses_nothing(tool, plain):
-    """A scheduler and two workers on the loopback address, one of them ended in the middle."""
-    from distributed import LocalCluster
-
-    with LocalCluster(n_workers=2, threads_per_worker=1, processes=True, host="127.0.0.1",
-                      dashboard_address=None) as cluster:
-        victim = next(iter(cluster.workers.values())).pid
-
-        over = threading.Event()
-
-        def end_it():
-            while not over.is_set() and (not os.path.exists("arterial-0.sweep/results.csv") or \
-                    len(open("arterial-0.sweep/results.csv").readlines()) < 3):
-                time.sleep(0.02)
-            os.kill(victim, signal.SIGKILL)
-
-        ender = threading.Thread(target=end_it)
-        ender.start()
-        status, out, err = tool("sweep", STUDY, "--vary", "signals.offset=0:110:10", "--dask",
-                                cluster.scheduler_address)
-        over.set()
-        ender.join()
+@WITH_DASK
+def test_a_lost_worker_of_a_cluster_loses_nothing(tool, plain, monkeypatch):
+    """One of two workers is killed while both are at work."""
+    with two_workers(monkeypatch) as cluster:
+        at_row(monkeypatch, Results, 2, lambda: kill_a_worker(cluster))
+        status, out, err = tool("sweep", STUDY, "--vary", "signals.offset=0:110:10", "--dask", cluster.scheduler_address)
     assert status == 0, err
     rows = [line for line in open("arterial-0.sweep/table.csv")][1:]
     assert len(rows) == 12 and not any("failed" in row or "lost" in row for row in rows)
     assert out.splitlines()[1].split()[:2] == ["40", "6.75"]
 
 
-@pytest.mark.skipif(importlib.util.find_spec("distributed") is None, reason="python3-distributed is missing")
+@WITH_DASK
 @pytest.mark.parametrize("number", [signal.SIGKILL, signal.SIGINT])
-def test_a_scheduler_that_dies_is_told_with_what_to_do(tool, plain, tmp_path, number):
+def test_a_scheduler_that_dies_is_told_with_what_to_do(tool, plain, tmp_path, monkeypatch, number):
+    monkeypatch.setattr(workers, "PATIENCE", PATIENCE)
     scheduler = subprocess.Popen([sys.executable, "-c", SCHEDULER, tmp_path / "address"], stdout=subprocess.DEVNULL,
                                  stderr=subprocess.DEVNULL)
+
+    def end_it():
+        scheduler.send_signal(number)
+        scheduler.wait(PATIENCE)
+
     try:
-        while not (tmp_path / "address").exists():
-            assert scheduler.poll() is None
-            time.sleep(0.05)
+        wait_until(lambda: (tmp_path / "address").exists() or scheduler.poll() is not None)
         address = (tmp_path / "address").read_text()
-
-        def end_it():
-            while not os.path.exists("arterial-0.sweep/results.csv") or \
-                    len(open("arterial-0.sweep/results.csv").readlines()) < 3:
-                time.sleep(0.02)
-            scheduler.send_signal(number)
-
-        ender = threading.Thread(target=end_it)
-        ender.start()
-        status, out, err = tool("sweep", STUDY, "--vary", "signals.offset=0:110:1", "--vary", "demand=1,1.01,1.02,1.03",
-                                "--dask", address)
-        ender.join()
+        at_row(monkeypatch, Results, 2, end_it)
+        status, out, err = tool("sweep", STUDY, "--vary", "signals.offset=0:110:10", "--dask", address)
     finally:
         scheduler.kill()
         scheduler.wait()
@@ -180,19 +158,19 @@ def test_a_scheduler_that_dies_is_told_with_what_to_do(tool, plain, tmp_path, nu
     assert len(open("arterial-0.sweep/results.csv").readlines()) >= 3
 
 
-# A scheduler and a worker in one process, which write their address into a file.
+# A scheduler and a worker in one process, which write their address into a file, and take leave at an interrupt.
 SCHEDULER = """
-import os, sys
+import os, signal, sys
 from distributed import LocalCluster
 if __name__ == "__main__":
+    signal.pthread_sigmask(signal.SIG_BLOCK, {signal.SIGINT})
     cluster = LocalCluster(n_workers=1, threads_per_worker=1, processes=False, protocol="tcp://", host="127.0.0.1",
                            dashboard_address=None)
     open(sys.argv[1] + ".new", "w").write(cluster.scheduler_address)
     os.rename(sys.argv[1] + ".new", sys.argv[1])
-    import signal
-    signal.signal(signal.SIGINT, lambda *_: (cluster.close(), os._exit(0)))
-    while True:
-        signal.pause()
+    signal.sigwait({signal.SIGINT})
+    cluster.close()
+    os._exit(0)
 """
 
 

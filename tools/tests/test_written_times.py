@@ -3,7 +3,7 @@
 import pytest
 
 from ctmtools.problem import Problem
-from ctmtools.study.count_times import Moment, day, day_text, follows, moment
+from ctmtools.detectors.written_times import Moment, day, day_text, follows, moment
 
 HOUR, MINUTE = 3600, 60
 

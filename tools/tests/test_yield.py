@@ -193,3 +193,63 @@ def test_the_village_has_the_delay_of_paper(name, traffic, delay, recording_prog
             row.flow *= Fraction(traffic).limit_denominator(10)
     report = recorded(settled_by_runs(study).built)
     assert report.delay_vehicle_hours == pytest.approx(delay, rel=0.006, abs=0.01)
+
+
+RANKS = LANE + """[roads]
+a = {{ length = 0.2, lanes = 1 }}
+b = {{ length = 0.2, lanes = 1 }}
+c = {{ length = 0.2, lanes = 1 }}
+d = {{ length = 0.2, lanes = 1 }}
+[gates]
+ga = {{ into = "a", demand = {flows[0]} }}
+gb = {{ into = "b", demand = {flows[1]} }}
+gc = {{ into = "c", demand = {flows[2]} }}
+gd = {{ into = "d", demand = {flows[3]} }}
+[exits.w]
+[exits.x]
+[exits.y]
+[exits.z]
+[[junctions]]
+from = ["a", "b", "c", "d"]
+into = ["w", "x", "y", "z"]
+shares = [[1, 0, 0, 0], [0, 1, 0, 0], [0, 0, 1, 0], [0, 0, 0, 1]]
+yields = [{yields}]
+"""
+OF_RANKS = ('{ movement = ["b", "x"], kind = "major-left", yields_to = [["a", "w"]] }, '
+            '{ movement = ["c", "y"], kind = "minor-through", yields_to = [["a", "w"], ["b", "x"]] }, '
+            '{ movement = ["d", "z"], kind = "minor-left", yields_to = [["a", "w"], ["b", "x"], ["c", "y"]] }')
+
+
+def last_limits(found):
+    return {one.road: float(one.capacities[-1].flow) for one in found.study.yields}
+
+
+def test_each_rank_is_held_up_by_those_above_it_as_much_as_they_are_themselves(tmp_path, recording_program):
+    found = settled_by_runs(read_study(write(tmp_path, RANKS.format(flows=[300, 100, 100, 100], yields=OF_RANKS))))
+    # Past 300, 400 and 500 the gaps let pass 1,272.8, 541.4 and 484.5. Rank 2 waits with 100/1,272.8, so of rank 3 pass 541.4·0.92143 =
+    # 498.9, and of rank 4 484.5·0.92143·(1 - 100/498.9) = 356.9; with 541.4 in its place it would be 364.0.
+    assert last_limits(found) == {"b-x": pytest.approx(1272.8, rel=0.003), "c-y": pytest.approx(498.9, rel=0.003),
+                                  "d-z": pytest.approx(356.9, rel=0.003)}
+
+
+EACH_OTHER = ('{ movement = ["a", "w"], kind = "minor-through", yields_to = [["b", "x"]] }, '
+              '{ movement = ["b", "x"], kind = "minor-through", yields_to = [["a", "w"]] }')
+
+
+def test_two_full_streets_that_give_way_to_each_other_share_what_there_is(tmp_path, recording_program):
+    found = settled_by_runs(read_study(write(tmp_path, RANKS.format(flows=[1500, 1500, 0, 0], yields=EACH_OTHER))))
+    # c(r) - r = r by Harders with 6.5 and 4.0 s, so exp(-6.5·r/3600) = 2·(1 - exp(-4·r/3600)): 0.5755 = 0.5765 at r = 306, and 305.7.
+    assert found.is_settled and last_limits(found) == {"a-w": pytest.approx(305.7, rel=0.02), "b-x": pytest.approx(305.7, rel=0.02)}
+
+
+@pytest.mark.parametrize("flows", [[0, 0, 0, 0], [1800, 1800, 1800, 1800], [0, 900, 900, 900]])
+def test_no_traffic_and_too_much_of_it_settle(tmp_path, recording_program, flows):
+    found = settled_by_runs(read_study(write(tmp_path, RANKS.format(flows=flows, yields=OF_RANKS))))
+    assert found.is_settled and all(0 <= float(each.flow) <= 1800 for one in found.study.yields for each in one.capacities)
+
+
+@pytest.mark.parametrize("step", [1, 3, 5])
+def test_what_passes_is_the_same_by_other_steps(tmp_path, recording_program, step):
+    text = SIDE.format(main=600, low=400, high=600).replace("step = 2", f"step = {step}")
+    found = settled_by_runs(read_study(write(tmp_path, text)))
+    assert last_limits(found) == {"side": pytest.approx(504.6, rel=0.005)}

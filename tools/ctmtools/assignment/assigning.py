@@ -3,7 +3,7 @@
 from __future__ import annotations
 
 from collections.abc import Iterator
-from dataclasses import dataclass
+from dataclasses import dataclass, replace
 
 import numpy
 
@@ -14,6 +14,8 @@ from ..report.reading import Report
 from ..running import run
 from ..study.network_text import Builder
 from ..study.plan import Study
+from ..yielding.settling import DAMPING, LEAST_MOVE, limited, wanted_of
+from ..yielding.yielding import Yielding
 from .choices import Choice
 from .departures import Departures, departures_of
 from .forks import Rounded, exits_ahead, forks_of, parts_of, refuse_shares
@@ -29,23 +31,28 @@ from .trickle import let_through
 from .ways_file import WayRow, rows_of
 
 RECORDED = 6  # so often in an interval of choice the runs are recorded, where steps and the program allow it
+LEAST_RECORDED = 60  # so often in a run at least
 
 Numbers = numpy.ndarray
 
 
 @dataclass(frozen=True)
 class Round:
-    """What a round came to: its gap, how far the loads of branches moved, delay in vehicle-hours, who changed before it."""
+    """What a round came to: its gap, how far the loads of branches moved, delay in vehicle-hours, who changed before it.
+
+    `limits` is the most by which what passes of those who give way would move, as a part of it.
+    """
 
     number: int
     gap: Gap
     moved: float
     delay: float
     changed: float
+    limits: float = 0.0
 
     def settled(self, gap: float) -> bool:
-        """Whether hardly anybody would gain by another way, and shares are those of the times that they lead to."""
-        return self.gap.relative < gap and self.moved < gap
+        """Whether hardly anybody would gain by another way, and shares and limits are those of the times that they lead to."""
+        return self.gap.relative < gap and self.moved < gap and self.limits <= LEAST_MOVE
 
 
 class Assignment:
@@ -56,13 +63,20 @@ class Assignment:
             raise Problem(f"{study.path}: trips: are missing; without them nobody chooses a way")
         self.study, self.workers, self.program = study, workers, program
         self.let_through = let_through(study)
+        study.yields = [replace(one, capacities=[]) for one in study.yields]  # the rounds work out what passes
         builder = Builder(study)
         self.shared = SharedNetwork(builder)
         self.network: Network = self.shared.built.network
+        if self.network.demands.empty:
+            raise Problem(f"{study.path}: trips: nobody sets out, to a millionth of a vehicle in a step")
         self.legs = Legs(self.network)
         self.passings = Passings(self.legs)
         self.passing: Passing = self.passings.free()
         self.departures: Departures = departures_of(study, self.network.steps)
+        self.shared.built.rounding.note("routing.interval", min(study.routing.interval, study.duration),
+                                        self.departures.width * study.step, "s")
+        self.yielding = [Yielding(one, study, self.shared.built) for one in study.yields]
+        self.limits_moved = 0.0
         self.forks = forks_of(builder, self.legs)
         refuse_shares(builder, self.legs)
         self.ahead = exits_ahead(self.legs, list(dict.fromkeys(trips.into for trips in study.trips)))
@@ -70,7 +84,8 @@ class Assignment:
         self.choices: list[Choice] = [given_choice(study, self.legs, self.shared.built.units, trips, self.departures)
                                       for trips in study.trips]
         self.every = max(recording_step(self.network.steps, len(self.network.cells)),
-                         self.departures.width // RECORDED)
+                         min(self.departures.width // RECORDED, self.network.steps // LEAST_RECORDED))
+        self.crowded: set[tuple[str, str]] = set()  # the pairs for whose quickest ways there is no room
         self.times: list[Numbers] = []
         self.parts: list[Numbers] = []
         self.report: Report | None = None
@@ -97,10 +112,11 @@ class Assignment:
             found, again = gap_of(self.choices, self.departures, self.times), self._loaded()
             assert self.report is not None  # the run gave it
             shifted = moved(counts, again, self.bounds, self.departures.width)
-            done = Round(number, found, shifted, self.report.units.hours(self.report.total.delay), changed)
+            done = Round(number, found, shifted, self.report.units.hours(self.report.total.delay), changed, self.limits_moved)
             yield done
             if done.settled(gap) or number == iterations:
                 return
+            self._limit(1.0 if number == 1 else DAMPING)
             changed = swap(self.choices, self.departures, self.times, pace.next(found.relative))
             counts = self._loaded()
 
@@ -115,12 +131,20 @@ class Assignment:
         self.text, self.report = run(content, self.study.path.name, self.shared.built.units, self.every, self.workers,
                                      self.program, network=self.network)
         self.passing = self.passings.of(self.report)
+        self.wanted = wanted_of(self.yielding, self.report)
+        self.limits_moved = max((one.move(rates) for one, rates in zip(self.yielding, self.wanted)), default=0.0)
+
+    def _limit(self, part: float) -> None:
+        """Has those who give way pass in the next round what the flows of the last one let, a part of the way there."""
+        if self.yielding:
+            self.shared = SharedNetwork(Builder(limited(self.study, self.yielding, self.wanted, part)))
 
     def _find(self) -> None:
         """Adds to each pair that seeks ways those of the least time in each interval."""
         seeking = [choice for choice in self.choices if not choice.closed]
         search = Search(self.passing, self.network.steps)
-        middles = [self.departures.begins(i) + self.departures.width / 2 for i in range(self.departures.intervals)]
+        self.crowded.clear()
+        middles = [self.departures.middle(i) for i in range(self.departures.intervals)]
         by_exit: dict[str, list[Choice]] = {}
         for choice in seeking:
             by_exit.setdefault(choice.into, []).append(choice)
@@ -129,8 +153,8 @@ class Assignment:
         for (into, _), found in zip(wanted, search.ways(wanted)):
             for place, choice in enumerate(by_exit[into]):
                 for way in dict.fromkeys(found[place * len(middles):(place + 1) * len(middles)]):
-                    if way is not None:
-                        choice.put(way)
+                    if way is not None and not choice.put(way):
+                        self.crowded.add((choice.source, choice.into))
 
     def _measure(self) -> None:
         self.times = [times_of(choice, vehicles, self.departures, self.passing)

@@ -16,7 +16,7 @@ class Choice:
     """A pair's ways, at most so many, and for each way and interval the part of the drivers who choose it or who keep it.
 
     The informed choose and the others keep what they have; each of both parts is of all of its kind, and `informed` is the
-    part of the first in each interval. Where the split is `given` nobody chooses, and where it is `closed` no way is added.
+    part of the first in each interval. Where the split is `given` nobody chooses, and where it is `closed` no way is sought.
     """
 
     source: str
@@ -38,16 +38,18 @@ class Choice:
         """The part of all drivers who take each way in each interval."""
         return self.informed * self.chosen + (1 - self.informed) * self.kept
 
-    def put(self, way: Way) -> None:
-        """Adds a way, where there is room for one more or for one in place of a way that nobody takes."""
-        if way in self.ways or self.closed:
-            return
+    def put(self, way: Way) -> bool:
+        """Adds a way, where there is room for one more or for one in place of a way that nobody takes; whether it is there now."""
+        if way in self.ways:
+            return True
         if len(self.ways) >= self.most:
             self._drop()
-        if len(self.ways) < self.most:
-            self.ways.append(way)
-            row = numpy.zeros((1, len(self.informed)))
-            self.chosen, self.kept = numpy.vstack([self.chosen, row]), numpy.vstack([self.kept, row])
+        if len(self.ways) >= self.most:
+            return False
+        self.ways.append(way)
+        row = numpy.zeros((1, len(self.informed)))
+        self.chosen, self.kept = numpy.vstack([self.chosen, row]), numpy.vstack([self.kept, row])
+        return True
 
     def _drop(self) -> None:
         """Drops a way that nobody takes in any interval, where there is one."""

@@ -3,12 +3,12 @@
 from __future__ import annotations
 
 from collections.abc import Iterator, Sequence
-from pathlib import Path
 
 import pandas
 
 from ..report.page import table, told
-from .ways_file import WayRow, read_ways, ways_path
+from ..report.reading import Report
+from .ways_file import WayRow, ways_of_report
 
 MOST_PAIRS = 10  # so many pairs are told, those with the greatest changes
 LEAST = 0.005  # minutes; a pair whose mean changes by less neither gains nor loses
@@ -31,12 +31,12 @@ def compare_pairs(first: Sequence[WayRow], second: Sequence[WayRow]) -> pandas.D
     return frame.loc[frame.hours.abs().sort_values(ascending=False, kind="stable").index]
 
 
-def pair_changes(first: str | Path, second: str | Path) -> Iterator[str]:
+def pair_changes(first: Report, second: Report) -> Iterator[str]:
     """What is told of the pairs of two reports beside which ways stand; nothing where they don't."""
-    paths = [ways_path(Path(report)) for report in (first, second)]
-    if not all(path.exists() for path in paths):
+    one, two = ways_of_report(first), ways_of_report(second)
+    if one is None or two is None:
         return
-    frame = compare_pairs(*map(read_ways, paths))
+    frame = compare_pairs(one, two)
     gained, lost = int((frame.rise <= -LEAST).sum()), int((frame.rise >= LEAST).sum())
     yield (f"\nOf {len(frame)} pairs {gained} gained and {lost} lost; the mean from gate to exit in min, the greatest "
            "changes:\n")

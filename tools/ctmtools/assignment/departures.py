@@ -18,7 +18,7 @@ Numbers = numpy.ndarray
 class Departures:
     """The vehicles of each pair in each span: a row for each pair, and the bounds of the spans in steps.
 
-    An interval of choice is `parts` spans, and `width` steps long.
+    An interval of choice is `parts` spans, and `width` steps long. The trips end at the step `last`.
     """
 
     pairs: list[tuple[str, str]]
@@ -26,6 +26,7 @@ class Departures:
     vehicles: Numbers
     parts: int
     width: int
+    last: float
 
     @cached_property
     def intervals(self) -> int:
@@ -45,17 +46,21 @@ class Departures:
         """The step at which an interval begins."""
         return interval * self.width
 
+    def middle(self, interval: int) -> float:
+        """The middle of the time in which drivers set out in an interval."""
+        return (self.begins(interval) + min(self.begins(interval + 1), max(self.last, self.begins(interval)))) / 2
+
 
 def departures_of(study: Study, steps: int) -> Departures:
     """The departures of a study's trips; the intervals end with the last of the trips."""
     step = float(study.step)
-    width = max(1, round(float(study.routing.interval) / step))
-    last = max(min(float(flow.end) / step, steps) for trips in study.trips for flow in trips.demand)
+    width = max(1, min(steps, round(float(study.routing.interval) / step)))
+    last = max((min(float(flow.end) / step, steps) for trips in study.trips for flow in trips.demand), default=0)
     parts = min(width, FINEST)
     intervals = max(1, int(numpy.ceil(last / width - 1e-9)))
     bounds = numpy.linspace(0, intervals * width, intervals * parts + 1)
     vehicles = numpy.array([_spread(trips, bounds, step, steps) for trips in study.trips])
-    return Departures([(trips.source, trips.into) for trips in study.trips], bounds, vehicles, parts, width)
+    return Departures([(trips.source, trips.into) for trips in study.trips], bounds, vehicles, parts, width, last)
 
 
 def _spread(trips: Trips, bounds: Numbers, step: float, steps: int) -> Numbers:

@@ -14,7 +14,10 @@ from ..units import clock_text
 from .assigning import Assignment
 from .choices import Choice
 from .given_ways import way_of
-from .ways_file import WayRow, read_ways
+from .legs import Way
+from .ways_file import LEAST, WayRow, read_ways
+
+ALIKE = "trips and the interval of choice have to be the same"
 
 Numbers = numpy.ndarray
 
@@ -32,41 +35,45 @@ def divert(assignment: Assignment, rows: Sequence[WayRow], informed: float, afte
     departures = assignment.departures
     begins = numpy.array([departures.begins(i) for i in range(departures.intervals)], dtype=float)
     parts = numpy.where(begins >= (0 if after is None else after), informed, 0.0)
+    if after is not None and not departures.by_interval[:, begins >= after].any():
+        raise Problem(f"{assignment.study.path}: --after: nobody sets out in an interval of choice that begins then or later, so "
+                      "nobody would choose anew")
     by_pair: dict[tuple[str, str], list[WayRow]] = {}
     for row in rows:
         by_pair.setdefault((row.source, row.into), []).append(row)
     for choice, vehicles in zip(assignment.choices, departures.by_interval):
+        if choice.given:
+            continue
         own = by_pair.get((choice.source, choice.into), [])
-        _keep(assignment, choice, own)
-        kept = _parts(assignment, choice, own, vehicles)
-        choice.keep(kept, parts)
+        ways = {roads: _way(assignment, choice, roads) for roads in dict.fromkeys(row.roads for row in own)}
+        for way in ways.values():
+            choice.most += 1
+            choice.put(way)
+        choice.keep(_parts(assignment, choice, own, ways, vehicles), parts)
 
 
-def _keep(assignment: Assignment, choice: Choice, rows: Sequence[WayRow]) -> None:
-    """Adds the ways of a pair's rows to its choice."""
-    for roads in dict.fromkeys(row.roads for row in rows):
-        choice.most += 1
-        choice.put(_way(assignment, choice, roads))
-
-
-def _way(assignment: Assignment, choice: Choice, roads: tuple[str, ...]) -> tuple[int, ...]:
-    place = f"ways from {choice.source} to {choice.into}"
+def _way(assignment: Assignment, choice: Choice, roads: tuple[str, ...]) -> Way:
+    place = f"the earlier assignment's ways from {choice.source} to {choice.into}"
     return way_of(Route(choice.source, choice.into, list(roads), [], place), assignment.study, assignment.legs,
                   assignment.shared.built.units)
 
 
-def _parts(assignment: Assignment, choice: Choice, rows: Sequence[WayRow], vehicles: Numbers) -> Numbers:
-    """The part of a pair's drivers on each way in each interval."""
+def _parts(assignment: Assignment, choice: Choice, rows: Sequence[WayRow], ways: dict[tuple[str, ...], Way],
+           vehicles: Numbers) -> Numbers:
+    """The part of a pair's drivers on each way in each interval, by the ways of their roads."""
     departures, study = assignment.departures, assignment.study
     clocks = [clock_text(float(study.start + departures.begins(i) * study.step), always=True)
               for i in range(departures.intervals)]
     taken = numpy.zeros((len(choice.ways), departures.intervals))
     for row in rows:
-        if row.start in clocks:
-            taken[choice.ways.index(_way(assignment, choice, row.roads)), clocks.index(row.start)] += row.vehicles
+        if row.start not in clocks:
+            raise Problem(f"{study.path}: the earlier assignment has drivers from {choice.source} to {choice.into} who set out at "
+                          f"{row.start}, at which no interval of choice begins here; {ALIKE}")
+        taken[choice.ways.index(ways[row.roads]), clocks.index(row.start)] += row.vehicles
     totals = taken.sum(axis=0)
-    lost = numpy.flatnonzero((vehicles > 0) & (totals == 0))
+    lost = numpy.flatnonzero((vehicles > 2 * LEAST) & (totals == 0))
     if len(lost):
         raise Problem(f"{study.path}: the earlier assignment has nobody from {choice.source} to {choice.into} who sets out at "
-                      f"{clocks[lost[0]]}; trips and the interval of choice have to be the same")
-    return taken / numpy.where(totals > 0, totals, 1)
+                      f"{clocks[lost[0]]}; {ALIKE}")
+    taken[0] += (vehicles > 0) & (totals == 0)  # so few that the earlier assignment didn't write them
+    return taken / numpy.where(taken.any(axis=0), taken.sum(axis=0), 1)

@@ -62,10 +62,8 @@ def _approaches(crossing: Crossing, builder: Builder, legs: Legs, first: dict[st
         columns = tuple(j for j, share in enumerate(crossing.shares[row]) if share)
         if len(columns) < 2:
             continue
-        cells, fork = [source if source in builder.study.gates else builder.layout.cells[source][-1].name], source
-        for number in range(1, len(columns) - 1):
-            fork = f"{fork}-fork{number}"
-            cells.append(first[fork])
+        cells = [source if source in builder.study.gates else builder.layout.cells[source][-1].name]
+        cells += [first[f"{source}-fork{number}"] for number in range(1, len(columns) - 1)]
         branches = tuple(legs.of_start[first[f"{source}-{crossing.into[column]}"]] for column in columns)
         yield Fork(crossing.place, row, branches, columns, tuple(cells))
 

@@ -2,7 +2,7 @@
 
 from __future__ import annotations
 
-from collections.abc import Sequence
+from collections.abc import Mapping, Sequence
 
 import networkx
 import numpy
@@ -60,25 +60,32 @@ def _share(choice: Choice, routes: Sequence[tuple[Route, Way]], study: Study, de
 
 def way_of(route: Route, study: Study, legs: Legs, units: Units) -> Way:
     """The way that a study gives: by the nearest cell of each of its roads in turn, and on to the exit."""
-    graph, cells = legs.network.graph, [route.source]
+    return legs.along(cells_along(route, legs.network.graph, units.roads, f"{study.path}: {route.place}.roads"))
+
+
+def cells_along(route: Route, graph: networkx.DiGraph, roads: Mapping[str, Sequence[str]], place: str) -> list[str]:
+    """The cells of a route from its gate to its exit."""
+    cells = [route.source]
     for road in route.roads:
-        if road not in units.roads:
-            raise Problem(f"{study.path}: {route.place}.roads: there is no road {road}")
-        cells += _on(graph, cells[-1], units.roads[road], f"{study.path}: {route.place}.roads", f"road {road}")
-    cells += _on(graph, cells[-1], [route.into], f"{study.path}: {route.place}.roads", route.into)
-    return legs.along(cells)
+        if road not in roads:
+            raise Problem(f"{place}: there is no road {road}")
+        cells += _on(graph, cells[-1], roads[road], place, f"road {road}")
+    return cells + _on(graph, cells[-1], [route.into], place, route.into)
 
 
 def _on(graph: networkx.DiGraph, start: str, targets: Sequence[str], place: str, name: str) -> list[str]:
     """The cells behind one, on the way to the nearest of some others."""
     if start in targets:
         return []
-    paths = networkx.single_source_shortest_path(graph, start)
-    reached = [cell for cell in targets if cell in paths]
-    if not reached:
-        raise Problem(f"{place}: no way leads from {start} to {name}")
-    path: list[str] = paths[min(reached, key=lambda cell: len(paths[cell]))]
-    return path[1:]
+    wanted, before = set(targets), {}
+    for up, down in networkx.bfs_edges(graph, start):
+        before[down] = up
+        if down in wanted:
+            path = [down]
+            while before[path[-1]] != start:
+                path.append(before[path[-1]])
+            return path[::-1]
+    raise Problem(f"{place}: no way leads from {start} to {name}")
 
 
 def road_of(units: Units, cell: str) -> str:

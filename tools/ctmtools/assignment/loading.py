@@ -30,7 +30,7 @@ def loaded(choices: Sequence[Choice], departures: Departures, passing: Passing, 
             if not part.any():
                 continue
             come = numpy.concatenate([[0.0], numpy.cumsum(vehicles * part)])
-            for leg, moments in zip(way[1:], passing.along(way[:-1], departures.bounds)):
+            for leg, moments in zip(way[1:], passing.along(way, departures.bounds)):
                 counts[leg] += numpy.diff(numpy.interp(bounds, moments, come))
     return counts
 

@@ -1,7 +1,8 @@
 """When who enters a leg leaves it: at free flow, or by the cumulative curves of a run.
 
 A chain is left in the order in which it was entered: who enters it as the N-th leaves it when N have left. So two curves
-tell all of it, that of who comes to its first cell and that of who leaves its last one.
+tell all of it, that of who comes to its first cell, behind those who stand in the chain at the start, and that of who leaves
+its last one.
 """
 
 from __future__ import annotations
@@ -37,6 +38,7 @@ class Passing:
             for chain in leg.chains:
                 moments = numpy.interp(moments, self.grid, self.chains[chain])
             self.left[number] = moments
+        self._along: dict[Way, list[Numbers]] = {}
 
     def through(self, leg: int, entered: Numbers) -> Numbers:
         """When those leave a leg that enter it at some moments."""
@@ -44,12 +46,14 @@ class Passing:
         return numpy.interp(entered, self.grid, self.left[leg]) + beyond
 
     def along(self, way: Way, entered: Numbers) -> list[Numbers]:
-        """When those leave each leg of a way that set out at some moments."""
-        found, moments = [], entered
-        for leg in way:
-            moments = self.through(leg, moments)
-            found.append(moments)
-        return found
+        """When those leave each leg of a way that set out at some moments, which are the same in all calls for a way."""
+        if way not in self._along:
+            found, moments = [], entered
+            for leg in way:
+                moments = self.through(leg, moments)
+                found.append(moments)
+            self._along[way] = found
+        return self._along[way]
 
 
 class Passings:
@@ -62,6 +66,8 @@ class Passings:
         places = {cell: place for place, cell in enumerate(legs.network.cells.index)}
         self.first = numpy.array([places[chain[0]] for chain in legs.chains])
         self.last = numpy.array([places[chain[-1]] for chain in legs.chains])
+        self.cells = numpy.array([places[cell] for chain in legs.chains for cell in chain])
+        self.begins = numpy.cumsum([0, *map(len, legs.chains[:-1])])  # of the chains among these
         self.closed = [list(self._closed(chain)) for chain in legs.chains]
 
     def _closed(self, chain: Iterable[str]) -> Iterable[tuple[int, int, int]]:
@@ -83,6 +89,7 @@ class Passings:
         grid = _finer(recorded)
         departed, held = report.departed.to_numpy(), report.occupancy.to_numpy()
         come = numpy.ascontiguousarray((held[:, self.first] + departed[:, self.first]).T)
+        come += (numpy.add.reduceat(held[0, self.cells], self.begins) - held[0, self.first])[:, None]
         gone = numpy.ascontiguousarray(departed[:, self.last].T)
         return Passing(self.legs, grid, numpy.array([
             numpy.maximum(_queued(recorded, numpy.interp(grid, recorded, come[chain]), gone[chain]),

@@ -7,6 +7,8 @@ from collections.abc import Iterator, Sequence
 import numpy
 
 from ..report.page import table, told
+from ..report.reading import Report
+from ..study.plan import Study
 from ..units import clock_text
 from .assigning import Assignment, Round
 from .ways_file import THEN, WayRow
@@ -22,11 +24,17 @@ def not_settled(assignment: Assignment, rounds: Sequence[Round], gap: float) -> 
     last = rounds[-1]
     if not last.settled(gap):
         which = f"the gap is {last.gap.relative:.4f}" if last.gap.relative >= gap else \
-            f"{last.moved:.2%} of what comes to branches still moves between them"
+            f"{last.moved:.2%} of what comes to branches still moves between them" if last.moved >= gap else \
+            f"what passes of those who give way still moves by {last.limits:.1%}"
         before = rounds[-LAST - 1].gap.relative if len(rounds) > LAST else float("inf")
         why = "it still falls, so more rounds help" if last.gap.relative < STALLED * before else \
             "it no longer falls: a shorter interval of choice or a longer study may help"
-        yield f"warning: after {last.number} rounds {which}, above {gap:g}; {why}{_most_of(assignment)}"
+        limit = f", above {gap:g}" if last.gap.relative >= gap or last.moved >= gap else ""
+        yield f"warning: after {last.number} rounds {which}{limit}; {why}{_most_of(assignment)}"
+    if assignment.crowded:
+        source, into = min(assignment.crowded)
+        yield (f"warning: {len(assignment.crowded)} pairs have as many ways as routing.ways says, and quicker ones were found, as "
+               f"from {source} to {into}; more ways may help")
     assert assignment.report is not None  # a round was made
     inside = float(assignment.report.total.inside)
     if inside > 1:
@@ -59,6 +67,19 @@ def rounded_lines(assignment: Assignment) -> Iterator[str]:
                "asked")
     elif found.of:
         yield "All shares are modelled as asked, to 0.1 % of the lesser branch."
+
+
+def settled_lines(study: Study, last: Round, report: Report) -> Iterator[str]:
+    """What the run of the written study has otherwise than the last round, where it works out what passes."""
+    delay = report.delay_vehicle_hours
+    if told(delay) == told(last.delay):
+        return
+    if study.actuated:
+        yield (f"\nwarning: greens that follow traffic are worked out in the run of the written study alone, which has "
+               f"{told(delay)} vehicle-hours of delay; drivers chose without them")
+    elif study.yields:
+        yield (f"\nThe run of the written study works out anew what passes of those who give way; it has {told(delay)} "
+               "vehicle-hours of delay.")
 
 
 def pair_lines(rows: Sequence[WayRow]) -> Iterator[str]:

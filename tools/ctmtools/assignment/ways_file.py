@@ -12,7 +12,9 @@ import numpy
 
 from ..network_file.network import read_bytes
 from ..problem import Problem
-from ..units import Units, clock_text
+from ..report.reading import Report
+from ..ties import checksum
+from ..units import Units, clock_text, seconds_of_clock
 from .choices import Choice
 from .departures import Departures
 from .given_ways import road_of
@@ -36,6 +38,11 @@ class WayRow:
     vehicles: float
     minutes: float
     roads: tuple[str, ...]
+
+    @property
+    def seconds(self) -> int:
+        """The seconds after midnight at which the interval begins."""
+        return seconds_of_clock(self.start)
 
 
 def roads_of(legs: Legs, units: Units, way: Way) -> tuple[str, ...]:
@@ -73,7 +80,12 @@ def ways_text(rows: Sequence[WayRow]) -> str:
 
 def read_ways(path: Path) -> list[WayRow]:
     """The rows of a file."""
-    reader = csv.DictReader(read_bytes(path).decode("utf-8", "replace").splitlines())
+    return rows_in(read_bytes(path), path)
+
+
+def rows_in(content: bytes, path: Path) -> list[WayRow]:
+    """The rows in the bytes of a file."""
+    reader = csv.DictReader(content.decode("utf-8", "replace").splitlines())
     if tuple(reader.fieldnames or ()) != COLUMNS:
         raise Problem(f"{path}: expected the columns {','.join(COLUMNS)}; `ctm-tools assign` writes such a file")
     rows = []
@@ -89,3 +101,12 @@ def read_ways(path: Path) -> list[WayRow]:
 def ways_path(report: Path) -> Path:
     """Where the ways of a report stand: beside it, under its name."""
     return report.with_suffix(".ways.csv")
+
+
+def ways_of_report(report: Report) -> list[WayRow] | None:
+    """The ways that stand beside a report, where they are of the assignment that ended in its network."""
+    path, units = ways_path(Path(report.name)), report.units
+    if units.ways_checksum is None or units.ways_network != units.network_checksum or not path.exists():
+        return None
+    content = read_bytes(path)
+    return rows_in(content, path) if checksum(content) == units.ways_checksum else None

@@ -7,12 +7,14 @@ from dataclasses import dataclass
 from pathlib import Path
 from typing import Any
 
-from ..files import guard_network, guard_report, write
+from ..files import guard_network, guard_report, write, write_units
 from ..plans.searching import moved_to
 from ..problem import Problem
 from ..report.reading import Report
 from ..running import opened, placed, run_into
 from ..study.writing import study_text
+from ..ties import checksum
+from ..units import units_path
 from .assigned_study import AssignedStudy
 from .assigning import Assignment, Round
 from .ways_file import WayRow, ways_path, ways_text
@@ -54,15 +56,27 @@ def places_of(source: str | Path, output: str | Path | None = None) -> Places:
     return Places(Path(output) if output else Path(Path(source).stem + ".assigned.toml"))
 
 
-def written(assignment: Assignment, values: dict[str, Any], places: Places) -> tuple[Report, list[WayRow]]:
-    """Writes the study, runs it, and writes its network, its report and its ways; the pictures aren't drawn."""
+def written(assignment: Assignment, values: dict[str, Any], places: Places) -> tuple[Report, list[WayRow], list[str]]:
+    """Writes the study, runs it, and writes its network, its report and its ways; the pictures aren't drawn.
+
+    Gives the report, the ways, and what is told of those who give way in it: what passes is worked out anew, as `run` does.
+    """
     source = assignment.study.path
     made = AssignedStudy(assignment.study, values, assignment.forks, assignment.parts, assignment.bounds)
     values = moved_to(made.made(places.ways.name, assignment.let_through), source, places.study)
     rows = assignment.rows()
-    write(places.ways, ways_text(rows))
+    text = ways_text(rows)
+    write(places.ways, text)
     write(places.study, study_text(values, f"{source.name} with the shares that ctm-tools assign found"))
-    return run_into(places.report, placed(opened(places.study), places.report), None, assignment.workers), rows
+    prepared = opened(places.study)
+    told = [*prepared.built.remarks, *(f"warning: {line}" for line in prepared.built.warnings)] if prepared.built else []
+    begun = {*assignment.shared.built.remarks, *(f"warning: {line}" for line in assignment.shared.built.warnings)}
+    report = run_into(places.report, placed(prepared, places.report), None, assignment.workers)
+    units = report.units
+    units.ways_checksum, units.ways_network = checksum(text.encode()), units.network_checksum
+    units.ways_interval = assignment.departures.width
+    write_units(units_path(places.report), units)
+    return report, rows, [line for line in told if line not in begun] if assignment.yielding else []
 
 
 def drawn(rounds: Sequence[Round], rows: Sequence[WayRow], report: Report, width: float, places: Places) -> None:

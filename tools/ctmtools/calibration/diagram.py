@@ -2,15 +2,23 @@
 
 from __future__ import annotations
 
-from dataclasses import dataclass
+from collections.abc import Iterable, Sequence
+from dataclasses import dataclass, replace
 from pathlib import Path
 
 import numpy
 import pandas
 
-from ..problem import Problem, one_line
+from ..detectors.formats import BEGINS_WITH_TIME
+from ..detectors.names import TIMES, plain
+from ..detectors.reading import read
+from ..detectors.several import paths_of
+from ..detectors.table import Source, named, source_of
+from ..detectors.wanted import Wanted
+from ..problem import Problem
 from ..report.queues import SLOW
 
+Names = str | Path | Iterable[str | Path]
 LEAST = 8  # rows
 LEAST_SPREAD = 0.2  # of the way from the top to the jam density, over which queued rows have to lie to tell its slope
 
@@ -41,25 +49,62 @@ class Triangle:
                 "together to tell a wave speed and a jam density")
 
 
-def read_states(path: str | Path, lanes: float = 1) -> pandas.DataFrame:
-    """Flow and density of a lane, of a file with the columns flow, and density or speed."""
-    try:
-        rows = pandas.read_csv(path)
-    except (OSError, ValueError) as error:
-        raise Problem(f"{path}: {one_line(error)}") from None
-    rows.columns = [column.strip().lower() for column in rows.columns]
-    if "flow" not in rows.columns or not {"density", "speed"} & set(rows.columns):
-        raise Problem(f"{path}: needs the columns flow and density, or flow and speed; it has {', '.join(rows.columns)}")
-    flow = pandas.to_numeric(rows.flow, errors="coerce") / lanes
-    if "density" in rows.columns:
-        density = pandas.to_numeric(rows.density, errors="coerce") / lanes
+def read_states(names: Names, lanes: float | None = None, wanted: Wanted = Wanted(), length: float | None = None) -> pandas.DataFrame:
+    """Flow and density of a lane: of a file with the columns flow, and density or speed, or of files of detectors.
+
+    A density is that in the files, else flow by speed, else occupancy by the effective length of a vehicle in m.
+    """
+    paths = paths_of(names)
+    source = source_of(paths[0], wanted.separator)
+    if len(paths) == 1 and not _has_times(source):
+        states, lines = _of_columns(source, lanes or 1, wanted.decimal), list[str]()
     else:
-        density = flow / pandas.to_numeric(rows.speed, errors="coerce")
-    found = pandas.DataFrame({"flow": flow, "density": density}).replace([numpy.inf, -numpy.inf], numpy.nan).dropna()
+        states, lines = _of_detectors(paths, lanes, wanted, length)
+    found = states.replace([numpy.inf, -numpy.inf], numpy.nan).dropna()
     found = found[(found.flow > 0) & (found.density > 0)].reset_index(drop=True)
     if len(found) < LEAST:
-        raise Problem(f"{path}: has {len(found)} rows with a flow and a density above 0, and {LEAST} are needed")
+        raise Problem(f"{paths[0]}: has {len(found)} rows with a flow and a density above 0, and {LEAST} are needed")
+    found.attrs["lines"] = lines
     return found
+
+
+def _has_times(source: Source) -> bool:
+    """Whether a file has times, as those of detectors do, and not flows and densities alone."""
+    return any(plain(name) in TIMES for name in source.first) or BEGINS_WITH_TIME.fullmatch((source.first or [""])[0]) is not None
+
+
+def _of_columns(source: Source, lanes: float, decimal: str | None) -> pandas.DataFrame:
+    """Flow and density of the columns flow, and density or speed; texts that are no numbers are left out."""
+    names = {name.lower(): i for i, name in enumerate(source.first)}
+    if "flow" not in names or not {"density", "speed"} & set(names):
+        raise Problem(f"{source.path}: needs the columns flow and density, or flow and speed; it has {', '.join(names)}")
+    texts = source.rows(source.head + 1, [names[name] for name in ("flow", "density", "speed") if name in names])
+    sign = decimal or "."
+    columns = {name: pandas.to_numeric(texts[names[name]].astype(str).str.replace(sign, ".", regex=False), errors="coerce")
+               for name in ("flow", "density", "speed") if name in names}
+    flow = columns["flow"] / lanes
+    density = columns["density"] / lanes if "density" in columns else flow / columns["speed"]
+    return pandas.DataFrame({"flow": flow, "density": density})
+
+
+def _of_detectors(paths: Sequence[Path], lanes: float | None, wanted: Wanted, length: float | None) -> tuple[pandas.DataFrame, list[str]]:
+    """Flow and density of a lane of one station, and what was read and left out."""
+    found = read(paths, replace(wanted, lanes=lanes))
+    rows = found.rows
+    if rows.station.nunique() > 1:
+        raise Problem(f"{found.files.name}: has several stations, {named([str(name) for name in rows.station.unique()])}; choose one by "
+                      "--station")
+    count = lanes or rows.lanes.fillna(1)
+    flow, density = rows.flow / count, rows.density / count
+    density = density.fillna(flow / rows.speed)
+    if length is not None:
+        density = density.fillna(rows.occupancy / 100 / (length / 1000))
+    if density.isna().all():
+        raise Problem(f"{found.files.name}: has neither densities nor speeds" + (
+            "; of occupancies say --vehicle-length, the length of a vehicle and of the detector, as 6.5" if rows.occupancy.notna().any()
+            else ""))
+    lines = [*found.lines, f"of {float(numpy.max(count)):g} lane{'s' * bool(numpy.max(count) != 1)}"]
+    return pandas.DataFrame({"flow": flow, "density": density}), lines
 
 
 def fit(states: pandas.DataFrame) -> Triangle:

@@ -2,18 +2,29 @@
 
 from __future__ import annotations
 
-from dataclasses import dataclass
+from collections.abc import Iterable, Mapping, Sequence
+from dataclasses import dataclass, field
 from pathlib import Path
 
+import numpy
 import pandas
 
-from ..problem import Problem, one_line
+from ..detectors.formats import needed
+from ..detectors.names import plain
+from ..detectors.numbers import by_text, numbers
+from ..detectors.reading import read
+from ..detectors.several import paths_of
+from ..detectors.table import Source, named, source_of
+from ..detectors.wanted import Wanted
+from ..problem import Problem
 from ..report.reading import Report
 from ..report.travel import cell_before
+from ..study.plan import Study
 from ..study.quantities import clock
 from ..units import DAY
 
 NEEDED = ("place", "start", "end", "flow")
+Names = str | Path | Iterable[str | Path]
 
 
 @dataclass(frozen=True)
@@ -22,6 +33,7 @@ class Observed:
 
     path: Path
     rows: pandas.DataFrame
+    lines: list[str] = field(default_factory=list)  # what was read and left out
 
     @property
     def places(self) -> list[str]:
@@ -29,26 +41,72 @@ class Observed:
         return list(dict.fromkeys(self.rows.place))
 
 
-def read_observed(path: str | Path) -> Observed:
-    """The observations in a file with the columns place (`ROAD.KM`), start, end, flow, and speed where it is known."""
-    try:
-        rows = pandas.read_csv(path, dtype={"place": str, "start": str, "end": str})
-    except (OSError, ValueError) as error:
-        raise Problem(f"{path}: {one_line(error)}") from None
-    rows.columns = [column.strip().lower() for column in rows.columns]
-    for column in NEEDED:
-        if column not in rows.columns:
-            raise Problem(f"{path}: line 1 has no column {column}, it has {', '.join(rows.columns)}")
-    if rows.empty:
-        raise Problem(f"{path}: has no rows")
-    for column in ("start", "end"):
-        rows[column] = [float(clock(text, f"{path}: line {line}, {column}")) for line, text in enumerate(rows[column], 2)]
-    for column in ("flow", "speed"):
-        rows[column] = pandas.to_numeric(rows[column], errors="coerce") if column in rows.columns else float("nan")
-    lost = rows.flow.isna() | (rows.flow < 0) | (rows.end <= rows.start)
+def read_observed(names: Names, wanted: Wanted = Wanted(), places: Mapping[str, str] | None = None, study: Study | None = None) -> Observed:
+    """What detectors saw: a file with the columns place (`ROAD.KM`), start, end, flow, and speed where it is known, or files in
+    another format.
+
+    Of other files `places` say where each station stands, one by default where its own name says, and the rows are those that
+    lie within the study's time.
+    """
+    paths = paths_of(names)
+    source = source_of(paths[0], wanted.separator)
+    if len(paths) == 1 and (places is None or not places) and {plain(name) for name in source.first} >= {"place", "start"}:
+        return _own(source, wanted.decimal)
+    if study is None:
+        for column in NEEDED if len(paths) == 1 else ():
+            needed(source, column)
+        raise Problem(f"{source.path}: is no file of detectors with the columns {', '.join(NEEDED)}")
+    return _of_stations(paths, wanted, places or {}, study)
+
+
+def _own(source: Source, decimal: str | None) -> Observed:
+    """The rows of a file with the columns place, start, end, flow and speed."""
+    columns = {name: needed(source, name) for name in NEEDED}
+    if any(name.casefold() == "speed" for name in source.first):
+        columns["speed"] = needed(source, "speed")
+    texts = source.rows(source.head + 1, [column.number for column in columns.values()])
+    if texts.empty:
+        raise Problem(f"{source.path}: has no rows")
+    rows = pandas.DataFrame({"place": texts[columns["place"].number].astype(str).str.strip()})
+    for name in ("start", "end"):
+        column = texts[columns[name].number]
+        seconds = by_text(column, lambda text, key: float(clock(text.strip(), key)), f"{source.path}: line {{}}, {name}".format, True)
+        rows[name] = column.map(dict(zip(column.cat.categories, seconds))).astype(float)
+    for name in ("flow", "speed"):
+        rows[name] = numpy.nan
+        if name in columns:
+            rows[name] = numbers(texts[columns[name].number], decimal or ".", source.path, name, "a flow" if name == "flow" else "a speed")
+    lost = rows.flow.isna() | (rows.end <= rows.start)
     if lost.any():
-        raise Problem(f"{path}: line {int(lost.idxmax()) + 2}: expected a flow, 0 or more, and an end after the start")
-    return Observed(Path(path), rows)
+        raise Problem(f"{source.path}: line {lost.idxmax()}: expected a flow, 0 or more, and an end after the start")
+    twice = rows.duplicated(["place", "start", "end"])
+    if twice.any():
+        raise Problem(f"{source.path}: line {twice.idxmax()}: {rows.place[twice.idxmax()]} has a row of that time already")
+    return Observed(source.path, rows.reset_index(drop=True))
+
+
+def _of_stations(paths: Sequence[Path], wanted: Wanted, places: Mapping[str, str], study: Study) -> Observed:
+    """The rows of stations that stand in the study, within its time, of one day or the mean or median of several."""
+    found = read(paths, wanted)
+    if found.files.dated and study.start + study.duration > DAY:
+        raise Problem(f"{found.files.name}: the study passes midnight; for that a file with the columns {', '.join(NEEDED)} is read")
+    if wanted.average is None and found.rows.day.nunique() > 1:
+        raise Problem(f"{found.files.name}: has several days, {named(list(map(str, found.rows.day.unique())))}; choose one by --dates, or "
+                      "say --average mean or median")
+    unknown = next((name for name in places if name not in found.files.stations), None)
+    if unknown is not None:
+        raise Problem(f"{found.files.name}: has no station {unknown}, it has {named(found.files.stations)}")
+    rows = found.rows.astype({"station": str})
+    rows = rows[rows.station.isin(list(places))] if places else rows
+    begin = rows.second + numpy.where(rows.second < float(study.start), DAY, 0)
+    inside = begin + found.interval <= float(study.start + study.duration)
+    kept = rows[inside].assign(start=begin[inside])
+    if kept.empty:
+        raise Problem(f"{found.files.name}: has no row of {', '.join(places) or 'a station'} within the study's time")
+    seen = pandas.DataFrame({"place": kept.station.replace(dict(places)), "start": kept.start % DAY,
+                             "end": kept.start % DAY + found.interval, "flow": kept.flow, "speed": kept.speed})
+    lines = [*found.lines, f"compared: {len(kept):,} rows of {kept.station.nunique()} stations within the study's time"]
+    return Observed(paths[0], seen.reset_index(drop=True), lines)
 
 
 def modelled(report: Report, observed: Observed) -> pandas.DataFrame:

@@ -14,7 +14,7 @@ import pandas
 from ..assignment.assigning import Assignment, Round
 from ..assignment.diversion import ways_of_study
 from ..assignment.task import MEASURES, AssignTask, begun, measure_assigned, measures, step_of
-from ..assignment.told import not_settled, pair_lines, rounded_lines
+from ..assignment.told import not_settled, pair_lines, rounded_lines, settled_lines
 from ..assignment.writing import drawn, places_of, written
 from ..files import write
 from ..problem import Problem
@@ -74,9 +74,11 @@ def command(source: str, earlier: str | None, informed: str | None, after: str |
     for line in told_of_study(assignment.shared.built):
         click.echo(line)
     rounds = _rounds(assignment, gap, iterations)
-    report, ways = written(assignment, values, places)
+    report, ways, passing = written(assignment, values, places)
     drawn(rounds, ways, report, assignment.departures.width, places)
-    _tell(assignment, rounds, gap, ways)
+    _tell(assignment, rounds, gap, ways, passing)
+    for line in settled_lines(assignment.study, rounds[-1], report):
+        click.echo(line)
     click.echo(f"\n{places.study}, {places.report}, {places.ways}, {', '.join(map(str, places.pictures))}")
 
 
@@ -113,14 +115,14 @@ def _shown(done: Round | None) -> str | None:
     return f"gap {done.gap.relative:.4f}" if done else None
 
 
-def _tell(assignment: Assignment, rounds: Sequence[Round], gap: float, ways: Sequence[Any]) -> None:
-    """Tells how it ended: the gap, what rounding did, and the ways of the pairs."""
+def _tell(assignment: Assignment, rounds: Sequence[Round], gap: float, ways: Sequence[Any], passing: Sequence[str]) -> None:
+    """Tells how it ended: the gap, what rounding did, what passes of those who give way, and the ways of the pairs."""
     found = measures(assignment, rounds[-1])
     click.echo(f"\nVehicles  {told(found['served_vehicles'])} were served, {told(found['inside_vehicles'])} are still "
                "inside")
     click.echo(f"Time      {told(found['travel_vehicle_hours'])} vehicle-hours, {told(found['mean_minutes'])} min for each, of "
                f"which the delay is {told(found['delay_vehicle_hours'])} vehicle-hours\n")
-    for line in [*not_settled(assignment, rounds, gap), *rounded_lines(assignment)]:
+    for line in [*not_settled(assignment, rounds, gap), *rounded_lines(assignment), *passing]:
         click.echo(line)
     for line in pair_lines(ways):
         click.echo(line)

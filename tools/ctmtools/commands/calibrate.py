@@ -3,6 +3,7 @@
 from __future__ import annotations
 
 from pathlib import Path
+from typing import Any
 
 import click
 
@@ -10,15 +11,20 @@ from ..calibration.fitting import FILE, Calibration, by_place, fitted, most_runs
 from ..calibration.observed import read_observed
 from ..problem import Interrupted, Problem
 from ..report.page import table, told
+from ..study.reading import read_study
 from ..working import bar
+from .detector_options import detector_options, wanted_by
 
 EPILOG = """\b
 Examples:
   ctm-tools calibrate study.toml --observed detectors.csv --vary lane.saturation_flow=1800:2400
   ctm-tools calibrate study.toml --observed det.csv --vary lane.saturation_flow=1800:2400 --vary demand=0.9:1.1
+  ctm-tools calibrate study.toml --observed "d04_*.txt.gz" --at 400001=m.1.5 --dates weekdays --average median \
+    --leave-out all --vary lane.saturation_flow=1800:2400
 
 The file of detectors has the columns place (ROAD.KM), start, end (clock times), flow (vehicles/h) and, where it is
-known, speed (km/h). A key is one that `sweep` varies. What is made small is the root mean square of flows and speeds,
+known, speed (km/h); or it is in a format of tools/docs/detectors.md, of one day or the mean or median of several, and --at
+says where each station stands. A key is one that `sweep` varies. What is made small is the root mean square of flows and speeds,
 each by its mean. Runs of a grid over all ranges come first, and scipy's search of Nelder and Mead goes down from several of
 them. Values do as well that add no more than 5 % to the distance, while the other keys stay; they take up to 12 runs more
 for each key.
@@ -29,7 +35,10 @@ missing."""
 
 @click.command(epilog=EPILOG)
 @click.argument("study", metavar="STUDY.toml", type=click.Path())
-@click.option("--observed", metavar="FILE.csv", type=click.Path(), required=True, help="What detectors saw.")
+@click.option("--observed", metavar="FILE.csv", type=click.Path(), required=True, multiple=True,
+              help="What detectors saw; may be given again.")
+@click.option("--at", "places", metavar="STATION=ROAD.KM", multiple=True, help="Where a station stands; may be given again.")
+@detector_options
 @click.option("--vary", "varied", metavar="KEY=LOW:HIGH", multiple=True, required=True,
               help="A key and the range of its value; may be given again.")
 @click.option("--runs", default=80, show_default=True, type=click.IntRange(2, 10_000), help="The most runs.")
@@ -41,8 +50,8 @@ missing."""
               help="Runs side by side, where none needs another.")
 @click.option("--dask", "address", metavar="ADDRESS", help="The scheduler of a Dask cluster that makes them.")
 @click.option("-o", "--output", metavar="FILE.png|svg|pdf", type=click.Path(), help="Where the plot goes.")
-def command(study: str, observed: str, varied: tuple[str, ...], runs: int, first: int, starts: int, jobs: int,
-            address: str | None, output: str | None) -> None:
+def command(study: str, observed: tuple[str, ...], places: tuple[str, ...], varied: tuple[str, ...], runs: int, first: int,
+            starts: int, jobs: int, address: str | None, output: str | None, **terms: Any) -> None:
     """Find the values of a study's keys by which it comes nearest to what detectors saw.
 
     Tells the values and how far each can move and do as well, and for each detector GEH and root mean square errors, and plots
@@ -54,7 +63,10 @@ def command(study: str, observed: str, varied: tuple[str, ...], runs: int, first
     picture = Path(output or Path(study).stem + "-calibration.png")
     if picture.suffix.lower() not in ENDINGS:
         raise Problem(f"{picture}: a picture's name ends with {', '.join(ENDINGS)}")
-    ranges, seen = [range_of(text) for text in varied], read_observed(observed)
+    ranges = [range_of(text) for text in varied]
+    seen = read_observed(observed, wanted_by(**terms), _places(places), read_study(study))
+    if seen.lines:
+        click.echo("\n".join(seen.lines) + "\n")
     folder = Path(Path(study).stem + ".calibrate")
     begun = Calibration(study, seen, ranges, jobs, address, folder)
     if begun.earlier:
@@ -76,6 +88,15 @@ def command(study: str, observed: str, varied: tuple[str, ...], runs: int, first
     click.echo("\n".join(table(rows, right=range(1, 6))))
     save(against(found.modelled, seen, f"{Path(study).stem}: {_values(found.values)}"), picture)
     click.echo(f"\n{picture}")
+
+
+def _places(texts: tuple[str, ...]) -> dict[str, str]:
+    """The place of each station by what STATION=ROAD.KM says."""
+    pairs = [text.partition("=") for text in texts]
+    for text, (station, equals, place) in zip(texts, pairs):
+        if not (station and equals and place):
+            raise Problem(f"--at {text}: expected STATION=ROAD.KM")
+    return {station: place for station, _, place in pairs}
 
 
 def _values(values: dict[str, float]) -> str:

@@ -60,7 +60,7 @@ def command(first: str, second: str, rows: int, output: str | None, picture: str
         of = {"delay": f", {unit}", "cost of the delay": ""}.get(str(name), ", vehicles")
         lines.append((f"{name}{of}", told(row["first"]), told(row["second"]), signed(row.rise), change))
     click.echo("\n".join(table(lines, right=(1, 2, 3, 4))))
-    for line in [*_travel(travel(one, two)), *pair_changes(first, second)]:
+    for line in [*_travel(travel(one, two)), *pair_changes(one, two)]:
         click.echo(line)
     changed = frame[(frame.delay_rise.abs() >= 0.005) | (frame.gone_rise.abs() >= 0.005)]
     if changed.empty:

@@ -3,39 +3,48 @@
 from __future__ import annotations
 
 from pathlib import Path
+from typing import Any
 
 import click
 
 from ..calibration.diagram import fit, read_states
 from ..problem import Problem
+from .detector_options import detector_options, wanted_by
 
 EPILOG = """\b
 Examples:
   ctm-tools diagram detector.csv
   ctm-tools diagram detector.csv --lanes 3 -o a7.png
+  ctm-tools diagram "d04_*.txt.gz" --station 400001 --leave-out all
 
-The file has the columns flow (vehicles/h) and density (vehicles/km), or flow and speed (km/h). What is told are keys of a
+The file has the columns flow (vehicles/h) and density (vehicles/km), or flow and speed (km/h); or it is in a format of
+tools/docs/detectors.md. What is told are keys of a
 study's [lane]."""
 
 
 @click.command(epilog=EPILOG)
-@click.argument("detector", metavar="FILE.csv", type=click.Path())
-@click.option("--lanes", default=1.0, show_default=True, type=click.FloatRange(0.1),
-              help="Of how many lanes its flows are.")
+@click.argument("detectors", metavar="FILE..", nargs=-1, required=True, type=click.Path())
+@click.option("--lanes", type=click.FloatRange(0.1), help="Of how many lanes its flows are, where the file doesn't say it; else 1.")
+@click.option("--vehicle-length", "length", metavar="METRES", type=click.FloatRange(0.1, 100),
+              help="Of a vehicle and the detector, by which an occupancy is a density.")
+@detector_options
 @click.option("-o", "--output", metavar="FILE.png|svg|pdf", type=click.Path(), help="Where the plot goes.")
-def command(detector: str, lanes: float, output: str | None) -> None:
+def command(detectors: tuple[str, ...], lanes: float | None, length: float | None, output: str | None, **terms: Any) -> None:
     """Fit the triangle of flow and density to a detector's data, and plot both."""
     from ..plots.calibration import triangle
     from ..plots.figure import ENDINGS, save
 
+    detector = detectors[0]
     picture = Path(output or Path(detector).stem + "-diagram.png")
     if picture.suffix.lower() not in ENDINGS:
         raise Problem(f"{picture}: a picture's name ends with {', '.join(ENDINGS)}")
-    states = read_states(detector, lanes)
+    states = read_states(detectors, lanes, wanted_by(**terms), length)
     try:
         found = fit(states)
     except Problem as problem:
         raise Problem(f"{detector}: {problem}") from None
+    if states.attrs["lines"]:
+        click.echo("\n".join(states.attrs["lines"]) + "\n")
     click.echo(f"free_flow_speed = {found.speed:.4g}  # km/h\nwave_speed = {found.wave:.4g}  # km/h\n"
                f"jam_density = {found.jam:.4g}  # vehicles/km\nsaturation_flow = {found.capacity:.5g}  # vehicles/h")
     click.echo(f"\n{found.rows} rows, {found.queued} of them of queued traffic; misses {found.rmse:,.0f} vehicles/h in "

@@ -3,13 +3,16 @@
 from __future__ import annotations
 
 import tomllib
+from dataclasses import replace
 from pathlib import Path
 
 import click
 
 from ..files import write
+from ..imports.forms import demand_form, end_places, open_trips, trips_form
+from ..imports.map_places import Place, table
 from ..imports.streets import Streets
-from ..imports.study_file import Terms, study_text
+from ..imports.study_file import Terms, Writer
 from ..imports.tally import tally
 from ..imports.traffic import traffic_of
 from ..imports.trip_study import open_traffic, trip_study_text
@@ -21,20 +24,25 @@ Examples:
   ctm-tools import sumo town.net.xml --routes town.rou.xml -o town.toml
   ctm-tools import sumo town.net.xml --routes cars.rou.xml --routes lorries.rou.xml --until "1 h" --step 2
 
-What can't be kept is told, and stands in the study's notes, which `build` and `run` tell too. A network of OpenStreetMap
-comes by SUMO's netconvert: netconvert --osm-files town.osm -o town.net.xml."""
+  ctm-tools import osm town.osm.pbf --box 11.55,48.13,11.58,48.15 -o town.toml
+
+What can't be kept is told, and stands in the study's notes, which `build` and `run` tell too."""
+
+CHOICE = 300  # s, the interval in which drivers of a map's study choose their ways
+SHARES = ("turning shares aren't on a map: at each junction they are by the lanes of its movements; with --trips drivers choose "
+          "their ways")
 
 
 @click.group("import", epilog=EPILOG)
 def command() -> None:
-    """Make a study of another program's network."""
+    """Make a study of another program's network, or of a map."""
 
 
 @command.command("sumo", epilog="""\b
 Example:
   ctm-tools import sumo town.net.xml --routes town.rou.xml --until "1 h" -o town.toml
 
-Edges with the lanes for cars, connections, fixed-time signals; of the route files vehicles, trips and flows, which give
+Edges with the lanes for cars, connections, who gives way, signals; of the route files vehicles, trips and flows, which give
 demand and turning shares by --interval. Streets on which nobody drives are left out.""")
 @click.argument("network", metavar="NET.net.xml", type=click.Path())
 @click.option("--routes", metavar="FILE.rou.xml", type=click.Path(), multiple=True,
@@ -106,7 +114,8 @@ def put(found: Streets, terms: Terms, interval: float, until: float, target: str
     traffic = open_traffic(found, until) if trips else traffic_of(found, interval, until)
     if not traffic.streets:
         raise Problem(f"{found.title}: has no street for cars")
-    text = trip_study_text(found, traffic, terms, interval, until) if trips else study_text(found, traffic, terms)
+    writer = Writer(found, traffic, terms)
+    text = trip_study_text(writer, interval, until) if trips else writer.text()
     write(target, text)
     vehicles = sum(one.kept for one in found.said)
     click.echo(f"{target}: {len(traffic.streets)} streets, {len(found.programs)} signals, {vehicles:,.6g} vehicles")
@@ -141,3 +150,65 @@ def gmns(folder: str, output: str | None, step: str, start: str, until: str, tri
         read_gmns_trips(found, folder, lasting)
     terms = Terms(seconds(step, "--step"), start, lasting + (seconds(after, "--after", least=0) if trips else 0))
     put(found, terms, lasting, lasting, output or found.title + ".toml", trips)
+
+
+@command.command("osm", epilog="""\b
+Examples:
+  ctm-tools import osm town.osm -o town.toml
+  ctm-tools import osm bavaria.osm.pbf --box 11.55,48.13,11.58,48.15 --roads motorway,primary,secondary
+  ctm-tools import osm town.osm --trips --start 06:00 --until "3 h"
+
+A map of OpenStreetMap as XML, packed by gzip or not, or as .pbf. It is made a network by netconvert of Debian's package sumo;
+a box, and a map that is no XML, need osmium of osmium-tool. No connection to a network is used. Beside STUDY.toml are written
+STUDY.demand.csv, a table of the gates in which you fill in the vehicles of each hour (with --trips STUDY.trips.csv, of gates
+and exits), and STUDY.places.csv, what became of signals, roundabouts, gaps and ways without lanes or speeds, with longitude
+and latitude.""")
+@click.argument("map_file", metavar="MAP.osm", type=click.Path())
+@click.option("--box", metavar="WEST,SOUTH,EAST,NORTH", help="The part of the map that is taken, in degrees.")
+@click.option("--roads", metavar="CLASS,..", help="The classes of road that are taken, each with its ramps, as motorway,primary; "
+              "else all that cars may use.")
+@click.option("--trips", is_flag=True, help="Ask who drives from where to where, for `ctm-tools assign`, in place of who comes.")
+@click.option("-o", "--output", metavar="STUDY.toml", type=click.Path(), help="Where the study goes.")
+@click.option("--step", default="2 s", show_default=True, metavar="TIME", help="The length of a step.")
+@click.option("--start", default="06:00", show_default=True, metavar="TIME", help="The clock time at which the study begins.")
+@click.option("--until", default="1 h", show_default=True, metavar="TIME", help="How long vehicles come.")
+@click.option("--after", default="30 min", show_default=True, metavar="TIME", help="How long the study goes on then.")
+@click.option("--headway", default=1.4, show_default=True, metavar="SECONDS", type=click.FloatRange(0.5, 5),
+              help="Between two vehicles that follow each other; with 7.5 m a vehicle it gives each lane's capacity.")
+def osm(map_file: str, box: str | None, roads: str | None, trips: bool, output: str | None, step: str, start: str, until: str,
+        after: str, headway: float) -> None:
+    """Make a study of a map of OpenStreetMap."""
+    from ..imports.osm import box_of, read_map
+    from ..imports.osm_roads import classes_of
+
+    clock(start, "--start")
+    classes, bounds = classes_of(roads), None if box is None else box_of(box)
+    lasting = seconds(until, "--until")
+    terms = Terms(seconds(step, "--step"), start, lasting + seconds(after, "--after", least=0), headway=headway)
+    found, places = read_map(map_file, classes, bounds, terms.step)
+    put_map(found, places, terms, lasting, Path(output or f"{found.title}.toml"), trips)
+
+
+def put_map(found: Streets, places: list[Place], terms: Terms, until: float, target: Path, trips: bool) -> None:
+    """Writes the study of a map with the table to fill in and that of its places, and tells what is in it."""
+    if target.suffix.lower() != ".toml":
+        raise Problem(f"{target}: a study's name ends with .toml")
+    form, told = (target.with_suffix(f".{name}.csv") for name in ("trips" if trips else "demand", "places"))
+    if trips:
+        found.trips = open_trips(found, until)
+    else:
+        found.notes.append(SHARES)
+    traffic = open_traffic(found, until) if trips else traffic_of(found, until, until)
+    writer = Writer(found, traffic, terms if trips else replace(terms, counts=form.name))
+    text = trip_study_text(writer, CHOICE, until, form.name) if trips else writer.text()
+    rows = trips_form(writer, until) if trips else demand_form(writer)
+    if form.exists() and form.read_bytes() != rows.encode():
+        raise Problem(f"{form}: stands there, and may be filled in; name another study with -o, or move it away")
+    ends = [*end_places(writer), *places]
+    for path, content in ((told, table(ends)), (form, rows), (target, text)):
+        write(path, content)
+    click.echo(f"{target}: {len(traffic.streets)} streets, {len(found.programs)} signals")
+    click.echo(f"{form}: {rows.count(chr(10)) - 1} rows in which you fill in the vehicles")
+    click.echo(f"{told}: {len(ends)} places of the map, and what became of each")
+    for note in tomllib.loads(text).get("notes", []):
+        click.echo(f"  {note}")

@@ -8,6 +8,7 @@ from pathlib import Path
 import click
 
 from ..files import guard_report, report_target
+from ..moments.actuated_signals import kept_path as greens_path
 from ..moments.moment import Moment
 from ..moments.stretches import kept_moment, kept_path, run_in_stretches, stretch_of
 from ..problem import Interrupted
@@ -52,8 +53,7 @@ def command(source: str, output: str | None, every: int | None, workers: int | N
         raise click.UsageError("--checkpoint: such a run isn't recorded, so it goes without --every")
     if not output:
         guard_report(target)
-    with ExitStack() as stack:
-        prepared = opened(source, lambda count: stack.enter_context(bar(count, "giving way and signals")))
+    prepared = _opened(source, greens_path(target))
     stretch, begun = 0, None
     if checkpoint is not None:
         stretch = stretch_of(checkpoint, prepared.units)
@@ -68,9 +68,22 @@ def command(source: str, output: str | None, every: int | None, workers: int | N
             report = run_into(target, prepared, every, workers, _news)
     else:
         report = _in_stretches(target, prepared, stretch, begun, workers)
+    greens_path(target).unlink(missing_ok=True)
     for line in page(report):
         click.echo(line)
     click.echo(f"\nReport {target}{_recorded(report)}, units {units_path(target)}, network {prepared.path}")
+
+
+def _opened(source: str, kept: Path) -> Prepared:
+    """The network of the source, with what runs settle of it; an interrupt keeps what was reached of greens."""
+    try:
+        with ExitStack() as stack:
+            prepared = opened(source, lambda count: stack.enter_context(bar(count, "giving way and signals")), kept)
+        return prepared
+    except KeyboardInterrupt:
+        if not kept.exists():
+            raise
+        raise Interrupted(f"stopped; the same call goes on from the greens in {kept}") from None
 
 
 def _in_stretches(target: Path, prepared: Prepared, stretch: int, begun: Moment | None, workers: int | None) -> Report:

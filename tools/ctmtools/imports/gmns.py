@@ -10,18 +10,20 @@ from ..problem import Problem
 from ..study.quantities import MILE
 from .gmns_places import Places
 from .gmns_tables import ZONAL, Row, once, read_table
-from .streets import BY_TIME, Movement, Program, Said, Span, Street, Streets, Way, named
+from .streets import ALL_STOP, BY_TIME, GIVE_WAY, STOP, Movement, Program, Said, Span, Street, Streets, Way, named
 from .sumo import always, joined
+from .turning import meet, turn_of
 
 KILOMETRES = {"km": 1.0, "kilometer": 1.0, "kilometers": 1.0, "kilometre": 1.0, "kilometres": 1.0, "m": 0.001, "meter": 0.001,
               "meters": 0.001, "metre": 0.001, "metres": 0.001, "mi": float(MILE), "mile": float(MILE), "miles": float(MILE),
               "ft": 0.0003048, "foot": 0.0003048, "feet": 0.0003048}
 SPEEDS = {"kph": 1.0, "km/h": 1.0, "kmh": 1.0, "mph": float(MILE), "m/s": 3.6}
 CARS = re.compile(r"(?i)auto|car|all|motor|^\s*$|vehicle")
-YIELDS = re.compile(r"(?i)yield|stop|\d_stop")  # what controls a movement that gives way
+CONTROLS = {"": "", "no_control": "", "signal": "", "yield": GIVE_WAY, "stop": STOP, "stop_2_way": STOP, "stop_4_way": ALL_STOP}
 USUAL = 50.0  # km/h, of a link that doesn't say its speed
 BACK = "_back"  # behind the name of the street against the direction of a link that isn't directed
 MOVED = ("mvmt_id", "ib_link_id", "ob_link_id")
+LANES = {"lane": ("lane_num",), "movement": ("start_ib_lane", "end_ib_lane", "start_ob_lane", "end_ob_lane")}  # their numbers
 
 
 def read_folder(folder: str | Path, until: float = inf, links: bool = True) -> Streets:
@@ -48,9 +50,12 @@ class Reader:
         config = next(iter(read_table(folder, "config")), Row(folder / "config.csv", 2, {}))
         self.kilometre = _unit(config, "long_length", KILOMETRES)
         self.speed = _unit(config, "speed", SPEEDS) or 1.0
-        self.places = Places(config, once(read_table(folder, "node", needed=True), "node_id"))
+        self.nodes = once(read_table(folder, "node", needed=True), "node_id")
+        self.places = Places(config, self.nodes)
         self.pairs: dict[str, Movement | None] = {}  # the streets of each movement's name; none where cars may not use them
         self.left: set[str] = set()  # links that cars may not use
+        self.yielding: set[Movement] = set()  # movements that give way by their ctrl_type
+        self.unsaid: dict[str, str] = {}  # the control of nodes that don't say who gives way
 
     def links(self) -> None:
         """The links in one direction; one that isn't directed makes two streets."""
@@ -91,21 +96,23 @@ class Reader:
     def movements(self) -> None:
         """The movements; where there are none, all but the way back is allowed at each node."""
         rows = read_table(self.folder, "movement")
-        yielding = set()
+        has_0 = any(row.number(column, 1.0) == 0 for name, columns in LANES.items() for row in read_table(self.folder, name)
+                    for column in columns)
         for name, row in once(rows, "mvmt_id").items():
             pair = self.pairs[name] = self._pair(row)
             if pair is None:
                 continue
-            lanes = max(1, round(row.number("end_ib_lane", 1.0) - row.number("start_ib_lane", 1.0) + 1))
-            yields = bool(YIELDS.match(row.text("ctrl_type")))
+            lanes = lanes_between(row.number("start_ib_lane", 1.0), row.number("end_ib_lane", 1.0), has_0)
+            control = self._control(row, pair)
             way = self.found.ways.setdefault(pair, Way(0, 0))  # of several movements by lanes from link to link
-            way.lanes, way.priority = way.lanes + lanes, way.priority + lanes * (1 if yields else 4)
-            if yields:
-                yielding.add(pair)
+            way.lanes, way.priority = way.lanes + lanes, way.priority + lanes * (1 if control else 4)
+            way.turns = turn_of(row.text("type"), self.found.streets[pair[0]], self.found.streets[pair[1]])
+            if control:
+                self.yielding.add(pair)
+                way.control = control
             if row.text("share"):
                 self.found.shares[pair] = self.found.shares.get(pair, 0.0) + row.number("share", least=0.0)
-        for pair in yielding:
-            self.found.ways[pair].yields |= self._others(pair) - yielding
+        self._yields()
         self._check_shares(rows)
         if not rows:
             self.found.notes.append("there is no movement.csv: at each node all ways but that back are taken")
@@ -113,6 +120,31 @@ class Reader:
                 for two in self.found.streets.values():
                     if one.end == two.start and one.start != two.end:
                         self.found.ways[one.name, two.name] = Way(min(one.lanes, two.lanes), one.lanes)
+
+    def _control(self, row: Row, pair: Movement) -> str:
+        """How a movement gives way, by itself or by a node at which all stop; empty where it doesn't."""
+        node = self.nodes[self.found.streets[pair[0]].end]
+        for one in (row, node):
+            if one.text("ctrl_type").lower() not in CONTROLS:
+                raise Problem(f"{one.key('ctrl_type')}: expected {', '.join(filter(None, CONTROLS))} or nothing, found "
+                              f"\"{one.text('ctrl_type')}\"")
+        own, whole = (CONTROLS[one.text("ctrl_type").lower()] for one in (row, node))
+        if not row.text("ctrl_type") and whole in (GIVE_WAY, STOP):
+            self.unsaid.setdefault(node.text("node_id"), node.text("ctrl_type"))
+        return whole if whole == ALL_STOP and not row.text("ctrl_type") else own
+
+    def _yields(self) -> None:
+        """To whom those give way who do: to all whom they meet, but those who give way themselves."""
+        for pair in self.yielding:
+            way, others = self.found.ways[pair], self._others(pair)
+            way.yields |= others if way.control == ALL_STOP else others - self.yielding
+        without = sorted(pair for pair in self.yielding if not self.found.ways[pair].yields and self._others(pair))
+        if without:
+            self.found.notes.append(f"{len(without)} movements give way by their ctrl_type, and so do all whom they meet, so none "
+                                    f"has priority: {named([' to '.join(pair) for pair in without])}")
+        if self.unsaid:
+            self.found.notes.append(f"{len(self.unsaid)} nodes have a ctrl_type, as {', '.join(self.unsaid.values())}, and no "
+                                    f"movement that says who gives way: {named(list(self.unsaid))}")
 
     def _check_shares(self, rows: list[Row]) -> None:
         """Refuses a movement without a share whose link has others with one, since by lanes it would be another measure."""
@@ -140,9 +172,10 @@ class Reader:
         raise Problem(f"{row.key()}: link {names[0]} doesn't lead to {where} at which {names[1]} begins")
 
     def _others(self, pair: Movement) -> set[Movement]:
-        """The movements that come from other streets to the node of one."""
-        node = self.found.streets[pair[0]].end
-        return {other for other in self.found.ways if other[0] != pair[0] and self.found.streets[other[0]].end == node}
+        """The movements that come from other streets to the node of one, and meet it there."""
+        node, ways = self.found.streets[pair[0]].end, self.found.ways
+        return {other for other in ways if other[0] != pair[0] and self.found.streets[other[0]].end == node and
+                meet(pair, ways[pair], other, ways[other])}
 
     def signals(self) -> None:
         """The signals of the first timing plan of each controller, each phase as long as its greatest green."""
@@ -165,6 +198,10 @@ class Reader:
             if own:
                 self._plan(plan, own, served, offsets.get(plan.text("timing_plan_id"), 0.0))
         always(self.found, {pair for pair, way in self.found.ways.items() if way.green})
+        for pair in self.yielding:
+            program = self.found.programs.get(self.found.streets[pair[0]].end)
+            if program and not self.found.ways[pair].permitted:
+                self.found.ways[pair].permitted = self.found.ways[pair].green
 
     def _check_signals(self, phases: list[Row], served: list[Row]) -> None:
         """Refuses phases of no plan, and what they serve where there is no such phase or movement."""
@@ -190,6 +227,7 @@ class Reader:
             self.found.programs[self.found.streets[pair[0]].end] = Program(cycle, offset % cycle)
             self.found.ways[pair].green = joined([span for span, _ in own], cycle)
             permitted = [span for span, yields in own if yields]
+            self.found.ways[pair].permitted = joined(permitted, cycle)
             self.found.ways[pair].yields |= {other for other in self._others(pair) if any(
                 one[0] < two[1] and two[0] < one[1] for one in permitted for two, _ in greens.get(other, []))}
 
@@ -240,6 +278,12 @@ def _unit(config: Row, column: str, units: dict[str, float]) -> float | None:
     if said and said not in units:
         raise Problem(f"{config.path}: {column}: expected {' or '.join(units)}, found {said}")
     return units[said] if said else None
+
+
+def lanes_between(first: float, last: float, has_0: bool) -> int:
+    """How many lanes there are from one to another, both with them: .., -2, -1, 1, 2, .., where no lane has the number 0."""
+    left_out = first < 0 < last and not has_0
+    return max(1, round(last - first + 1 - left_out))
 
 
 def phase_spans(phases: list[Row]) -> list[Span]:

@@ -15,7 +15,7 @@ class Street:
     """A street in one direction between two nodes: km, lanes, km/h, and its points on the map.
 
     These are in km, or in the coordinate system of the network. `capacity` is that of all lanes in vehicles/h, where it
-    is known; `classes` are those of the vehicles that may use it.
+    is known; `classes` are those of the vehicles that may use it; `title` is what it is called on the map, where it is.
     """
 
     name: str
@@ -27,6 +27,7 @@ class Street:
     points: list[tuple[float, float]] = field(default_factory=list)
     capacity: float | None = None
     classes: frozenset[str] = CARS
+    title: str = ""
 
     @property
     def seconds(self) -> float:
@@ -34,11 +35,17 @@ class Street:
         return self.length / self.speed * 3600
 
 
+LEFT, THROUGH, RIGHT = "left", "through", "right"  # where a movement turns, where one drives on the right
+GIVE_WAY, STOP, ALL_STOP, ZIPPER = "give_way", "stop", "all_way_stop", "zipper"  # how a movement gives way to others
+
+
 @dataclass
 class Way:
     """A movement at a node: its lanes, its priority where it meets others, and when in the cycle it is green.
 
-    `yields` are the movements to which it has to give way, at a signal those that are green while it is.
+    `yields` are the movements to which it has to give way, at a signal those that are green while it is, and `permitted` when in
+    the cycle it is green for who gives way. It `turns`, and where it gives way it does so by a sort of `control`. `ring` are the
+    lanes of the roundabout that it enters, 0 where it enters none.
     """
 
     lanes: int
@@ -46,14 +53,37 @@ class Way:
     green: list[Span] = field(default_factory=list)
     classes: frozenset[str] = CARS
     yields: set[Movement] = field(default_factory=set)
+    permitted: list[Span] = field(default_factory=list)
+    turns: str = THROUGH
+    control: str = GIVE_WAY
+    ring: int = 0
+
+
+@dataclass(frozen=True)
+class Stage:
+    """A green of a signal whose greens follow traffic: when it begins, how long it lasts, its least and most, in s.
+
+    `gap` is the time for which a green goes on behind who waited.
+    """
+
+    start: float
+    lasting: float
+    least: float
+    most: float
+    gap: float
 
 
 @dataclass
 class Program:
-    """The signal of a node: the length of its cycle, and when the first one begins, in s."""
+    """The signal of a node: the length of its cycle, and when the first one begins, in s.
+
+    Where its greens follow traffic, it has `stages`. Nodes of one `signal` have one program.
+    """
 
     cycle: float
     offset: float
+    stages: list[Stage] = field(default_factory=list)
+    signal: str = ""
 
 
 @dataclass

@@ -10,14 +10,18 @@ from math import floor
 import networkx
 
 from ..study.coordinates import decimals_of
+from ..study.crossings import MOST_ARMS
 from ..study.quantities import clock
 from ..study.rounding import told
 from ..study.writing import quoted
-from . import giving_way
-from .streets import Movement, Street, Streets, Way
+from .giving_way import GivingWay
+from .greens import Following, kept_green, stages, stages_of
+from .road_names import LONGEST_NAME, apart, heading, short_name
+from .streets import Movement, Program, Stage, Street, Streets, Way
 from .traffic import EXIT, GATE, Traffic
 
-LONGEST_NAME = 12  # letters, so that a movement's cell has a name that a network file allows
+HOUR = 3600
+TOO_WIDE = f"with those to whom they do they would be a junction of more than {MOST_ARMS} streets"
 LOCAL_DECIMALS = 5  # of a km
 CHANGED = 0.01  # shares of a span that differ by less are those of the whole time
 
@@ -26,7 +30,8 @@ CHANGED = 0.01  # shares of a span that differ by less are those of the whole ti
 class Terms:
     """What a study needs beside the network: seconds of a step, the clock time of 0, the time, and the lanes' terms.
 
-    `gap` are the metres of a standing vehicle, `headway` the seconds between two that follow each other.
+    `gap` are the metres of a standing vehicle, `headway` the seconds between two that follow each other; `counts` is the
+    file beside the study of which its gates take their demand, where there is one.
     """
 
     step: float
@@ -34,6 +39,7 @@ class Terms:
     duration: float
     gap: float = 7.5
     headway: float = 1.4
+    counts: str | None = None
 
     @property
     def wave(self) -> float:
@@ -50,11 +56,6 @@ class Terms:
         return f"{whole // 3600:02d}:{whole // 60 % 60:02d}:{whole % 60:02d}"
 
 
-def study_text(found: Streets, traffic: Traffic, terms: Terms) -> str:
-    """The text of the study file."""
-    return "\n".join(Writer(found, traffic, terms).lines()) + "\n"
-
-
 class Writer:
     """Writes the study: streets that follow each other as one road, and what joins roads at the nodes."""
 
@@ -65,10 +66,18 @@ class Writer:
         for one, two in traffic.ways():
             self.out_of.setdefault(one, []).append(two)
             self.into.setdefault(two, []).append(one)
+        self.giving = GivingWay(found, traffic)
+        self.following = Following(found, traffic, self.giving.taken)
         self.joints = self._joints()
+        self.crossed = {arm for comes, _ in self.joints if len(comes) > 1 for arm in comes}
         self.chains = self._chains()
-        self.names = self._names()
-        self.giving = giving_way.heeded(found, traffic)
+        self.names: dict[str, str] = {}
+        self.cells: dict[str, str] = {}
+        self._name_roads()
+
+    def text(self) -> str:
+        """The text of the study file."""
+        return "\n".join(self.lines()) + "\n"
 
     def lines(self) -> Iterator[str]:
         """The lines of the study."""
@@ -99,11 +108,27 @@ class Writer:
         """What comes and what leaves where movements meet or part, in the order of the network."""
         graph = networkx.Graph()
         graph.add_edges_from(((one, "comes"), (two, "leaves")) for one, two in self.traffic.ways())
+        self._unite(graph)
         found = []
         for arms in networkx.connected_components(graph):
             own = [arm for arm in graph if arm in arms]
             found.append(([arm for arm, side in own if side == "comes"], [arm for arm, side in own if side == "leaves"]))
         return found
+
+    def _unite(self, graph: networkx.Graph) -> None:
+        """Joins those who give way with those to whom they do, also where no street has both, and all of a node whose greens
+        follow traffic; where that makes too many arms, they give way no longer."""
+        for node in self.following.nodes:
+            ways = [way for way in self.traffic.ways() if way in self.found.ways and self.found.streets[way[0]].end == node]
+            graph.add_edges_from(((ways[0][0], "comes"), (way[0], "comes")) for way in ways[1:])
+        for way, one in list(self.giving.taken.items()):
+            wider = networkx.Graph(graph)
+            wider.add_edges_from(((way[0], "comes"), (other[0], "comes")) for other in one.others)
+            arms = networkx.node_connected_component(wider, (way[0], "comes"))
+            if max(sum(side == each for _, side in arms) for each in ("comes", "leaves")) > MOST_ARMS:
+                self.giving.leave([way], TOO_WIDE)
+            else:
+                graph.add_edges_from(((way[0], "comes"), (other[0], "comes")) for other in one.others)
 
     def _signalled(self, street: str) -> bool:
         return street in self.found.streets and self.found.streets[street].end in self.found.programs
@@ -111,7 +136,7 @@ class Writer:
     def _follows(self, street: str) -> str | None:
         """The street that goes on where one ends, where nothing else comes there or leaves."""
         ways = self.out_of.get(street, [])
-        if len(ways) != 1 or ways[0].startswith(EXIT) or self._signalled(street):
+        if len(ways) != 1 or ways[0].startswith(EXIT) or self._signalled(street) or street in self.crossed:
             return None
         return ways[0] if self.into[ways[0]] == [street] else None
 
@@ -134,25 +159,34 @@ class Writer:
             chains.append(chain)
         return chains
 
-    def _names(self) -> dict[str, str]:
-        """The names of roads, gates and exits in the study: for a chain's first and last street that of its road."""
-        names: dict[str, str] = {}
+    def _name_roads(self) -> None:
+        """Names roads, their cells, gates and exits: for a chain's first and last street that of its road."""
         taken: set[str] = set()
         for number, chain in enumerate(self.chains, 1):
-            name = re.sub(r"[^A-Za-z0-9_-]", "_", chain[0])
-            if len(name) > LONGEST_NAME or name in taken:
-                name = f"r{number}"
-            taken.add(name)
+            title = self.found.streets[chain[0]].title
+            if title:
+                road = apart(f"{title} {self._direction(chain)}".rstrip(), taken)
+                name = short_name(title, taken)
+            else:
+                name = re.sub(r"[^A-Za-z0-9_-]", "_", chain[0])
+                road = name = f"r{number}" if len(name) > LONGEST_NAME or name in taken else name
+            taken |= {road, name}
             for street in chain:
-                names[street] = name
-                names[GATE + street], names[EXIT + street] = f"in-{name}", f"out-{name}"
-        return names
+                self.names[street], self.cells[street] = road, name
+                self.names[GATE + street], self.names[EXIT + street] = f"in-{name}", f"out-{name}"
+
+    def _direction(self, chain: Sequence[str]) -> str:
+        """Where a road leads, from its first point to its last; nowhere where it has no points or comes back."""
+        points = [point for street in chain for point in self.found.streets[street].points]
+        return heading(points[0], points[-1], self.found.crs) if points else ""
 
     def _road(self, chain: Sequence[str]) -> Iterator[str]:
         streets = [self.found.streets[street] for street in chain]
         if list(chain) != [self.names[chain[0]]]:
             yield f"# {', '.join(chain[:8])}{f' and {len(chain) - 8} more' if len(chain) > 8 else ''}"
         yield f"[roads.{quoted(self.names[chain[0]])}]"
+        if self.cells[chain[0]] != self.names[chain[0]]:
+            yield f"cells = {quoted(self.cells[chain[0]])}"
         yield f"length = {sum(street.length for street in streets):.6g}  # km"
         points = [point for street in streets for point in street.points]
         if len(points) > 1:
@@ -202,6 +236,10 @@ class Writer:
                 yield f"into = {quoted(self.names[street])}"
             else:
                 yield f"capacity = {self._capacity(street):.6g}"
+            if self.terms.counts:
+                yield f"demand = {self._counted(street)}"
+                yield ""
+                continue
             rows = self.found.gates.get(street, []) if not self.found.trips else [
                 (span * self.traffic.interval, min((span + 1) * self.traffic.interval, self.terms.duration), vehicles *
                  hour) for span, vehicles in enumerate(self.traffic.demand(street))]
@@ -220,6 +258,11 @@ class Writer:
         found = self.found.streets[street]
         return found.capacity or found.lanes * self.terms.saturation(found.speed)
 
+    def _counted(self, street: str) -> str:
+        """The demand of a gate by its rows in the file of counts."""
+        return (f"{{ counts = {quoted(self.terms.counts or '')}, column = \"vehicles\", station = "
+                f"{quoted(self.names[GATE + street])}, station_column = \"gate\", interval = \"60 min\" }}")
+
     def _demand(self, row: tuple[float, float, float]) -> str:
         return f"{{ start = {self._time(row[0])}, end = {self._time(row[1])}, flow = {row[2]:.6g} }}"
 
@@ -229,17 +272,21 @@ class Writer:
     def _node(self, comes: list[str], leaves: list[str]) -> Iterator[str]:
         """What joins roads, gates and exits at a node: nothing, a merge, a diverge or a junction."""
         signal = any(self._signalled(street) for street in comes)
-        yielding = [f"{one} to {two}" for one in comes for two in leaves if (one, two) in self.giving]
-        if yielding:
-            yield f"# Give way to others, and don't wait for them here: {', '.join(yielding)}"
+        unopposed = [self._moving(way) for ways in self.giving.left.values() for way in ways if way[0] in comes]
+        if unopposed:
+            yield f"# Give way to others, and don't wait for them here: {', '.join(unopposed)}"
         if len(comes) == len(leaves) == 1:
             yield from self._straight(comes[0], leaves[0])
             return
-        if not signal and len(leaves) == 1 and len(comes) == 2:
+        giving = [one for one in comes if (one, leaves[0]) in self.giving.taken]
+        if not signal and len(leaves) == 1 and len(comes) == 2 and len(giving) < 2:
             yield "[[merges]]"
             yield f"from = {self._named(comes)}"
             yield f"into = {quoted(self.names[leaves[0]])}"
             yield f"priorities = [{', '.join(f'{self._way((one, leaves[0])).priority:g}' for one in comes)}]"
+            for one in giving:
+                yield f"yields_to = {quoted(self.names[next(other for other in comes if other != one)])}"
+                yield from self.giving.taken[one, leaves[0]].terms()
             yield ""
         elif not signal and len(comes) == 1 and len(leaves) == 2:
             yield "[[diverges]]"
@@ -269,6 +316,9 @@ class Writer:
             yield f"cycle = {program.cycle:g}"
             yield f"green = {green:g}"
             yield f"first_green = {(program.offset + start) % program.cycle:g}"
+            if self.found.streets[one].end in self.following.nodes:
+                own = [program.stages[k] for k in stages_of(self._way((one, two)), program)]
+                yield from (f"actuated = {_actuated(stage)}" for stage in own[:1] if stage.least < stage.most)
             yield ""
 
     def _dark(self, way: Movement) -> bool:
@@ -297,25 +347,51 @@ class Writer:
         yield f"lanes = {_matrix([[self._way(way).lanes if way else 0 for way in row] for row in ways])}"
         yield f"priorities = {_matrix([[self._way(way).priority if way else 0 for way in row] for row in ways])}"
         yield from self._shares(comes, leaves)
+        own = [way for row in ways for way in row if way]
         if signal:
             node = next(self.found.streets[one].end for one in comes if one in self.found.streets)
             program = self.found.programs[node]
             yield f"cycle = {program.cycle:g}"
             yield f"offset = {program.offset:g}"
-            phases = [f"  {{ start = {start:g}, green = {green:g}, movements = ["
-                      f"{', '.join(self._named(way) for way in own)}] }}," for (start, green), own in
-                      self._phases([way for row in ways for way in row if way], program.cycle)]
-            yield from ["phases = [", *phases, "]"]
+            yield from ["phases = [", *(f"  {{ {phase} }}," for phase in self._phase_texts(node, own, program)), "]"]
+        yields = [f"  {{ movement = {self._named(way)}, yields_to = [{self._others(way)}], "
+                  f"{', '.join(self.giving.taken[way].terms())} }}," for way in own if way in self.giving.taken]
+        if yields:
+            yield from ["yields = [", *yields, "]"]
         yield ""
         for one, two in (way for row in ways for way in row if way and self._dark(way)):
             yield from self._closed(f"{self.names[one]}-{self.names[two]}", 0)
+
+    def _others(self, way: Movement) -> str:
+        """To whom a movement gives way."""
+        return ", ".join(self._named(other) if count == 1 else f"{self._named(other)[:-1]}, {count}]"
+                         for other, count in self.giving.taken[way].others.items())
+
+    def _phase_texts(self, node: str, ways: Sequence[Movement], program: Program) -> Iterator[str]:
+        """The phases of a junction: those that follow traffic, those in whose greens some give way, or its greens as they are."""
+        if node in self.following.nodes:
+            for k, stage in enumerate(program.stages):
+                own = [way for way in ways if k in stages_of(self._way(way), program)]
+                follows = f", actuated = {_actuated(stage)}" if stage.least < stage.most else ""
+                if own:
+                    yield f"start = {stage.start:g}, green = {stage.lasting:g}, movements = [{self._listed(own)}]{follows}"
+        elif any(way in self.giving.taken for way in ways):
+            for part in stages({way: self._way(way) for way in ways}, self.giving.taken, program.cycle):
+                gives = f", permitted = [{self._listed(part.gives)}]" if part.gives else ""
+                start, end = part.span
+                yield f"start = {start:g}, green = {end - start:g}, movements = [{self._listed(part.green)}]{gives}"
+        else:
+            for (start, green), own in self._phases(ways, program.cycle):
+                yield f"start = {start:g}, green = {green:g}, movements = [{self._listed(own)}]"
+
+    def _listed(self, ways: Sequence[Movement]) -> str:
+        return ", ".join(self._named(way) for way in ways)
 
     def _phases(self, ways: Sequence[Movement], cycle: float) -> list[tuple[tuple[float, float], list[Movement]]]:
         """The greens of a node, each from when on, for how long, and the movements that have it."""
         greens: dict[tuple[float, float], list[Movement]] = {}
         for way in ways:
-            spans = self._way(way).green or [(0.0, cycle)]
-            start, end = max(spans, key=lambda span: span[1] - span[0])
+            start, end = kept_green(self._way(way), cycle)
             greens.setdefault((start % cycle, min(end - start, cycle)), []).append(way)
         return sorted(greens.items())
 
@@ -345,22 +421,36 @@ class Writer:
             notes.append(f"{left} of {len(self.found.streets)} streets, on which nobody drives, are left out")
         split = [way for way in self.traffic.ways() if way in self.found.ways and len(self.found.ways[way].green) > 1]
         if split:
-            notes.append(f"{len(split)} movements are green several times in a cycle, as {split[0][0]} to {split[0][1]}; "
+            notes.append(f"{len(split)} movements are green several times in a cycle, as {self._moving(split[0])}; "
                          "the longest of them is kept")
-        notes += giving_way.told(self.giving)
+        notes += [*self.giving.told(self._moving), *self.following.told()]
         dark = [way for way in self.traffic.ways() if self._dark(way)]
         if dark:
-            notes.append(f"{len(dark)} movements at signals are never green in their program, as {dark[0][0]} to "
-                         f"{dark[0][1]}; they are closed, and hold up all behind them")
+            notes.append(f"{len(dark)} movements at signals are never green in their program, as {self._moving(dark[0])}; "
+                         "they are closed, and hold up all behind them")
         short = [street for chain in self.chains for street in [chain] if sum(self.found.streets[one].length
                  for one in street) < self._cell(chain[0]) / 2]
         if short:
             notes.append(f"{len(short)} roads are shorter than half a cell and become one, as "
-                         f"{told(sum(self.found.streets[one].length for one in short[0]) * 1000)} m at {short[0][0]}")
+                         f"{told(sum(self.found.streets[one].length for one in short[0]) * 1000)} m at "
+                         f"{self._called(short[0][0])}")
         return notes
+
+    def _called(self, street: str) -> str:
+        """What messages call a street: its own name, or where that is a map's number the name of its road."""
+        return self.names[street] if street in self.found.streets and self.found.streets[street].title else street
+
+    def _moving(self, movement: Movement) -> str:
+        """What messages call a movement."""
+        return " to ".join(self._called(street) for street in movement)
 
     def _cell(self, street: str) -> float:
         return self.found.streets[street].speed * self.terms.step / 3600
+
+
+def _actuated(stage: Stage) -> str:
+    """How a green follows traffic; its least is above 0, and it ends some time."""
+    return f"{{ least = {max(1, stage.least):g}, most = {min(HOUR, stage.most):g}, gap = {stage.gap:g} }}"
 
 
 def _parts(rows: Sequence[Sequence[float]]) -> list[list[float]]:

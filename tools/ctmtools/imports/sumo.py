@@ -8,19 +8,27 @@ from pathlib import Path
 
 from . import sumo_net, sumolib_net
 from ..study.coordinates import METRES, coded
-from .streets import Movement, Program, Span, Street, Streets, Way, named
-from .sumo_net import CAR, Edge, Lane, Link, Location, Logic, Net
+from .streets import (ALL_STOP, GIVE_WAY, LEFT, RIGHT, STOP, THROUGH, ZIPPER, Movement, Program, Span, Stage, Street, Streets,
+                      Way, named)
+from .sumo_net import CAR, Edge, Lane, Link, Location, Logic, LogicPhase, Net
 
 GREEN = "GgoO"  # a signal that is green, or off
 MINOR = "go"  # one that is green, or off, for who gives way
 SIGNED = "m=sw"  # a connection that gives way: by a sign, from the left, or at a stop
 MAJOR = 4  # times as much passes on a street that others give way to
-YIELDING = ("priority", "right_before_left", "left_before_right", "allway_stop", "priority_stop", "zipper")
+TURNS = {"l": LEFT, "L": LEFT, "t": LEFT, "r": RIGHT, "R": RIGHT}  # by SUMO's letters; the others go through
+MIRRORED = {LEFT: RIGHT, RIGHT: LEFT, THROUGH: THROUGH}  # where one drives on the left
+CONTROLS = {"s": STOP, "w": ALL_STOP, "Z": ZIPPER}  # by the state of a connection
 
 
 def read_network(path: str | Path) -> Streets:
-    """The streets of a network file of SUMO, without trips, read by sumolib where that is there and can read the file."""
-    return streets_of(sumolib_net.read(path) or sumo_net.read(path), str(path))
+    """The streets of a network file of SUMO, without trips."""
+    return streets_of(read_net(path), str(path))
+
+
+def read_net(path: str | Path) -> Net:
+    """What a network file of SUMO says, read by sumolib where that is there and can read the file."""
+    return sumolib_net.read(path) or sumo_net.read(path)
 
 
 def streets_of(net: Net, place: str) -> Streets:
@@ -32,7 +40,6 @@ def streets_of(net: Net, place: str) -> Streets:
     links = _connections(net, found)
     _programs(net, found, links)
     _yields(net, found, links)
-    _note_junctions(net, found)
     return found
 
 
@@ -95,10 +102,18 @@ def _connections(net: Net, found: Streets) -> list[Link]:
     for pair, links in joins.items():
         own = [link for link in links if CAR in classes[link.source, link.lane]] or links
         lanes = len({link.lane for link in own})
+        turns = TURNS.get(own[-1].turn, THROUGH)
         found.ways[pair] = Way(lanes, lanes * (MAJOR if own[-1].state in "M=OG" else 1), classes=frozenset().union(
-            *(classes[link.source, link.lane] for link in links)))
+            *(classes[link.source, link.lane] for link in links)), turns=MIRRORED[turns] if net.on_the_left else turns,
+            control=CONTROLS.get(own[-1].state, GIVE_WAY), ring=_ring(net, found, pair))
         kept += own
     return kept
+
+
+def _ring(net: Net, found: Streets, pair: Movement) -> int:
+    """The lanes of the roundabout that a movement enters, 0 where it enters none."""
+    entered = any(pair[1] in edges and pair[0] not in edges for edges in net.roundabouts)
+    return found.streets[pair[1]].lanes if entered else 0
 
 
 def _programs(net: Net, found: Streets, links: list[Link]) -> None:
@@ -107,18 +122,18 @@ def _programs(net: Net, found: Streets, links: list[Link]) -> None:
     for name, count in Counter(logic.name for logic in net.logics).items():
         if count > 1:
             found.notes.append(f"signal {name} has {count} programs; the last is kept for the whole time")
-    actuated = sorted(name for name, logic in logics.items() if logic.sort != "static")
-    if actuated:
-        found.notes.append(f"{len(actuated)} signals are actuated ({named(actuated)}); the lengths of their phases are "
-                           "kept as fixed ones")
+    fixed = sorted(name for name, logic in logics.items() if logic.sort != "static" and not _stages(logic))
+    if fixed:
+        found.notes.append(f"{len(fixed)} signals follow traffic otherwise than by a least and a most of their greens "
+                           f"({named(fixed)}); the lengths of their phases are kept as fixed ones")
     greens: dict[tuple[str, str], list[Span]] = {}
     for link in links:
         logic = logics.get(link.signal)
         if logic is None:
             continue
         pair = link.source, link.into
-        cycle = sum(lasting for lasting, _ in logic.phases)
-        found.programs[found.streets[pair[0]].end] = Program(cycle, logic.offset % (cycle or 1))
+        cycle = sum(phase.lasting for phase in logic.phases)
+        found.programs[found.streets[pair[0]].end] = Program(cycle, logic.offset % (cycle or 1), _stages(logic), logic.name)
         greens.setdefault(pair, []).extend(_greens(logic, link.index))
     for pair, spans in greens.items():
         found.ways[pair].green = joined(spans, found.programs[found.streets[pair[0]].end].cycle)
@@ -133,13 +148,25 @@ def always(found: Streets, controlled: set[tuple[str, str]]) -> None:
             way.green = [(0.0, program.cycle)]
 
 
+def _timed(logic: Logic) -> Iterator[tuple[Span, LogicPhase]]:
+    """The phases of a signal, each with its span of the cycle."""
+    time = 0.0
+    for phase in logic.phases:
+        yield (time, time + phase.lasting), phase
+        time += phase.lasting
+
+
 def _greens(logic: Logic, index: int) -> Iterator[Span]:
     """When a link of a signal is green in the cycle."""
-    time = 0.0
-    for lasting, state in logic.phases:
-        if index < len(state) and state[index] in GREEN:
-            yield time, time + lasting
-        time += lasting
+    return (span for span, phase in _timed(logic) if index < len(phase.state) and phase.state[index] in GREEN)
+
+
+def _stages(logic: Logic) -> list[Stage]:
+    """The greens of a signal that follow traffic, with those between them that don't; none where none does."""
+    greens = [(span, phase) for span, phase in _timed(logic) if set(phase.state) & set(GREEN)]
+    if logic.sort != "actuated" or not any(phase.least < phase.most for _, phase in greens):
+        return []
+    return [Stage(begin, phase.lasting, phase.least, phase.most, logic.gap) for (begin, _), phase in greens]
 
 
 def _yields(net: Net, found: Streets, links: list[Link]) -> None:
@@ -156,18 +183,24 @@ def _yields(net: Net, found: Streets, links: list[Link]) -> None:
             others = [by_via[lane] for lane in over if lane in by_via]
         else:  # a network without lanes within junctions says that a link gives way, and not to which
             others = beside[name] if link.signal in logics or link.state in SIGNED else []
-        logic = logics.get(link.signal)
-        found.ways[link.source, link.into].yields |= {
-            (other.source, other.into) for other in others
-            if other.source != link.source and (logic is None or _together(logic, link, other))}
+        logic, way = logics.get(link.signal), found.ways[link.source, link.into]
+        for other in others:
+            if other.source == link.source:
+                continue
+            spans = list(_together(logic, link, other)) if logic else []
+            if logic is None or spans:
+                way.yields.add((other.source, other.into))
+            if name in found.programs:
+                cycle = found.programs[name].cycle
+                way.permitted = joined([*way.permitted, *(spans if logic else [(0.0, cycle)])], cycle)
 
 
-def _together(logic: Logic, link: Link, other: Link) -> bool:
-    """Whether a link of a signal is green for who gives way in a phase in which another one is green too."""
+def _together(logic: Logic, link: Link, other: Link) -> Iterator[Span]:
+    """When in the cycle a link of a signal is green for who gives way while another one is green too."""
     def shows(state: str, one: Link, letters: str) -> bool:
         return one.signal != logic.name or one.index < len(state) and state[one.index] in letters
 
-    return any(shows(state, link, MINOR) and shows(state, other, GREEN) for _, state in logic.phases)
+    return (span for span, phase in _timed(logic) if shows(phase.state, link, MINOR) and shows(phase.state, other, GREEN))
 
 
 def joined(spans: list[Span], cycle: float) -> list[Span]:
@@ -182,13 +215,3 @@ def joined(spans: list[Span], cycle: float) -> list[Span]:
         first = rows.pop(0)
         rows[-1][1] = cycle + first[1]
     return [(begin, end) for begin, end in rows]
-
-
-def _note_junctions(net: Net, found: Streets) -> None:
-    """What of the rules at junctions isn't kept."""
-    yielding = sum(node.sort in YIELDING for node in net.nodes.values())
-    if yielding:
-        found.notes.append(f"{yielding} junctions without a signal: where streams meet, giving way is kept as "
-                           "priorities; streams that only cross don't heed each other")
-    if net.roundabouts:
-        found.notes.append(f"{net.roundabouts} roundabouts: who drives round has priority as at other junctions")

@@ -15,6 +15,8 @@ CAR = "passenger"
 MOTOR = frozenset(["private", "emergency", "authority", "army", "vip", CAR, "hov", "taxi", "bus", "coach", "delivery",
                    "truck", "trailer", "motorcycle", "moped", "evehicle", "custom1", "custom2"])  # classes of vehicles
 FUNCTIONS = ("normal", "connector")  # of the edges that are streets
+YES = ("true", "1", "yes", "on", "x", "t")  # as SUMO has it
+GAP = 3.0  # s, SUMO's `max-gap` of actuated signals
 INTERNAL = ":"  # before the names of edges and nodes within a junction
 Element = ElementTree.Element
 Points = list[tuple[float, float]]  # in m
@@ -48,7 +50,8 @@ class Edge:
 class Link:
     """A connection from an edge's lane into another edge, with its signal and its number there where it has one.
 
-    `via` is the lane within the junction over which it leads, where the network has such lanes; of two the second.
+    `via` is the lane within the junction over which it leads, where the network has such lanes; of two the second. `turn` is the
+    letter of where it turns.
     """
 
     source: str
@@ -58,16 +61,28 @@ class Link:
     index: int
     state: str
     via: str
+    turn: str = "s"
+
+
+@dataclass(frozen=True)
+class LogicPhase:
+    """A phase of a signal: how long it lasts, the state of all links, and its least and most where it follows traffic, in s."""
+
+    lasting: float
+    state: str
+    least: float
+    most: float
 
 
 @dataclass(frozen=True)
 class Logic:
-    """A program of a signal: its sort, offset in s, and for each phase how long it lasts and the state of all links."""
+    """A program of a signal: its sort, offset in s, its phases, and where they follow traffic how long they go on behind it."""
 
     name: str
     sort: str
     offset: float
-    phases: list[tuple[float, str]]
+    phases: list[LogicPhase]
+    gap: float
 
 
 @dataclass(frozen=True)
@@ -89,14 +104,16 @@ class Location:
 
 @dataclass
 class Net:
-    """A network of SUMO, in the order of its file."""
+    """A network of SUMO, in the order of its file; of each roundabout the edges and the nodes. In some one drives on the left."""
 
     name: str
     edges: list[Edge] = field(default_factory=list)
     links: list[Link] = field(default_factory=list)
     logics: list[Logic] = field(default_factory=list)
     nodes: dict[str, Node] = field(default_factory=dict)
-    roundabouts: int = 0
+    roundabouts: list[frozenset[str]] = field(default_factory=list)
+    ring_nodes: list[list[str]] = field(default_factory=list)
+    on_the_left: bool = False
     location: Location | None = None
 
 
@@ -109,16 +126,21 @@ def read_xml(path: str | Path, *tags: str) -> Element:
     """The root of an XML file, which has to be of one of some tags."""
     check_root(path, *tags)
     try:
-        with _open(path) as file:
+        with opened(path) as file:
             return ElementTree.parse(file).getroot()
     except (ElementTree.ParseError, EOFError) as error:
         raise Problem(f"{path}: no XML: {one_line(error)}") from None
 
 
-def check_root(path: str | Path, *tags: str) -> None:
-    """Refuses a file that is no XML, or whose root is of none of some tags."""
+def on_the_left(path: str | Path) -> bool:
+    """Whether one drives on the left in the network of a file."""
+    return check_root(path, "net").get("lefthand") in YES
+
+
+def check_root(path: str | Path, *tags: str) -> Element:
+    """The first element of a file with its attributes alone; refuses one that is no XML, or is of none of some tags."""
     try:
-        with _open(path) as file:
+        with opened(path) as file:
             _, root = next(iter(ElementTree.iterparse(file, events=("start",))))
     except (ElementTree.ParseError, StopIteration, EOFError, gzip.BadGzipFile) as error:
         raise Problem(f"{path}: no XML: {one_line(error) or 'the file is empty'}") from None
@@ -126,9 +148,10 @@ def check_root(path: str | Path, *tags: str) -> None:
         raise Problem(f"{path}: {reason(error)}") from None
     if root.tag not in tags:
         raise Problem(f"{path}: expected <{'> or <'.join(tags)}>, found <{root.tag}>")
+    return root
 
 
-def _open(path: str | Path) -> BufferedIOBase:
+def opened(path: str | Path) -> BufferedIOBase:
     """The file to read from, unpacked where its name ends with .gz."""
     return gzip.GzipFile(path) if Path(path).suffix == ".gz" else open(path, "rb")
 
@@ -150,7 +173,9 @@ def _net(root: Element, name: str) -> Net:
     links = [_link(link, onward) for link in root.iter("connection") if not link.get("from", "").startswith(INTERNAL)]
     logics = [_logic(logic) for logic in root.iter("tlLogic")]
     where = root.find("location")
-    return Net(name, edges, links, logics, nodes, sum(1 for _ in root.iter("roundabout")),
+    rings = list(root.iter("roundabout"))
+    return Net(name, edges, links, logics, nodes, [frozenset(ring.get("edges", "").split()) for ring in rings],
+               [ring.get("nodes", "").split() for ring in rings], root.get("lefthand") in YES,
                None if where is None else location(where.get("netOffset", "0,0"), where.get("projParameter", "!")))
 
 
@@ -201,9 +226,17 @@ def yields(lanes: list[str], responses: dict[int, str]) -> dict[str, frozenset[s
 def _link(link: Element, onward: dict[str, str]) -> Link:
     via = link.get("via", "")
     return Link(link.get("from", ""), link.get("to", ""), int(link.get("fromLane", 0)), link.get("tl", ""),
-                int(link.get("linkIndex", 0)), link.get("state", "M"), onward.get(via, via))
+                int(link.get("linkIndex", 0)), link.get("state", "M"), onward.get(via, via), link.get("dir", "s"))
 
 
 def _logic(logic: Element) -> Logic:
-    phases = [(float(phase.get("duration", 0)), phase.get("state", "")) for phase in logic.iter("phase")]
-    return Logic(logic.get("id", ""), logic.get("type", "static"), float(logic.get("offset", 0)), phases)
+    phases = [logic_phase(float(phase.get("duration", 0)), phase.get("state", ""), phase.get("minDur"), phase.get("maxDur"))
+              for phase in logic.iter("phase")]
+    params = {param.get("key"): param.get("value") for param in logic.iter("param")}
+    return Logic(logic.get("id", ""), logic.get("type", "static"), float(logic.get("offset", 0)), phases,
+                 float(params.get("max-gap") or GAP))
+
+
+def logic_phase(lasting: float, state: str, least: str | float | None, most: str | float | None) -> LogicPhase:
+    """A phase; without a least or a most it lasts as long as it says."""
+    return LogicPhase(lasting, state, lasting if least is None else float(least), lasting if most is None else float(most))

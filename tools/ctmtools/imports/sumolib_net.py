@@ -8,7 +8,8 @@ from typing import Any
 from xml.sax import SAXParseException
 
 from ..problem import Problem, one_line
-from .sumo_net import FUNCTIONS, Edge, Lane, Link, Logic, Net, Node, check_root, location, motor, name_of, yields
+from .sumo_net import (FUNCTIONS, GAP, Edge, Lane, Link, Logic, Net, Node, check_root, location, logic_phase, motor, name_of,
+                       on_the_left, yields)
 
 
 def is_there() -> bool:
@@ -23,7 +24,7 @@ def read(path: str | Path) -> Net | None:
     check_root(path, "net")
     try:
         return _net(path)
-    except (KeyError, IndexError, AttributeError, ValueError):
+    except (KeyError, IndexError, AttributeError, TypeError, ValueError):
         return None
     except SAXParseException as error:
         raise Problem(f"{path}: no XML: {one_line(error.getMessage())}") from None
@@ -42,7 +43,9 @@ def _net(path: str | Path) -> Net:
     logics = [_logic(signal.getID(), program) for signal in net.getTrafficLights() for program in
               signal.getPrograms().values()]
     where = net._location  # whose projection sumolib says by no call
-    return Net(name_of(path), [_edge(edge) for edge in edges], links, logics, nodes, len(net.getRoundabouts()),
+    rings = net.getRoundabouts()
+    return Net(name_of(path), [_edge(edge) for edge in edges], links, logics, nodes, [frozenset(ring.getEdges()) for ring in rings],
+               [list(ring.getNodes()) for ring in rings], on_the_left(path),
                location(where["netOffset"], where["projParameter"]) if where else None)
 
 
@@ -62,9 +65,12 @@ def _edge(edge: Any) -> Edge:
 def _link(link: Any, onward: dict[str, str]) -> Link:
     via = link.getViaLaneID() or ""
     return Link(link.getFrom().getID(), link.getTo().getID(), link.getFromLane().getIndex(), link.getTLSID(),
-                max(0, link.getTLLinkIndex()), link.getState(), onward.get(via, via))
+                max(0, link.getTLLinkIndex()), link.getState(), onward.get(via, via), link.getDirection())
 
 
 def _logic(name: str, program: Any) -> Logic:
     offset = program.getOffset() if hasattr(program, "getOffset") else program._offset  # older ones don't say it otherwise
-    return Logic(name, program.getType(), float(offset), [(float(phase.duration), phase.state) for phase in program.getPhases()])
+    phases = [logic_phase(float(phase.duration), phase.state, *(None if said is None or said < 0 else said
+                                                                for said in (phase.minDur, phase.maxDur)))
+              for phase in program.getPhases()]
+    return Logic(name, program.getType(), float(offset), phases, float(program.getParam("max-gap", GAP)))

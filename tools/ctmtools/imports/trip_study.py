@@ -17,9 +17,12 @@ from .traffic import EXIT, GATE, Traffic
 ROUTES = "vehicles have no routes of their own"  # of the note of a study with shares
 
 
-def trip_study_text(found: Streets, traffic: Traffic, terms: Terms, interval: float, until: float) -> str:
-    """The text of a study of open traffic, with a gate and an exit where trips begin and end, and the trips by interval."""
-    writer = Writer(found, traffic, terms)
+def trip_study_text(writer: Writer, interval: float, until: float, file: str | None = None) -> str:
+    """The text of a study of open traffic, with a gate and an exit where trips begin and end, and the trips by interval.
+
+    With a `file` they are those of a list of trips beside the study.
+    """
+    found = writer.found
     values = tomllib.loads("\n".join(writer.lines()), parse_float=Fraction)
     for joint in [*values.get("diverges", []), *values.get("junctions", [])]:
         joint.pop("shares", None)
@@ -28,8 +31,8 @@ def trip_study_text(found: Streets, traffic: Traffic, terms: Terms, interval: fl
         gate.pop("demand", None)
     values["notes"] = [note for note in values.get("notes", []) if not note.startswith(ROUTES)]
     values["routing"] = {"interval": round(interval)}
-    values["trips"] = [_pair(pair, rows, terms, interval, writer.names)
-                       for pair, rows in _by_pair(found.trips, interval, until).items()]
+    values["trips"] = {"file": file} if file else [_pair(pair, rows, writer.terms, interval, writer.names)
+                                                   for pair, rows in _by_pair(found.trips, interval, until).items()]
     return study_text(values, f"Made by ctm-tools import of {found.title}, with its trips")
 
 

@@ -3,26 +3,43 @@
 When a phase begins its green is set by what waits and comes: with `n` who wait, `q` who come and `s` who pass it lasts
 `n/(s - q)`, until those who waited are gone, and a gap longer, between a least and a most. `n` are the vehicles on an approach
 beyond those that drive there at free flow where `q` come. Its reds are limits of 0 in the network that comes out.
+
+With a file what was reached is kept there every few seconds and at an interrupt, and is taken up again.
 """
 
 from __future__ import annotations
 
+import json
 from collections.abc import Callable, Sequence
 from dataclasses import dataclass, field, replace
 from fractions import Fraction
 from math import ceil
+from pathlib import Path
+from time import monotonic
 
 from ..amounts import PARTS
+from ..files import write
 from ..network_file.editing import with_records
 from ..study.network_text import FIXED, Built
-from ..study.plan import ActuatedJunction, ActuatedPhase, Study
+from ..study.plan import ActuatedJunction, ActuatedPhase, StopLine, Study
+from ..ties import checksum
+from ..units import cell_of
 from .going_on import Runner
-from .moment import Moment
+from .moment import Moment, moment_of
+
+KEPT = ".actuated.json"  # the ending of what is kept of greens that aren't done
+KEPT_EACH = 2.0  # seconds
+
+
+def kept_path(target: Path) -> Path:
+    """Where what was reached of greens that follow traffic is kept: beside the report."""
+    return target.with_suffix(KEPT)
+
 
 
 @dataclass
 class Controller:
-    """A junction whose greens follow traffic: the phase that begins next, and when, and the greens so far in steps."""
+    """A signal whose greens follow traffic: the phase that begins next, and when, and the greens so far in steps."""
 
     junction: ActuatedJunction
     next: int
@@ -31,30 +48,50 @@ class Controller:
     began: list[int] = field(default_factory=list)  # when each first phase did
 
 
+@dataclass(frozen=True)
+class Point:
+    """Where a run of signals stands between two greens: how many reds were set, and of each controller how far it is."""
+
+    reds: int
+    seen: dict[str, tuple[int, int]]
+    controllers: list[tuple[int, int, int, int]]  # its next green, the phase of that, and how many greens and cycles it had
+
+
 class ActuatedSignals:
     """The network so far, with the reds that were set, and the moment that was reached."""
 
-    def __init__(self, built: Built, study: Study, runner: Runner) -> None:
-        self.built, self.runner, self.step, self.network = built, runner, study.step, built.network
+    def __init__(self, built: Built, study: Study, runner: Runner, kept: Path | None = None) -> None:
+        self.built, self.runner, self.step, self.network, self.kept = built, runner, study.step, built.network, kept
         self.controllers = [Controller(one, self._steps(one.offset)) for one in study.actuated]
-        self.roads = {road: self._cells(road) for one in study.actuated for phase in one.phases for road in phase.roads}
+        self.mark = checksum(built.text.encode() + repr(study.actuated).encode())
+        self.saved = monotonic()
+        self.lines = {line: self._cells(line, study) for one in study.actuated for phase in one.phases for line in phase.lines}
         self.places = {name: place for place, name in enumerate(self.network.cells.index)}
-        stop_lines = tuple(f"signal,{cells[-1]}," for cells in self.roads.values())
+        stop_lines = tuple(f"signal,{cells[-1]}," for cells in self.lines.values())
         self.own = "".join(line for line in built.text.splitlines(keepends=True) if not line.startswith(stop_lines)).encode()
         self.reds = [f"limit,{cells[-1]},0,{one.next},0" for one in self.controllers if one.next
                      for cells in self._approaches(one)]
-        self.seen: dict[str, tuple[int, int]] = {}  # for each road the step of its last green, and what had come into it
+        self.seen: dict[str, tuple[int, int]] = {}  # for each stop line's cell its last green's step, and what had come before it
         self.moment: Moment | None = None
+        self.point = self._point()
 
     def run(self, done: Callable[[int], object] | None = None) -> Built:
         """The network with all its reds; `done` is told how many steps further it is."""
         reached = 0
-        while (one := min(self.controllers, key=lambda one: one.next)).next < self.network.steps:
-            self._go_to(one.next)
-            if done:
-                done(one.next - reached)
-            reached = one.next
-            self._begin(one)
+        self._take_up()
+        try:
+            while (one := min(self.controllers, key=lambda one: one.next)).next < self.network.steps:
+                self._go_to(one.next)
+                if done:
+                    done(one.next - reached)
+                reached = one.next
+                self._begin(one)
+                self.point = self._point()
+                if self.kept and monotonic() > self.saved + KEPT_EACH:
+                    self._keep()
+        except KeyboardInterrupt:
+            self._keep()
+            raise
         units = replace(self.built.units, cycles={**self.built.units.cycles, **self._cycles()})
         warnings = [line for line in self.built.warnings if FIXED not in line]
         return replace(self.built, text=self._content().decode(), units=units, warnings=warnings,
@@ -63,12 +100,53 @@ class ActuatedSignals:
     def _steps(self, seconds: Fraction) -> int:
         return max(0, round(seconds / self.step))
 
-    def _cells(self, road: str) -> Sequence[str]:
-        return self.built.units.roads.get(road, [road])
+    def _cells(self, line: StopLine, study: Study) -> Sequence[str]:
+        """The cells before a stop line, from the one behind the stop line before it on, or its gate."""
+        units, (road, at) = self.built.units, line
+        cells = units.roads.get(road)
+        if cells is None:
+            return [road]
+        stop = cells.index(cell_of(road, units, None if at is None else float(at)))
+        others = [cells.index(cell_of(road, units, None if one.at is None else float(one.at)))
+                  for one in study.signals if one.road == road]
+        return cells[max((place + 1 for place in others if place < stop), default=0):stop + 1]
 
     def _approaches(self, one: Controller) -> list[Sequence[str]]:
-        names = dict.fromkeys(road for phase in one.junction.phases for road in phase.roads)
-        return [self.roads[name] for name in names]
+        return [self.lines[line] for line in dict.fromkeys(line for phase in one.junction.phases for line in phase.lines)]
+
+    def _point(self) -> Point:
+        return Point(len(self.reds), dict(self.seen), [(one.next, one.phase, len(one.greens), len(one.began))
+                                                       for one in self.controllers])
+
+    def _state(self) -> str:
+        """What was reached, as text: the last point between two greens, whatever was begun since."""
+        assert self.moment is not None
+        rows = [{"next": at, "phase": phase, "greens": one.greens[:greens], "began": one.began[:began]}
+                for one, (at, phase, greens, began) in zip(self.controllers, self.point.controllers)]
+        return json.dumps({"of": self.mark, "reds": self.reds[:self.point.reds], "seen": self.point.seen, "controllers": rows,
+                           "moment": self.moment.of(b"").text.decode()})
+
+    def _keep(self) -> None:
+        """Keeps what was reached, once there is something."""
+        if self.kept and self.moment is not None:
+            write(self.kept, self._state())
+            self.saved = monotonic()
+
+    def _take_up(self) -> None:
+        """Takes up what an earlier call has kept of the same network and signals."""
+        try:
+            state = json.loads(self.kept.read_text()) if self.kept and self.kept.exists() else {}
+        except (OSError, ValueError):
+            state = {}
+        if not isinstance(state, dict) or state.get("of") != self.mark:
+            return
+        self.reds = state["reds"]
+        self.seen = {cell: (step, come) for cell, (step, come) in state["seen"].items()}
+        for one, was in zip(self.controllers, state["controllers"]):
+            one.next, one.phase, one.began = was["next"], was["phase"], was["began"]
+            one.greens = [(phase, green) for phase, green in was["greens"]]
+        self.moment = moment_of(state["moment"].encode(), str(self.kept)).of(self._content())
+        self.point = self._point()
 
     def _content(self) -> bytes:
         return with_records(self.own, self.reds)
@@ -87,10 +165,10 @@ class ActuatedSignals:
         green = self._green(phase, one.next)
         end = one.next + green
         stop = end + self._steps(phase.pause)
-        for road in dict.fromkeys(road for each in phases for road in each.roads):
-            red = one.next if road not in phase.roads else stop if road in behind.roads else end
+        for line in dict.fromkeys(line for each in phases for line in each.lines):
+            red = one.next if line not in phase.lines else stop if line in behind.lines and behind is not phase else end
             if red < min(stop, self.network.steps):
-                self.reds.append(f"limit,{self.roads[road][-1]},{red},{min(stop, self.network.steps)},0")
+                self.reds.append(f"limit,{self.lines[line][-1]},{red},{min(stop, self.network.steps)},0")
         if one.phase == 0:
             one.began.append(one.next)
         one.greens.append((one.phase, green))
@@ -98,20 +176,19 @@ class ActuatedSignals:
 
     def _green(self, phase: ActuatedPhase, now: int) -> int:
         """How many steps a green lasts."""
-        needs = [self._clearing(road, now) for road in phase.roads]
+        needs = [self._clearing(self.lines[line], now) for line in phase.lines]
         if phase.actuation is None:
             return max(1, self._steps(phase.green))
         follow = phase.actuation
         least, most = max(1, self._steps(follow.least)), max(1, self._steps(follow.most))
         return min(most, max(least, ceil(max(needs) + float(follow.gap / self.step) - 1e-9)))
 
-    def _clearing(self, road: str, now: int) -> float:
-        """The steps in which those who wait on a road are gone, and those who come meanwhile."""
-        cells = self.roads[road]
+    def _clearing(self, cells: Sequence[str], now: int) -> float:
+        """The steps in which those who wait in the cells before a stop line are gone, and those who come meanwhile."""
         rows = [self.moment.rows[self.places[cell]] for cell in cells] if self.moment else []
         come = rows[0].come if rows else 0
-        before, had_come = self.seen.get(road, (0, 0))
-        self.seen[road] = now, come
+        before, had_come = self.seen.get(cells[-1], (0, 0))
+        self.seen[cells[-1]] = now, come
         coming = (come - had_come) / PARTS / (now - before) if now > before else 0.0
         waiting = sum(row.n for row in rows) / PARTS - coming * len(cells)
         passing = float(self.network.cells.Q[cells[-1]])

@@ -17,8 +17,10 @@ from .frames import Frames, bounds_of, steps_an_hour
 from .networks import is_measured, network_of, roads_of
 from .provenance import provenance
 from .tables import differing, reports_of, table_of, unlike_lines
+from .ways import ways_of
 
 NEAR = 0.99  # of the greatest density, from which on a frame counts as one of the densest
+MOST_TITLES = 3  # in the title of a page
 SHOWN = {"density": ("vehicles/km", "vehicles in a cell"), "flow": ("vehicles/h", "vehicles in a step"),
          "speed": ("km/h", "cells in a step"), "place": ("km", "cell")}
 
@@ -37,14 +39,14 @@ def data_of(reports: Sequence[Report], background: Background | None = None) -> 
         if network not in networks:
             networks.append(network)
         shown.append({"network": networks.index(network), **own.told()})
-    return {"title": listed(list(dict.fromkeys(report.title for report in reports))), "subtitle": _subtitle(reports),
+    return {"title": _title(reports), "subtitle": _subtitle(reports),
             "provenance": provenance(reports), "notes": _notes(reports, bounds), "names": names, "slow": SLOW,
             "measured": measured, "hour": steps_an_hour(first), "units": _units(first, measured),
             "schematic": not first.units.points, "times": _labels(first, bounds), "clock": _clock(first, bounds),
             "networks": networks, "reports": shown, "opening": opening(frames),
             "tables": {"roads": table_of(reports), "cells": differing(reports, names), "told": unlike_lines(reports, names),
                        "reports": reports_of(reports, names) if len(reports) > 1 else None},
-            "background": background.told() if background else None}
+            "ways": ways_of(reports), "background": background.told() if background else None}
 
 
 def _need_alike(reports: Sequence[Report]) -> None:
@@ -77,6 +79,12 @@ def opening(frames: Sequence[Frames]) -> dict[str, Any]:
 def _units(report: Report, measured: bool) -> dict[str, str]:
     known = {"density": measured, "place": measured, "flow": report.units.known, "speed": measured and report.units.known}
     return {name: SHOWN[name][0 if known[name] else 1] for name in SHOWN}
+
+
+def _title(reports: Sequence[Report]) -> str:
+    """The titles of the reports; of more than three, which the table below names, the first one's."""
+    titles = list(dict.fromkeys(report.title for report in reports))
+    return listed(titles) if len(titles) <= MOST_TITLES else f"{titles[0]} and {len(reports) - 1} other reports"
 
 
 def _subtitle(reports: Sequence[Report]) -> str:

@@ -2,7 +2,7 @@
 let mapZoom = d3.zoomIdentity;
 const everyPoint = data.networks.flatMap(network => network.cells.flatMap(cell => cell.line));
 const extent = [0, 1].map(axis => d3.extent(everyPoint, point => point[axis]));
-const EDGE = 24;
+const EDGE = 24, LIT = 9;  // px; a cell of the chosen way is lit so much about it
 
 // How many px a unit of the map takes before it is zoomed.
 function fitted(width, height) {
@@ -41,6 +41,7 @@ function drawMap() {
   if (state.against !== null)  // what the other report alone has
     data.reports[state.against].cells.filter(cell => !shown().places.has(cell.name))
       .forEach(cell => trace(pen, place, cell, 2, paint("none")));
+  for (const i of litCells()) trace(pen, place, cells[i], widthOf(cells[i]) + LIT, paint("other"));
   cells.forEach(cell => trace(pen, place, cell, widthOf(cell) + 1.5, soft));
   pen.lineCap = "butt";
   cells.forEach((cell, i) => trace(pen, place, cell, widthOf(cell), cell.kind === "road" ?

@@ -9,6 +9,7 @@ from ..plots.layout import Line, lay_out
 from ..report.reading import Report
 from .junctions import junctions_of, movements
 
+WITHOUT_ROADS = "all road cells, in the order of the file"  # of a network whose units, and so whose roads, aren't known
 Place = Callable[[Line], Line]  # takes a line of the map to where the page draws it
 
 
@@ -16,7 +17,7 @@ def roads_of(report: Report) -> dict[str, list[str]]:
     """The cells of each road, without those within junctions; of one of all cells where no roads are known."""
     within = set(movements(report))
     roads = {road: list(cells) for road, cells in report.units.roads.items() if cells[0] not in within}
-    return roads or {"all": [cell for cell, kind in report.need_network().kinds.items() if kind == "road"]}
+    return roads or {WITHOUT_ROADS: [cell for cell, kind in report.need_network().kinds.items() if kind == "road"]}
 
 
 def is_measured(report: Report) -> bool:

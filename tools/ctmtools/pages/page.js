@@ -20,6 +20,7 @@ function show() {
   drawMap();
   drawSpace();
   drawCurves();
+  drawWays();
   fitTable();
   mark();
 }
@@ -59,6 +60,10 @@ function see({ report, against }) {
   show();
 }
 for (const id of ["title", "subtitle", "provenance", "notes"]) byId(id).textContent = data[id];
+const narrow = matchMedia("(max-width: 600px)");
+const tellOrigin = () => { byId("origin").open = !narrow.matches; };
+narrow.addEventListener("change", tellOrigin);
+tellOrigin();
 byId("slider").max = frames - 1;
 byId("slider").addEventListener("input", event => at(+event.target.value));
 byId("play").addEventListener("click", play);
@@ -86,5 +91,6 @@ addEventListener("resize", show);
 addEventListener("beforeprint", toPaper);
 addEventListener("afterprint", toScreen);
 fillRoads();
+fillPairs();
 drawTables();
 show();

@@ -16,8 +16,8 @@ from .content import data_of
 HERE = Path(__file__).resolve().parent
 DRAWING_LIBRARY = Path("/usr/share/nodejs/d3/dist/d3.min.js")
 # The files of the script in the order in which they stand in the page; the last one draws what the others define.
-SCRIPTS = ("values", "view", "colours", "clock", "drawing", "tiles", "names", "map", "space", "curves", "hover", "table",
-           "play", "print", "page")
+SCRIPTS = ("values", "view", "colours", "clock", "drawing", "tiles", "names", "map", "space", "curves", "ways", "hover",
+           "table", "play", "print", "page")
 
 
 def page_of(reports: Sequence[Report], library: str | None = None, background: Background | None = None) -> str:

@@ -1,6 +1,7 @@
 // In print: A4, two pages, in the colours of paper; the first has the drawings, the second the cell and the table.
 const MILLIMETRE = 96 / 25.4, PAGE = (297 - 28) * MILLIMETRE - 8;  // px of a page within its margins
 const MOST_SPACE = 480, LINE = 30;  // px
+const MOST_WAYS_PRINTED = 6;  // so many ways at least have room
 
 function height(element) { return element.getBoundingClientRect().height; }
 const topOf = name => byId(name).getBoundingClientRect().top;
@@ -11,20 +12,26 @@ function fitPages() {
   const over = topOf("of-cell") - document.body.getBoundingClientRect().top - PAGE;
   byId("space").style.height = `${Math.max(90, Math.min(MOST_SPACE, height(byId("space")) - over))}px`;
   byId("differing").classList.toggle("late", tooLong() > 0);
-  leaveOut([...document.querySelectorAll("#roads tbody tr")]);
+  leaveOut([...document.querySelectorAll("#pair-ways tbody tr")].slice(MOST_WAYS_PRINTED - 1), late => tellWays(`${late} more ways are left out here.`));
+  leaveOut([...document.querySelectorAll("#roads tbody tr")], late => { byId("more").textContent = `${late} more rows are left out here.`; });
 }
 // Leaves the last rows out, as many as the page is too long, and tells how many.
-function leaveOut(rows) {
+function leaveOut(rows, tell) {
   let late = 0;
   for (let over = tooLong(); over > 0 && late < rows.length - 1; over = tooLong()) {
     const wanted = Math.min(rows.length - 1, late + Math.ceil(over / height(rows[0])));
     for (; late < wanted; late++) rows[rows.length - 1 - late].classList.add("late");
-    byId("more").textContent = `${late} more rows are left out here.`;
+    tell(late);
   }
 }
+let originShown;
+const tellWays = text => { byId("ways-more").textContent = text; };
 function toPaper() {
   state.printing = true;
+  originShown = byId("origin").open;
+  byId("origin").open = true;
   document.documentElement.classList.add("printing");
+  tellWays("");
   show();
   fitPages();
   drawSpace();
@@ -32,9 +39,11 @@ function toPaper() {
 }
 function toScreen() {
   state.printing = false;
+  byId("origin").open = originShown;
   document.documentElement.classList.remove("printing");
   byId("space").style.height = "";
   byId("more").textContent = "";
-  document.querySelectorAll("#roads tr.late, #differing").forEach(row => row.classList.remove("late"));
+  if (data.ways) tellWays(waysText());
+  document.querySelectorAll("#roads tr.late, #pair-ways tr.late, #differing").forEach(row => row.classList.remove("late"));
   show();
 }

@@ -1,5 +1,6 @@
 // Density, flow or speed over time and place on a road, with queues outlined as in the pictures; it is zoomed and dragged.
 let spaceZoom = d3.zoomIdentity;
+const LIT_BAR = 5;  // px
 
 // The kilometres at which the cells of the road begin, and the last one's end.
 function boundaries() {
@@ -66,10 +67,20 @@ function drawOutlines(pen, x, y, kms, width, height) {
   outline(pen, shown(), cells, x, y, kms);
   pen.restore();
 }
+// A bar beside the cells of the chosen way.
+function drawLit(pen, y, kms) {
+  const lit = litCells();
+  pen.fillStyle = paint("other");
+  cellsOfRoad().forEach((cell, row) => {
+    const [top, foot] = [y(kms[row + 1]), y(kms[row])].map(at => Math.max(edges.top, Math.min(pen.canvas.clientHeight - edges.bottom, at)));
+    if (lit.has(cell)) pen.fillRect(edges.left - LIT_BAR, top, LIT_BAR, foot - top);
+  });
+}
 function drawSpace() {
   const { pen, width, height } = canvas("space"), { x, y, kms } = spaceScales(width, height);
   drawValues(pen, x, y, kms, width, height);
   drawOutlines(pen, x, y, kms, width, height);
+  drawLit(pen, y, kms);
   const svg = cleared("space");
   svg.append("g").attr("transform", `translate(0,${height - edges.bottom})`).call(timeAxis(x, width / 80));
   svg.append("g").attr("transform", `translate(${edges.left},0)`).call(d3.axisLeft(y).ticks(6));

@@ -1,6 +1,6 @@
 // What is shown follows from `state`: a report, or what it has more than another one, at a frame.
 const state = { frame: data.opening.frame, quantity: "density", report: data.opening.report, against: null,
-  road: data.opening.road, cell: data.opening.cell, measure: 1, printing: false };
+  road: data.opening.road, cell: data.opening.cell, measure: 1, pair: 0, way: null, printing: false };
 const dark = matchMedia("(prefers-color-scheme: dark)");
 const isDark = () => dark.matches && !state.printing;
 const byId = name => document.getElementById(name);

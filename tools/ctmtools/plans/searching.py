@@ -14,6 +14,7 @@ import numpy
 from ..files import write
 from ..program import program_path
 from ..running import settled_by_runs
+from ..study.counted_demands import counted_demands, names_of
 from ..study.reading import read_values, study_of
 from ..study.writing import study_text
 from ..sweeps.task import Task, fingerprint
@@ -89,10 +90,9 @@ class Search:
 
 def moved_to(values: dict[str, Any], source: Path, target: Path) -> dict[str, Any]:
     """A study's values for a file in another place: files of counts are named as they are seen from there."""
-    for gate in values.get("gates", {}).values():
-        demand = gate.get("demand")
-        if isinstance(demand, dict) and "counts" in demand:
-            demand["counts"] = os.path.relpath(source.parent / demand["counts"], target.parent)
+    for demand in counted_demands(values):
+        names = [os.path.relpath(source.parent / name, target.parent) for name in names_of(demand)]
+        demand["counts"] = names if isinstance(demand["counts"], list) else names[0]
     return values
 
 

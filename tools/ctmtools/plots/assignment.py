@@ -10,8 +10,6 @@ from matplotlib.figure import Figure
 
 from ..problem import Problem
 from ..report.reading import Report
-from ..study.quantities import clock
-from ..units import DAY
 from .figure import beside, drawing, figure, head, moments, note, style, time_axis
 
 if TYPE_CHECKING:
@@ -70,8 +68,7 @@ def draw_ways(rows: Sequence[WayRow], report: Report, width: float) -> Figure:
 
 
 def _step(row: WayRow, report: Report) -> float:
-    seconds = float(clock(row.start, "start")) - (report.units.start or 0)
-    return (seconds if seconds >= 0 else seconds + DAY) / (report.units.step or 1)
+    return (row.seconds - (report.units.start or 0)) / (report.units.step or 1)
 
 
 def _stairs(steps: numpy.ndarray, values: numpy.ndarray, width: float) -> tuple[numpy.ndarray, numpy.ndarray]:

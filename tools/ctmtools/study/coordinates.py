@@ -78,9 +78,11 @@ def moved(points: Sequence[Point], source: str, target: str, key: str) -> list[P
 
 
 def flat(points: Sequence[Point], source: str, key: str) -> tuple[str, list[Point]]:
-    """Points in km of a projected system in metres: their own, or the zone of UTM in which they lie; and which that is."""
+    """Points in km of a projected system in metres to the east and the north: their own, or the zone of UTM in which they lie;
+    and which that is."""
     found = system(source, key)
-    if found.is_projected and all(axis.unit_conversion_factor == 1 for axis in found.axis_info[:2]):
+    if found.is_projected and all(axis.unit_conversion_factor == 1 for axis in found.axis_info[:2]) and \
+            {axis.direction for axis in found.axis_info[:2]} == {"east", "north"}:
         return source, [(x / METRES, y / METRES) for x, y in points]
     degrees = moved(points, source, DEGREES, key)
     target = _zone([sum(values) / len(degrees) for values in zip(*degrees)])

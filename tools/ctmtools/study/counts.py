@@ -3,7 +3,6 @@
 from __future__ import annotations
 
 import datetime
-import re
 from collections import Counter
 from collections.abc import Iterator, Sequence
 from dataclasses import dataclass
@@ -11,17 +10,20 @@ from fractions import Fraction
 from pathlib import Path
 from typing import Any
 
+from ..detectors.days import ORDERS
+from ..detectors.flows import HOUR
+from ..detectors.rules import rules_of
+from ..detectors.several import paths_of
+from ..detectors.wanted import Wanted
 from ..problem import Problem
 from ..units import DAY
-from .count_file import Choice, Row, rows_of
-from .count_times import Day, day
-from .entries import Entries
+from .count_file import Row, counted
+from .entries import Entries, list_of
 from .plan import Flow
-from .quantities import duration, shown, word
+from .quantities import duration, number, shown, word
 from .rounding import told
 from .times import Times
 
-HOUR = 3600
 MISSING = ("error", "zero", "interpolate")
 
 Piece = tuple[Fraction, Fraction, Fraction]  # the start, the end and the middle of an interval of a gap
@@ -29,57 +31,59 @@ Placed = list[tuple[Fraction, Row]]  # each row with its seconds after the study
 
 
 @dataclass(frozen=True)
-class Reading:
-    """How the numbers of a file are read: the decimal sign, what a count is of, its interval, and what gaps are.
-
-    The decimal sign is None where the study doesn't say it; then it is a point.
-    """
-
-    decimal: str | None
-    per: str
-    interval: Fraction | None
-    missing: str
-
-
-@dataclass(frozen=True)
 class Count:
-    """A count: the line that it stands in, its interval in seconds after the study's start, and its vehicles/h."""
+    """A count: where it stands, its interval in seconds after the study's start, and its vehicles/h."""
 
-    line: int
+    where: str
     start: Fraction
     end: Fraction
     flow: Fraction
 
 
 def flows_of_counts(table: Entries, times: Times) -> list[Flow]:
-    """The flows in vehicles/h that a table of the study takes from a file of counts; tools/README.md has its keys."""
-    path = times.folder / table.take("counts", word)
-    choice = Choice(table.take("column", word), table.take("time", word, "time"), table.take("station", _text, None),
-                    table.take("station_column", word, "station"), table.take("date", _date, None),
-                    table.take("date_column", word, "date"))
-    separator = table.take("separator", word, ",")
-    reading = Reading(table.take("decimal", word, None), _one_of(table, "per", ("interval", "hour")),
-                      table.take("interval", duration, None), _one_of(table, "missing", MISSING))
-    table.done()
-    if len(separator) != 1:
-        raise Problem(f"{table.key('separator')}: expected one character")
-    rows, dated, zoned = rows_of(path, separator, choice, times.passes_midnight)
-    interval = _interval(path, rows, reading)
-    placed = [(row.seconds - times.start, row) for row in rows] if dated else _on_days(rows, interval, times)
-    counts = _counts(path, choice.column, placed, reading, interval)
-    flows, missed = _filled(path, counts, interval, reading.missing, times)
+    """The flows in vehicles/h that a table of the study takes from files of counts; tools/docs/counts.md has its keys."""
+    names = table.take("counts", _texts)
+    wanted = wanted_of(table)
+    found = counted(paths_of([times.folder / name for name in names]), wanted, times.passes_midnight)
+    asked = Fraction(found.interval) if wanted.interval is None and found.interval is not None else wanted.interval
+    interval = _interval(found.name, found.rows, asked, wanted.missing or "error")
+    placed = [(row.seconds - times.start, row) for row in found.rows] if found.dated else _on_days(found.rows, interval, times)
+    counts = _counts(placed, found.hourly, interval)
+    flows, missed = _filled(found.name, counts, interval, wanted.missing or "error", times)
     vehicles = sum(flow.flow * (flow.end - flow.start) for flow in flows) / HOUR
-    more = _missed(missed, reading.missing, times)
-    more += "; the times are taken as they are written, without their zone" if zoned else ""
-    times.remarks.append(f"{table.place}: counts of {_lasting(interval)} from {path.name}, {choice.column}, "
+    more = _missed(missed, wanted.missing or "error", times) + "".join(f"; {line}" for line in found.lines)
+    what = wanted.column or (f"station {wanted.station}" if wanted.station else "its flows")
+    times.remarks.append(f"{table.place}: counts of {_lasting(interval)} from {Path(found.name).name}, {what}, "
                          f"{told(vehicles)} vehicles in the study's time{more}")
     return flows
 
 
-def _one_of(table: Entries, name: str, words: Sequence[str]) -> str:
-    """One of some words, by default the first."""
-    value = table.take(name, word, words[0])
-    if value not in words:
+def wanted_of(table: Entries) -> Wanted:
+    """How a table of the study has files of counts read, and what it takes of them."""
+    column = table.take("column", word, None)
+    date, dates = table.take("date", _date, None), table.take("dates", _dates, ())
+    if date and dates:
+        raise Problem(f"{table.key('dates')}: say either date or dates")
+    separator = table.take("separator", word, None)
+    lanes = table.take("lanes", number, None)
+    average, per = _one_of(table, "average", ("mean", "median")), _one_of(table, "per", ("interval", "hour"))
+    wanted = Wanted(column, table.take("time", word, "time"), table.take("station", _text, None),
+                    table.take("station_column", word, "station"), (date,) if date else dates, table.take("date_column", word, "date"),
+                    _one_of(table, "date_order", ORDERS), average, per or ("interval" if column else None), None,
+                    _one_of(table, "occupancy_unit", ("%", "share")),
+                    table.take("interval", duration, None), _one_of(table, "missing", MISSING), separator,
+                    table.take("decimal", word, None), table.take("zone", word, None), None if lanes is None else float(lanes),
+                    rules_of(table.take("leave_out", _texts, ()), table.key("leave_out")), table.take("holidays", _dates, ()))
+    table.done()
+    if separator is not None and len(separator) != 1:
+        raise Problem(f"{table.key('separator')}: expected one character")
+    return wanted
+
+
+def _one_of(table: Entries, name: str, words: Sequence[str]) -> str | None:
+    """One of some words, None where none is said."""
+    value = table.take(name, word, None)
+    if value is not None and value not in words:
         raise Problem(f"{table.key(name)}: expected {' or '.join(words)}, found {shown(value)}")
     return value
 
@@ -88,47 +92,55 @@ def _text(value: Any, key: str) -> str:
     return str(value) if isinstance(value, int) and not isinstance(value, bool) else word(value, key)
 
 
-def _date(value: Any, key: str) -> Day:
-    return day(value.isoformat() if isinstance(value, datetime.date) else word(value, key), key)
+def _texts(value: Any, key: str) -> tuple[str, ...]:
+    return tuple(list_of(word)(value, key)) if isinstance(value, list) else (word(value, key),)
 
 
-def _interval(path: Path, rows: Sequence[Row], reading: Reading) -> Fraction:
+def _date(value: Any, key: str) -> str:
+    return value.isoformat() if isinstance(value, datetime.date) else word(value, key)
+
+
+def _dates(value: Any, key: str) -> tuple[str, ...]:
+    return tuple(list_of(_date)(value, key)) if isinstance(value, list) else (_date(value, key),)
+
+
+def _interval(path: str, rows: Sequence[Row], asked: Fraction | None, missing: str) -> Fraction:
     """The seconds of an interval: those that are said, else the way from row to row on which most rows agree.
 
     A row may be missing, so a way may also be several intervals.
     """
-    ways = [(Fraction(behind.seconds - row.seconds), row.line) for row, behind in zip(rows, rows[1:])]
-    if reading.interval is None and not ways:
+    ways = [(Fraction(behind.seconds - row.seconds), row.where) for row, behind in zip(rows, rows[1:])]
+    if asked is None and not ways:
         raise Problem(f"{path}: with one row alone, say interval in the study")
-    interval = _usual(ways) if reading.interval is None else reading.interval
+    interval = _usual(ways) if asked is None else asked
     if not 0 < interval <= DAY:
         raise Problem(f"{path}: an interval is above 0 and at most a day, found {_lasting(interval)}")
-    least, line = min(ways, default=(interval, 0))
+    least, where = min(ways, key=lambda way: way[0], default=(interval, ""))
     if least < interval:
-        raise Problem(f"{path}: from line {line} to the next row are {_lasting(least)}, less than the interval of "
+        raise Problem(f"{path}: from {where} to the next row are {_lasting(least)}, less than the interval of "
                       f"{_lasting(interval)}")
-    if reading.interval is None:
-        _check_agreement(path, ways, interval, reading.missing)
+    if asked is None:
+        _check_agreement(path, ways, interval, missing)
     return interval
 
 
-def _usual(ways: Sequence[tuple[Fraction, int]]) -> Fraction:
+def _usual(ways: Sequence[tuple[Fraction, str]]) -> Fraction:
     """The most frequent way from row to row, of several the shortest."""
     counts = Counter(way for way, _ in ways)
     return min(counts, key=lambda way: (-counts[way], way))
 
 
-def _check_agreement(path: Path, ways: Sequence[tuple[Fraction, int]], interval: Fraction, missing: str) -> None:
+def _check_agreement(path: str, ways: Sequence[tuple[Fraction, str]], interval: Fraction, missing: str) -> None:
     """Refuses rows that don't tell the interval: a way that isn't some of it, and where gaps are filled any doubt."""
-    line = next(line for way, line in ways if way == interval)
+    where = next(at for way, at in ways if way == interval)
     odd = next(((way, at) for way, at in ways if way % interval), None)
     if odd is None and missing != "error":
         longer = [(way, at) for way, at in ways if way > interval]
         again = next((one for one, two in zip(ways, ways[1:]) if one[0] == two[0] > interval), None)
         odd = again or (longer[0] if len(longer) * 2 > len(ways) else None)
     if odd:
-        raise Problem(f"{path}: the rows don't agree on the interval: {_lasting(interval)} from line {line} on, "
-                      f"{_lasting(odd[0])} from line {odd[1]} on; say interval in the study")
+        raise Problem(f"{path}: the rows don't agree on the interval: {_lasting(interval)} from {where} on, "
+                      f"{_lasting(odd[0])} from {odd[1]} on; say interval in the study")
 
 
 def _on_days(rows: Sequence[Row], interval: Fraction, times: Times) -> Placed:
@@ -152,39 +164,17 @@ def _on_days(rows: Sequence[Row], interval: Fraction, times: Times) -> Placed:
     return sorted(placed, key=lambda pair: pair[0])
 
 
-def _counts(path: Path, column: str, placed: Placed, reading: Reading, interval: Fraction) -> list[Count]:
+def _counts(placed: Placed, hourly: bool, interval: Fraction) -> list[Count]:
     """The counts in order; a row without a number is missing."""
     found = []
     for start, row in placed:
-        if row.text.strip():
-            counted = _number(row.text, reading.decimal, f"{path}: line {row.line}, {column}")
-            found.append(Count(row.line, start, start + interval,
-                               counted if reading.per == "hour" else counted * HOUR / interval))
+        if row.amount is not None:
+            amount = Fraction(repr(row.amount))
+            found.append(Count(row.where, start, start + interval, amount if hourly else amount * HOUR / interval))
     return found
 
 
-def _number(text: str, decimal: str | None, key: str) -> Fraction:
-    """The number that a text spells; one that may have a sign of thousands needs a decimal sign that is said."""
-    written, sign = text.strip(), decimal or "."
-    other = "," if sign == "." else "."
-    point = re.escape(sign)
-    number = re.fullmatch(rf"[+-]?(?:[0-9]+(?:{point}[0-9]*)?|{point}[0-9]+)(?:[eE][+-]?[0-9]+)?", written)
-    thousands = re.fullmatch(r"[1-9][0-9]{0,2}(?:([.,])[0-9]{3})(?:\1[0-9]{3})*", written)
-    if thousands and decimal is None and number:
-        raise Problem(f"{key}: \"{written}\" may be {float(written):g} or a number of thousands; write it without "
-                      "the point, or say decimal = \".\" in the study")
-    if not number:
-        hint = f"; say decimal = \"{other}\" in the study" if other in written and decimal is None else ""
-        sort = {".": "point", ",": "comma"}[thousands[1]] if thousands else ""
-        hint = f"; write it without the {sort} of thousands" if thousands else hint
-        raise Problem(f"{key}: expected a count, found \"{text}\"{hint}")
-    counted = Fraction(written.replace(sign, "."))
-    if counted < 0:
-        raise Problem(f"{key}: a count isn't negative, found \"{text}\"")
-    return counted
-
-
-def _filled(path: Path, counts: Sequence[Count], interval: Fraction, missing: str,
+def _filled(path: str, counts: Sequence[Count], interval: Fraction, missing: str,
             times: Times) -> tuple[list[Flow], list[Fraction]]:
     """The flows of the study's time, and the starts of the missing intervals, which are filled as `missing` says."""
     flows: list[Flow] = []
@@ -213,7 +203,7 @@ def _pieces(begin: Fraction, end: Fraction, interval: Fraction) -> Iterator[Piec
         begin = stop
 
 
-def _filling(path: Path, before: Count | None, behind: Count | None, gap: Sequence[Piece], missing: str,
+def _filling(path: str, before: Count | None, behind: Count | None, gap: Sequence[Piece], missing: str,
              times: Times) -> list[Flow]:
     """What a gap between two counts is filled with, or the problem that there is one."""
     if missing == "zero":
@@ -222,7 +212,7 @@ def _filling(path: Path, before: Count | None, behind: Count | None, gap: Sequen
         first, last = (before.start + before.end) / 2, (behind.start + behind.end) / 2
         slope = (behind.flow - before.flow) / (last - first)
         return [Flow(start, stop, before.flow + slope * (middle - first)) for start, stop, middle in gap]
-    where = f"behind line {before.line}" if before else "before the first"
+    where = f"behind {before.where}" if before else "before the first"
     why, advice = "", 'say missing = "zero" or "interpolate"'
     if not before or not behind:
         why = ": the counts end there" if before else ": the counts begin later"

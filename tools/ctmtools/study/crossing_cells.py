@@ -11,6 +11,7 @@ from collections.abc import Sequence
 from dataclasses import replace
 from fractions import Fraction
 
+from ..network_file.faults import NAME
 from ..problem import Problem
 from .crossings import green
 from .plan import (ActuatedJunction, ActuatedPhase, Crossing, Diverge, Matrix, Merge, Permission, Precedence, Road, Section,
@@ -43,7 +44,8 @@ class Expansion:
     def put(self) -> None:
         """Puts the junction's parts into the study, and a remark on what they take."""
         for movement in self.movements:
-            self._cell(self._name(movement), *self._lane(movement), self._lanes_of(movement))
+            cells = f"{self._cells(self.crossing.sources[movement[0]])}-{self._cells(self.crossing.into[movement[1]], 0)}"
+            self._cell(self._name(movement), cells, *self._lane(movement), self._lanes_of(movement))
         for i in range(len(self.crossing.sources)):
             self._part(i, [movement for movement in self.movements if movement[0] == i])
         for j in range(len(self.crossing.into)):
@@ -62,6 +64,11 @@ class Expansion:
 
     def _name(self, movement: Way) -> str:
         return f"{self.crossing.sources[movement[0]]}-{self.crossing.into[movement[1]]}"
+
+    def _cells(self, arm: str, end: int = -1) -> str:
+        """An arm's name where a cell may have it, else the one of its cells, at the end of the road or at its start."""
+        road = self.study.roads.get(arm)
+        return road.sections[end].cells if road and not NAME.fullmatch(arm) else arm
 
     def _approach(self, i: int) -> Section | None:
         """The last section of an approach, where it is a road."""
@@ -85,13 +92,13 @@ class Expansion:
         lanes = self.crossing.lanes
         return lanes[movement[0]][movement[1]] if lanes else None
 
-    def _cell(self, name: str, like: Section, most: int, lanes: Fraction | None = None) -> str:
-        """Puts a road of one cell into the study, with the lane of a section."""
+    def _cell(self, name: str, cells: str, like: Section, most: int, lanes: Fraction | None = None) -> str:
+        """Puts a road of one cell of this name into the study, with the lane of a section."""
         if name in [*self.study.roads, *self.study.gates, *self.study.exits]:
             raise Problem(f"{self.crossing.place}: a cell of its own would be named {name}, which the study has already")
         if lanes is not None and lanes.denominator != 1:
             raise Problem(f"{self.crossing.place}.lanes: expected whole numbers, found {float(lanes):g}")
-        section = replace(like, start=Fraction(0), lanes=most if lanes is None else int(lanes), cells=name,
+        section = replace(like, start=Fraction(0), lanes=most if lanes is None else int(lanes), cells=cells,
                           first_density=Fraction(0))
         length = like.free_flow_speed * self.study.step / HOUR
         self.study.roads[name] = Road(name, length, [section])
@@ -101,10 +108,11 @@ class Expansion:
     def _part(self, i: int, ways: list[Way]) -> None:
         """Parts an approach into the cells of its movements."""
         source, number = self.crossing.sources[i], 0
+        approach = source
         while len(ways) > 2:
             number += 1
             like = self._approach(i) or self._lane(ways[0])[0]
-            rest = self._cell(f"{source}-fork{number}", like, like.lanes)
+            rest = self._cell(f"{approach}-fork{number}", f"{self._cells(approach)}-fork{number}", like, like.lanes)
             self._diverge(source, [self._name(ways[0]), rest], ways)
             source, ways = rest, ways[1:]
             for way in ways:
@@ -135,7 +143,8 @@ class Expansion:
         for number, way in enumerate(ways[1:], 1):
             last = number == len(ways) - 1
             like = self._way_out(j) or self._lane(way)[0]
-            into = target if last else self._cell(f"{target}-join{number}", like, like.lanes)
+            into = target if last else self._cell(f"{target}-join{number}", f"{self._cells(target, 0)}-join{number}", like,
+                                                  like.lanes)
             weights = [priority, self._priority(way)]
             self.study.merges.append(Merge([first, self._name(way)], into, weights, place=self.crossing.place))
             first, priority = into, sum(weights, Fraction(0))
@@ -165,6 +174,9 @@ class Expansion:
 
     def _actuated(self) -> ActuatedJunction:
         """The greens of the junction where some of them follow traffic."""
+        if self.crossing.yields:
+            raise Problem(f"{self.crossing.yields[0].place}: who gives way at a signal does so in fixed greens, and those of this "
+                          "junction follow traffic")
         crossing, cycle = self.crossing, self.crossing.cycle or Fraction(0)
         apart = next((way for way in self.movements if self._stop_line(way) != crossing.sources[way[0]]), None)
         if apart:
@@ -176,8 +188,8 @@ class Expansion:
             pause = behind - phase.start - phase.green
             if pause < 0:
                 raise Problem(f"{crossing.place}.phases[{i + 1}]: greens that follow traffic stand one behind the other")
-            roads = list(dict.fromkeys(crossing.sources[i] for i, _ in phase.movements))
-            found.append(ActuatedPhase(roads, phase.green, phase.actuation, pause))
+            roads = dict.fromkeys(crossing.sources[i] for i, _ in phase.movements)
+            found.append(ActuatedPhase([(road, None) for road in roads], phase.green, phase.actuation, pause))
         return ActuatedJunction(found, crossing.offset + crossing.phases[0].start, crossing.place)
 
     def _stop_line(self, movement: Way) -> str:

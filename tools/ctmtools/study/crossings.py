@@ -126,7 +126,7 @@ def _phase(table: Entries, found: Crossing, pause: Fraction) -> Phase:
     green = table.take("green", duration)
     ways = _ways(table, found)
     permitted = taken_ways(table, "permitted", found)
-    actuation = table.take("actuated", _actuation, None)
+    actuation = table.take("actuated", actuation_of, None)
     table.done()
     cycle = found.cycle or Fraction(0)
     said = table.has("start")
@@ -141,7 +141,8 @@ def _phase(table: Entries, found: Crossing, pause: Fraction) -> Phase:
     return Phase(start, green, ways, permitted, actuation)
 
 
-def _actuation(value: Any, key: str) -> Actuation:
+def actuation_of(value: Any, key: str) -> Actuation:
+    """How a green follows traffic."""
     table = Entries(value, key)
     found = Actuation(table.take("least", duration), table.take("most", duration), table.take("gap", duration))
     table.done()

@@ -27,6 +27,7 @@ from .scale import Scale
 from .signals import Signals
 
 MADE = "# Made by ctm-tools build"
+MOST_FREE = 8  # of those who give way a network without it names so many
 FIXED = "are as long as `green` says in this network"
 
 
@@ -106,10 +107,11 @@ class Builder:
                    "metered here")
         for junction in self.study.actuated:
             yield f"{junction.place}: its greens {FIXED}; `ctm-tools run` has them follow traffic"
-        for one in self.study.yields:
-            if one.capacities is None:
-                yield (f"{one.name}: nobody gives way in this network; `ctm-tools run` works out what passes, and writes the "
-                       "network with it")
+        free = [one.name for one in self.study.yields if one.capacities is None]
+        for name in free[:MOST_FREE]:
+            yield f"{name}: nobody gives way in this network; `ctm-tools run` works out what passes, and writes the network with it"
+        if len(free) > MOST_FREE:
+            yield f"and {len(free) - MOST_FREE} more who don't give way in this network"
         for limit in self.study.speed_limits:
             part, cells = limit.part, self.junctions.cells_of(limit.part)
             kept = sorted({float(cell.section.free_flow_speed) for cell in cells})

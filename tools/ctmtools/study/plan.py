@@ -118,7 +118,7 @@ class Diverge:
 class Signal:
     """A signal: the road and km of its stop line or the gate, from when to when it runs, its cycle and green in s.
 
-    `first_green` is the time after its start at which it turns green.
+    `first_green` is the time after its start at which it turns green; with an `actuation` its green follows traffic.
     """
 
     road: str
@@ -129,6 +129,7 @@ class Signal:
     green: Fraction
     first_green: Fraction
     place: str
+    actuation: Actuation | None = None
 
 
 Matrix = list[list[Fraction]]  # a row for each approach, with a number for each way out
@@ -223,14 +224,17 @@ class Actuation:
     gap: Fraction
 
 
+StopLine = tuple[str, Fraction | None]  # a road, at a km or at its end, or a gate
+
+
 @dataclass(frozen=True)
 class ActuatedPhase:
-    """A green of a junction that follows traffic: the roads or gates that have it, and the seconds from it to the next.
+    """A green of a signal that follows traffic: the stop lines that have it, and the seconds from it to the next.
 
     Where it doesn't follow traffic it lasts `green` s.
     """
 
-    roads: list[str]
+    lines: list[StopLine]
     green: Fraction
     actuation: Actuation | None
     pause: Fraction

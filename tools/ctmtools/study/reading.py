@@ -14,8 +14,9 @@ from ..units import DAY
 from .coordinates import check_degrees, code, flat
 from .counts import flows_of_counts
 from .crossing_cells import expand
-from .crossings import crossing
+from .crossings import actuation_of, crossing
 from .entries import Entries, Reader, list_of
+from .following import put_actuated_signals
 from .plan import (Closure, Diverge, Exit, Flow, Gate, Merge, Meter, Opening, Road, RoadPart, Section, Signal, SpeedLimit,
                    Study, Turn)
 from .precedences import put_merges, take_precedence
@@ -106,9 +107,8 @@ def _study(entries: Entries, path: Path) -> Study:
         raise Problem("roads: is missing")
     put_demand(study)
     put_merges(study)
+    put_actuated_signals(study)
     expand(study)
-    if study.actuated and study.yields:
-        raise Problem(f"{study.actuated[0].place}.phases: greens that follow traffic and `yields` don't stand in one study")
     return study
 
 
@@ -312,10 +312,11 @@ def _signals(table: Entries, times: Times) -> list[Signal]:
     else:
         offset = table.take("offset", duration, Fraction(0))
         greens = [first + i * offset for i in range(len(lines))] if several else [first + offset]
+    follows = table.take("actuated", actuation_of, None)
     table.done()
     if not 0 < green <= cycle:
         raise Problem(f"{table.key('green')}: must be above 0 s and at most the cycle, {float(cycle):g} s")
-    return [Signal(road, line, *span, cycle, green, begin, table.place)
+    return [Signal(road, line, *span, cycle, green, begin, table.place, follows)
             for line, begin in zip(lines, greens)]
 
 

@@ -11,12 +11,14 @@ from typing import Any
 
 import numpy
 
+from ..detectors.several import paths_of
 from ..problem import NoSuchKey, Problem, one_line
 from ..report.queues import Queue, queues_in
 from ..report.reading import Report
 from ..report.travel import chain_of, trips
 from ..report.upstream import waiting_upstream
 from ..running import run, settled_by_runs
+from ..study.counted_demands import counted_demands, names_of
 from ..study.plan import Study
 from ..study.reading import study_of
 from ..study.rounding import Rounding
@@ -107,13 +109,11 @@ def study(task: Task) -> Study:
 def fingerprint(task: Task) -> str:
     """A short text that another study, other counts or another change would change."""
     digest = hashlib.sha256(repr((task.values, sorted(task.changes.items()), task.every)).encode())
-    for name in _counts(task.values):
-        path = Path(task.path).parent / name
-        digest.update(path.read_bytes() if path.exists() else b"none")
+    for demand in counted_demands(task.values):
+        try:
+            paths = paths_of([Path(task.path).parent / name for name in names_of(demand)])
+        except Problem:
+            paths = []
+        for path in paths:
+            digest.update(path.read_bytes() if path.is_file() else b"none")
     return digest.hexdigest()[:16]
-
-
-def _counts(values: dict[str, Any]) -> list[str]:
-    """The files of counts that a study names."""
-    demands = [gate.get("demand") for gate in values.get("gates", {}).values() if isinstance(gate, dict)]
-    return [str(demand["counts"]) for demand in demands if isinstance(demand, dict) and "counts" in demand]

@@ -19,7 +19,7 @@ from ..problem import Problem, one_line
 from .task import failed, measure
 
 if TYPE_CHECKING:
-    from distributed import Client
+    from distributed import Client, Future
 
 PACKAGE = Path(__file__).resolve().parents[1]
 TRIES = 3  # so often processes are begun anew where one was ended from outside
@@ -98,7 +98,7 @@ def _be_quiet() -> None:
 
 
 def _gathered(client: Client, tasks: Sequence[Any], address: str, work: Work = measure) -> Done:
-    """Gives the tasks to a cluster, and what they measured as it comes."""
+    """Gives the tasks to a cluster, and what they measured as it comes; what only a lost worker had is waited for again."""
     from distributed import as_completed as completed
 
     try:
@@ -106,22 +106,37 @@ def _gathered(client: Client, tasks: Sequence[Any], address: str, work: Work = m
         waiting = completed(list(futures))
         while not waiting.is_empty():
             batch = waiting.next_batch(block=False)
-            if _is_lost(client) or any(future.status in ("cancelled", "lost") for future in batch):
+            if _is_lost(client) or any(future.cancelled() for future in batch):
                 raise Problem(f"--dask {address}: the scheduler doesn't answer any more; begin it and its workers again, and the "
                               "same call goes on with what is missing")
             for future in batch:
-                yield futures[future], future.result() if future.status == "finished" else \
-                    failed(f"{type(future.exception()).__name__}: {future.exception()}")
-            if not batch:
-                time.sleep(PAUSE)
+                measured = _measured(future)
+                if measured is None:
+                    waiting.add(future)
+                else:
+                    yield futures[future], measured
+            time.sleep(PAUSE)
     finally:
         with suppress(Exception):  # a client that has lost its scheduler can't take leave of it
             client.close(timeout=LEAVE)
 
 
+def _measured(future: Future) -> dict[str, Any] | None:
+    """What was measured, or why it failed; None where it was lost after it had come, with its worker or with the scheduler."""
+    if future.status not in ("finished", "error"):
+        return None
+    try:
+        measured: dict[str, Any] = future.result()  # of a result that is lost now it is the one that is computed again
+        return measured
+    except Exception as error:  # the task's own, or one of asking for its result
+        is_asking = future.status == "finished" and isinstance(error, OSError)
+        return None if is_asking or future.status not in ("finished", "error") else failed(f"{type(error).__name__}: {error}")
+
+
 def _is_lost(client: Client) -> bool:
     """Whether a client has lost its scheduler, to which it may try to come back in vain."""
-    return client.status != "running" or client.scheduler_comm is None or client.scheduler_comm.closed()
+    comm = client.scheduler_comm  # read once, since the client's own thread takes it away
+    return client.status != "running" or comm is None or comm.closed()
 
 
 def _send_package(client: Client) -> None:

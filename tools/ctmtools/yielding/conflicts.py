@@ -9,20 +9,10 @@ import numpy.typing
 
 from ..report.reading import Report
 from ..study.plan import Stream, Yield
-from ..units import Units
+from ..units import Units, cell_of
 
 HOUR = 3600
 Numbers = numpy.typing.NDArray[numpy.float64]
-
-
-def cell_of(road: str, units: Units, at: float | None = None) -> str:
-    """The cell at the end of a road, or that before the boundary nearest to a km of it; a gate is its own."""
-    cells = units.roads.get(road)
-    if cells is None:
-        return road
-    if at is None:
-        return cells[-1]
-    return min(cells, key=lambda name: abs(units.cells[name]["to_km"] - at))
 
 
 def flow_of(report: Report, cell: str, bounds: Numbers) -> Numbers:

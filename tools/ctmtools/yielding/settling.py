@@ -1,7 +1,8 @@
 """What passes of those who give way, as a fixed point: a run has the flows with priority, and limits by these another run.
 
 The first limits are those of a run in which nobody gives way. From the second time on they go half way to what the run before
-makes of them, so that streams that give way to each other don't swing. It is settled once no limit would move by more than 1 %.
+makes of them, so that streams that give way to each other don't swing, and less than half where they do so all the same. It is
+settled once no limit would move by more than 1 %.
 """
 
 from __future__ import annotations
@@ -21,6 +22,7 @@ from .yielding import Yielding
 MOST_RUNS = 20
 LEAST_MOVE = 0.01  # by which a limit moves, as a part of it, below which it is settled
 DAMPING = 0.5
+SWINGS = 0.8  # of what limits moved before, above which they swing: from then on they go half as far
 
 Run = Callable[[Built, int], Report]  # runs what was built, and records it each so many steps
 Done = Callable[..., object]  # is called after each run, with how many it counts and a text
@@ -53,25 +55,31 @@ def settled(study: Study, run: Run, done: Done | None = None, shares_follow: boo
         return Settled(study, built, 0, 0.0)
     ones = [Yielding(one, study, built) for one in study.yields]
     every = max(recording_step(built.network.steps, len(built.network.cells)), gcd(*(one.width for one in ones)))
-    runs, moves = 0, [float("inf")]
+    runs, moves, before, part = 0, [float("inf")], float("inf"), 1.0
     while True:
         report, runs = run(built, every), runs + 1
-        wanted = _wanted(ones, report)
+        wanted = wanted_of(ones, report)
         moves = [one.move(rates) for one, rates in zip(ones, wanted)]
         if done:
             done(1, f"limits move by {max(moves):.1%}" if runs > 1 else "without giving way")
         if max(moves) <= LEAST_MOVE or runs == MOST_RUNS:
             break
-        for one, rates in zip(ones, wanted):
-            one.take(rates, 1.0 if runs == 1 else DAMPING)
-        study = replace(study, yields=[replace(one.of, capacities=one.capacities()) for one in ones])
+        part = DAMPING if part == 1.0 else part / 2 if runs > 2 and max(moves) > SWINGS * before else part
+        study, before = limited(study, ones, wanted, 1.0 if runs == 1 else part), max(moves)
         built = build(study, shares_follow)
     if done:
         done(MOST_RUNS - runs, "")
     return Settled(study, _with_told(built, ones, moves, runs), runs, max(moves))
 
 
-def _wanted(ones: Sequence[Yielding], report: Report) -> list[Numbers]:
+def limited(study: Study, ones: Sequence[Yielding], wanted: Sequence[Numbers], part: float) -> Study:
+    """The study with limits that go a part of the way to what is wanted."""
+    for one, rates in zip(ones, wanted):
+        one.take(rates, part)
+    return replace(study, yields=[replace(one.of, capacities=one.capacities()) for one in ones])
+
+
+def wanted_of(ones: Sequence[Yielding], report: Report) -> list[Numbers]:
     """What passes of each by the flows of a run. Who gives way in turn to one that gives way is held up by its queue too."""
     potential = {one.cell: one.potential(report) for one in ones}
     unsignalled = {one.cell: one for one in ones if one.green is None}

@@ -44,14 +44,23 @@ class Yielding:
             return numpy.minimum(self.most, self._by_gaps(report))[:, None]
         return self._by_green(self.green, report)
 
-    def unimpeded(self, report: Report, ones: Mapping[str, Yielding], potential: Mapping[str, Numbers]) -> Numbers:
-        """For each interval the chance that none of those with priority who give way themselves waits: of each `1 - v/c`."""
+    def unimpeded(self, report: Report, ones: Mapping[str, Yielding], potential: Mapping[str, Numbers],
+                  of: Yielding | None = None) -> Numbers:
+        """For each interval the chance that none of those with priority who give way themselves waits: of each `1 - v/c`.
+
+        What may pass of these, `c`, is less by those to whom they give way in turn (HCM 2010, chapter 19: ranks 2 to 4); not by
+        those whose own chance this is `of`, so that two who give way to each other share what there is.
+        """
         chance = numpy.ones(len(self.bounds) - 1)
         for stream in self.of.streams:
             other = ones.get(cell_of(stream.road, self.units)) if stream.at is None and self.green is None else None
-            if other is not None:
-                most = numpy.maximum(potential[other.cell][:, 0], A_VEHICLE)
-                chance = chance * numpy.clip(1 - own_flow(report, other.of, other.bounds) / most, 0, 1)
+            if other is None:
+                continue
+            most = potential[other.cell]
+            if of is None:
+                most = most * other.unimpeded(report, ones, potential, self)
+            if other is not of:
+                chance = chance * numpy.clip(1 - own_flow(report, other.of, other.bounds) / numpy.maximum(most[:, 0], A_VEHICLE), 0, 1)
         return chance[:, None]
 
     def move(self, wanted: Numbers) -> float:

@@ -69,11 +69,11 @@ def follows(first: Day, second: Day) -> bool:
     """Whether a day is the next one after another, read in one of the orders that its numbers may have."""
     if isinstance(first, str) or isinstance(second, str):
         return False
-    return any((later - earlier).days == 1 for earlier, later in zip(_readings(first), _readings(second))
+    return any((later - earlier).days == 1 for earlier, later in zip(readings(first), readings(second))
                if earlier and later)
 
 
-def _readings(numbers: tuple[int, int, int]) -> list[datetime.date | None]:
+def readings(numbers: tuple[int, int, int]) -> list[datetime.date | None]:
     """The dates that the numbers are by year, month, day; by day, month, year; and by month, day, year."""
     one, two, three = numbers
     year = three if three > 99 else three + 2000

@@ -1,0 +1,1 @@
+"""Files of detectors as they come: read into one frame, by whatever format they are in."""

@@ -1,0 +1,87 @@
+"""Intervals of which a station has no row: told, refused, taken as zero or interpolated."""
+
+from __future__ import annotations
+
+from dataclasses import dataclass
+
+import numpy
+import pandas
+
+from ..problem import Problem
+from ..units import clock_text
+from .days import is_skipped
+from .several import Files
+
+MEASURES = ["flow", "speed", "occupancy", "density"]
+
+
+@dataclass(frozen=True)
+class Missing:
+    """How many intervals have no flow, and the first of them, by its station and time."""
+
+    count: int
+    first: str
+
+    def __str__(self) -> str:
+        return f"{self.count:,} intervals without a flow" + (f", the first {self.first}" if self.count else "")
+
+
+def filled(files: Files, frame: pandas.DataFrame, interval: float) -> tuple[pandas.DataFrame, Missing]:
+    """The rows that have a flow, with those that are missing filled as is asked, and what was missing.
+
+    An interval is missing where another station, or the station itself, has earlier and later ones of that day.
+    """
+    frame = frame[frame.flow.notna()]
+    grid = _grid(files, frame, interval)
+    whole = grid.merge(frame, "left", ["station", "day", "second"])
+    gone = whole.flow.isna()
+    first = _at(whole.loc[gone.idxmax()]) if gone.any() else ""
+    missing = Missing(int(gone.sum()), first)
+    asked = files.wanted.missing
+    if asked is None or not gone.any():
+        return frame, missing
+    if asked == "error":
+        raise Problem(f"{files.name}: no flow for {first}; say missing = \"zero\" or \"interpolate\"")
+    whole["moment"] = whole.moment.fillna(_moments(whole))
+    if asked == "zero":
+        whole["flow"] = whole.flow.fillna(0)
+    else:
+        keys = [whole.station, whole.day]
+        for measure in MEASURES:
+            between = whole[measure].groupby(keys, observed=True).transform(
+                lambda values: values.interpolate(limit_area="inside") if values.notna().any() else values)
+            whole[measure] = whole[measure].where(~gone, between)
+        if whole.flow.isna().any():
+            raise Problem(f"{files.name}: no flow for {_at(whole.loc[whole.flow.isna().idxmax()])}, and none on one side of it; "
+                          "say missing = \"zero\"")
+    whole["lanes"] = whole.lanes.groupby(whole.station, observed=True).transform("max")
+    return whole.fillna({"line": 0, "file": 0, "interval": interval}), missing
+
+
+def _grid(files: Files, frame: pandas.DataFrame, interval: float) -> pandas.DataFrame:
+    """Each station's intervals of each day, from the first to the last that any station has then."""
+    spans = frame.groupby("day", observed=True).second.agg(["min", "max"])
+    zone = files.wanted.zone
+    grids = []
+    for day, row in spans.iterrows():
+        seconds = numpy.arange(row["min"], row["max"] + 1, interval).astype(int)
+        date = files.days.dates.get(str(day))
+        if zone and date:
+            seconds = numpy.array([one for one in seconds if not is_skipped(date, int(one), zone)], dtype=int)
+        grids.append(pandas.DataFrame({"day": day, "second": seconds}))
+    times = pandas.concat(grids) if grids else pandas.DataFrame({"day": [], "second": []})
+    stations = pandas.DataFrame({"station": list(dict.fromkeys(frame.station))})
+    whole = stations.merge(times, "cross")
+    return whole.astype({"station": frame.station.dtype, "day": frame.day.dtype})
+
+
+def _moments(whole: pandas.DataFrame) -> pandas.Series:
+    """The moments of all rows, by those that are known of their days."""
+    midnight = (whole.moment - whole.second).groupby(whole.day, observed=True).transform("max")
+    return midnight + whole.second
+
+
+def _at(row: pandas.Series) -> str:
+    """A station and a time as messages say them."""
+    return " ".join(text for text in (f"{row.station} on" if row.station and row.day else str(row.station), str(row.day),
+                                      clock_text(float(row.second))) if text)

@@ -1,0 +1,135 @@
+"""Files of detectors as one frame, with what is broken left out, and what was read and left out in lines."""
+
+from __future__ import annotations
+
+import datetime
+from collections.abc import Iterable
+from dataclasses import dataclass, field
+from pathlib import Path
+
+import pandas
+
+from ..problem import Problem
+from .days import hours_of, holidays_of
+from .flows import with_flows
+from .missing import Missing, filled
+from .rules import Rule, broken
+from .several import Files
+from .table import named
+from .wanted import Wanted
+
+MEASURES = ["flow", "speed", "occupancy", "density"]
+COLUMNS = ["station", "day", "second", *MEASURES, "observed", "lanes", "file", "line"]
+SECOND_HOUR = "an hour that comes again, when clocks are put back"
+
+
+@dataclass
+class Read:
+    """What files of detectors have: rows in the order of stations and times, and the rows that were left out, with their rules.
+
+    Flows are vehicles/h, speeds km/h, occupancies %, densities vehicles/km; `second` is that after midnight of the day.
+    """
+
+    files: Files
+    rows: pandas.DataFrame
+    left: pandas.DataFrame
+    interval: float
+    missing: Missing
+    lines: list[str] = field(default_factory=list)
+
+
+def read(names: str | Path | Iterable[str | Path], wanted: Wanted) -> Read:
+    """The rows of some files."""
+    files = Files(names, wanted)
+    days, lines = chosen_days(files)
+    if days is not None and len(days) < len(files.days.days):
+        lines.append(f"taken: {named(days)}")
+    frame, left, interval = kept_rows(files, days)
+    first = _read_line(files, pandas.concat([frame, left]), interval)
+    frame, missing = filled(files, frame, interval)
+    found = Read(files, frame, left, interval, missing)
+    found.lines = [first, *lines, *left_lines(left, wanted.leave_out, files)]
+    if missing.count:
+        how = {None: "not filled", "zero": "taken as zero", "interpolate": "interpolated"}[wanted.missing]
+        found.lines.append(f"missing: {missing}; {how}")
+    if wanted.average is not None:
+        found.rows = averaged(frame, wanted.average)
+        found.lines.append(f"of each time the {wanted.average} of {frame.day.nunique()} days")
+    found.rows = found.rows[COLUMNS].reset_index(drop=True)
+    return found
+
+
+def kept_rows(files: Files, days: list[str] | None) -> tuple[pandas.DataFrame, pandas.DataFrame, float]:
+    """The rows of some days that no rule leaves out, those that are left out, with their rules, and the interval."""
+    frame, interval = with_flows(files, files.rows(days))
+    rule = broken(frame, files.wanted.leave_out)
+    rule[frame.again.astype(bool)] = SECOND_HOUR
+    gone = rule != ""
+    return frame[~gone], frame[gone].assign(rule=rule[gone]), interval
+
+
+def chosen_days(files: Files) -> tuple[list[str] | None, list[str]]:
+    """The days that are asked for, or all that are no holidays, and lines on those left out and on those of 23 or 25 hours."""
+    wanted = files.wanted
+    if not files.dated:
+        if wanted.dates or wanted.holidays or wanted.zone:
+            raise Problem(f"{files.name}: has no dates; it has neither a column {wanted.date_column} nor dates in the times")
+        return None, []
+    dates = list(files.days.dates.values())
+    free = files.days.leave_out(holidays_of(wanted.holidays, sorted({date.year for date in dates}))) if wanted.holidays else []
+    days = files.days.chosen(wanted.dates or ("all",))
+    lines = [f"holidays: {named(free)}, left out"] if [text for text in free if text not in days] else []
+    return days, lines + hour_lines(files, days)
+
+
+def hour_lines(files: Files, days: Iterable[str]) -> list[str]:
+    """Lines on the days of 23 or 25 hours by the clocks of the zone."""
+    zone, lines = files.wanted.zone, []
+    if zone is None:
+        return []
+    for text in days:
+        if text not in files.days.dates:
+            raise Problem(f"{files.name}: {text} may be of two months, so its hours in {zone} aren't known; write the dates as 2019-12-04")
+        hours = hours_of(files.days.dates[text], zone)
+        if hours != 24:
+            lines.append(f"{text} has {hours:g} hours in {zone}")
+    return lines
+
+
+def left_lines(left: pandas.DataFrame, rules: Iterable[Rule], files: Files) -> list[str]:
+    """A line for each rule by which rows were left out, with how many and where the first stands, and one for the other rules."""
+    lines, none = [], []
+    for rule in [*rules, SECOND_HOUR]:
+        rows = left[left.rule == (rule.name if isinstance(rule, Rule) else rule)]
+        if len(rows):
+            first = rows.sort_values(["file", "line"]).iloc[0]
+            lines.append(f"left out: {len(rows):,} by {rule}, the first in {files.where(first)}")
+        elif isinstance(rule, Rule):
+            none.append(str(rule))
+    return lines + ([f"left out: none by {', '.join(none)}"] if none else [])
+
+
+def averaged(frame: pandas.DataFrame, how: str) -> pandas.DataFrame:
+    """For each station and time the mean or the median over the days that have it."""
+    groups = frame.groupby(["station", "second"], observed=True, as_index=False)
+    found = groups.agg({**dict.fromkeys([*MEASURES, "observed"], how), "lanes": "max", "file": "first", "line": "first", "day": "nunique"})
+    found[MEASURES] = found[MEASURES].round(6)
+    return found.rename(columns={"day": "days"}).assign(day=how)
+
+
+def times_of(found: Read) -> pandas.Series:
+    """The local time of each row; those without a known date are of 1 January 1900."""
+    dates = {text: pandas.Timestamp(found.files.days.dates.get(text, datetime.date(1900, 1, 1))) for text in found.rows.day.unique()}
+    return pandas.to_datetime(found.rows.day.astype(object).map(dates)) + pandas.to_timedelta(found.rows.second, unit="s")
+
+
+def _read_line(files: Files, frame: pandas.DataFrame, interval: float) -> str:
+    """What was read: stations, days, intervals and rows, and in which format."""
+    stations = frame.station.nunique()
+    there = set(frame.day.unique())
+    days = [text for text in files.days.days if text in there] if files.dated else []
+    per = "vehicles in the interval" if files.per() == "interval" else "vehicles/h"
+    span = f", {len(days)} day{'s' * (len(days) != 1)} ({days[0]}{f' to {days[-1]}' * (len(days) > 1)})" if days else ""
+    lasting = f"{interval / 60:g} min" if interval >= 60 else f"{interval:g} s"
+    return (f"{files.name}: {' and '.join(files.formats)}, {per}; {stations} station{'s' * (stations != 1)}{span}, intervals of "
+            f"{lasting}, {len(frame):,} rows")

@@ -1,0 +1,41 @@
+"""Where a movement turns, and which others it meets, where a network doesn't say so."""
+
+from __future__ import annotations
+
+from cmath import phase
+from math import degrees
+
+from .streets import LEFT, RIGHT, THROUGH, Movement, Street, Way
+
+SLIGHT = 45.0  # degrees by which a way turns and still goes through
+WORDS = {"l": LEFT, "r": RIGHT, "t": THROUGH, "u": LEFT}  # by the first letter of left, right, thru and uturn
+
+
+def turn_of(said: str, one: Street, two: Street) -> str:
+    """Where the way from a street into another turns: as it is said, or by the shapes of both; without these it goes through."""
+    known = WORDS.get(said.strip().lower()[:1])
+    if known:
+        return known
+    before, behind = _last_leg(one), _first_leg(two)
+    if not before or not behind:
+        return THROUGH
+    turned = degrees(phase(behind / before))
+    return THROUGH if abs(turned) <= SLIGHT else LEFT if turned > 0 else RIGHT
+
+
+def _last_leg(street: Street) -> complex:
+    return _leg(street.points[-2:])
+
+
+def _first_leg(street: Street) -> complex:
+    return _leg(street.points[:2])
+
+
+def _leg(points: list[tuple[float, float]]) -> complex:
+    """The way between two points."""
+    return complex(*points[1]) - complex(*points[0]) if len(points) == 2 else 0j
+
+
+def meet(pair: Movement, way: Way, other: Movement, its: Way) -> bool:
+    """Whether two movements of a node from two streets meet: both lead into one street, or neither turns right."""
+    return pair[1] == other[1] or RIGHT not in (way.turns, its.turns)

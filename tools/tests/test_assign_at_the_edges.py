@@ -1,0 +1,101 @@
+"""Assignments of studies at the edges of what they may be: nobody, few, for long, with queues at the start; and what is told."""
+
+import pytest
+
+from ctmtools import Problem, assign
+from ctmtools.assignment.ways_file import read_ways
+
+from .test_assign import assigned
+from .trips import TWO_PAIRS, TWO_WAYS
+
+HOUR = '[["07:00", "08:00", 3000]]'
+CLOSED = '[[closures]]\nroad = "short"\nfrom = 5\nto = 6\nlanes = 2\nstart = "07:20"\nend = "07:50"\n'
+
+
+@pytest.mark.parametrize("demand", ["[]", "0", "0.000001", '[["07:00", "07:30", 0]]'])
+def test_trips_of_nobody_are_refused(tool, tmp_path, demand):
+    (tmp_path / "s.toml").write_text(TWO_WAYS.replace(HOUR, demand))
+    status, _, err = tool("assign", "s.toml")
+    assert status == 2 and "s.toml: trips: nobody sets out" in err and err.count("\n") == 1
+    assert [path.name for path in tmp_path.iterdir()] == ["s.toml"]
+
+
+def test_a_pair_of_hardly_anybody_stands_beside_others(tmp_path, recording_program):
+    few = TWO_PAIRS.replace('demand = [["07:00", "07:10", 300], ["07:10", "07:20", 900]]', "demand = 0.000001")
+    (tmp_path / "s.toml").write_text(few)
+    assign(tmp_path / "s.toml", tmp_path / "open.toml")
+    frame = assign(tmp_path / "s.toml", earlier=tmp_path / "open.toml", informed=0.5)
+    assert frame.vehicles.sum() == pytest.approx(200, abs=1e-4)
+
+
+def test_an_interval_of_choice_may_be_longer_than_the_run(tmp_path, recording_program):
+    made, rounds = assigned(tmp_path, TWO_WAYS.replace('interval = "5 min"', 'interval = "10 h"'), 1e-9, 1)
+    # The time of all drivers is their delay and a step in each cell that they leave.
+    report = made.report
+    assert rounds[-1].gap.all_ == pytest.approx(report.total.delay + report.cells.gone.sum(), rel=0.005)
+
+
+def test_who_sets_out_waits_for_those_who_stand_there_at_the_start(tmp_path, recording_program):
+    made, _ = assigned(tmp_path, TWO_PAIRS.replace("lanes = 1, sections", "lanes = 1, first_density = 60, sections"))
+    # 435 vehicles stand on 7.25 km, 15 pass in a minute and 20 come: who sets out at t leaves at (435 + 20 t) / 15 min.
+    assert made.times[0][0, :2] / 6 == pytest.approx([(435 + 20 * t) / 15 - t for t in (2.5, 7.5)], abs=0.05)
+
+
+def test_an_interval_of_choice_has_whole_steps_and_is_told(tool, tmp_path, recording_program):
+    (tmp_path / "s.toml").write_text(TWO_WAYS.replace("step = 10", "step = 7").replace('"5 min"', '"4 min"'))
+    status, out, err = tool("assign", "s.toml", "--iterations", "1")
+    assert status == 0 and "routing.interval: 240 s asked, 238 s modelled" in out, err
+
+
+def test_ways_that_find_no_room_are_told(tool, tmp_path, recording_program):
+    (tmp_path / "s.toml").write_text(TWO_WAYS.replace("ways = 8", "ways = 1"))
+    status, out, err = tool("assign", "s.toml")
+    assert status == 0 and "1 pairs have as many ways as routing.ways says, and quicker ones were found, as from home to work" in out, err
+
+
+def test_the_run_of_the_written_study_has_greens_that_follow_traffic(tool, tmp_path, recording_program):
+    signal = '[[signals]]\nroad = "b"\ncycle = 60\ngreen = 30\nactuated = { least = 10, most = 40, gap = 10 }\n'
+    (tmp_path / "s.toml").write_text(TWO_WAYS + signal)
+    status, out, err = tool("assign", "s.toml", "--iterations", "2")
+    assert status == 0 and "greens that follow traffic are worked out in the run of the written study alone" in out, err
+
+
+@pytest.fixture(scope="module")
+def opened(recording_program, tmp_path_factory):
+    """An assignment of two ways, of which all take the short one."""
+    made = tmp_path_factory.mktemp("opened")
+    (made / "s.toml").write_text(TWO_WAYS.replace("3000]]", "1800]]"))
+    assign(made / "s.toml", made / "open.toml")
+    return made / "open.toml"
+
+
+@pytest.mark.parametrize("after", ["08:00", "08:30", "12:00"])
+def test_a_time_after_which_nobody_sets_out_is_refused(opened, tmp_path, after):
+    (tmp_path / "s.toml").write_text(TWO_WAYS.replace("3000]]", "1800]]") + CLOSED)
+    with pytest.raises(Problem, match="s.toml: --after: nobody sets out in an interval of choice that begins then or later"):
+        assign(tmp_path / "s.toml", earlier=opened, informed=1, after=after)
+
+
+@pytest.mark.parametrize("change, told", [
+    (lambda text: text.replace('"5 min"', '"10 min"'), "who set out at 07:05:00, at which no interval of choice begins here"),
+    (lambda text: text.replace("08:00", "08:10"), "has nobody from home to work who sets out at 08:00:00"),
+    (lambda text: text.replace("short", "other"), "the earlier assignment's ways from home to work.roads: there is no road short")])
+def test_an_earlier_assignment_of_other_trips_or_roads_is_refused(opened, tmp_path, change, told):
+    (tmp_path / "s.toml").write_text(change(TWO_WAYS.replace("3000]]", "1800]]")))
+    with pytest.raises(Problem, match=told):
+        assign(tmp_path / "s.toml", earlier=opened, informed=1)
+
+
+def test_who_has_a_way_keeps_it_beside_given_routes(opened, tmp_path):
+    route = '[[routes]]\nfrom = "home"\nto = "work"\nroads = ["long"]\n'
+    for share, kept, mean in (("", "short", 10), ("share = 1\n", "long", 15)):  # what a study says of its drivers holds
+        (tmp_path / "s.toml").write_text(TWO_WAYS.replace("3000]]", "1800]]") + route + share)
+        frame = assign(tmp_path / "s.toml", earlier=opened, informed=0)
+        assert {roads[1] for roads in frame.roads} == {kept} and frame.attrs["mean_minutes"] == pytest.approx(mean, abs=0.01)
+
+
+def test_more_drivers_than_before_part_as_they_did(opened, tmp_path):
+    (tmp_path / "s.toml").write_text(TWO_WAYS.replace("3000]]", "1900]]"))
+    frame = assign(tmp_path / "s.toml", tmp_path / "more.toml", earlier=opened, informed=0)
+    assert frame.vehicles.sum() == pytest.approx(1900)
+    assert {row.roads for row in read_ways(tmp_path / "more.ways.csv")} == {("a", "short", "b")}
