@@ -55,8 +55,9 @@ def test_ways_that_find_no_room_are_told(tool, tmp_path, recording_program):
 
 def test_the_run_of_the_written_study_has_greens_that_follow_traffic(tool, tmp_path, recording_program):
     signal = '[[signals]]\nroad = "b"\ncycle = 60\ngreen = 30\nactuated = { least = 10, most = 40, gap = 10 }\n'
-    (tmp_path / "s.toml").write_text(TWO_WAYS + signal)
-    status, out, err = tool("assign", "s.toml", "--iterations", "2")
+    short = TWO_WAYS.replace("09:00", "07:40").replace(HOUR, '[["07:00", "07:15", 3000]]')
+    (tmp_path / "s.toml").write_text(short + signal)
+    status, out, err = tool("assign", "s.toml", "--iterations", "1")
     assert status == 0 and "greens that follow traffic are worked out in the run of the written study alone" in out, err
 
 
