@@ -1,8 +1,11 @@
 """Assignments of studies at the edges of what they may be: nobody, few, for long, with queues at the start; and what is told."""
 
+from types import SimpleNamespace
+
 import pytest
 
 from ctmtools import Problem, assign
+from ctmtools.assignment.told import settled_lines
 from ctmtools.assignment.ways_file import read_ways
 
 from .test_assign import assigned
@@ -55,9 +58,20 @@ def test_ways_that_find_no_room_are_told(tool, tmp_path, recording_program):
 
 def test_the_run_of_the_written_study_has_greens_that_follow_traffic(tool, tmp_path, recording_program):
     signal = '[[signals]]\nroad = "b"\ncycle = 60\ngreen = 30\nactuated = { least = 10, most = 40, gap = 10 }\n'
-    (tmp_path / "s.toml").write_text(TWO_WAYS + signal)
-    status, out, err = tool("assign", "s.toml", "--iterations", "2")
+    short = TWO_WAYS.replace("09:00", "07:40").replace(HOUR, '[["07:00", "07:15", 3000]]')
+    (tmp_path / "s.toml").write_text(short + signal)
+    status, out, err = tool("assign", "s.toml", "--iterations", "1")
     assert status == 0 and "greens that follow traffic are worked out in the run of the written study alone" in out, err
+
+
+@pytest.mark.parametrize("yields, actuated, delay, wanted", [
+    (True, False, 12, "The run of the written study works out anew what passes of those who give way; it has 12"),
+    (False, True, 12, "warning: greens that follow traffic"), (True, True, 12, "warning: greens that follow traffic"),
+    (True, True, 10, ""), (False, False, 12, "")])
+def test_another_delay_of_the_written_study_is_told_with_its_cause(yields, actuated, delay, wanted):
+    study = SimpleNamespace(yields=yields, actuated=actuated)
+    told = "".join(settled_lines(study, SimpleNamespace(delay=10.0), SimpleNamespace(delay_vehicle_hours=float(delay))))
+    assert told.strip().startswith(wanted) and bool(told) == bool(wanted)
 
 
 @pytest.fixture(scope="module")

@@ -16,9 +16,9 @@ def told_of(ones: Sequence[Yielding], moves: Sequence[float], runs: int, least: 
         lines.append(f"and {len(ones) - MOST_TOLD} more who give way")
     if max(moves) <= least:
         lines.append(f"what passes by giving way is settled after {runs} runs: no limit would move by more than {least:.0%}")
-    moving = sorted(((moved, one.of.name) for one, moved in zip(ones, moves) if moved > least), reverse=True)
+    moving = sorted(((one.of.name, moved) for one, moved in zip(ones, moves) if moved > least), key=lambda one: -round(one[1], 3))
     warnings = [f"{name}: after {runs} runs what passes isn't settled; a limit would still move by {moved:.1%}"
-                for moved, name in moving[:MOST_TOLD]]
+                for name, moved in moving[:MOST_TOLD]]
     if len(moving) > MOST_TOLD:
         warnings.append(f"and {len(moving) - MOST_TOLD} more whose limits still move, by less")
     return lines, warnings
