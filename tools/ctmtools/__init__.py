@@ -57,8 +57,8 @@ HOMES = {"Network": "network_file.network", "Problem": "problem", "Report": "rep
          "chain_of": "report.travel", "compare": "report.comparing", "queues_of": "report.states",
          "read_network": "network_file.network", "read_report": "report.reading", "read_study": "study.reading",
          "states": "report.states", "totals": "report.states", "travel_times": "report.travel",
-         **dict.fromkeys(("assign", "build", "calibrate", "choose", "diagram", "draw", "import_gmns", "import_osm", "import_sumo", "meter",
-                          "optimise", "page", "plot", "read_detectors", "run", "sweep"), "interface")}
+         **dict.fromkeys(("assign", "build", "calibrate", "choose", "diagram", "draw", "import_gmns", "import_osm", "import_sumo",
+                          "meter", "optimise", "page", "plot", "read_detectors", "run", "sweep"), "interface")}
 __all__ = sorted(HOMES)
 
 

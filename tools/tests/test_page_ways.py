@@ -45,9 +45,13 @@ def test_the_ways_of_a_report_have_their_cells_vehicles_and_minutes(both):
     cells = [f"{road}{number:02d}" if road != "east" else f"east{number}" for road, count in (("west", 11), ("town", 48), ("east", 4))
              for number in range(1, count + 1)]
     assert names_of(both[0], way["of"][0]["cells"]) == ["from-west", *cells, "to-east"]
-    # 720 vehicles/h for three hours and a half, 60 in each 5 min; a step of 10 s in the gate and in each of 63 cells. Curves are
-    # recorded every 5 steps.
-    assert way["of"][0]["vehicles"] == pytest.approx([60] * 42) and way["of"][0]["minutes"] == pytest.approx([64 / 6] * 42, abs=0.02)
+    # 720 vehicles/h for three hours and a half, 60 in each 5 min; a step of 10 s in the gate and in each of 63 cells. Between the
+    # records of every 5 steps the curves are straight, so a flow of 2 in a step that begins or stops a steps behind one lies
+    # a(5 - a) vehicle-steps beside: behind the gate, west, town and east, 1, 12, 60 and 64 steps late, 14 of 60 vehicles at most.
+    minutes = way["of"][0]["minutes"]
+    assert way["of"][0]["vehicles"] == pytest.approx([60] * 42)
+    assert minutes[1:-1] == pytest.approx([64 / 6] * 40, abs=0.001)
+    assert [minutes[0], minutes[-1]] == pytest.approx([64 / 6] * 2, abs=14 / 60 / 6)
     assert found["starts"] == [7 * 3600 + 300 * number for number in range(42)] and found["widths"] == [300]
 
 
