@@ -54,9 +54,10 @@ def lay_control(root: Path, built: Built, work: Path) -> None:
         copy(DEBIAN / name, control / name, 0o755)
     size = sum(-(-path.stat().st_size // 1024) for path in root.rglob("*") if path.is_file())
     needed = [libraries(root, work), "python3 (>= 3.11)", *python_packages()]
+    suggested = [*(name for extra in ("dask", "coordinates", "holidays") for name in python_packages(extra)), *MAPS]
     put(control / "control", (DEBIAN / "control.in").read_text().format(
         version=built.version, machine=MACHINE, size=size, needed=", ".join(needed),
-        recommended=", ".join([*python_packages("calibration"), "node-d3"]), suggested=", ".join([*python_packages("dask"), *MAPS])))
+        recommended=", ".join([*python_packages("calibration"), "node-d3"]), suggested=", ".join(suggested)))
 
 
 def libraries(root: Path, work: Path) -> str:

@@ -8,7 +8,8 @@ from built import PROGRAMS, TOP, Built
 from word_table import read_table
 
 DOCUMENTS = ("README.md", "CHANGELOG.md", "docs/*.md", "docs/pictures/*", "examples/README.md", "examples/*.csv",
-             "examples/*.toml", "examples/*.txt", "examples/*.plans", "examples/*.report", "examples/validation/*")
+             "examples/*.toml", "examples/*.txt", "examples/*.osm", "examples/*.plans", "examples/*.report",
+             "examples/validation/*")
 TOOLS_DOCUMENTS = ("tools/README.md", "tools/docs/*.md")
 LICENSES = ("LICENSE-*",)
 

@@ -185,7 +185,8 @@ def test_the_tools_speak_of_ctm_as_installed(unpacked):
 def test_documents_and_examples_are_in_the_packages(unpacked):
     for kind in ("deb", "tarball"):
         documents = unpacked[kind].prefix / "share/doc/ctm"
-        for path in ("README.md", "docs/FORMAT.md", "docs/MODEL.md", "examples/bottleneck.toml", "examples/event.csv"):
+        for path in ("README.md", "docs/FORMAT.md", "docs/MODEL.md", "examples/bottleneck.toml", "examples/event.csv",
+                     "examples/lane-drop.osm", "examples/detectors-2019-12-03.txt"):
             assert (documents / path).read_bytes() == (TOP / path).read_bytes()
 
 
