@@ -1,6 +1,5 @@
 """Networks of SUMO as studies: streets, lanes for cars, junctions, signals, and traffic by its routes, worked out on paper."""
 
-from pathlib import Path
 
 import plain_model
 import pytest
@@ -240,14 +239,10 @@ def canonical(found):
 
 # The tools can do without sumolib, and in the full check no case may be skipped: where it isn't there, these are none.
 if sumolib_net.is_there():
-    NETWORKS = [path for name in ("A10KW/osm", "cross/cross", "grid6/grid6", "ramp/ramp")
-                if (path := Path(f"/usr/share/sumo/tools/game/{name}.net.xml")).exists()]
-
-    @pytest.mark.parametrize("given", [net("static"), net("actuated"), *NETWORKS], ids=["static", "actuated", *map(str, NETWORKS)])
-    def test_sumolib_reads_what_the_xml_says(files, given):
-        path = given if isinstance(given, Path) else files / "town.net.xml"
-        if path != given:
-            path.write_text(given)
+    @pytest.mark.parametrize("kind", ["static", "actuated"])
+    def test_sumolib_reads_what_the_xml_says(files, kind):
+        path = files / "town.net.xml"
+        path.write_text(net(kind))
         one, two = sumo_net.read(path), sumolib_net.read(path)
         assert canonical(one) == canonical(two) and streets_of(one, "n") == streets_of(two, "n") == read_network(path)
 
