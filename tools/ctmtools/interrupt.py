@@ -10,14 +10,19 @@ import os
 import signal
 import threading
 import time
-from collections.abc import Callable, Iterator
+from collections.abc import Callable, Iterable, Iterator
+from concurrent.futures import FIRST_COMPLETED, Future, wait
 from contextlib import contextmanager, suppress
 from types import FrameType
+from typing import TypeVar
 
 STATUS = 130
 ENDS = (signal.SIGTERM, signal.SIGHUP)  # what ends a process from outside, or with its terminal
 PATIENCE = 1.3  # seconds from an interrupt until the command is ended from within
 LEAVE = 0.4  # seconds for a call of the program to end by itself
+LOOK = 0.3  # seconds after which a wait is begun anew, since a signal that comes just before a wait doesn't end it
+
+Result = TypeVar("Result")
 
 
 class Interrupts:
@@ -74,6 +79,14 @@ def check() -> None:
     """Raises an interrupt that came and that other code has taken for something else."""
     if INTERRUPTS.came:
         raise KeyboardInterrupt
+
+
+def as_they_end(futures: Iterable[Future[Result]]) -> Iterator[Future[Result]]:
+    """The futures as they end; signals are heeded meanwhile, whenever they come."""
+    waiting = set(futures)
+    while waiting:
+        ended, waiting = wait(waiting, timeout=LOOK, return_when=FIRST_COMPLETED)
+        yield from ended
 
 
 @contextmanager

@@ -3,10 +3,10 @@
 from __future__ import annotations
 
 from collections.abc import Callable, Sequence
-from concurrent.futures import ThreadPoolExecutor, as_completed
+from concurrent.futures import ThreadPoolExecutor
 from pathlib import Path
 
-from ..interrupt import INTERRUPTS
+from ..interrupt import INTERRUPTS, as_they_end
 from ..network_file.naming import Naming
 from ..network_file.network import network_of
 from ..problem import Problem
@@ -62,7 +62,7 @@ def reports_of(moment: Moment, futures: dict[str, Prepared], jobs: int | None = 
     try:
         begun = {pool.submit(run, future): name for name, future in futures.items()}
         texts = {}
-        for ended in as_completed(begun):
+        for ended in as_they_end(begun):
             texts[begun[ended]] = ended.result()
             if done:
                 done()

@@ -8,13 +8,13 @@ import tempfile
 import time
 import zipfile
 from collections.abc import Callable, Generator, Sequence
-from concurrent.futures import ProcessPoolExecutor, as_completed
+from concurrent.futures import ProcessPoolExecutor
 from concurrent.futures.process import BrokenProcessPool
 from contextlib import suppress
 from pathlib import Path
 from typing import TYPE_CHECKING, Any
 
-from ..interrupt import INTERRUPTS, check, end_group, later, leave_to_the_first
+from ..interrupt import INTERRUPTS, as_they_end, check, end_group, later, leave_to_the_first
 from ..problem import Problem, one_line
 from .task import failed, measure
 
@@ -48,7 +48,7 @@ def beside(tasks: Sequence[Any], count: int, work: Work = measure) -> Done:
             with later():  # the processes are begun at the first task that is given out
                 futures = {pool.submit(work, task): i for i, task in missing.items()}
             INTERRUPTS.groups |= _processes(pool)
-            for future in as_completed(futures):
+            for future in as_they_end(futures):
                 result = future.result()
                 del missing[futures[future]]
                 yield futures[future], result
