@@ -33,6 +33,17 @@ class Imports:
             if there:
                 self.names[here or there] = (module, there)
 
+    def used(self, words):
+        """What these words name of it: each name as it is called here, its module, and its name there."""
+        parts = parts_of(words)
+        for name, (module, there) in self.names.items():
+            if is_named(name, parts):
+                yield name, module, there
+        for word in words:
+            first, dot, there = word.partition(".")
+            if dot and first in self.modules:
+                yield word, self.modules[first], there.partition(".")[0]
+
 
 class Module:
     """An `.antt` file: its imports, and of each definition by its name the words, and those of its first part, which of a
@@ -134,14 +145,9 @@ class Definitions:
 
     def named(self, words, imports, path=None):
         """The definitions that these words name: those of the imports, and of the words' own file."""
-        parts = {part for word in words for part in re.split(r"[.@]", word)} | set(words)
-        for name, (module, there) in imports.names.items():
-            if is_named(name, parts):
-                yield from self.definition(module, there)
-        for name, module in imports.modules.items():
-            for word in words:
-                if word.startswith(f"{name}."):
-                    yield from self.definition(module, word.split(".")[1])
+        for _, module, there in imports.used(words):
+            yield from self.definition(module, there)
+        parts = parts_of(words)
         for name in self.module(path).definitions if path else ():
             if is_named(name, parts):
                 yield path, name
@@ -168,13 +174,27 @@ class Definitions:
         return (module.statements if "proofs" in path.parts and name in module.lemmas() else module.definitions)[name]
 
     def sum_of(self, path, name):
-        """A short checksum of what a definition means."""
-        return hashlib.sha256(" ".join(self.meant(path, name)).encode()).hexdigest()[:12]
+        """A short checksum of what a definition means: its words, and what those that are imported stand for."""
+        words = self.meant(path, name)
+        return checksum([" ".join(words), *self.imported(words, self.module(path).imports)])
+
+    def imported(self, words, imports):
+        """What the imported ones of these words stand for, in a fixed order."""
+        return sorted({f"{name} {self.path(module) or module} {there}" for name, module, there in imports.used(words)})
 
     def statement(self, path, name):
         """The statement of a lemma."""
         words = self.module(path).statements[name]
         return antt_text(words[words.index(":") + 1:])
+
+
+def parts_of(words):
+    """The words, and what stands in them between points."""
+    return {part for word in words for part in re.split(r"[.@]", word)} | set(words)
+
+
+def checksum(lines):
+    return hashlib.sha256("\n".join(lines).encode()).hexdigest()[:12]
 
 
 def is_named(name, parts):

@@ -2,7 +2,7 @@
 
 from listing import crates
 from promises import items_of, keyword
-from tokens import end_of_brackets
+from tokens import end_of_brackets, rattle_tokens
 
 
 class Paths:
@@ -25,6 +25,11 @@ class Paths:
             elif kind == "use":
                 for name, path in leaves(item[words.index("use") + 1:-1]):
                     self.names.setdefault(name, []).append(path)
+
+    def used(self, text):
+        """The imported names in a text, each with the paths that it may stand for."""
+        words = {token.text for token in rattle_tokens(text)} | {"*"}
+        return {f"{name} {' '.join(sorted(paths))}" for name, paths in self.names.items() if name in words}
 
     def wholes(self, path):
         """The whole paths that one that is written here may have."""

@@ -5,10 +5,14 @@ import subprocess
 from dataclasses import dataclass
 from pathlib import Path
 
+from problem import Problem
 from word_table import read_table
 
 TOP = Path(__file__).resolve().parents[1]
 PROGRAMS = ("ctm_program", "ctm_wait")
+# All that packages are made of, as git takes its names. Other files may come and go.
+PACKAGED = ("crates", "crates.txt", "launcher", "packaging", "tools/ctmtools", "tools/pyproject.toml", "tools/find-python",
+            "tools/README.md", "tools/docs", "docs", "examples", "README.md", "CHANGELOG.md", "LICENSE-*")
 UNKNOWN = "unknown"
 
 
@@ -21,7 +25,7 @@ class Built:
     commit: str
     commit_date: str
     seconds: int  # of the commit, since 1970
-    changed: bool  # whether files differ from the commit's
+    changed: bool  # whether files that are packaged differ from the commit's
     kit: str
     sources: str
     handed: bool  # whether the programs are another's, which nothing was built for here
@@ -64,15 +68,18 @@ def built_here(program: Path, waiting_program: Path, handed: bool = False) -> Bu
     commit, _, rest = told("git", "log", "-1", "--format=%H %cs %ct").partition(" ")
     date, _, seconds = rest.partition(" ")
     # A call that is broken off would leave the lock of git's index.
-    changed = told("git", "--no-optional-locks", "status", "--porcelain")
+    changed = told("git", "--no-optional-locks", "status", "--porcelain", "--", *PACKAGED)
     return Built(program, waiting_program, commit or UNKNOWN, date, int(seconds or 0), bool(changed),
                  told("rt", "version") or UNKNOWN, sum_of_sources(), handed)
 
 
 def sum_of_sources() -> str:
     """The checksum by which ./ctm knows whether a built program is of its sources."""
-    asks = 'top=$1 target=ctm_program; . "$top/launcher/current"; sum_of_sources'
-    return told("bash", "-c", asks, "bash", str(TOP)).split()[0]
+    asks = 'set -o pipefail; top=$1 target=ctm_program; . "$top/launcher/current"; sum_of_sources'
+    made = told("bash", "-c", asks, "bash", str(TOP))
+    if not made:
+        raise Problem("the checksum of the sources takes find, sort, xargs and sha256sum of the path; nothing was made")
+    return made.split()[0]
 
 
 def told(*command: str) -> str:

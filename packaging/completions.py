@@ -105,3 +105,6 @@ def _fish_spelled(spelling: str) -> str:
 
 def _dashed(words: Iterable[str]) -> str:
     return " ".join(f"--{word}" for word in words)
+
+
+OF = {"bash": bash_completion, "zsh": zsh_completion, "fish": fish_completion}

@@ -14,11 +14,12 @@ from contextlib import contextmanager
 from pathlib import Path
 
 from problem import Problem
-from tree import copy
+from tree import copy, put
 
 HOME = Path("lib/ctm")
 CURRENT = HOME / "current"
 MADE_FOLDERS = "folders"  # in HOME: the folders that were made around it, each with a null byte behind it
+FILES = "files"  # in a tree: the files that were installed in it, a line for each
 LINKED = ("bin", "share/man/man1", "share/bash-completion/completions", "share/zsh/site-functions",
           "share/fish/vendor_completions.d", "share/doc")
 
@@ -33,7 +34,8 @@ class Prefix:
 
     def has(self, tree: Path) -> bool:
         """Whether this tree is what is installed, and whole."""
-        return (self.current / "lib").is_dir() and digest(self.current) == digest(tree) and \
+        files = files_of(tree)
+        return noted_files(self.current) == files and digest(self.current, files) == digest(tree, files) and \
             all(self.is_own(self.folder / path) for path in linked(tree))
 
     def refuse_what_is_anothers(self, tree: Path) -> None:
@@ -46,14 +48,23 @@ class Prefix:
         if taken:
             raise Problem(f"{taken[0]} is there already, and wasn't installed by ./ctm; nothing was changed")
 
+    def refuse_to_lose_anothers(self) -> None:
+        """Refuses to take the current tree away where it has files that weren't installed, as work in the folder of examples."""
+        noted = noted_files(self.current)
+        lost = [path for path in files_of(self.current) if path not in noted] if noted else []
+        if lost:
+            raise Problem(f"{self.current / lost[0]} wasn't installed by ./ctm and would be lost; nothing was changed")
+
     def install(self, tree: Path) -> None:
         """Puts a copy of the tree in the place of what is installed."""
         self.make_folder(self.home)
         with self.locked():
+            self.refuse_to_lose_anothers()
             try:
                 copied = Path(tempfile.mkdtemp(prefix="tree-", dir=self.home))
                 copied.chmod(0o755)
                 copy_tree(tree, copied)
+                put(copied / FILES, "".join(f"{path}\n" for path in files_of(tree)))
                 for path in linked(tree):
                     self.link(path)
                 leads = copied / "current"
@@ -67,6 +78,7 @@ class Prefix:
         if not self.home.is_dir() or not (self.current.is_symlink() or (self.home / MADE_FOLDERS).is_file()):
             return False
         with self.locked():
+            self.refuse_to_lose_anothers()
             self.current.unlink(missing_ok=True)
             self.tidy()
         return True
@@ -156,11 +168,25 @@ def linked(tree: Path) -> list[Path]:
     return [path.relative_to(tree) for folder in LINKED for path in sorted((tree / folder).iterdir())]
 
 
-def digest(tree: Path) -> str:
-    """A checksum of all files of a tree, with their places and whether they can be run, but for what Python keeps there."""
+def files_of(tree: Path) -> list[str]:
+    """All files of a tree, but for what Python keeps there, and for the note of them."""
+    files = [path for path in tree.rglob("*") if (path.is_symlink() or path.is_file()) and path.parent.name != "__pycache__"]
+    return sorted(str(path.relative_to(tree)) for path in files if path != tree / FILES)
+
+
+def noted_files(tree: Path) -> list[str]:
+    """The files that were installed in a tree, as noted there; none where there is no note."""
+    note = tree / FILES
+    return note.read_text().splitlines() if note.is_file() else []
+
+
+def digest(tree: Path, files: list[str]) -> str | None:
+    """A checksum of these files of a tree, with their places and whether they can be run; none where one is missing."""
     made = hashlib.sha256()
-    for path in sorted(tree.rglob("*")):
-        if path.is_file() and path.parent.name != "__pycache__":
-            made.update(f"{path.relative_to(tree)} {path.stat().st_mode & 0o111} {path.stat().st_size}\n".encode())
-            made.update(path.read_bytes())
+    for name in files:
+        path = tree / name
+        if not path.is_file():
+            return None
+        made.update(f"{name} {path.stat().st_mode & 0o111} {path.stat().st_size}\n".encode())
+        made.update(path.read_bytes())
     return made.hexdigest()

@@ -7,11 +7,14 @@ import completions
 from built import PROGRAMS, TOP, Built
 from word_table import read_table
 
-DOCUMENTS = ("README.md", "CHANGELOG.md", "docs/*.md", "docs/pictures/*", "examples/README.md", "examples/*.csv",
-             "examples/*.toml", "examples/*.txt", "examples/*.osm", "examples/*.plans", "examples/*.report",
-             "examples/validation/*")
+DOCUMENTS = ("README.md", "CHANGELOG.md", "docs/*.md", "docs/how-to/*.md", "docs/pictures/*", "docs/inside/*.md",
+             "docs/inside/pictures/*", "examples/README.md", "examples/*.csv", "examples/*.toml", "examples/*.txt",
+             "examples/*.osm", "examples/*.plans", "examples/*.report", "examples/validation/*")
 TOOLS_DOCUMENTS = ("tools/README.md", "tools/docs/*.md")
 LICENSES = ("LICENSE-*",)
+# Where the shells look for the completions of a command, below share.
+COMPLETIONS = {"bash": "bash-completion/completions/{}", "zsh": "zsh/site-functions/_{}",
+               "fish": "fish/vendor_completions.d/{}.fish"}
 
 
 def lay_programs(folder: Path, built: Built) -> None:
@@ -24,25 +27,35 @@ def lay_programs(folder: Path, built: Built) -> None:
     for name in ("ctm", "ctm-wait"):
         copy(TOP / "launcher/installed" / name, folder / "bin" / name, 0o755)
         copy(TOP / f"docs/{name}.1", folder / f"share/man/man1/{name}.1")
-    table = read_table()
-    put(folder / "share/bash-completion/completions/ctm", completions.bash_completion(table))
-    put(folder / "share/zsh/site-functions/_ctm", completions.zsh_completion(table))
-    put(folder / "share/fish/vendor_completions.d/ctm.fish", completions.fish_completion(table))
+    for shell, place in COMPLETIONS.items():
+        put(folder / "share" / place.format("ctm"), completions.OF[shell](read_table()))
 
 
 def lay_documents(folder: Path, patterns: tuple[str, ...] = DOCUMENTS) -> None:
     """The documents and examples, beside each other as in the repository."""
+    lay_files(folder / "share/doc/ctm", patterns)
+
+
+def lay_files(folder: Path, patterns: tuple[str, ...]) -> None:
+    """The files of the repository that have these names, each where it stands there."""
     for pattern in patterns:
         for path in sorted(TOP.glob(pattern)):
-            copy(path, folder / "share/doc/ctm" / path.relative_to(TOP))
+            copy(path, folder / path.relative_to(TOP))
 
 
 def lay_tools(folder: Path, python: str, command: Path) -> None:
     """The engineers' tools, in this folder of Python's packages, with this command, their manual page and documents."""
     lay_package(folder / python)
     copy(command, folder / "bin/ctm-tools", 0o755)
-    copy(TOP / "docs/ctm-tools.1", folder / "share/man/man1/ctm-tools.1")
+    lay_tools_pages(folder)
     lay_documents(folder, TOOLS_DOCUMENTS)
+
+
+def lay_tools_pages(folder: Path) -> None:
+    """The manual page and the completions of the tools."""
+    copy(TOP / "docs/ctm-tools.1", folder / "share/man/man1/ctm-tools.1")
+    for shell, place in COMPLETIONS.items():
+        copy(TOP / f"packaging/shells/ctm-tools.{shell}", folder / "share" / place.format("ctm-tools"))
 
 
 def lay_package(folder: Path) -> None:

@@ -7,7 +7,7 @@ from pathlib import Path
 
 from built import TOP, Built
 from standard_tool import call
-from tree import copy, lay_package, lay_programs
+from tree import LICENSES, lay_files, lay_package, lay_programs, lay_tools_pages
 
 PLATFORM = "linux_x86_64"
 SCRIPTS = ("bin/ctm", "bin/ctm-wait")
@@ -18,7 +18,8 @@ def make_wheel(built: Built, work: Path) -> Path:
     sources = work / "sources"
     lay_package(sources)
     lay_programs(sources, built)
-    copy(TOP / "docs/ctm-tools.1", sources / "share/man/man1/ctm-tools.1")
+    lay_tools_pages(sources)
+    lay_files(sources, LICENSES)  # which setuptools puts beside what the wheel says of itself
     project = (TOP / "tools/pyproject.toml").read_text() + with_programs(sources)
     (sources / "pyproject.toml").write_text(project)
     (sources / "setup.cfg").write_text(f"[bdist_wheel]\nplat_name = {PLATFORM}\n")

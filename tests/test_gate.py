@@ -47,7 +47,7 @@ class Gate:
         self.write(".ci/without-edits", "no_memory\ntrials # tests alone\nctm_program\nctm_wait\n")
         self.write("crates/low/must-fail/one.edit", "")
         self.write("crates/top/must-fail/two.edit", "")
-        self.write("docs/PROVED.md", "")
+        self.write("docs/inside/PROVED.md", "")
         self.write("HANDLES", HANDLES)
         self.write("crates/top/stdin", "ctm,1\nsteps,2\n")
         self.write("examples/one.report", "")

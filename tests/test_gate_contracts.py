@@ -194,19 +194,21 @@ REACHED = {"Folding.antt folded", "Halves.antt half_of", "Halves.antt IsEven", "
 class Promises:
     """A repository of one crate, and what .ci/contracts lists of it."""
 
-    def __init__(self, folder):
-        self.top = folder
-        shutil.copytree(TOP / ".ci", folder / ".ci", ignore=shutil.ignore_patterns("__pycache__"))
-        for path, text in {"crates.txt": "low:\n", "docs/PROVED.md": PROVED, "crates/low/src/lib.rt": SOURCE,
+    def __init__(self, top):
+        self.top = top
+
+    def make(self):
+        shutil.copytree(TOP / ".ci", self.top / ".ci", ignore=shutil.ignore_patterns("__pycache__"))
+        for path, text in {"crates.txt": "low:\n", "docs/inside/PROVED.md": PROVED, "crates/low/src/lib.rt": SOURCE,
                            "crates/low/specs/Halves.antt": HALVES, "crates/low/specs/Sums.antt": SUMS,
                            "crates/low/specs/Kinds.antt": KINDS, "crates/low/specs/Folding.antt": FOLDING,
                            "crates/low/proofs/Laws.antt": LAWS}.items():
-            (folder / path).parent.mkdir(parents=True, exist_ok=True)
-            (folder / path).write_text(text)
-        self.lines = self.list()
-
-    def list(self):
+            (self.top / path).parent.mkdir(parents=True, exist_ok=True)
+            (self.top / path).write_text(text)
         subprocess.run([self.top / ".ci/contracts"], check=True)
+
+    @property
+    def lines(self):
         return (self.top / "contracts.txt").read_text().splitlines()
 
     def differences(self, path, old, new):
@@ -221,13 +223,21 @@ class Promises:
         return [line for line in told if line[0] in "+-"]
 
 
+@pytest.fixture(scope="session")
+def made(tmp_path_factory):
+    folder = tmp_path_factory.mktemp("promises")
+    Promises(folder).make()
+    return folder
+
+
 @pytest.fixture
-def promises(tmp_path):
+def promises(tmp_path, made):
+    shutil.copytree(made, tmp_path, dirs_exist_ok=True)
     return Promises(tmp_path)
 
 
 def test_each_promise_is_a_line_in_whatever_form_it_is_written(promises):
-    assert [line for line in promises.lines if "/src/" in line] == LISTED
+    assert [line for line in promises.lines if "/src/" in line and " imports: " not in line] == LISTED
 
 
 def test_the_definitions_that_a_clause_reaches_are_listed_with_a_checksum(promises):
@@ -237,7 +247,7 @@ def test_the_definitions_that_a_clause_reaches_are_listed_with_a_checksum(promis
 
 
 def test_a_lemma_that_the_document_names_is_listed_by_its_statement(promises):
-    assert [line for line in promises.lines if "/proofs/" in line] == [
+    assert [line for line in promises.lines if "/proofs/" in line and " imports: " not in line] == [
         "low/proofs/Laws.antt half-le: (n : ℕ) → half_of n ≤ n", "low/proofs/Laws.antt half-zero: half_of 0 ≡ 0"]
 
 
@@ -247,6 +257,8 @@ def test_a_lemma_that_the_document_names_is_listed_by_its_statement(promises):
     ("src/lib.rt", "    text: &'static str,\n)", "    text: &'static str)"),
     ("src/lib.rt", "requires few { length n.now ≤ 9 }", "requires few {\n length  n.now ≤ 9 // nine\n}"),
     ("src/lib.rt", "let quote = b'\\'';", "let quote = b'{';"),
+    ("src/lib.rt", "use std::marker::Model;", "use std::fmt::Display;\nuse std::marker::Model;"),
+    ("src/lib.rt", "{◌≡◌, ◌≤◌}", "{◌≤◌, ◌<◌, ◌≡◌}"),
     ("specs/Halves.antt", " -- rounded down", ""),
     ("specs/Sums.antt", "{- nothing {- at all -} -}", "\n   "),
     ("specs/Halves.antt", "unused = 1", "unused = 2"),
@@ -285,6 +297,19 @@ def test_a_promise_that_is_changed_or_taken_away_is_told(promises, path, old, ne
 def test_a_definition_that_a_clause_reaches_in_any_way_is_told_where_it_changes(promises, path, old, new, name):
     told = promises.differences(path, old, new)
     assert [line.rpartition(": ")[0] for line in told] == [f"-low/specs/{name}", f"+low/specs/{name}"]
+
+
+@pytest.mark.parametrize("path, old, new, names", [
+    ("src/lib.rt", "{◌≡◌, ◌≤◌}", "{◌≡◌, ◌<◌ as ◌≤◌}", ["src/lib.rt imports"]),
+    ("src/lib.rt", "use std::marker::Model;", "use crate::inner::Model;", ["src/lib.rt imports"]),
+    ("src/lib.rt", "specs.Folding as folding", "specs.Others as folding", ["specs/Folding.antt folded", "src/lib.rt imports"]),
+    ("specs/Halves.antt", "{ℕ, ◌/◌}", "{ℕ, ◌-◌ as ◌/◌}", ["specs/Halves.antt half_of"]),
+    ("proofs/Laws.antt", "{half_of}", "{unused as half_of}", ["proofs/Laws.antt imports", "specs/Halves.antt unused"]),
+])
+def test_a_name_that_is_imported_from_elsewhere_is_told(promises, path, old, new, names):
+    """The text of the promise stays as it is."""
+    told = promises.differences(path, old, new)
+    assert sorted({line[1:].removeprefix("low/").rpartition(": ")[0] for line in told}) == names
 
 
 def test_the_promises_of_the_call_stand_in_the_list():

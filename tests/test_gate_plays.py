@@ -15,7 +15,7 @@ BODY = "{\n    ghost then = { λ step old found new. Looked step old found new }
 @pytest.fixture
 def plays(tmp_path):
     """The files that tests/plays reads, and a call of it: its status and what it tells of faults."""
-    for path in ("docs/FIELD.md", "crates.txt", "tests/plays", KINDS, PASSES_ON):
+    for path in ("docs/inside/FIELD.md", "crates.txt", "tests/plays", KINDS, PASSES_ON):
         (tmp_path / path).parent.mkdir(parents=True, exist_ok=True)
         shutil.copy(TOP / path, tmp_path / path)
     for folder in (".ci", "crates/border_rows/specs", "crates/region_slots/specs"):
@@ -63,7 +63,7 @@ def test_a_kind_that_stands_elsewhere_is_found(plays, text):
     (plays.top / OTHER).write_text(text)
     with open(plays.top / PASSES_ON, "a") as file:
         file.write("pub use atomic_table::Play as Step;\npub use atomic_table::*;\n")
-    assert plays() == (1, f"{OTHER} has a kind of step of its own\nExtra is no row of the table of docs/FIELD.md\n")
+    assert plays() == (1, f"{OTHER} has a kind of step of its own\nExtra is no row of the table of docs/inside/FIELD.md\n")
 
 
 def test_a_kind_that_the_table_lacks_or_that_changes_other_counts_is_told(plays):

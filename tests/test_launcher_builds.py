@@ -153,4 +153,4 @@ def test_each_crate_of_the_program_has_a_check_time():
 
 def test_the_map_has_the_check_times_of_the_file():
     """tools/documents writes them into it."""
-    subprocess.run([sys.executable, "-B", TOP / "packaging/documents.py", "--check", "docs/MAP.md"], check=True)
+    subprocess.run([sys.executable, "-B", TOP / "packaging/documents.py", "--check", "docs/inside/MAP.md"], check=True)

@@ -13,6 +13,7 @@ from conftest import TOP
 
 sys.path[:0] = [str(TOP / "launcher"), str(TOP / "packaging")]
 from prefix import Prefix
+from problem import Problem
 
 PLAIN = {"PATH": "/usr/bin:/bin", "HOME": "/nonexistent"}
 # What changes a file system, by the names under which Python tells it.
@@ -29,6 +30,14 @@ def installing(built):
     for path in ("README.md", "CHANGELOG.md", "LICENSE-MIT", "tools/README.md", "tools/find-python"):
         shutil.copy(TOP / path, built.top / path)
     return built
+
+
+def path_of(folder, *commands):
+    """A path on which these commands alone are found."""
+    folder.mkdir()
+    for command in commands:
+        (folder / command).symlink_to(shutil.which(command))
+    return str(folder)
 
 
 def standing(folder):
@@ -91,10 +100,10 @@ def test_what_has_changed_takes_the_place_of_the_old(installing, tmp_path):
     source = installing.top / "crates/ctm_program/src/program.sh"
     source.write_text(source.read_text().replace("done", "changed"))
     installing.edit("ctm_program")
-    (installing.top / "docs/FIELD.md").unlink()
+    (installing.top / "docs/inside/FIELD.md").unlink()
     assert installing.call("--install", str(tmp_path / "prefix"))[0] == 0
     assert run(tmp_path / "prefix/bin/ctm", "run") == (0, "a\nchanged\n", "")
-    assert not (tmp_path / "prefix/share/doc/ctm/docs/FIELD.md").exists()
+    assert not (tmp_path / "prefix/share/doc/ctm/docs/inside/FIELD.md").exists()
     assert len(list((tmp_path / "prefix/lib/ctm").glob("tree-*"))) == 1
 
 
@@ -107,6 +116,39 @@ def test_what_another_put_there_is_not_touched(installing, tmp_path):
     assert err.splitlines()[-1] == \
         f"./ctm: {tmp_path}/prefix/bin/ctm is there already, and wasn't installed by ./ctm; nothing was changed"
     assert standing(tmp_path / "prefix") == before
+
+
+@pytest.mark.parametrize("place", ["share/doc/ctm/examples/own.report", "share/doc/ctm/own", "lib/ctm/current/bin/own"])
+def test_what_is_made_among_the_installed_files_is_not_lost(tmp_path, place):
+    """As reports are by who works in the installed folder of examples: neither what follows nor an uninstall takes them away."""
+    prefix, old, new = Prefix(tmp_path / "prefix"), small_tree(tmp_path / "old", "old"), small_tree(tmp_path / "new", "new")
+    prefix.install(old)
+    (prefix.folder / place).parent.mkdir(exist_ok=True)
+    (prefix.folder / place).write_text("own\n")
+    before = standing(prefix.folder)
+    inside = (prefix.folder / place).resolve().relative_to(prefix.current.resolve())
+    told = f"{prefix.current / inside} wasn't installed by ./ctm and would be lost; nothing was changed"
+    assert prefix.has(old), "a second call changes nothing"
+    for does in (lambda: prefix.install(new), prefix.uninstall):
+        with pytest.raises(Problem, match=f"^{re.escape(told)}$"):
+            does()
+        assert standing(prefix.folder) == before
+    (prefix.folder / place).unlink()
+    prefix.install(new)
+    assert says(prefix.folder) == "new"
+
+
+def test_what_another_has_beside_it_stays(tmp_path):
+    """Files in folders that an installation has too, one of them its own."""
+    prefix = Prefix(tmp_path / "prefix")
+    prefix.install(small_tree(tmp_path / "new", "new"))
+    others = ["lib/ctm/own", "bin/own", "share/man/man1/own.1", "share/doc/own/README.md"]
+    for place in others:
+        (prefix.folder / place).parent.mkdir(exist_ok=True)
+        (prefix.folder / place).write_text("own\n")
+    (prefix.folder / "bin/linked").symlink_to("../lib/ctm/own")
+    prefix.uninstall()
+    assert {path for path, what in standing(prefix.folder).items() if what is not None} == {*others, "bin/linked"}
 
 
 def test_a_folder_of_commands_that_is_a_link_gets_commands_that_run(tmp_path):
@@ -122,14 +164,38 @@ def test_a_folder_of_commands_that_is_a_link_gets_commands_that_run(tmp_path):
     assert standing(tmp_path / "home") == before
 
 
+def commit(top):
+    """Makes a commit of all that stands in a folder, and isn't built."""
+    shutil.copy(TOP / ".gitignore", top)
+    for words in (["init", "-q"], ["add", "."], ["-c", "user.name=a", "-c", "user.email=a@b", "commit", "-q", "-m", "a"]):
+        subprocess.run(["git", *words], cwd=top, check=True)
+
+
 def test_nothing_is_written_where_git_keeps_the_repository(installing, tmp_path):
     """Not even the index of a file that was touched, whose lock a call that is broken off would leave."""
-    for words in (["init", "-q"], ["add", "."], ["-c", "user.name=a", "-c", "user.email=a@b", "commit", "-q", "-m", "a"]):
-        subprocess.run(["git", *words], cwd=installing.top, check=True)
+    commit(installing.top)
     os.utime(installing.top / "crates.txt", (1, 1))
     before = standing(installing.top / ".git")
     assert installing.call("--version")[0] == installing.call("--install", str(tmp_path / "prefix"))[0] == 0
     assert standing(installing.top / ".git") == before
+
+
+@pytest.mark.parametrize("path, changed", [("made/ctm.deb", False), ("docs/MORE.md", True), ("tools/ctmtools/more.py", True)])
+def test_only_files_that_are_packaged_differ_from_the_commit(installing, tmp_path, path, changed):
+    """So packages that were made in the repository itself don't change those that are made after them."""
+    commit(installing.top)
+    (installing.top / path).parent.mkdir(exist_ok=True)
+    (installing.top / path).write_text("more\n")
+    installing.call("--install", str(tmp_path))
+    assert ("with changes that are not committed" in run(tmp_path / "bin/ctm", "--version")[1]) == changed
+
+
+def test_the_tools_take_no_module_from_the_folder_where_they_are_called(installing, tmp_path):
+    installing.call("--install", str(tmp_path / "prefix"))
+    (tmp_path / "click.py").write_text("raise SystemExit('the module of another')\n")
+    for command in tmp_path / "prefix/bin/ctm-tools", TOP / "ctm-tools":
+        told = subprocess.run([command, "--help"], cwd=tmp_path, env=PLAIN, stdout=subprocess.PIPE, text=True)
+        assert (told.returncode, told.stdout[:16]) == (0, "Usage: ctm-tools"), command
 
 
 def test_the_name_of_a_prefix_may_be_any_bytes(installing, tmp_path):
@@ -223,15 +289,24 @@ def test_a_full_disk_is_told_in_one_line_and_nothing_is_left(installing, tmp_pat
     assert re.fullmatch(rf"\./ctm: {disk}/\S+: no space left on device; nothing was changed\n", ended.stderr)
 
 
-def test_a_path_without_python_is_told_in_one_line(installing, tmp_path):
-    lacking = tmp_path / "lacking"
-    lacking.mkdir()
-    for command in ("bash", "readlink", "dirname"):
-        (lacking / command).symlink_to(shutil.which(command))
-    ended = subprocess.run([installing.top / "ctm", "--install", tmp_path / "prefix"], env={"PATH": str(lacking), "HOME": "/"},
-                           stdout=subprocess.PIPE, stderr=subprocess.PIPE, text=True)
-    assert (ended.returncode, ended.stdout) == (2, "")
-    assert ended.stderr == "./ctm: python3 isn't on the path; nothing was changed\n"
+# A command, what it finds on the path beside bash, and what it says where ctm is built there and ctm-wait isn't.
+LACKING = [
+    (["ctm", "--install", "/nonexistent"], [], (2, "python3 isn't on the path; nothing was changed")),
+    (["ctm", "--uninstall", "/nonexistent"], [], (2, "python3 isn't on the path; nothing was changed")),
+    (["ctm", "--install", "prefix"], ["python3"], (125, "find isn't on the path, so nothing was built or run")),
+    (["ctm", "run"], ["find"], (125, "sha256sum isn't on the path, so nothing was built or run")),
+    (["ctm", "run", "--no"], [], (125, "find isn't on the path, so nothing was built or run")),
+    (["ctm-wait", "1"], ["find", "sha256sum", "sort"], (125, "the toolchain's command rt isn't on the path, so nothing was built or run")),
+]
+
+
+def test_a_path_that_lacks_a_command_is_told_in_one_line(installing, tmp_path):
+    for number, (words, has, (status, told)) in enumerate(LACKING):
+        path = path_of(tmp_path / f"lacking-{number}", "bash", *has)
+        ended = subprocess.run([installing.top / words[0], *words[1:]], env={"PATH": path, "HOME": "/"}, cwd=tmp_path,
+                               stdin=subprocess.DEVNULL, stdout=subprocess.PIPE, stderr=subprocess.PIPE, text=True)
+        assert (ended.returncode, ended.stdout, ended.stderr) == (status, "", f"./{words[0]}: {told}\n")
+    assert not (tmp_path / "prefix").exists()
 
 
 @pytest.mark.parametrize("words", [("--install", "a", "b"), ("--install", "--quiet"), ("--uninstall", "")])

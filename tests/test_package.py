@@ -2,6 +2,7 @@
 HOME. The other program is the one that CTM_WAIT_PROGRAM names, or the one that is built in the repository.
 """
 
+import ast
 import hashlib
 import os
 import re
@@ -9,6 +10,7 @@ import resource
 import shutil
 import subprocess
 import sys
+import tomllib
 from dataclasses import dataclass
 from pathlib import Path
 
@@ -83,6 +85,15 @@ def test_two_calls_make_the_same_bytes(packages, programs, tmp_path):
     assert [kind for kind in KINDS if packages[kind].read_bytes() != again[kind].read_bytes()] == []
 
 
+def sum_of_sources():
+    """The checksum of what `sha256sum` says of the list of crates and of the files of the crates, in the order of their paths."""
+    files = [path for path in (TOP / "crates").rglob("*") if (path.suffix in (".rt", ".antt") or path.name == "crates.txt") and
+             "out" not in path.relative_to(TOP).parts]
+    paths = sorted(str(path.relative_to(TOP)) for path in [TOP / "crates.txt", *files])
+    lines = [f"{hashlib.sha256((TOP / path).read_bytes()).hexdigest()}  {path}\n" for path in paths]
+    return hashlib.sha256("".join(lines).encode()).hexdigest()
+
+
 @pytest.mark.parametrize("kind", KINDS)
 def test_a_package_says_what_it_is_built_of(kind, unpacked, programs):
     lines = (unpacked[kind].prefix / "lib/ctm/BUILD").read_text().splitlines()
@@ -92,7 +103,8 @@ def test_a_package_says_what_it_is_built_of(kind, unpacked, programs):
     for name, path in zip(("ctm_program", "ctm_wait"), programs):
         assert told[name] == "sha256 " + hashlib.sha256(Path(path).read_bytes()).hexdigest()
         assert (unpacked[kind].prefix / "lib/ctm" / name).read_bytes() == Path(path).read_bytes()
-    assert re.match(r"sha256 [0-9a-f]{64}, ", told["sources"]) and told["kit"]
+    assert told["sources"].startswith(f"sha256 {sum_of_sources()}, ")
+    assert told["kit"] == subprocess.run(["rt", "version"], stdout=subprocess.PIPE, check=True, text=True).stdout.strip()
     line = f"git checkout {commit} && tools/package"
     assert told["reproduce"] in (f"{line}, where that builds these programs, which were handed to it", "no commit has these files")
     assert unpacked[kind].call("ctm", "--version") == (0, f"{lines[0]}\n".encode(), b"")
@@ -115,7 +127,8 @@ def test_help_and_refused_words_have_their_lines(kind, unpacked):
     assert b"--try" not in out and b"--install" not in out
     page = re.search(rb"^(\S+) .*has all words", out, re.MULTILINE)[1].decode()
     assert page == ("docs/FORMAT.md" if kind == "wheel" else f"{unpacked[kind].prefix}/share/doc/ctm/docs/FORMAT.md")
-    assert kind == "wheel" or Path(page).is_file()
+    network = re.search(rb"^  ctm run < (\S+)$", out, re.MULTILINE)[1].decode()
+    assert kind == "wheel" or Path(page).is_file() and Path(network).is_file()
     assert unpacked[kind].call("ctm", "run", "-h")[1] == unpacked[kind].call("ctm", "help")[1] == out
     hold((2, b"", b"ctm: words refused\nctm: --regions takes a whole number from 1 to 512 in at most 9 digits, or auto, and not "
           b"513; ctm --help shows the words\n"), unpacked[kind].call("ctm", "run", "--regions", "513"))
@@ -161,10 +174,28 @@ def test_the_tools_run_a_study_by_the_packaged_program(kind, unpacked):
     status, out, err = it.call("ctm-tools", "--version")
     assert (status, err) == (0, b"")
     assert out.decode() == f"ctm-tools {TABLE.version}, over {it.prefix}/lib/ctm/ctm_program, the packaged one\n"
+    place = f"  Documents and examples are in {it.prefix}/share/doc/ctm\n"
+    assert (place in it.call("ctm-tools", "--help")[1].decode()) == (kind == "deb"), "the wheel has none"
     status, out, err = it.call("ctm-tools", "run", str(TOP / "examples/bottleneck.toml"))
     assert status == 0 and b"Delay     461.25 vehicle-hours" in out, err
     assert it.call("ctm-tools", "plot", "queue", "bottleneck.report")[0] == 0
     assert (it.home / "bottleneck-queue.png").read_bytes().startswith(b"\x89PNG")
+    assert it.call("ctm-tools", "report", "bottleneck.report")[0] == 0
+    built = (it.prefix / "lib/ctm/BUILD").read_text().splitlines()[0]
+    assert f" by {built}." in (it.home / "bottleneck.html").read_text()
+
+
+@pytest.mark.parametrize("page", ["README.md", "docs/INSTALL.md"])
+def test_the_first_commands_of_a_document_make_a_picture(page, unpacked, tmp_path):
+    """By Debian's package, which they find where it is installed; it is unpacked elsewhere here."""
+    it = Unpacked(unpacked["deb"].prefix, tmp_path)
+    blocks = re.findall(r"^```\n(.*?)^```", (it.prefix / "share/doc/ctm" / page).read_text(), re.MULTILINE | re.DOTALL)
+    block = next(block for block in blocks if "ctm-tools run own.toml" in block)
+    lines = [line.replace("/usr/share", f"{it.prefix}/share") for line in block.splitlines() if not line.startswith("apt ")]
+    asks = "set -e; PATH=$1:$PATH; " + "; ".join(lines)
+    subprocess.run(["bash", "-c", asks, "bash", it.prefix / "bin"], cwd=tmp_path, check=True,
+                   env={"PATH": "/usr/bin:/bin", "HOME": str(tmp_path)})
+    assert (tmp_path / "own-time-space.png").read_bytes().startswith(b"\x89PNG")
 
 
 @pytest.mark.parametrize("kind", KINDS)
@@ -173,8 +204,9 @@ def test_manual_pages_and_completions_stand_where_they_are_found(kind, unpacked)
     pages = {path.name.removesuffix(".gz") for path in (share / "man/man1").iterdir()}
     assert pages == {"ctm.1", "ctm-wait.1"} | ({"ctm-tools.1"} if kind != "tarball" else set())
     zsh = "vendor-completions" if kind == "deb" else "site-functions"
-    for path in ("bash-completion/completions/ctm", f"zsh/{zsh}/_ctm", "fish/vendor_completions.d/ctm.fish"):
-        assert (share / path).is_file(), path
+    for command in ("ctm", "ctm-tools") if kind != "tarball" else ("ctm",):
+        for path in (f"bash-completion/completions/{command}", f"zsh/{zsh}/_{command}", f"fish/vendor_completions.d/{command}.fish"):
+            assert (share / path).is_file(), path
 
 
 def test_the_tools_speak_of_ctm_as_installed(unpacked):
@@ -182,21 +214,96 @@ def test_the_tools_speak_of_ctm_as_installed(unpacked):
     assert "proved program ctm" in page and "./ctm" not in page
 
 
-def test_documents_and_examples_are_in_the_packages(unpacked):
-    for kind in ("deb", "tarball"):
-        documents = unpacked[kind].prefix / "share/doc/ctm"
-        for path in ("README.md", "docs/FORMAT.md", "docs/MODEL.md", "examples/bottleneck.toml", "examples/event.csv",
-                     "examples/lane-drop.osm", "examples/detectors-2019-12-03.txt"):
-            assert (documents / path).read_bytes() == (TOP / path).read_bytes()
+def tracked(*patterns):
+    """The files of the repository that have these names."""
+    told = subprocess.run(["git", "ls-files", "--", *patterns], cwd=TOP, stdout=subprocess.PIPE, check=True, text=True)
+    return told.stdout.splitlines()
+
+
+@pytest.mark.parametrize("kind", ["deb", "tarball"])
+def test_all_documents_and_examples_are_in_the_packages(kind, unpacked):
+    """But for what checks the examples in the repository."""
+    documents = unpacked[kind].prefix / "share/doc/ctm"
+    wanted = {*tracked("README.md", "CHANGELOG.md", "docs/*.md", "docs/pictures", "docs/inside/pictures", "examples")} - {"examples/check"}
+    if kind == "deb":
+        wanted |= {*tracked("tools/README.md", "tools/docs")}
+    else:
+        wanted |= {*tracked("LICENSE-*")}
+    own = {"BUILD", "copyright", "changelog.gz"} if kind == "deb" else set()
+    assert {str(path.relative_to(documents)) for path in documents.rglob("*") if path.is_file()} - own == wanted
+    assert [path for path in wanted if (documents / path).read_bytes() != (TOP / path).read_bytes()] == []
+
+
+@pytest.mark.parametrize("kind, folder", [("deb", "lib/python3/dist-packages"), ("wheel", "lib/python3.*/site-packages")])
+def test_all_files_of_the_tools_are_in_the_packages(kind, folder, unpacked):
+    found, = unpacked[kind].prefix.glob(f"{folder}/ctmtools")
+    wanted = {path.removeprefix("tools/ctmtools/") for path in tracked("tools/ctmtools")}
+    assert {str(path.relative_to(found)) for path in found.rglob("*") if path.is_file() and path.suffix != ".pyc"} == wanted
+    assert [path for path in wanted if (found / path).read_bytes() != (TOP / "tools/ctmtools" / path).read_bytes()] == []
+
+
+# What of the repository the documents lead to and packages haven't.
+OF_THE_REPOSITORY = ("crates/", "bench/", "tools/tests/", "tools/setup", "tools/check", "tools/pictures", "tools/find-python",
+                     "CONTRIBUTING.md")
+
+
+@pytest.mark.parametrize("kind", ["deb", "tarball"])
+def test_the_links_of_the_documents_lead_to_files_of_the_package_or_into_the_repository(kind, unpacked):
+    documents = (unpacked[kind].prefix / "share/doc/ctm").resolve()
+    for page in documents.rglob("*.md"):
+        for link in re.findall(r"\]\(([^)#:\s]+)(?:#[^)]*)?\)", page.read_text()):
+            leads = os.path.relpath((page.parent / link).resolve(), documents)
+            if not leads.startswith(OF_THE_REPOSITORY + (("LICENSE-",) if kind == "deb" else ("tools",))):
+                assert (documents / leads).exists(), f"{page}: {link}"
+            else:
+                assert (TOP / leads).exists(), f"{page}: {link}"
+
+
+def test_each_package_has_its_licenses(unpacked):
+    """Debian's copyright file has the text of the one, and names where that of the other stands on Debian."""
+    copyright = (unpacked["deb"].prefix / "share/doc/ctm/copyright").read_text()
+    permission = (TOP / "LICENSE-MIT").read_text().partition("Permission")[2].split()
+    assert " ".join(permission) in " ".join(copyright.replace("\n .\n", "\n").split())
+    assert "/usr/share/common-licenses/Apache-2.0" in copyright
+    found, = unpacked["wheel"].prefix.glob("lib/python3.*/site-packages/ctmtools-*.dist-info")
+    for folder in unpacked["tarball"].prefix / "share/doc/ctm", found:
+        assert all((folder / name).read_bytes() == (TOP / name).read_bytes() for name in tracked("LICENSE-*"))
+
+
+# What the tools import of others, and can't do without.
+NEEDED = {"click", "matplotlib", "networkx", "numpy", "pandas"}
+# What a command or an option of theirs takes, and they tell where it is missing. sumolib they do without.
+TAKEN = {"distributed", "holidays", "pyproj", "scipy", "sumolib"}
+
+
+def test_the_tools_import_no_other_packages_than_are_named():
+    trees = [ast.parse((TOP / path).read_text()) for path in tracked("tools/ctmtools/*.py")]
+    nodes = [node for tree in trees for node in ast.walk(tree)]
+    names = {name.name for node in nodes if isinstance(node, ast.Import) for name in node.names} | \
+        {node.module for node in nodes if isinstance(node, ast.ImportFrom) and not node.level}
+    assert {name.partition(".")[0] for name in names} - sys.stdlib_module_names == NEEDED | TAKEN
+    told = tomllib.loads((TOP / "tools/pyproject.toml").read_text())["project"]
+    assert {*told["dependencies"]} == NEEDED
+    extras = {name for extra, names in told["optional-dependencies"].items() if extra != "test" for name in names}
+    assert extras == TAKEN - {"sumolib"}
 
 
 def test_the_package_for_debian_names_what_it_needs_as_debian_does(packages):
+    """By names of packages that tools/setup has installed."""
     told = subprocess.run(["dpkg-deb", "-f", packages["deb"]], stdout=subprocess.PIPE, text=True, check=True).stdout
     fields = dict(line.split(": ", 1) for line in told.splitlines() if re.match(r"[A-Z][\w-]*: ", line))
     assert fields["Package"] == "ctm" and fields["Version"] == TABLE.version and fields["Architecture"] == "amd64"
-    assert re.match(r"libc6 \(>= [\d.]+\), ", fields["Depends"])
-    needed = set(re.split(r"[, ]+", re.sub(r" \([^)]*\)", "", fields["Depends"])))
-    assert {"python3", "python3-click", "python3-pandas", "python3-matplotlib", "python3-networkx"} <= needed
+    names = {field: fields[field].split(", ") for field in ("Depends", "Recommends", "Suggests")}
+    least = re.fullmatch(r"libc6 \(>= ([\d.]+)\)", names["Depends"][0])[1]
+    assert f"the GNU C library alone, {least} or newer" in (TOP / "docs/INSTALL.md").read_text()
+    assert names["Depends"][1] == "python3 (>= 3.11)"
+    assert {*names["Depends"][2:]} == {f"python3-{name}" for name in NEEDED}
+    assert {*names["Recommends"]} == {"python3-scipy", "node-d3"}
+    assert {*names["Suggests"]} == {"python3-distributed", "python3-pyproj", "python3-holidays", "sumo", "osmium-tool"}
+    everything = [*names["Depends"][2:], *names["Recommends"], *names["Suggests"]]
+    stands = subprocess.run(["dpkg-query", "-W", "-f", "${Package}: ${db:Status-Status}\n", *everything], stdout=subprocess.PIPE,
+                            text=True).stdout
+    assert {*stands.splitlines()} == {f"{name}: installed" for name in everything}
 
 
 def test_lintian_finds_no_error(packages):
@@ -220,6 +327,38 @@ def test_a_folder_that_cannot_be_written_to_is_told_in_one_line(programs):
     assert ended.stderr == "tools/package: /proc/packages: no such file or directory; nothing was made\n"
 
 
+MADE_WITH = ("bash", "python3", "git", "rt", "find", "sort", "xargs", "sha256sum", "gzip", "md5sum", "tar", "dpkg-deb")
+
+
+@pytest.mark.parametrize("lacks, told", [
+    ("sort", "the checksum of the sources takes find, sort, xargs and sha256sum of the path; nothing was made"),
+    ("git", "packages are made of a commit, and git finds none here"),
+    ("gzip", "gzip isn't on the path; tools/setup installs what packages are made with"),
+    (None, "dpkg-shlibdeps isn't on the path; tools/setup installs what packages are made with"),
+])
+def test_a_path_that_lacks_a_tool_is_told_in_one_line(lacks, told, programs, tmp_path):
+    (tmp_path / "lacking").mkdir()
+    for command in MADE_WITH:
+        if command != lacks:
+            (tmp_path / "lacking" / command).symlink_to(shutil.which(command))
+    ended = subprocess.run([TOP / "tools/package", "-o", tmp_path / "made", "--programs", *programs], text=True,
+                           env={"PATH": str(tmp_path / "lacking"), "HOME": "/"}, stdout=subprocess.PIPE, stderr=subprocess.PIPE)
+    assert (ended.returncode, ended.stdout, ended.stderr) == (2, "", f"tools/package: {told}\n")
+    assert not (tmp_path / "made").exists() or not any((tmp_path / "made").iterdir())
+
+
+def test_a_full_disk_is_told_in_one_line_and_nothing_is_left(programs, tmp_path):
+    """On a file system of 1 MiB, in a name space of its own where this isn't root."""
+    disk = tmp_path / "disk"
+    disk.mkdir()
+    fills = (f"mount -t tmpfs -o size=1m tmpfs {disk} && "
+             f"{{ {TOP}/tools/package -o {disk}/made --programs {' '.join(programs)}; echo $?; ls -A {disk}/made; }}")
+    apart = ["unshare", "-m"] if os.getuid() == 0 else ["unshare", "-rm"]
+    ended = subprocess.run([*apart, "bash", "-c", fills], stdout=subprocess.PIPE, stderr=subprocess.PIPE, text=True)
+    assert ended.stdout == "2\n"
+    assert re.fullmatch(r"tools/package: .*no space left on device.*\n", ended.stderr, re.IGNORECASE)
+
+
 def test_the_documents_name_the_packages_that_are_made(packages):
     for page in ("README.md", "docs/INSTALL.md"):
         assert all(path.name in (TOP / page).read_text() for path in packages.values())
@@ -231,27 +370,69 @@ def test_the_versions_are_one():
     assert re.search(r'^__version__ = "([^"]+)"', init, re.MULTILINE)[1] == TABLE.version
 
 
-# What the shells offer, by the completions that stand in the package
+# What the shells offer, by the completions that stand in the packages
 
+def bash_offers(words, it):
+    asks = '. "$1"; shift; COMP_WORDS=("$@") COMP_CWORD=$(($# - 1)); "$function" "$1"; printf "%s\\n" "${COMPREPLY[@]}"'
+    function = "_ctm" if words[0] == "ctm" else "_ctm_tools_completion"
+    return told_by(it, "bash", "-c", f"function={function}; {asks}", "bash",
+                   it.prefix / f"share/bash-completion/completions/{words[0]}", *words)
+
+
+def fish_offers(words, it):
+    completion = it.prefix / f"share/fish/vendor_completions.d/{words[0]}.fish"
+    told = told_by(it, "fish", "-N", "-c", f"source {completion}; complete -C '{' '.join(words)}'")
+    return [line.split("\t")[0] for line in told]
+
+
+def zsh_offers(words, it):
+    """Of what the function hands to those of zsh, which show it: for ctm the words and descriptions of all that may stand there."""
+    folder = next(it.prefix.glob(f"share/zsh/*/_{words[0]}")).parent
+    stubs = ('_describe() { [[ $1 != -V ]] || shift; local -a them=("${(@P)2}"); print -l -- "${them[@]%%:*}" }; '
+             'compadd() { print -l -- "${(@P)@[-1]}" }; '
+             '_arguments() { local it; for it in "${@[2,-2]}"; do print -r -- "${it#\\(*\\)}"; done; '
+             '[[ -n $modes ]] && _describe mode modes }')
+    asks = f'{stubs}; fpath=("$1" $fpath); shift; autoload -Uz _{words[0]}; words=("$@"); CURRENT=$#; _{words[0]}'
+    told = told_by(it, "zsh", "-f", "-c", asks, "zsh", folder, *words)
+    options = {name: values for line in told for name, values in re.findall(r"^(--?\w+)=?\[[^]]*\](?::\w+:\((.*)\))?$", line)}
+    if words[-2] in options:
+        return options[words[-2]].split()
+    return [it for it in [*options, *told] if it.startswith(words[-1]) and not it.endswith((")", "]"))]
+
+
+def told_by(it, *command):
+    return subprocess.run(command, stdout=subprocess.PIPE, check=True, text=True, cwd=it.home,
+                          env={"PATH": f"{it.prefix}/bin:/usr/bin:/bin", "HOME": str(it.home)}).stdout.splitlines()
+
+
+SHELLS = {"bash": bash_offers, "fish": fish_offers, "zsh": zsh_offers}
+OWN = {spelling for spelling in TABLE.own_spellings("ctm") if spelling.startswith("--")}
+HAVING = {option: mode.word for mode in TABLE.modes.values() for option in mode.options}
 OFFERED = [
-    (["ctm", "ru"], {"run"}),
-    (["ctm", "cut", "--"], {"--regions"}),
-    (["ctm", "run", "--"], {f"--{option}" for option in TABLE.modes["run"].options}),
-    (["ctm", "choose", "--"], set()),
-    (["ctm", "run", "--cut", ""], {"even", "grown"}),
-    (["ctm", "save", "--workers", "2", "--regions", ""], {"auto"}),
-    (["ctm", ""], {*TABLE.modes}),
+    ("ctm ru", {"run"}),
+    *((f"ctm {mode.word} --", {f"--{option}" for option in mode.options}) for mode in TABLE.modes.values()),
+    *((f"ctm {HAVING[option.word]} --{option.word} ", {*option.words}) for option in TABLE.options.values()),
+    ("ctm save --workers 2 --regions ", {"auto"}),
+    ("ctm-tools as", {"assign"}),
+    ("ctm-tools import ", {"gmns", "osm", "sumo"}),
+    ("ctm-tools draw --ru", {"--runs"}),
 ]
 
 
-@pytest.mark.parametrize("words, offered", OFFERED, ids=lambda it: " ".join(it) if isinstance(it, list) else "")
-def test_what_bash_offers(words, offered, unpacked):
-    asks = '. "$1"; shift; COMP_WORDS=("$@") COMP_CWORD=$(($# - 1)); _ctm; printf "%s\\n" "${COMPREPLY[@]}"'
-    completion = unpacked["deb"].prefix / "share/bash-completion/completions/ctm"
-    told = subprocess.run(["bash", "-c", asks, "bash", completion, *words], stdout=subprocess.PIPE, check=True,
-                          text=True).stdout.split()
-    own = {it for it in told if it.startswith("-") or it == "help"} if words[1:] == [""] else set()
-    assert set(told) - own == offered and len(told) == len(set(told))
+@pytest.mark.parametrize("shell", SHELLS)
+@pytest.mark.parametrize("line, offered", OFFERED, ids=lambda it: it if isinstance(it, str) else "")
+def test_what_a_shell_offers(shell, line, offered, unpacked):
+    told = SHELLS[shell](line.split(" "), unpacked["deb"])
+    assert {*told} - {""} == offered and len(told) == len({*told})
+
+
+@pytest.mark.parametrize("shell", SHELLS)
+def test_a_shell_offers_modes_and_own_words_first(shell, unpacked):
+    """bash and zsh offer the options too, which may stand before the mode."""
+    told = {*SHELLS[shell](["ctm", ""], unpacked["deb"])}
+    assert {it for it in told if not it.startswith("-")} - {"help"} == {*TABLE.modes}
+    options = set() if shell == "fish" else {f"--{option}" for option in TABLE.options}
+    assert {it for it in SHELLS[shell](["ctm", "--"], unpacked["deb"])} == OWN | options
 
 
 @pytest.mark.parametrize("sign", ["<", ">", ">>"])
@@ -261,30 +442,3 @@ def test_bash_offers_files_for_input_and_text(sign, unpacked):
     completion = unpacked["deb"].prefix / "share/bash-completion/completions/ctm"
     told = subprocess.run(["bash", "-c", asks, "bash", completion, sign], cwd=TOP, stdout=subprocess.PIPE, check=True, text=True)
     assert told.stdout == "examples/bottleneck.csv\n"
-
-
-@pytest.mark.parametrize("words, offered", OFFERED, ids=lambda it: " ".join(it) if isinstance(it, list) else "")
-def test_what_fish_offers(words, offered, unpacked, tmp_path):
-    completion = unpacked["deb"].prefix / "share/fish/vendor_completions.d/ctm.fish"
-    told = subprocess.run(["fish", "-N", "-c", f"source {completion}; complete -C '{' '.join(words)}'"], stdout=subprocess.PIPE,
-                          check=True, text=True, env={"PATH": "/usr/bin:/bin", "HOME": str(tmp_path)}).stdout.splitlines()
-    assert {line.split("\t")[0] for line in told} - {"help"} == offered
-
-
-@pytest.mark.parametrize("words, offered", OFFERED, ids=lambda it: " ".join(it) if isinstance(it, list) else "")
-def test_what_zsh_offers(words, offered, unpacked):
-    """Of what the function hands to those of zsh, which show it."""
-    folder = unpacked["deb"].prefix / "share/zsh/vendor-completions"
-    asks = ('fpath=("$1" $fpath); shift; autoload -Uz _ctm; words=("$@"); CURRENT=$#; '
-            '_describe() { local -a them=("${(@P)2}"); print -l -- "${them[@]%%:*}" }; '
-            '_arguments() { local it; for it in "${@[2,-2]}"; do print -r -- "${it#\\(*\\)}"; done; '
-            '[[ -n $modes ]] && _describe mode modes }; _ctm')
-    told = subprocess.run(["zsh", "-f", "-c", asks, "zsh", folder, *words], stdout=subprocess.PIPE, check=True, text=True).stdout
-    options = {it.split("=")[0]: re.findall(r"\(([^)]*)\)$", it) for it in told.splitlines() if re.match(r"--\w+=\[", it)}
-    word, before = words[-1], words[-2]
-    if before in options:
-        assert set(options[before][0].split()) == offered
-    elif word.startswith("--"):
-        assert set(options) == offered
-    else:
-        assert {it for it in told.splitlines() if it in TABLE.modes and it.startswith(word)} == offered

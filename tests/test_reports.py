@@ -1,8 +1,12 @@
 """Reports of small networks, worked on paper by docs/MODEL.md, its own examples among them."""
 
+import re
+from fractions import Fraction
+
 import pytest
 from conftest import hold
-from plain_model import printed
+from format_tables import MODEL, rows_of
+from plain_model import PARTS, printed
 from plain_model import report as plain_report
 from worked import CITY, FULL_REPORT, FULL_ROAD, TURN, TWO_ROADS, TWO_ROADS_REPORT, lines
 
@@ -95,21 +99,24 @@ def test_what_the_report_of_a_network_ends_in(network, end, run):
     hold((0, plain_report(network), b""), run(["run"], input=network))
 
 
-# The rows of the tables of merges and of diverges in docs/MODEL.md, in parts: what two gates send and a road receives, the
-# priorities, and what passes from each gate; what a gate sends and two exits receive, the shares, and what enters each.
-MERGES = [
-    (3_000_000, 1_000_000, 2_000_000, 1, 1, 1_000_000, 1_000_000),
-    (3_000_000, 200_000, 2_000_000, 1, 1, 1_800_000, 200_000),
-    (3_000_000, 1_000_000, 4_000_000, 1, 1, 3_000_000, 1_000_000),
-    (2, 20, 10, 3, 1, 2, 8),
-    (9, 9, 10, 3, 1, 7, 3),
-    (5, 5, 1, 1, 1, 0, 1),
-]
-DIVERGES = [
-    (7, 1, 100, 1, 2, 1, 2),
-    (7, 0, 100, 1, 2, 0, 0),
-    (3_000_000, 2_000_000, 2_000_000, 3, 1, 1_999_998, 666_666),
-]
+def worked(heads):
+    """The numbers of each row of a table of docs/MODEL.md, in parts where they are amounts. Of what is worked out it is the end."""
+    for row in rows_of(heads, MODEL):
+        amounts, weights, *ends = row.strip("| ").split(" | ")
+        scale = PARTS if "vehicles" in amounts else 1
+        yield (*(int(Fraction(number) * scale) for number in re.findall(r"[\d.]+", amounts)),
+               *map(int, weights.split(", ")),
+               *(int(Fraction(number) * scale) for end in ends[1:] for number in end.split(" = ")[-1].split(", ")))
+
+
+# What two gates send and a road receives, the priorities, and what passes from each gate; what a gate sends and two exits
+# receive, the shares, what leaves, and what enters each.
+MERGES = list(worked("`S1`, `S2`, `R` | `P1`, `P2` | `a` | `y1` | `y2`"))
+DIVERGES = list(worked("`S`, `R1`, `R2` in parts | `B1`, `B2` | `k` | Leaves | Enter"))
+
+
+def test_each_row_of_the_tables_of_the_model_is_read():
+    assert (len(MERGES), len(DIVERGES)) == (6, 3)
 
 
 def report_of_a_step(cells):
@@ -132,9 +139,9 @@ def test_the_worked_merges(first, second, room, first_priority, second_priority,
     hold((0, report, b""), run(["run"], input=network))
 
 
-@pytest.mark.parametrize("sent, first, second, first_share, second_share, into_first, into_second", DIVERGES)
-def test_the_worked_diverges(sent, first, second, first_share, second_share, into_first, into_second, run):
+@pytest.mark.parametrize("sent, first, second, first_share, second_share, leaves, into_first, into_second", DIVERGES)
+def test_the_worked_diverges(sent, first, second, first_share, second_share, leaves, into_first, into_second, run):
     network = lines(f"ctm,1; steps,1; gate,g,9,{printed(sent)}; exit,x,{printed(first)}; exit,y,{printed(second)}; "
                     f"diverge,g,x,y,{first_share},{second_share}")
-    report = report_of_a_step([("g", sent, 0, into_first + into_second), ("x", 0, into_first, 0), ("y", 0, into_second, 0)])
+    report = report_of_a_step([("g", sent, 0, leaves), ("x", 0, into_first, 0), ("y", 0, into_second, 0)])
     hold((0, report, b""), run(["run"], input=network))

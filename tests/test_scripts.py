@@ -11,7 +11,7 @@ SCRIPTS = ["ctm", "ctm-wait", "ctm-tools", "launcher/words", "launcher/waiting",
            "launcher/having", "launcher/install", "launcher/try", "launcher/installed/ctm", "launcher/installed/ctm-wait",
            "launcher/installed/ctm-tools", "packaging/debian/postinst", "packaging/debian/prerm",
            "tests/fake_rt", "tests/fake_rattle", "tests/program", "tests/launcher", "examples/check", "tools/check", "tools/find-python",
-           "tools/documents", "tools/package", "tools/pictures", "tools/setup", ".ci/run", "bench/installed"]
+           "tools/documents", "docs/site", "tools/package", "tools/pictures", "tools/setup", ".ci/run", "bench/installed"]
 
 
 @pytest.mark.parametrize("script", SCRIPTS)

@@ -15,7 +15,7 @@ import click
 from . import __version__
 from .interrupt import INTERRUPTS, STATUS, heeded
 from .problem import Interrupted, Problem, one_line
-from .program import found_program
+from .program import documents, found_program
 
 PROGRAM = "ctm-tools"
 COMMANDS = {"build": "Make the network file of a study.", "run": "Run a study or a network, and print its page.",
@@ -75,6 +75,14 @@ class Commands(click.Group):
         """The commands with a line for each, without loading them."""
         with formatter.section("Commands"):
             formatter.write_dl(list(COMMANDS.items()))
+
+    def format_epilog(self, context: click.Context, formatter: click.HelpFormatter) -> None:
+        """What stands behind the commands, and where a package has what is spoken of there."""
+        super().format_epilog(context, formatter)
+        folder = documents()
+        if folder:
+            formatter.write_paragraph()
+            formatter.write(f"  Documents and examples are in {folder}\n")  # where a path isn't broken
 
 
 def show_version(context: click.Context, _: click.Parameter, asked: bool) -> None:

@@ -10,7 +10,7 @@ from typing import TextIO
 
 from .problem import Problem, reason
 from .study.network_text import MADE, Built
-from .ties import marked
+from .checksums import marked
 from .units import Units, read_units, units_path, units_text
 
 

@@ -266,12 +266,20 @@ def _imported(kind: str, source: str | Path, output: str | Path, options: Mappin
     return read_study(output)
 
 
-def page(*reports: str | Path | Report, output: str | Path | None = None) -> str:
-    """The page for a browser of a report, or of several side by side, as HTML; with `output` it is written there too."""
-    from .files import write
-    from .pages.page import page_of
+def page(*reports: str | Path | Report, output: str | Path | None = None, map_behind: bool = False, crs: str | None = None,
+         tiles: str | None = None) -> str:
+    """The page for a browser of a report, or of several side by side, as HTML; with `output` it is written there too.
 
-    text = page_of([report if isinstance(report, Report) else read_report(report) for report in reports])
+    `map_behind` has a map stand behind the roads, with `crs` and `tiles` as `ctm-tools report` has them.
+    """
+    from .files import write
+    from .pages.background import STREETS, Background
+    from .pages.html_page import page_of
+
+    if not reports:
+        raise Problem("a page needs a report")
+    background = Background(crs, tiles or STREETS) if map_behind else None
+    text = page_of([report if isinstance(report, Report) else read_report(report) for report in reports], background=background)
     if output is not None:
         write(output, text)
     return text

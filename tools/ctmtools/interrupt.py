@@ -6,6 +6,7 @@ in coming back, so it is also noted here, and what hasn't ended soon after is en
 
 from __future__ import annotations
 
+import atexit
 import os
 import signal
 import threading
@@ -121,18 +122,20 @@ def _passed_on() -> Iterator[None]:
 
 @contextmanager
 def _noted(last_word: Callable[[], object]) -> Iterator[None]:
-    """Has interrupts noted, and this process watched once one came."""
+    """Has interrupts noted, and this process watched once one came; behind the block they change nothing any more."""
     watcher = threading.Thread(target=INTERRUPTS.watch, args=(last_word,), daemon=True)
     watcher.start()
+    atexit.register(signal.signal, signal.SIGINT, signal.SIG_IGN)  # Python's own end takes a while
     signal.signal(signal.SIGINT, INTERRUPTS.note)
     try:
         yield
     finally:
         if not INTERRUPTS.came:
-            signal.signal(signal.SIGINT, signal.default_int_handler)
+            signal.signal(signal.SIGINT, signal.SIG_IGN)
             INTERRUPTS.woken.set()
             watcher.join()
             INTERRUPTS.woken.clear()
+            signal.signal(signal.SIGINT, signal.default_int_handler)
 
 
 @contextmanager

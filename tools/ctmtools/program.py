@@ -4,24 +4,23 @@ from __future__ import annotations
 
 import os
 import shutil
-import signal
 import subprocess
-import threading
-from collections.abc import Callable, Iterator, Sequence
-from contextlib import contextmanager, suppress
+from collections.abc import Callable, Sequence
+from contextlib import suppress
 from dataclasses import dataclass
-from functools import lru_cache
+from functools import lru_cache, partial
 from pathlib import Path
 from typing import IO
 
-from .interrupt import INTERRUPTS, LEAVE, end_group
+from .interrupt import INTERRUPTS
 from .problem import Problem, one_line, reason
+from .processes import aside, called, ended
 
 TOP = Path(__file__).resolve().parents[2]
-PACKAGED = "ctm/ctm_program"  # where packages have the program, in the folder lib around the tools
 MOST_RECORDED = 4_000_000  # cells times recorded steps, docs/FORMAT.md
 SMALLEST = b"ctm,1\nsteps,1\nexit,x,0\n"
 NOT_BUILT = 125
+OF_THE_INPUT = (3, 4, 8, 9)  # statuses by which the program refuses its input, docs/FORMAT.md
 BUILD_NEWS = b"./ctm: "
 
 News = Callable[[str], object]  # takes the lines that ./ctm says while it builds
@@ -62,15 +61,28 @@ def found_program() -> Found:
         return Found(_standing(Path(named).resolve()), "which CTM_PROGRAM names")
     if (TOP / "ctm").is_file():
         return Found(TOP / "ctm", "the repository's own")
-    packaged = [folder / PACKAGED for folder in Path(__file__).resolve().parents if folder.name == "lib"]
-    for path in packaged:
-        if path.is_file():
-            return Found(path, "the packaged one")
+    packaged = of_the_package("ctm_program")
+    if packaged:
+        return Found(packaged, "the packaged one")
     on_path = shutil.which("ctm")
     if on_path:
         return Found(Path(on_path).resolve(), "ctm on the path")
     raise Problem("no program was found: CTM_PROGRAM names none, there is none in a repository or a package of ctm around "
                   f"{Path(__file__).resolve().parent}, and no ctm on the path")
+
+
+def of_the_package(name: str) -> Path | None:
+    """A file of lib/ctm of the package in which the tools are, where they are in one."""
+    return next((path for lib in _libs() if (path := lib / "ctm" / name).is_file()), None)
+
+
+def documents() -> Path | None:
+    """The folder of documents and examples of the package in which the tools are, where it has them."""
+    return next((path for lib in _libs() if (path := lib.parent / "share/doc/ctm").is_dir()), None)
+
+
+def _libs() -> list[Path]:
+    return [folder for folder in Path(__file__).resolve().parents if folder.name == "lib"]
 
 
 def _standing(path: Path) -> Path:
@@ -79,14 +91,25 @@ def _standing(path: Path) -> Path:
     return path
 
 
+def in_words(program: str | Path | None = None) -> str:
+    """A program in words: its path, and where it is the one that the tools found what says so."""
+    with suppress(Problem):
+        found = found_program()
+        if program is None or Path(program) == found.path:
+            return f"{found.path} ({found.by})"
+    return str(program)
+
+
+def why(answer: Answer, program: str | Path | None = None) -> str:
+    """Why there is no text: the program's own line, and which program it is where its input isn't at fault."""
+    if not answer.line:
+        return f"{in_words(program)} ended with status {answer.status}"
+    return answer.line if answer.status in OF_THE_INPUT else f"{answer.line}; the program is {in_words(program)}"
+
+
 def ask(words: Sequence[str], content: bytes, program: str | Path | None = None, news: News | None = None) -> Answer:
     """The program's answer to words and bytes. What `./ctm` says while it builds goes to `news`, line by line."""
-    program = str(program or program_path())
-    try:
-        process = subprocess.Popen([program, *words], stdin=subprocess.PIPE, stdout=subprocess.PIPE,
-                                   stderr=subprocess.PIPE, process_group=0 if INTERRUPTS.own_groups else None)
-    except OSError as error:
-        raise Problem(f"{program}: {reason(error)}") from None
+    told_of, program = in_words(program), str(program or program_path())
     told: list[str] = []
     kept: list[bytes] = []
 
@@ -99,49 +122,24 @@ def ask(words: Sequence[str], content: bytes, program: str | Path | None = None,
             else:
                 kept.append(line)
 
-    assert process.stdin and process.stdout and process.stderr  # they are pipes
-    reader = threading.Thread(target=read_errors, args=(process.stderr,), daemon=True)
-    writer = threading.Thread(target=_write, args=(process.stdin, content), daemon=True)
-    with _listed(process):
-        reader.start()
-        writer.start()
-        out = process.stdout.read()
-        status = process.wait()
-    writer.join()
-    reader.join()
+    try:
+        with called([program, *words], stdin=subprocess.PIPE, stdout=subprocess.PIPE, stderr=subprocess.PIPE) as process:
+            assert process.stdin and process.stdout and process.stderr  # they are pipes
+            out = aside(process.stdout.read)
+            status = ended(process, out, aside(partial(read_errors, process.stderr)), aside(partial(_write, process.stdin, content)))
+    except OSError as error:
+        raise Problem(f"{told_of}: {reason(error)}") from None
     if status == NOT_BUILT and told:
         raise Problem(one_line(told[-1]))
     if status < 0:
-        raise Problem(f"{program} was ended by signal {-status}")
-    return Answer(status, out, b"".join(kept))
-
-
-@contextmanager
-def _listed(process: subprocess.Popen[bytes]) -> Iterator[None]:
-    """Has a call of the program end with its caller: where that is interrupted nobody waits for an answer any more."""
-    if INTERRUPTS.own_groups:
-        INTERRUPTS.groups.add(process.pid)
-    try:
-        yield
-    except BaseException:
-        with suppress(subprocess.TimeoutExpired):
-            if INTERRUPTS.own_groups:
-                end_group(process.pid, signal.SIGTERM)
-                process.wait(LEAVE)  # ./ctm that builds ends what it began
-        if INTERRUPTS.own_groups:
-            end_group(process.pid)
-        process.kill()
-        raise
-    finally:
-        INTERRUPTS.groups.discard(process.pid)
+        raise Problem(f"{told_of} was ended by signal {-status}")
+    return Answer(status, out.result(), b"".join(kept))
 
 
 def _write(stream: IO[bytes], content: bytes) -> None:
-    try:
+    with suppress(BrokenPipeError):
         stream.write(content)
         stream.close()
-    except BrokenPipeError:
-        pass
 
 
 def takes(option: str, program: str | Path | None = None, value: str = "1") -> bool:
@@ -154,12 +152,17 @@ def _takes(option: str, value: str, program: str) -> bool:
     return ask(("run", option, value), SMALLEST, program).status == 0
 
 
+def need_records(program: str | Path | None = None) -> None:
+    """Refuses a program that records nothing."""
+    if not takes("--every", program):
+        raise Problem(f"{in_words(program)} takes no --every, so it records nothing; build the newest ctm")
+
+
 def run_words(every: int, workers: int = 1, program: str | Path | None = None) -> list[str]:
     """The words of a run that is recorded each `every` steps (0 for never), on `workers` threads where it takes any."""
     words = ["run"]
     if every:
-        if not takes("--every", program):
-            raise Problem("this ctm takes no --every, so it records nothing; build the newest")
+        need_records(program)
         words += ["--every", str(every)]
     if workers > 1 and takes("--workers", program):
         words += ["--regions", regions_for(workers, program), "--workers", str(workers)]

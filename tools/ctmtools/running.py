@@ -4,23 +4,23 @@ from __future__ import annotations
 
 import dataclasses
 import os
-from collections.abc import Callable
+from collections.abc import Callable, Sequence
 from pathlib import Path
 
 from .files import beside, guard_network, write, write_network, write_units
-from .given import read_as
+from .file_kinds import read_as
 from .moments.actuated_signals import ActuatedSignals
-from .moments.going_on import Runner
+from .moments.runner import Runner
 from .network_file.network import Network, network_of
 from .network_file.warnings import shortened, warnings_of
 from .problem import Problem
-from .program import News, ask, recording_step, run_words
+from .program import News, ask, in_words, recording_step, run_words, why
 from .report.reading import Report, report_of
 from .study.network_text import Built
 from .study.plan import Study
 from .study.reading import read_study
-from .study.telling import told
-from .ties import checksum, marked, units_of
+from .study.messages import built_lines
+from .checksums import checksum, marked, units_of
 from .units import Units, units_path
 from .yielding.settling import MOST_RUNS, Done, Settled, settled
 
@@ -41,8 +41,11 @@ def run(content: bytes, name: str, units: Units | None = None, every: int | None
         every = recording_step(network.steps, cells)
     answer = ask(run_words(every, many_workers(cells, workers), program), content, program, news)
     if answer.status:
-        raise Problem(f"{name}: {answer.line or f'ctm ended with status {answer.status}'}")
-    report = report_of(answer.out, name)
+        raise Problem(f"{name}: {why(answer, program)}")
+    try:
+        report = report_of(answer.out, name)
+    except Problem:
+        raise Problem(f"{name}: what {in_words(program)} wrote is no report of ctm") from None
     report.network = network
     if units is not None:
         report.units = units
@@ -59,9 +62,10 @@ def settled_by_runs(study: Study, workers: int | None = None, program: str | Non
     def followed(built: Built, done: Done | None = None) -> Built:
         return ActuatedSignals(built, study, Runner(str(study.path)), kept).run(done) if study.actuated else built
 
-    def run_built(built: Built, every: int) -> Report:
+    def run_built(built: Built, every: Sequence[int]) -> dict[int, Report]:
         built = followed(built)
-        return run(built.text.encode(), str(study.path), built.units, every, workers, program, network=built.network)[1]
+        return {steps: run(built.text.encode(), str(study.path), built.units, steps, workers, program, network=built.network)[1]
+                for steps in every}
 
     found = settled(study, run_built, done)
     return dataclasses.replace(found, built=followed(found.built, None if study.yields else done))
@@ -93,7 +97,7 @@ def opened(source: str | Path | Study, shown: Shown | None = None, kept: Path | 
         study = source if isinstance(source, Study) else read_study(source)
         count = MOST_RUNS if study.yields else round(study.duration / study.step) if study.actuated else 0
         built = settled_by_runs(study, done=shown(count) if shown and count else None, kept=kept).built
-        return Prepared(study.path, built.text.encode(), built.network, built.units, list(told(built)), built)
+        return Prepared(study.path, built.text.encode(), built.network, built.units, list(built_lines(built)), built)
     path = Path(source)
     content = read_as(path, "a network")
     network = network_of(content, str(path))

@@ -1,12 +1,18 @@
 """Drivers who choose their way, where it is known on paper which they take: docs/VALIDATION.md has the working."""
 
+from dataclasses import replace
 from pathlib import Path
 
 import numpy
 import pytest
 
 from ctmtools import read_report
-from ctmtools.assignment.assigning import Assignment
+from ctmtools.assignment.assigning import Assignment, recorded_every
+from ctmtools.assignment.choices import Choice
+from ctmtools.assignment.departures import Departures
+from ctmtools.assignment.forks import Fork, Rounded
+from ctmtools.assignment.times import gap_of
+from ctmtools.assignment.messages import not_settled
 from ctmtools.assignment.ways_file import read_ways
 from ctmtools.study.reading import read_study, read_values
 
@@ -54,6 +60,36 @@ def test_the_delay_of_two_ways_is_the_one_on_paper(two_ways):
     assert made.report.total.left == pytest.approx(3000, abs=1)
 
 
+def test_the_gap_is_what_those_who_choose_need_beyond_the_best_ways():
+    bounds = numpy.array([0.0, 1.0])
+    departures = Departures([("a", "x"), ("b", "x")], bounds, numpy.array([[40.0], [10.0]]), 1, 1, 1.0)
+    free, given = (Choice(gate, "x", numpy.array([0.5]), 2, [(0,), (1,)]) for gate in "ab")
+    free.chosen[:], free.kept[:], given.chosen[:] = [[0.9], [0.1]], [[0.0], [1.0]], [[0.0], [1.0]]
+    given.kept, given.given = given.chosen, True
+    found = gap_of([free, given], departures, [numpy.array([[10.0], [12.0]])] * 2)
+    # 20 choose, 18 of them the way of 10 steps and 2 that of 12; 20 keep that of 12, and 10 have no choice.
+    assert (found.taken, found.least, found.all_) == pytest.approx((204, 200, 204 + 240 + 120))
+    assert found.relative == pytest.approx(0.02)
+
+
+@pytest.mark.parametrize("count, told", [(1, "it still falls, so more rounds help"), (7, "it no longer falls")])
+def test_it_is_told_that_an_assignment_did_not_settle_and_why(count, told, two_ways):
+    made, rounds = two_ways
+    alike = [replace(rounds[-1], number=number) for number in range(1, count + 1)]
+    line, = not_settled(made, alike, 1e-9)
+    assert line.startswith(f"warning: after {count} rounds the gap is {rounds[-1].gap.relative:.4f}, above 1e-09; {told}")
+    assert "; most of it is of home to work, setting out at 07:" in line
+
+
+def test_rounding_is_told_where_it_moves_a_share_by_more_than_a_thousandth():
+    fork = Fork("diverges[1]", 0, (0, 1), (0, 1), ("m",))
+    found = Rounded()
+    found.note(fork, numpy.array([[1.0, 25.0], [9999.0, 75.0]]), numpy.array([[100, 250_000], [999_900, 750_000]]))
+    # 1 in 4 stays. 1 in 10,000 becomes 1 in 1,001, the least share: of 10,000 vehicles 9.99 in place of 1.
+    assert (found.intervals, found.of, found.where) == (1, 2, "diverges[1]")
+    assert (found.greatest, found.vehicles) == pytest.approx((1 / 1001 - 1 / 10_000, 10_000 / 1001 - 1))
+
+
 def test_the_study_that_is_written_has_the_report_of_the_last_round(tool, two_ways, tmp_path, recording_program):
     (tmp_path / "two.toml").write_text(TWO_WAYS)
     status, out, err = tool("assign", "two.toml", "--gap", "0.2")
@@ -88,12 +124,35 @@ def test_one_way_for_each_pair_is_the_study_with_demand_by_gate(tool, tmp_path, 
 def test_two_pairs_leave_a_queue_as_they_came_into_it(tmp_path, recording_program):
     made, rounds = assigned(tmp_path, TWO_PAIRS, 0.002)
     # 1,200 vehicles/h come and 900 pass, so who came in the first 10 min passes in 13 min 20 s, from 07:05 on: 3 of 4 to x,
-    # until 07:18:20, step 110; then 1 of 4. Curves are recorded every 5 steps.
+    # until 07:18:20, step 110; then 1 of 4.
     shares = shares_of(made)
-    assert shares[30:105] == pytest.approx(0.75, abs=0.001) and shares[115:180] == pytest.approx(0.25, abs=0.001)
-    assert shares[90:120].mean() == pytest.approx((200 * 0.75 + 100 * 0.25) / 300, abs=0.006)
+    assert shares[30:110] == pytest.approx(0.75, abs=0.003) and shares[110:180] == pytest.approx(0.25, abs=0.001)
+    assert shares[90:120].mean() == pytest.approx((200 * 0.75 + 100 * 0.25) / 300, abs=0.0002)
     assert rounds[-1].settled(0.002) and rounds[-1].gap.relative == 0
     assert made.report.cells.come[["x", "y"]].tolist() == pytest.approx([200, 200], abs=1)
+    # 150 and 50 vehicles of the first 10 min, 50 and 150 of the others, all of whom come to a branch.
+    assert made.counts[list(made.forks[0].branches)].sum(axis=1) == pytest.approx([200, 200])
+
+
+def test_who_queues_waits_as_long_as_on_paper(tmp_path, recording_program):
+    made, _ = assigned(tmp_path, TWO_PAIRS, 0.002)
+    # 20 vehicles come in a minute and 15 pass, so who sets out at t min leaves at 5 + 20 t / 15.
+    for times in made.times:
+        assert times[0] / 6 == pytest.approx([5 + t / 3 for t in (2.5, 7.5, 12.5, 17.5)], abs=0.002)
+
+
+@pytest.mark.parametrize("begin, end", [("07:00", "08:00"), ("07:01:20", "07:53:10")])
+def test_where_nobody_waits_the_first_and_the_last_drivers_take_a_step_in_each_cell(begin, end, tmp_path, recording_program):
+    made, _ = assigned(tmp_path, TWO_WAYS.replace('"07:00", "08:00", 3000', f'"{begin}", "{end}", 1800'))
+    for way, steps in zip(made.choices[0].ways, made.times[0]):
+        assert steps == pytest.approx(len(made.legs.cells(way)), abs=1e-9)  # 60 on the short way, 10 min
+
+
+@pytest.mark.parametrize("steps, cells, width, wanted", [
+    (720, 1388, 30, 1), (720, 1389, 30, 5), (720, 1389, 120, 12), (720, 20_000, 6, 4), (1000, 100_000, 30, 26)])
+def test_runs_are_recorded_step_by_step_where_that_are_few_values(steps, cells, width, wanted):
+    # 720 times 1,388 is just below 1,000,000; of 20,000 cells and 720 steps the program records 200, of 100,000 cells 40.
+    assert recorded_every(steps, cells, width) == wanted
 
 
 CLOSED = """[[closures]]

@@ -5,7 +5,7 @@ from types import SimpleNamespace
 import pytest
 
 from ctmtools import Problem, assign
-from ctmtools.assignment.told import settled_lines
+from ctmtools.assignment.messages import settled_lines
 from ctmtools.assignment.ways_file import read_ways
 
 from .test_assign import assigned

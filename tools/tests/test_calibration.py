@@ -175,7 +175,7 @@ def test_mistakes_in_the_file_of_detectors(tmp_path, text, wanted):
     assert wanted in str(found.value)
 
 
-@pytest.mark.parametrize("text", ["lane.wave_speed", "lane.wave_speed=5", "=1:2", "lane.wave_speed=3:2", "a=x:y"])
+@pytest.mark.parametrize("text", ["lane.wave_speed", "lane.wave_speed=5", "=1:2", "lane.wave_speed=3:2", "a=x:y", "a=1:inf", "a=-inf:1", "a=nan:1"])
 def test_mistakes_in_ranges(text):
     with pytest.raises(Problem, match="expected KEY=LOW:HIGH"):
         range_of(text)

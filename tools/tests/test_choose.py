@@ -104,8 +104,8 @@ def test_the_command_tells_the_least_first_and_writes_all(tool):
 
 def test_an_answer_that_isnt_one_is_refused(tmp_path):
     for text, says in (("echo 'ctm: words refused' >&2; exit 2", "no mode choose"), ("exit 7", "status 7"),
-                       ("echo plan,0,3.000000; echo choice,0", "isn't that of 2"),
-                       ("echo plan,0,3.000000; echo plan,1,2.000000; echo choice,0", "isn't that of 2")):
+                       ("echo plan,0,3.000000; echo choice,0", "answered isn't of 2 plans"),
+                       ("echo plan,0,3.000000; echo plan,1,2.000000; echo choice,0", "answered isn't of 2 plans")):
         path = tmp_path / "ctm"
         path.write_text(f"#!/bin/bash\ncat >/dev/null\n{text}\n")
         path.chmod(0o755)

@@ -10,20 +10,22 @@ import pytest
 from .examples import TOOLS
 
 TOP = TOOLS.parent
-COMMANDS_IN = {"README.md": 17, "tools/README.md": 7, "examples/README.md": 18, "tools/docs/measures.md": 6,
+COMMANDS_IN = {"docs/TUTORIAL.md": 9, "docs/how-to/signals.md": 2, "docs/how-to/closures.md": 4, "docs/how-to/sumo.md": 3,
+               "docs/how-to/detectors.md": 3, "docs/how-to/how-sure.md": 1, "docs/how-to/other-ways.md": 2,
+               "docs/how-to/fast.md": 1, "README.md": 17, "tools/README.md": 7, "examples/README.md": 18, "tools/docs/measures.md": 6,
                "tools/docs/networks.md": 1, "tools/docs/calibration.md": 0, "tools/docs/saved.md": 6,
                "tools/docs/plans.md": 2, "tools/docs/pages.md": 3, "tools/docs/counts.md": 0, "tools/docs/detectors.md": 1, "tools/docs/queues.md": 0, "tools/docs/sweeps.md": 1,
                "tools/docs/python.md": 0, "tools/docs/units.md": 0, "tools/docs/uncertainty.md": 1, "tools/docs/routes.md": 2,
                "tools/docs/yields.md": 0, "tools/docs/maps.md": 4}  # and how many there are at least
 PAGES = sorted(str(path.relative_to(TOP)) for path in
-               [*TOP.glob("*.md"), *TOP.glob("docs/*.md"), *TOP.glob("tools/docs/*.md"), TOP / "tools/README.md",
+               [*TOP.glob("*.md"), *TOP.glob("docs/**/*.md"), *TOP.glob("tools/docs/*.md"), TOP / "tools/README.md",
                 TOP / "examples/README.md"])
 
 # Why a command isn't run here.
 LEFT_OUT = {
-    ".ci/run": "it proves all crates",
     "tools/setup": "it installs packages",
     "./ctm --install": "it builds the programs",
+    "cp /usr/share/doc/ctm/examples/bottleneck.toml own.toml": "tests/test_package.py runs those of a package",
     "man -l docs/ctm.1": "it needs man",
     "dask-scheduler --port 8786": "it needs a cluster",
     "dask-worker tcp://HOST:8786": "it needs a cluster",
@@ -68,13 +70,13 @@ def commands(page):
     """The commands of a page in their order: lines of its blocks, and what stands between backticks elsewhere."""
     for number, part in enumerate(re.split(r"^```$", page, flags=re.MULTILINE)):
         if number % 2:
-            found = re.findall(r"^(?:\./|\.ci/|tools/|tests/|sed |cp |dask-).*", part, re.MULTILINE)
+            found = re.findall(r"^(?:\./|\.ci/|tools/|tests/|sed |cp |cat |dask-|netgenerate ).*", part, re.MULTILINE)
         else:
             found = re.findall(r"`((?:\./)?ctm(?:-tools)? [^`]*|man -l [^`]*|\.ci/run|tools/setup)`", part)
         for command in found:
             command = command.partition(" #")[0].strip()
             # A mode or a command of the tools by itself is a name.
-            if not re.fullmatch(r"\./ctm(-tools)? \w+", command):
+            if not re.fullmatch(r"(\./)?ctm(-tools)? \w+", command):
                 yield f"./{command}" if command.startswith("ctm-tools") else command
 
 
@@ -102,10 +104,17 @@ def ended(top, program, *words):
     return done.returncode, done.stdout
 
 
+def save_files(page, folder):
+    """Saves the blocks of a page that a reader is told to save, each under the name before it."""
+    for name, text in re.findall(r"`([\w.-]+)`:\n\n```\n(.*?)^```$", page, re.MULTILINE | re.DOTALL):
+        (folder / name).write_text(text)
+
+
 @pytest.mark.parametrize("name", COMMANDS_IN)
 def test_the_commands_of_a_document_run(name, top, recording_program):
     if name.startswith("tools/docs/"):  # they are about the report that the first pages make
         assert ended(top, recording_program, "./ctm-tools", "run", "examples/bottleneck.toml")[0] == 0
+    save_files(read(name), top)
     to_run = [command for command in commands(read(name)) if command not in LEFT_OUT]
     assert len(to_run) >= COMMANDS_IN[name]
     for command in to_run:
@@ -113,9 +122,10 @@ def test_the_commands_of_a_document_run(name, top, recording_program):
         assert status == 0, f"{command}: status {status}: {told[-500:]}"
 
 
-def test_the_manual_page_says_what_the_commands_say():
-    """tools/documents makes it anew."""
-    subprocess.run([sys.executable, "-B", TOP / "packaging/documents.py", "--check", "docs/ctm-tools.1"], check=True)
+def test_the_manual_page_says_what_the_commands_say_and_completions_are_click_s():
+    """tools/documents makes them anew."""
+    completions = [f"packaging/shells/ctm-tools.{shell}" for shell in ("bash", "zsh", "fish")]
+    subprocess.run([sys.executable, "-B", TOP / "packaging/documents.py", "--check", "docs/ctm-tools.1", *completions], check=True)
 
 
 def test_each_command_that_is_left_out_is_in_a_document():
@@ -170,6 +180,18 @@ def test_the_excerpts_of_the_examples_are_what_the_commands_above_them_write(top
     assert excerpts == 22
 
 
+def test_the_tutorial_shows_what_its_commands_print(top, recording_program):
+    save_files(read("docs/TUTORIAL.md"), top)
+    printed, excerpts = "", 0
+    for before, lines in blocks(read("docs/TUTORIAL.md")):
+        if all(re.match(r"\./|sed |cat ", line) for line in lines):
+            printed = "".join(ended(top, recording_program, "bash", "-c", line)[1] for line in lines)
+        elif not before.endswith("`:\n\n"):
+            excerpts += 1
+            assert stand_in_order(lines, printed), lines
+    assert excerpts == 3
+
+
 def test_the_example_of_the_first_page_is_the_file_and_its_report(top, recording_program):
     page = read("README.md").split("## An example")[1].split("\n## ")[0]
     file, report = (lines for _, lines in blocks(page))
@@ -179,7 +201,7 @@ def test_the_example_of_the_first_page_is_the_file_and_its_report(top, recording
 
 
 def test_the_must_fail_edits_and_the_tests_of_the_map_are_those_that_stand():
-    page = read("docs/MAP.md").split("## Check times")[1].split("\n## ")[0]
+    page = read("docs/inside/MAP.md").split("## Check times")[1].split("\n## ")[0]
     rows = re.findall(r"^\| `(\w+)` \| \w+ \| \w+ \| (\w+) \| (\w+) \|$", page, re.MULTILINE)
     counts = [line.split() for line in read(".ci/counts.txt").splitlines()]
     assert [crate for crate, _, _ in rows] == [words[1] for words in counts if words[0] == "crate"]
@@ -205,24 +227,41 @@ def test_the_links_of_a_document_lead_somewhere(name):
         assert not anchor or anchor in anchors(target.read_text()), link
 
 
-def test_each_document_is_linked_from_the_first_page():
-    linked = {str((TOP / link.partition("#")[0]).relative_to(TOP)) for link in re.findall(r"\]\(([^)]+)\)", read("README.md"))}
-    linked |= {f"tools/{link.partition('#')[0]}" for link in re.findall(r"\]\(([^)]+)\)", read("tools/README.md"))}
+def linked_from(name):
+    """The files to which a page has links."""
+    links = {link.partition("#")[0] for link in re.findall(r"\]\(([^)]+)\)", read(name))} - {""}
+    return {str(((TOP / name).parent / link).resolve().relative_to(TOP)) for link in links}
+
+
+def test_each_document_is_linked_from_a_first_page():
+    linked = linked_from("README.md") | linked_from("docs/README.md") | linked_from("docs/inside/README.md")
     assert not set(PAGES) - linked - {"README.md"}
 
 
-@pytest.mark.parametrize("page", ["docs/MAP.md", "docs/PROVED.md"])
+@pytest.mark.parametrize("page", ["docs/inside/MAP.md", "docs/inside/PROVED.md"])
 def test_each_crate_is_told(page):
     crates = re.findall(r"^(\w+)[^:#\n]*:", read("crates.txt"), re.MULTILINE)
     assert len(crates) > 20
-    told = re.findall(r"^\| `(\w+)`" if page == "docs/MAP.md" else r"\*\*`(\w+)`\*\*", read(page), re.MULTILINE)
+    told = re.findall(r"^\| `(\w+)`" if page == "docs/inside/MAP.md" else r"\*\*`(\w+)`\*\*", read(page), re.MULTILINE)
     assert set(crates) <= set(told)
 
 
-def test_the_page_of_the_tools_is_read_in_ten_minutes():
-    assert len(read("tools/README.md").split()) <= 2600
+INSIDE = [page for page in PAGES if page.startswith("docs/inside/")]
 
 
-@pytest.mark.parametrize("page", ["README.md", "docs/MAP.md"])
-def test_a_page_stays_short(page):
-    assert len(read(page).splitlines()) <= 200
+@pytest.mark.parametrize("page", ["docs/inside/PROVED.md", "docs/inside/pictures/crates.svg", "docs/inside/pictures/field.svg",
+                                  *(str(path.relative_to(TOP)) for path in sorted(TOP.glob("docs/pictures/*.svg")))])
+def test_what_is_made_of_the_sources_is_made_of_these(page):
+    """tools/documents makes it anew."""
+    subprocess.run([sys.executable, "-B", TOP / "packaging/documents.py", "--check", page], check=True)
+
+
+def test_a_decision_is_told_in_80_words():
+    told = [line for line in read("docs/inside/DECISIONS.md").splitlines() if line.startswith("**")]
+    assert len(told) > 30
+    assert not [line for line in told if len(line.split()) > 80]
+
+
+def test_the_book_for_who_carries_the_project_on_stays_short():
+    words = [word for page in [*INSIDE, "CONTRIBUTING.md"] for word in read(page).split() if re.search(r"\w", word)]
+    assert len(words) <= 16_000

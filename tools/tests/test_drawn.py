@@ -8,7 +8,7 @@ from matplotlib.transforms import Bbox
 from ctmtools import Problem, build, read_study
 from ctmtools.plots import curves, delay, difference, figure, fundamental, labels, lines, network_map, queue, rates, roadside, time_space
 from ctmtools.plots.layout import _at, _between, _beyond, lay_out
-from ctmtools.plots.middles import middles
+from ctmtools.plots.unplaced_joints import middles
 from ctmtools.report.queues import queues_in
 from ctmtools.report.states import DAY_ZERO
 from ctmtools.units import Units

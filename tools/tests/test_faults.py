@@ -7,7 +7,7 @@ import pytest
 
 from ctmtools.network_file.faults import first_fault
 from ctmtools.network_file.kinds import NUMBERS
-from ctmtools.network_file.network import told
+from ctmtools.network_file.network import fault_line
 from ctmtools.network_file.records import read_records
 
 FORMAT = Path(__file__).resolve().parents[2] / "docs" / "FORMAT.md"
@@ -92,6 +92,6 @@ def test_hints(slip):
     content, where, hint = SLIPS[slip]
     content = content.encode() if isinstance(content, str) else content
     records = read_records(content)
-    text = told(content, records, first_fault(records))
+    text = fault_line(content, records, first_fault(records))
     assert where in text and hint in text
     assert "\n" not in text

@@ -6,7 +6,7 @@ import pytest
 
 from ctmtools.network_file.faults import first_fault
 from ctmtools.network_file.kinds import FIELDS, kinds_of
-from ctmtools.network_file.network import clipped, network_of, told
+from ctmtools.network_file.network import clipped, network_of, fault_line
 from ctmtools.network_file.records import read_records
 from ctmtools.study.network_text import _is_large
 
@@ -87,7 +87,7 @@ def test_the_frames_of_a_network():
     (b"", "line 1: NoHeader; expected `ctm,1` or `ctm,2` and nothing more. The file is empty.")])
 def test_a_fault_in_one_line(text, line):
     records = read_records(text)
-    assert told(text, records, first_fault(records)) == line
+    assert fault_line(text, records, first_fault(records)) == line
 
 
 def test_a_long_field_is_clipped():

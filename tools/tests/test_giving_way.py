@@ -105,12 +105,19 @@ def test_what_passes_of_them_is_that_of_the_formula(told, recording_program):
 
 @pytest.mark.parametrize("terms, wanted", [
     ({"sign": "s"}, {"kind": "minor-right"}), ({"turn": "l"}, {"kind": "minor-left", "control": "give_way"}),
-    ({"turn": "s", "sign": "s"}, {"kind": "minor-through"}), ({"turn": "L", "sign": "="}, {"kind": "minor-left", "control": "give_way"}),
+    # Who drives through and crosses nobody merges, as one who turns to the right.
+    ({"turn": "s", "sign": "s"}, {"kind": "minor-right"}), ({"turn": "L", "sign": "="}, {"kind": "minor-left", "control": "give_way"}),
     ({"more": '<roundabout nodes="J" edges="w p"/>'}, {"kind": "roundabout"})])
 def test_signs_turns_and_roundabouts_say_the_kind(told, terms, wanted):
     told(**terms)
     found = yields_of(study()["junctions"][0])["s", "p"]
     assert found == {"yields_to": [["w", "p"]], **wanted}
+
+
+def test_who_drives_through_and_crosses_another_has_the_gaps_of_that(told):
+    told(right="0101", turn="s")
+    found = yields_of(study()["junctions"][0])["s", "p"]
+    assert (found["yields_to"], found["kind"]) == ([["e", "o"], ["w", "p"]], "minor-through")
 
 
 def test_a_left_turn_that_has_priority_over_a_side_street_counts_twice_there(told):

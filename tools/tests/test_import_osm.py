@@ -10,6 +10,7 @@ import datetime
 import gzip
 import shutil
 import subprocess
+from math import cos, pi, sin
 from pathlib import Path
 
 import pytest
@@ -81,6 +82,22 @@ def test_what_the_map_does_not_say_is_a_guess_and_told():
                                                                "Obere Gasse", "Am Tor"}
 
 
+@pytest.mark.parametrize("arms", [(20,), (20, 24)])
+def test_a_roundabout_of_one_or_two_arms_is_one(tmp_path, arms):
+    """Eight sides round 32 m are 8·2·32·sin(22.5°) = 195.9 m, a radius of 31.2 m: 3.6·sqrt(5.5·31.2) = 47.2 km/h."""
+    ring = {i: (32 * cos(pi * i / 4), 32 * sin(pi * i / 4)) for i in range(8)} | {20: (800, 0), 24: (-800, 0)}
+    path = tmp_path / "m.osm"
+    path.write_text(HEAD + "".join(f'<node id="{i}" lat="{48 + y / 111190}" lon="{11 + x / 74630}"/>' for i, (x, y) in ring.items()) +
+                    road(name="9", nodes=(*range(8), 0), junction="roundabout", lanes="1") +
+                    "".join(road(name=str(arm), nodes=(arm, arm % 20), lanes="2", maxspeed="50") for arm in arms) + "</osm>")
+    found, places = read_map(str(path), CLASSES, None, 2)
+    assert [place.what for place in places if place.kind in ("roundabout", "speed")] == [
+        "a ring of 2 streets of 196 m in all", "47 km/h by a radius of 31 m"]
+    assert [street.speed for name, street in found.streets.items() if name.startswith("9")] == [pytest.approx(47.2, abs=0.2)] * 2
+    entering = {pair: way for pair, way in found.ways.items() if pair[0] in map(str, arms) and pair[1].startswith("9")}
+    assert len(entering) == len(arms) and all(way.ring == 1 and len(way.yields) == 1 for way in entering.values())
+
+
 def test_what_became_of_the_map_is_told_with_its_place():
     found, places = town()
     assert told(places, "gap") == [("Am Graben", (1300, 196))]
@@ -112,10 +129,47 @@ def test_who_gives_way_has_the_names_of_the_map(tool):
     assert text.count('kind = "roundabout"') == 3 and 'yields_to = [["Kreisel north-east", "Kreisel north-west"]]' in text
 
 
+def rows_of(name):
+    with open(name) as file:
+        return list(csv.DictReader(file))
+
+
+def test_the_tables_name_each_gate_and_exit_where_its_street_begins_or_ends(tool):
+    assert tool("import", "osm", TOWN)[0] == 0
+    study = read_study("town.toml")
+    lies = {name: [(float(row["longitude"]), float(row["latitude"])) for row in rows_of("town.places.csv")
+                   if row["kind"] == kind and row["what"].startswith(f"{name}, ")]
+            for kind, names in (("gate", study.gates), ("exit", study.exits)) for name in names}
+    into = {gate.into: lies[gate.name] for gate in study.gates.values()}
+    out_of = {exit_.source: lies[exit_.name] for exit_ in study.exits.values()}
+    nodes = {"A 9 north": (11, 47.9865096), "A 9 south": (10.9996650, 48.0224840), "Ring east": (10.9979901, 47.9998921)}
+    assert {name: into[name] for name in nodes} == {name: [pytest.approx(at, abs=1e-5)] for name, at in nodes.items()}
+    nodes = {"A 9 north 3": (11, 48.0224840), "A 9 south": (10.9996650, 47.9865096), "Seestraße south": (11.0056278, 47.9910064)}
+    assert {name: out_of[name] for name in nodes} == {name: [pytest.approx(at, abs=1e-5)] for name, at in nodes.items()}
+    asked = {row["gate"]: (float(row["longitude"]), float(row["latitude"])) for row in rows_of("town.demand.csv")}
+    assert asked == {name: lies[name][0] for name in study.gates}
+
+
+def test_the_table_of_places_has_what_became_of_the_map(tool):
+    assert tool("import", "osm", TOWN)[0] == 0
+    rows = {(row["kind"], row["street"]): row for row in rows_of("town.places.csv")}
+    # Between nodes 81 and 82, 0.0000719 degrees of latitude of each 111.19 km.
+    assert rows["gap", "Am Graben"] == {"kind": "gap", "street": "Am Graben", "longitude": "11.01742", "latitude": "48.00176",
+                                        "what": "8 m between two ends that the map doesn't join"}
+    assert rows["speed", "Obere Gasse"]["what"] == "50 km/h by the class residential"
+    assert rows["lanes", "Obere Gasse"]["what"] == "1 by the class residential"
+
+
+def test_guesses_are_told_with_the_study(tool):
+    out, notes = tool("import", "osm", TOWN)[1], read_study("town.toml").remarks
+    for words in ("6 ways have no speed on the map, or none that says both directions, and have a guess: Untere Gasse at 11.01742, 48.00684",
+                  "8 ways have no number of lanes on the map, or none that says both directions, and have a guess: Seestraße at"):
+        assert f"  {words}" in out and any(note.startswith(words) for note in notes)
+
+
 def filled(name, **vehicles):
     """Fills in the vehicles of the first hour in a table, by the name of a street, or of two for a pair."""
-    with open(name) as file:
-        rows = list(csv.DictReader(file))
+    rows = rows_of(name)
     for row in rows:
         first = row.get("time", row.get("start")) == "06:00"
         street = row["street"] if "street" in row else f"{row['from_street']} to {row['to_street']}"
@@ -216,6 +270,7 @@ def test_a_box_of_a_packed_map(tmp_path):
 @pytest.mark.parametrize("tags, lanes, speed", [
     ({"lanes": "2;3", "maxspeed": "fast"}, (2, 2), 100), ({"lanes": "0", "maxspeed": "0"}, (2, 2), 100),
     ({"lanes": "5"}, (3, 2), 100), ({"lanes__forward": "3", "lanes__backward": "1", "lanes": "4"}, (3, 1), 100),
+    ({"lanes": " 2 ", "maxspeed": " 30 mph "}, (1, 1), 48.3),
     ({"lanes": "4", "maxspeed": "50 mph"}, (2, 2), 80.5), ({"lanes": "4", "maxspeed": "DE:urban"}, (2, 2), 50),
     ({"lanes": "2", "maxspeed": "XX:nowhere"}, (1, 1), 100), ({"lanes": "2", "oneway": "yes", "maxspeed": "30"}, (2,), 30),
     ({"lanes": "2", "oneway": "-1", "maxspeed": "30"}, (2,), 30), ({"junction": "roundabout", "lanes": "1"}, (1,), 100)])
@@ -230,10 +285,24 @@ def test_lanes_and_speeds_of_other_words(tmp_path, tags, lanes, speed):
     ({"lanes": "2", "maxspeed": "50"}, []), ({"lanes": "2;3", "maxspeed": "fast"}, ["speed", "lanes"]),
     ({"lanes": "3", "maxspeed": "50"}, ["lanes"]), ({"lanes": "3", "oneway": "yes", "maxspeed": "50"}, []),
     ({"lanes": "2", "maxspeed": "XX:nowhere"}, ["speed"]), ({"lanes": "2", "maxspeed": "FR:urban"}, []),
-    ({"lanes__forward": "1", "lanes__backward": "1", "maxspeed__forward": "50"}, [])])
+    ({"lanes__forward": "1", "lanes__backward": "1", "maxspeed__forward": "50", "maxspeed__backward": "30"}, []),
+    ({"lanes": "2", "maxspeed": "50", "maxspeed__backward": "30"}, []), ({"lanes": "2", "maxspeed__type": "sign"}, ["speed"]),
+    ({"lanes": " 2 ", "maxspeed": " 50 "}, []), ({"lanes": "1", "maxspeed": "50"}, ["lanes"]),
+    ({"lanes": "4", "lanes__forward": "3", "maxspeed": "50"}, [])])
 def test_each_guess_is_told(tmp_path, tags, kinds):
     places = read_map(made(tmp_path / "m.osm", road(**tags)), CLASSES, None, 2)[1]
     assert [place.kind for place in places] == kinds
+
+
+@pytest.mark.parametrize("tags, kind, what", [
+    ({"maxspeed__backward": "50", "lanes": "2"}, "speed", "100 km/h, of the direction of which the map says none"),
+    ({"maxspeed__forward": "50", "lanes": "2"}, "speed", "50 km/h, of the direction of which the map says none"),
+    ({"maxspeed": "50", "lanes__backward": "3"}, "lanes", "2, of the direction of which the map says none"),
+    ({"maxspeed": "50", "lanes__forward": "3"}, "lanes", "2, of the direction of which the map says none")])
+def test_a_guess_of_one_direction_is_told_where_that_begins(tmp_path, tags, kind, what):
+    places = read_map(made(tmp_path / "m.osm", road(**tags)), CLASSES, None, 2)[1]
+    south = pytest.approx((9, 48.01 if any("backward" in key for key in tags) else 48.02))
+    assert [(place.kind, place.what, place.at) for place in places] == [(kind, what, south)]
 
 
 @pytest.mark.parametrize("tags, kept", [
@@ -266,6 +335,16 @@ def test_a_turn_that_is_forbidden(tmp_path):
                     "</relation></osm>")
     found = read_map(str(path), CLASSES, None, 2)[0]
     assert ("1", "2") in found.ways and ("1", "3") not in found.ways and ("-2", "3") in found.ways
+
+
+def test_both_directions_of_a_street_stay_where_one_does(tmp_path):
+    path = tmp_path / "m.osm"
+    made(path, road(lanes="2", maxspeed="50"), nodes=2)
+    path.write_text(path.read_text().replace(HEAD, f'{HEAD}<bounds minlat="47" minlon="8" maxlat="49" maxlon="10"/>'))
+    found, places = read_map(str(path), CLASSES, None, 2)
+    assert found.streets.keys() == {"1", "-1"}
+    assert [(place.kind, place.at) for place in places] == [
+        ("dead end", pytest.approx((9, 48 + north))) for north in (.02, .01)]
 
 
 def test_ways_with_numbers_below_zero(tmp_path):
@@ -327,6 +406,9 @@ def test_from_python(tmp_path):
     (HEAD + '<node id="1" lat="48" lon="9"/>\n' + road(nodes=(1,)) + "</osm>", [],
      "m.osm: has no roads that cars may use: of 1 ways of the classes that are asked for 0 are barred to them, and 1 have no two "
      "nodes that are in it"),
+    (HEAD + '<node id="1" lat="48" lon="9"/>' * 2 + '<node id="1" lat="48.1" lon="9"/>\n</osm>', [],
+     "m.osm: node 1: is there twice, and not alike"),
+    (HEAD + road() * 2 + road(nodes=(2, 3)) + "</osm>", [], "m.osm: way 1: is there twice, and not alike"),
     (HEAD + '<node id="1" lat="48"/>\n</osm>', [], 'm.osm: node 1: lon: expected degrees, found ""'),
     (HEAD + '<node id="1" lat="480" lon="9"/>\n</osm>', [], "m.osm: node 1: lat: expected degrees from -90 to 90, found 480"),
     (HEAD + '<node id="1" lat="48" lon="179.9"/><node id="2" lat="48" lon="-179.9"/>' + road() + "</osm>", [],

@@ -4,6 +4,7 @@ import pytest
 
 from ctmtools import assign, import_sumo, read_study
 from ctmtools.assignment.assigning import Assignment
+from ctmtools.imports.zones import read_matrix
 
 NET = """<net version="1.9">
 <edge id="in" from="a" to="b"><lane id="in_0" index="0" speed="13.89" length="400"/></edge>
@@ -50,7 +51,8 @@ def test_vehicles_of_sumo_become_trips_and_choose_their_way(tool, net, name, rou
 
 
 @pytest.mark.parametrize("matrix", ["$OR;D2\n0.00 0.15\n1.00\n* a comment\n1 2 100\n2 2 50\n",
-                                    "$VMR;D2\n0.00 0.15\n* factor\n1.00\n2\n1 2\n0 100\n0 50\n"])
+                                    "$VMR;D2\n* type\n4\n0.00 0.15\n* factor\n1.00\n2\n1 2\n0 100\n0 50\n",
+                                    "$V;D2\n0.00 0.15\n1.00\n2\n1 2\n0 100\n0 50\n"])
 def test_a_matrix_of_sumo_becomes_trips(tool, net, matrix):
     (net / "t.taz.xml").write_text(TAZ)
     (net / "m.od").write_text(matrix)
@@ -62,14 +64,41 @@ def test_a_matrix_of_sumo_becomes_trips(tool, net, matrix):
 
 
 @pytest.mark.parametrize("matrix, told", [
-    ("$VMR;D2\n0.00 0.15\n1\n2\n1 2\n0 100 0\n", "2 districts need as many names and 4 numbers"),
-    ("$OR;D2\n0.00 0.15\n1\n1 2 -5\n", "line 4: expected 1 numbers that aren't negative"),
+    ("$V;D2\n0.00 0.15\n1\n2\n1 2\n0 100 0\n", "2 districts need as many names and 4 numbers"),
+    ("$V;D2\n0.00 0.15\n1\n2.5\n1 2\n0 9\n0 9\n", 'line 4: expected the number of districts, found "2.5"'),
+    ("$V;D2\n0.00 0.15\n1\n2\n1 2\n0 9\n0 nan\n", 'line 7: expected a number of 0 or more, found "nan"'),
+    ("$VMR;D2\n0.00 0.15\n1\n2\n1 2\n0 9\n0 9\n", 'line 3: expected two times as hours.minutes, as 7.00 8.30, found "1"'),
+    ("$OR;D2\n0.00 0.15\n1\n1 2 -5\n", 'line 4: expected a number of 0 or more, found "-5"'),
+    ("$OR;D2\n0.00 0.15\n1\n1 2 nan\n", 'line 4: expected a number of 0 or more, found "nan"'),
+    ("$OR;D2\n0.00 0.15\n1\n1 2 1_0\n", 'line 4: expected a number of 0 or more, found "1_0"'),
+    ("$OR;D2\n0.00 0.15\ninf\n1 2 5\n", 'line 3: expected a number of 0 or more, found "inf"'),
+    ("$OR;D2\n0 1\n1\n1 2 5\n", 'line 2: expected two times as hours.minutes, as 7.00 8.30, found "0 1"'),
+    ("$OR;D2\n0.00 1.-5\n1\n1 2 5\n", "line 2: expected two times as hours.minutes"),
+    ("$OR;D2\n0.10 0.5\n1\n1 2 5\n", "line 2: the end isn't after the start"),
+    ("$OR;D2\n0.00 0.15\n1\n", "ends before its times, its factor and its rows"), ("", "no matrix of SUMO"),
     ("$OR;D2\n0.00 0.15\n1\n1 7 5\n", "there is no zone 7"), ("1 2 3\n", "no matrix of SUMO")])
 def test_a_matrix_that_is_none_is_refused(tool, net, matrix, told):
     (net / "t.taz.xml").write_text(TAZ)
     (net / "m.od").write_text(matrix)
     status, _, err = tool("import", "sumo", "n.net.xml", "--trips", "--taz", "t.taz.xml", "--matrix", "m.od", "-o", "n.toml")
     assert status == 2 and "m.od" in err and told in err and not (net / "n.toml").exists()
+
+
+@pytest.mark.parametrize("times, wanted", [("7.00 8.00", (25200, 28800)), ("7.5 7.30", (25500, 27000)), ("0.00 0.75", (0, 4500)),
+                                           ("23.30 25.15", (84600, 90900)), ("0.00 0.15 1.00", (0, 900))])
+def test_the_times_of_a_matrix_are_read_as_sumo_reads_them(tmp_path, times, wanted):
+    # What stands behind the point are whole minutes: SUMO's od2trips lets vehicles depart between the same seconds.
+    (tmp_path / "m.od").write_text(f"$OR;D2\n{times}\n1.00\n1 2 100\n")
+    assert read_matrix(tmp_path / "m.od") == (*wanted, [("1", "2", 100)])
+
+
+@pytest.mark.parametrize("weight", ["-1", "nan", "inf", "x", ""])
+def test_a_weight_of_a_district_that_is_none_is_refused(tool, net, weight):
+    (net / "t.taz.xml").write_text(TAZ.replace('tazSource id="in" weight="1"', f'tazSource id="in" weight="{weight}"'))
+    (net / "m.od").write_text("$OR;D2\n0.00 0.15\n1.00\n1 2 100\n")
+    status, _, err = tool("import", "sumo", "n.net.xml", "--trips", "--taz", "t.taz.xml", "--matrix", "m.od", "-o", "n.toml")
+    assert status == 2 and not (net / "n.toml").exists()
+    assert f't.taz.xml: taz 2, tazSource in: weight: expected a number of 0 or more, found "{weight}"' in err
 
 
 def test_demand_of_dtalite_becomes_trips(tool, tmp_path):

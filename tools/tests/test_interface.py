@@ -120,6 +120,25 @@ def test_imports_and_the_page(program, tmp_path, report):
     assert (tmp_path / "b.html").read_text() == text and "A lane drop" in text
 
 
+def test_a_page_with_a_map_behind_as_the_command_makes_it(tool, program, tmp_path):
+    text = STUDY.read_text().replace("[roads.c]\n", "[roads.c]\npoints = [[389.0, 5819.0], [393.0, 5819.0]]\n")
+    assert "points" in text
+    (tmp_path / "s.toml").write_text(text)
+    assert tool("run", "s.toml")[0] == 0 and tool("report", "s.report", "--map-behind", "--crs", "EPSG:25833")[0] == 0
+    made = page(tmp_path / "s.report", map_behind=True, crs="EPSG:25833")
+    assert made == (tmp_path / "s.html").read_text() and "tile.openstreetmap.org" in made
+    assert "tile.openstreetmap.org" not in page(tmp_path / "s.report")
+    with pytest.raises(Problem, match="^a page needs a report$"):
+        page()
+
+
+@pytest.mark.parametrize("low, high", [(1.1, 0.7), (1, 1), (float("nan"), 1), (0, float("inf"))])
+def test_a_calibration_needs_a_range(tmp_path, low, high):
+    (tmp_path / "seen.csv").write_text("place,start,end,flow\nc.1,07:20,07:50,972\n")
+    with pytest.raises(Problem, match="--vary demand=.*: expected KEY=LOW:HIGH, the lower one first"):
+        calibrate(STUDY, tmp_path / "seen.csv", {"demand": (low, high)})
+
+
 def gmns_road(folder):
     """A folder in GMNS with a single road."""
     (folder / "node.csv").write_text("node_id,x_coord,y_coord\n1,0,0\n2,1000,0\n")

@@ -26,11 +26,11 @@ CALIBRATE = ["calibrate", STREET, "--observed", "seen.csv", "--vary", "demand=0.
 # The tools with so many times the time until a command that was interrupted, or the program, is ended from within.
 CODE = """
 import sys
-from ctmtools import command_line, interrupt, program
+from ctmtools import command_line, interrupt, processes
 patience = float(sys.argv.pop(1))
 interrupt.PATIENCE *= patience
 interrupt.LEAVE *= patience
-program.LEAVE *= patience
+processes.LEAVE *= patience
 command_line.main()
 """
 PATIENT = 20.0  # where it isn't asked how soon a command ends
@@ -45,8 +45,9 @@ def slowness():
 
 
 def heeds_an_interrupt():
-    """Also where these tests run behind a shell that has interrupts ignored."""
-    signal.signal(signal.SIGINT, signal.default_int_handler)
+    """Also where these tests run behind a shell or nohup that has signals ignored."""
+    for number in signal.SIGINT, signal.SIGTERM, signal.SIGHUP:
+        signal.signal(number, signal.SIG_DFL)
 
 
 def stand_in(folder, program, call, does):
@@ -182,6 +183,37 @@ def test_what_ends_a_command_from_outside_ends_the_program_too(tmp_path, program
     assert not sleepers(tmp_path)
 
 
+# A signal that comes just before a wait doesn't end it, nor does one that another thread gets, as here.
+TO_ANOTHER = """
+import os, signal, sys, threading, time
+from ctmtools import command_line
+def send(number):
+    while not os.path.exists("reached"):
+        time.sleep(0.02)
+    time.sleep(0.3)
+    signal.pthread_kill(threading.get_ident(), number)
+threading.Thread(target=send, args=(int(sys.argv.pop(1)),), daemon=True).start()
+command_line.main()
+"""
+
+
+@pytest.mark.parametrize("number, status", [(signal.SIGTERM, -signal.SIGTERM), (signal.SIGHUP, -signal.SIGHUP), (signal.SIGINT, 130)])
+@pytest.mark.parametrize("words", [["lint", EXAMPLES / "event.csv"], ["import", "osm", EXAMPLES / "lane-drop.osm"]], ids=["ctm", "netconvert"])
+def test_a_signal_that_does_not_end_a_wait_is_heeded(tmp_path, words, number, status):
+    path = tmp_path / "netconvert"
+    path.write_text(f"#!/bin/bash\ntouch {tmp_path}/reached\nexec -a {tmp_path}/stand-in sleep 1000\n")
+    path.chmod(0o755)
+    around = {**os.environ, "PYTHONPATH": str(TOOLS), "CTM_PROGRAM": str(path), "PATH": f"{tmp_path}:{os.environ['PATH']}"}
+    process = subprocess.Popen([sys.executable, "-c", TO_ANOTHER, str(int(number)), *map(str, words)], cwd=tmp_path, env=around,
+                               preexec_fn=heeds_an_interrupt, start_new_session=True, stdout=subprocess.DEVNULL, stderr=subprocess.DEVNULL)
+    try:
+        assert process.wait(600) == status
+        assert not sleepers(tmp_path)
+    finally:
+        for group in os.popen(f"pgrep -f {tmp_path}/stand-in").read().split():
+            os.kill(int(group), signal.SIGKILL)
+
+
 def test_a_program_that_builds_has_time_to_end_what_it_began(tmp_path):
     # As ./ctm does: it ends the processes that it began in groups of their own, and says so.
     path = tmp_path / "stand-in"
@@ -240,6 +272,28 @@ except BaseException as error:
     assert (ended.returncode, ended.stderr) == (130, "ctm-tools: interrupted\n")
 
 
+# An interrupt as a command ends: while its watcher is taken leave of, and as Python ends, before what was registered first.
+ENDING = {"the watcher": """
+from ctmtools import interrupt
+woken = interrupt.INTERRUPTS.woken
+def set_(set=woken.set):
+    os.kill(os.getpid(), signal.SIGINT)
+    set()
+woken.set = set_
+""", "Python's end": """
+import atexit
+atexit.register(lambda: (os.kill(os.getpid(), signal.SIGINT), time.sleep(0.1)))
+"""}
+
+
+@pytest.mark.parametrize("at", ENDING)
+def test_an_interrupt_of_a_command_that_is_done_changes_nothing(tmp_path, at):
+    code = f"import os, signal, time\n{ENDING[at]}\nfrom ctmtools.command_line import main\nmain(['build', {str(EXAMPLES / 'event.toml')!r}])"
+    ended = subprocess.run([sys.executable, "-c", code], capture_output=True, text=True, preexec_fn=heeds_an_interrupt, cwd=tmp_path,
+                           env={**os.environ, "PYTHONPATH": str(TOOLS)})
+    assert (ended.returncode, ended.stderr) == (0, "") and (tmp_path / "event.csv").exists()
+
+
 @pytest.mark.parametrize("words, where, name", [
     (["table", "REPORT", "-o", "t.csv"], "pandas.DataFrame.to_csv", "t.csv"),
     (["plot", "delay", "REPORT", "-o", "p.png"], "matplotlib.figure.Figure.savefig", "p.png"),
@@ -286,7 +340,10 @@ LEFT = r"(  \d\d:\d\d:\d\d)?"  # how long the rest takes, which is known after a
     (["optimise", STREET, "--signals", "--generations", "2", "--population", "5"],
      rf"2 generations  \[#+-+\]  1/2{LEFT}  10 runs, least delay [\d.]+ vehicle-hours"),
     ([*CALIBRATE, "--runs", "6", "--first", "4"], rf"runs at most  \[#+-+\]  \d+/19{LEFT}  distance"),
-    (["meter", EXAMPLES / "feedback.toml"], rf"intervals  \[#+-+\]  \d+/\d+{LEFT}")],
+    (["meter", EXAMPLES / "feedback.toml"], rf"intervals  \[#+-+\]  \d+/\d+{LEFT}"),
+    (["assign", EXAMPLES / "bypass.toml", "--iterations", "3"], rf"rounds at most  \[#+-+\]  1/3{LEFT}  gap [\d.]+"),
+    (["assign", EXAMPLES / "bypass.toml", "--iterations", "2", "--informed", "0.2,0.4", "-o", "table.csv"],
+     rf"2 assignments  \[#+-+\]  1/2{LEFT}")],
     ids=lambda value: value[0] if isinstance(value, list) else "")
 def test_a_terminal_sees_what_is_left_and_nothing_else_does(tmp_path, program, words, bar):
     (tmp_path / "seen.csv").write_text(DETECTORS)

@@ -8,7 +8,7 @@ import pytest
 
 from ctmtools.commands.compare import _travel, signed
 from ctmtools.network_file.network import network_of
-from ctmtools.report.page import _lasting, clock, kilometre, length, page, table, told, where
+from ctmtools.report.summary import _lasting, clock, kilometre, length, page, table, number_text, where
 from ctmtools.report.queues import queues_in
 from ctmtools.report.reading import report_of
 from ctmtools.units import Units
@@ -17,7 +17,7 @@ from ctmtools.units import Units
 @pytest.mark.parametrize("value, text", [(0, "0"), (0.004, "0"), (0.006, "0.01"), (2.5, "2.5"), (12, "12"), (1234.567, "1,234.57"),
                                          (120000, "120,000")])
 def test_numbers_have_thousands_apart_and_at_most_two_decimals(value, text):
-    assert told(value) == text
+    assert number_text(value) == text
     assert signed(value) == (f"+{text}" if text != "0" else "0") and signed(-value) == (f"-{text}" if text != "0" else "0")
 
 

@@ -5,7 +5,7 @@ import pytest
 
 from ctmtools import Problem
 from ctmtools.moments.agreement import difference
-from ctmtools.moments.going_on import Runner, rows_of
+from ctmtools.moments.runner import Runner, rows_of
 from ctmtools.moments.moment import Moment, Row, moment_of
 from ctmtools.network_file.editing import with_records, with_steps
 from ctmtools.network_file.naming import Naming

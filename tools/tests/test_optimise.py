@@ -9,7 +9,7 @@ import pytest
 from ctmtools.plans.candidates import candidate
 from ctmtools.plans.searching import Search, moved_to
 from ctmtools.plans.timing import Timing
-from ctmtools.plans.tried import Tried
+from ctmtools.plans.tried_plans import Tried
 from ctmtools.problem import Problem
 from ctmtools.study.reading import read_study, read_values, study_of
 from ctmtools.study.writing import study_text

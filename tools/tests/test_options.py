@@ -35,3 +35,36 @@ def test_the_numbers_that_options_take():
 def test_what_is_beyond_a_range_is_refused(tool, words, told):
     status, out, err = tool(*words)
     assert status == 2 and told in err and err.count("\n") == 1
+
+
+def test_no_number_of_an_option_may_be_infinite_or_none():
+    context, found = click.Context(tools), 0
+    for name in COMMANDS:
+        for command in with_commands(tools.get_command(context, name)):
+            for option in command.params:
+                if isinstance(option.type, click.FloatRange) or option.type is click.FLOAT:
+                    found += 1
+                    for text in ("inf", "-inf", "nan"):
+                        with pytest.raises(click.BadParameter):
+                            option.type.convert(text, option, context)
+    assert found >= 15
+
+
+def with_commands(command):
+    """A command and those within it."""
+    yield command
+    for within in getattr(command, "commands", {}).values():
+        yield from with_commands(within)
+
+
+@pytest.mark.parametrize("text", ["nan", "inf"])
+@pytest.mark.parametrize("kind, option", [("sumo", "--step"), ("sumo", "--until"), ("gmns", "--until")])
+def test_a_time_of_an_import_is_finite(tool, kind, option, text):
+    status, _, err = tool("import", kind, "none", option, text)
+    assert status == 2 and f"{option}: expected a length of time, found {text}" in err
+
+
+@pytest.mark.parametrize("words", [["meter", "x.toml", "--gain", "inf"], ["compare", "a", "b", "--value-of-time", "nan"]])
+def test_what_is_no_finite_number_is_refused(tool, words):
+    status, out, err = tool(*words)
+    assert (status, out) == (2, "") and f"{words[-1]!r} is not a finite number" in err and err.count("\n") == 1

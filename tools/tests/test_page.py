@@ -15,7 +15,7 @@ from ctmtools.pages.background import Background
 from ctmtools.pages.content import data_of
 from ctmtools.pages.junctions import junctions_of
 from ctmtools.pages.networks import roads_of
-from ctmtools.pages.page import DRAWING_LIBRARY, page_of
+from ctmtools.pages.html_page import DRAWING_LIBRARY, page_of
 from ctmtools.pages.tables import table_of
 from ctmtools.report.names import names_of
 from ctmtools.report.queues import standing
@@ -265,7 +265,7 @@ def test_a_title_can_not_end_the_script(tmp_path):
 
 
 def test_a_missing_library_is_named(tmp_path, monkeypatch):
-    monkeypatch.setattr("ctmtools.pages.page.DRAWING_LIBRARY", tmp_path / "d3.min.js")
+    monkeypatch.setattr("ctmtools.pages.html_page.DRAWING_LIBRARY", tmp_path / "d3.min.js")
     with pytest.raises(Problem, match="apt install node-d3"):
         page_of([reported(corridor(tmp_path))])
 

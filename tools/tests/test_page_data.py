@@ -9,7 +9,7 @@ from ctmtools.network_file.network import network_of
 from ctmtools.pages import frames
 from ctmtools.pages.content import data_of
 from ctmtools.pages.frames import bounds_of
-from ctmtools.pages.page import page_of
+from ctmtools.pages.html_page import page_of
 from ctmtools.pages.tables import table_of
 from ctmtools.report.reading import report_of
 from ctmtools.units import Units

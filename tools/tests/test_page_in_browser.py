@@ -15,7 +15,7 @@ from selenium.webdriver.support.ui import WebDriverWait
 
 from ctmtools import read_report, states
 from ctmtools.pages.background import Background
-from ctmtools.pages.page import page_of
+from ctmtools.pages.html_page import page_of
 from ctmtools.pages.tables import table_of
 
 from .corridor import corridor

@@ -8,7 +8,7 @@ from ctmtools import assign, read_report
 from ctmtools.assignment.ways_file import ways_of_report
 from ctmtools.pages import ways
 from ctmtools.pages.content import data_of
-from ctmtools.pages.page import page_of
+from ctmtools.pages.html_page import page_of
 from ctmtools.units import clock_text, seconds_of_clock
 
 from .examples import EXAMPLES

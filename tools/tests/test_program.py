@@ -113,6 +113,37 @@ def test_the_program_is_searched_for_in_four_places(searched, monkeypatch):
         program_path()
 
 
+# Each takes --every of the smallest network, as the tools ask first, and fails at the study's.
+FAILING = "read -r _; read -r steps; [ $steps != steps,1 ] || exit 0; "
+
+
+@pytest.mark.parametrize("script, told", [
+    ("exit 1", "PROGRAM takes no --every, so it records nothing; build the newest ctm"),
+    (f"{FAILING}exit 7", "a.csv: PROGRAM ended with status 7"),
+    (f"{FAILING}echo ctm: no memory >&2; exit 7", "a.csv: ctm: no memory; the program is PROGRAM"),
+    (f"{FAILING}echo ctm: words refused >&2; exit 2", "a.csv: ctm: words refused; the program is PROGRAM"),
+    (f"{FAILING}echo ctm: network: record 3 code 13 NoCells >&2; exit 3", "a.csv: ctm: network: record 3 code 13 NoCells"),
+    (f"{FAILING}kill -9 $$", "PROGRAM was ended by signal 9"),
+    ("exec cat", "a.csv: what PROGRAM wrote is no report of ctm"),
+    (None, "PROGRAM: permission denied"),
+])
+def test_a_program_that_fails_is_told_with_what_says_that_it_is_this_one(script, told, tool, tmp_path, monkeypatch):
+    path = tmp_path / "named"
+    path.write_text(f"#!/bin/bash\n{script}\n")
+    path.chmod(0o755 if script else 0o644)
+    monkeypatch.setenv("CTM_PROGRAM", str(path))
+    (tmp_path / "a.csv").write_text("ctm,1\nsteps,3\ngate,g,5,0\nexit,x,4\nlink,g,x\n")
+    status, _, err = tool("run", "a.csv")
+    assert (status, err.splitlines()[-1]) == (2, "ctm-tools: " + told.replace("PROGRAM", f"{path} (which CTM_PROGRAM names)"))
+
+
+def test_a_program_that_lacks_a_mode_is_told_too(tool, tmp_path, monkeypatch, plain):
+    (tmp_path / "a.csv").write_text("ctm,1\nsteps,3\ngate,g,5,0\nexit,x,4\nlink,g,x\n")
+    status, _, err = tool("run", "a.csv", "--checkpoint", "1")
+    assert status == 2
+    assert f"ctm-tools: {plain} (which CTM_PROGRAM names) has no mode save, so a run can't be saved" in err
+
+
 def test_the_version_tells_which_program_is_called(tool, program):
     status, out, err = tool("--version")
     assert (status, err) == (0, "")

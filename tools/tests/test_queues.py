@@ -5,7 +5,7 @@ import plain_model
 import pytest
 
 from ctmtools.network_file.network import network_of
-from ctmtools.report.page import page
+from ctmtools.report.summary import page
 from ctmtools.report.queues import course, queues_in, reach_of_part
 from ctmtools.report.reading import report_of
 from ctmtools.report.upstream import spills
@@ -222,11 +222,15 @@ def test_through_traffic_at_the_end_is_no_queue():
 
 
 def two_bottlenecks():
+    return reported(two_bottlenecks_text())
+
+
+def two_bottlenecks_text():
     """A road of twenty cells whose tenth passes 4 vehicles in a step, and to which 6 come; from step 60 on 2 leave at its end."""
     cells = [f"c{i:02d}" for i in range(1, 21)]
     rows = "".join(f"road,{cell},36,{4 if cell == 'c10' else 6},1,5,0\n" for cell in cells)
     links = "".join(f"link,{up},{down}\n" for up, down in zip(["g", *cells], [*cells, "x"]))
-    return reported(f"ctm,1\nsteps,220\ngate,g,6,0\n{rows}exit,x,6\n{links}limit,x,60,220,2\ndemand,g,0,220,6\n")
+    return (f"ctm,1\nsteps,220\ngate,g,6,0\n{rows}exit,x,6\n{links}limit,x,60,220,2\ndemand,g,0,220,6\n")
 
 
 def test_a_queue_that_touches_another_reaches_back_to_it_and_no_farther():
@@ -252,6 +256,20 @@ def test_a_queue_that_reaches_the_upstream_end_is_told_with_who_wait_behind_it()
     line, = [line for line in page(read) if "upstream end" in line]
     assert line == (f"  The queue of c09 reaches the upstream end of the model at {spill.start}: up to {spill.most:,.0f} vehicles "
                     "wait in the gate g, at 219, so it is longer than told.")
+
+
+def test_a_queue_that_reaches_a_gate_where_vehicles_wait_already_is_told():
+    # Of 7 a step that come to the gate 6 go in, so one more waits in each step from the first on. The queue of c10 is as before.
+    read = reported(two_bottlenecks_text().replace("demand,g,0,220,6", "demand,g,0,220,7"))
+    alone = two_bottlenecks()
+    queue, = queues_in(read)
+    assert queue.origin == "g" and {part.cell for part in queue.others} == {"c09", "c20"}
+    spill, = spills(read, queue)
+    was, = spills(alone, queues_in(alone)[0])
+    # It reaches the gate when c01 queues, a step or some before the gate of the other did.
+    assert (spill.origin, spill.gate, spill.most_at) == ("c09", "g", 219) and was.start - 3 <= spill.start <= was.start
+    assert spill.most == pytest.approx(was.most + 220, abs=1)
+    assert any(line.startswith(f"  The queue of c09 reaches the upstream end of the model at {spill.start}: ") for line in page(read))
 
 
 def test_a_queue_that_begins_in_a_gate_is_told_as_before(report):

@@ -6,9 +6,9 @@ import time
 
 import pytest
 
-from ctmtools import Problem, program, working
+from ctmtools import Problem, program, progress
 from ctmtools.command_line import main
-from ctmtools.moments import going_on
+from ctmtools.moments import runner
 
 from .clusters import wait_until
 
@@ -40,19 +40,19 @@ class Terminal(io.StringIO):
 
 
 def test_a_terminal_shows_a_sign_and_the_seconds(monkeypatch):
-    monkeypatch.setattr(working, "BLINK", 0.01)
+    monkeypatch.setattr(progress, "BLINK", 0.01)
     shown = Terminal()
-    with working.working("ctm is running", shown):
+    with progress.working("ctm is running", shown):
         wait_until(lambda: shown.getvalue().count(" s ") >= 2)
     first, second, *_, last = shown.getvalue().split("\r")[1:]
-    assert re.fullmatch(r"\| ctm is running, \d+ s ", first) and re.fullmatch(r"/ ctm is running, \d+ s ", second)
+    assert re.fullmatch(r"\| ctm is running, \d+ s \x1b\[K", first) and re.fullmatch(r"/ ctm is running, \d+ s \x1b\[K", second)
     assert last == "\x1b[K"
 
 
 def test_another_stream_gets_nothing(monkeypatch):
-    monkeypatch.setattr(working, "BLINK", 0.01)
+    monkeypatch.setattr(progress, "BLINK", 0.01)
     stream = io.StringIO()
-    with working.working("ctm is running", stream):
+    with progress.working("ctm is running", stream):
         time.sleep(0.3)
     assert stream.getvalue() == ""
 
@@ -68,9 +68,9 @@ def test_a_module_of_a_missing_package_names_the_package(monkeypatch, capsys, mi
 
 
 def test_a_program_without_a_mode_is_told(monkeypatch):
-    for status, line, told in ((2, going_on.REFUSED, "this ctm has no mode save, so a run can't be saved"), (8, "ctm: why", "made: ctm: why"),
-                               (7, "", "made: ctm ended with status 7")):
-        monkeypatch.setattr(going_on, "ask", lambda *_, **__: program.Answer(status, b"", line.encode()))
+    monkeypatch.setattr(runner, "in_words", lambda: "this one")
+    for status, line, told in ((2, runner.REFUSED, "this one has no mode save, so a run can't be saved"), (8, "ctm: why", "made: ctm: why")):
+        monkeypatch.setattr(runner, "ask", lambda *_, **__: program.Answer(status, b"", line.encode()))
         with pytest.raises(Problem) as found:
-            going_on.Runner("made")._ask(("save", "--until", "5"), b"")
+            runner.Runner("made")._ask(("save", "--until", "5"), b"")
         assert str(found.value).startswith(told)

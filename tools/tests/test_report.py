@@ -156,6 +156,8 @@ def test_totals_of_a_report_without_records():
 
 @pytest.mark.parametrize("content", [b"", b"report,3\n", b"report,3,1\ntotal,0,0,0,0\n",
                                      b"report,1,1\ncell,x,1,1,1\ntotal,1,1,1,1\n",
+                                     b"report,1,1\nat,0,x,0,0\nat,1,x,0\ncell,x,1,1,1,1\ntotal,1,1,1,1\n",
+                                     b"report,1,1\nat,0,x,0,0\nit,1,x,0,0\ncell,x,1,1,1,1\ntotal,1,1,1,1\n",
                                      b"ctm,1\nsteps,3\n", b"report,1,1\nat,0,y,0,0\ncell,x,1,1,1,1\ntotal,1,1,1,1\n"])
 def test_no_report(content):
     with pytest.raises(Problem):

@@ -7,7 +7,7 @@ import pytest
 from ctmtools import build, read_study
 from ctmtools.plans.timing import Timing
 from ctmtools.study.reading import read_values
-from ctmtools.study.rounding import Rounded, Rounding, told
+from ctmtools.study.rounding import Rounded, Rounding, rounded_text
 from ctmtools.study.scale import Scale
 from ctmtools.sweeps.variations import variation_of
 
@@ -79,7 +79,7 @@ def test_a_note_is_measured_by_what_was_asked_where_nothing_else_is_said():
     # 15 digits are what a number of 64 bits has for certain.
     (1 + Fraction(1, 10**13), 1, "1.0000000000001"), (1 + Fraction(1, 10**16), 1, "1")])
 def test_a_number_is_told_in_as_many_digits_as_it_takes(value, beside, text):
-    assert told(value, beside) == text
+    assert rounded_text(value, beside) == text
 
 
 # Cells of 250 m: half of one is the bound between one number and the next.

@@ -3,10 +3,13 @@
 import numpy
 import pandas
 import pytest
+from click.testing import CliRunner
 
 from ctmtools.commands.branch import beside_each_other
+from ctmtools.commands.compare import command
+from ctmtools.pages.tables import reports_of
 from ctmtools.problem import Problem
-from ctmtools.report.comparing import compare, side_by_side, totals, travel
+from ctmtools.report.comparing import compare, part_of, side_by_side, totals, travel
 from ctmtools.units import Units
 
 from .test_lines import corridors
@@ -31,6 +34,13 @@ def test_a_change_below_a_twentieth_of_a_per_cent_has_no_share():
     for part, shown in ((0.0004, False), (0.0006, True), (-0.0006, True)):
         frame.loc["then", "part"] = part
         assert (list(beside_each_other(frame, ""))[2].split()[-1] == f"{part:+.1%}") == shown
+
+
+@pytest.mark.parametrize("wait, shown", [(400.0, True), (0.0049, False), (0.0, False)])
+def test_a_rise_over_a_delay_that_is_told_as_0_has_no_share(wait, shown):
+    one, two = corridors(60, a=20), corridors(60, a=20)
+    one.total["delay"] = wait
+    assert side_by_side({"now": one, "then": two}).part.notna().tolist() == [shown, shown]
 
 
 def test_the_sums_of_two_reports():
@@ -58,8 +68,25 @@ def test_cells_of_two_reports():
 
 
 def test_the_rise_as_a_part_of_the_first_delay():
-    frame = side_by_side({"now": corridors(9, a=1), "then": corridors(60, a=20)})
-    assert frame.loc["now", "delay"] == 1 and frame.loc["then", "part"] == 399
+    frame = side_by_side({"now": corridors(9, a=2), "then": corridors(60, a=20)})
+    assert frame.loc["now", "delay"] == 4 and frame.loc["then", "part"] == 99
+
+
+@pytest.mark.parametrize("rise, first, part", [(0.005, 0.005, 1), (-0.005, 0.005, -1), (0.002, 0.0049, None), (5, 0, None),
+                                               (200, 2, 100), (201, 2, None), (461.25, 0.005, None), (-1, 1000, -0.001)])
+def test_no_part_is_told_of_next_to_nothing(rise, first, part):
+    assert part_of(rise, first) == pytest.approx(part if part is not None else float("nan"), nan_ok=True)
+
+
+def test_a_first_delay_of_next_to_nothing_has_no_per_cent(monkeypatch):
+    # One waits for a step beside 20 of whom 400 are lost, so 399 times as much: neither the page nor the commands tell 39,900 %.
+    one, two = corridors(9, a=1), corridors(60, a=20)
+    first, second = reports_of([one, two], ["now", "then"])["rows"]
+    assert second[-2:] == [399, None]
+    assert list(beside_each_other(side_by_side({"now": one, "then": two}), "future"))[2].split()[-1] == "+399"
+    monkeypatch.setattr("ctmtools.commands.compare.read_report", lambda path, *_: {"one": one, "two": two}[path])
+    told = CliRunner().invoke(command, ["one", "two"])
+    assert not told.exception and next(line for line in told.output.splitlines() if "delay, vehicle-steps" in line).split()[-1] == "+399"
 
 
 def test_mean_travel_times_of_two_reports():

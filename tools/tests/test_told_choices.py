@@ -6,7 +6,7 @@ import pandas
 import pytest
 
 from ctmtools.commands.choose import _tell
-from ctmtools.report.page import _seen
+from ctmtools.report.summary import _seen
 from ctmtools.report.routes import main_route
 from ctmtools.network_file.network import network_of
 from ctmtools.sweeps.task import Task, fingerprint

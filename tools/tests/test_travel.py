@@ -134,7 +134,7 @@ def test_the_page_and_the_comparison_tell_it(tool, tmp_path):
 
 
 def test_the_page_has_the_roads_that_are_held_up(report):
-    from ctmtools.report.page import page
+    from ctmtools.report.summary import page
 
     lines = list(page(report("bottleneck")))
     row = next(line.split() for line in lines if line.startswith("  m "))

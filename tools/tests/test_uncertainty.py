@@ -14,8 +14,11 @@ from ctmtools.uncertainty.incident import happened
 from ctmtools.uncertainty.interval import of_mean, of_percentile, of_probability, within
 from ctmtools.uncertainty.key import with_drawn
 from ctmtools.uncertainty.reliability import buffer_index, planning_time_index, spread
+from ctmtools.uncertainty.task import Asked, figures
 
+from .corridor import corridor
 from .examples import EXAMPLES
+from .test_travel import reported
 
 SCORES = [-3.0, -1.2815515655446004, -0.3, 0.0, 0.5, 1.6448536269514722, 2.7]
 SCALE = numpy.sqrt(numpy.log(1 + 0.25**2))  # of a lognormal distribution whose deviation is a quarter of its mean
@@ -106,10 +109,10 @@ def test_an_entry_that_says_nothing_is_refused(tmp_path, entry, wanted):
 
 
 def test_indices_of_ten_times():
-    # The 95th percentile of 1, 2 .. 10 lies 0.55 of the way from the ninth to the tenth, the mean is 5.5.
-    times = spread([float(time) for time in range(1, 11)])
-    assert times.percentiles == {50: pytest.approx(5.5), 80: pytest.approx(8.2), 95: pytest.approx(9.55)}
-    assert planning_time_index(times, 0.5) == pytest.approx(19.1) and buffer_index(times) == pytest.approx((9.55 - 5.5) / 5.5)
+    # The 95th percentile of 1, 2 .. 9 and 20 lies 0.55 of the way from the ninth to the tenth; the mean is 6.5, the median 5.5.
+    times = spread([*(float(time) for time in range(1, 10)), 20.0])
+    assert times.percentiles == {50: pytest.approx(5.5), 80: pytest.approx(8.2), 95: pytest.approx(15.05)}
+    assert planning_time_index(times, 0.5) == pytest.approx(30.1) and buffer_index(times) == pytest.approx((15.05 - 6.5) / 6.5)
 
 
 def test_intervals_of_textbooks():
@@ -143,6 +146,26 @@ def test_as_many_incidents_happen_as_rate_and_kilometres_make(tmp_path, report):
     hour = numpy.mean([3635 <= one.part.start < 7235 for one in closures])
     assert hour == pytest.approx(4770 / 12900, abs=4 * (0.37 * 0.63 / len(closures)) ** 0.5)
     assert happened(found, read, study, 1, 3) == draws[2]
+
+
+def test_incidents_happen_where_vehicles_drive_and_not_cell_by_cell(tmp_path):
+    """Half of the way is two cells of 250 m, the other half four of 125 m: as many vehicle-kilometres, and twice the cells."""
+    made = corridor(tmp_path, parts="[[roads.m.sections]]\nfrom = 0.5\nfree_flow_speed = 45\n")
+    text = (tmp_path / "study.toml").read_text()
+    found = uncertain(tmp_path, 'incidents = "m"\nrate = 3000\nlanes = 1\nduration = "5 min"', base=text).incidents
+    report, study = reported(made), read_study(tmp_path / "s.toml")
+    parts = [closure.part for number in range(1, 301) for closure in happened(found, report, study, 1, number)]
+    assert {(float(part.start_km) < 0.5, float(part.end_km - part.start_km)) for part in parts} == {(True, 0.25), (False, 0.125)}
+    assert numpy.mean([part.start_km < 0.5 for part in parts]) == pytest.approx(0.5, abs=4 * (0.25 / len(parts)) ** 0.5)
+
+
+def test_a_queue_passes_the_places_that_it_stood_before(tmp_path):
+    """Two minutes of 3,000 vehicles/h come to a lane that passes 2,160: 28 wait in the cell of 250 m before it, which has room for 72.
+    100 vehicles take 167 s past km 0.5, where the first is after 20 s."""
+    report = reported(corridor(tmp_path, demand='[["06:00", "06:02", 3000]]', parts="[[roads.m.sections]]\nfrom = 0.5\nlanes = 1\n"))
+    found = figures(report, Asked(places=("m.0.25", "m.0.5", "m.0.75")))
+    assert found["past"] == {"m.0.25": False, "m.0.5": True, "m.0.75": False}
+    assert found["last_queue_s"] == pytest.approx(187, abs=20)
 
 
 def test_too_many_incidents_are_told(tmp_path, report):

@@ -11,7 +11,7 @@ from . import test_validation
 from .examples import TOOLS
 from .test_validation import clocks, hours, run
 
-PAGE = (TOOLS.parent / "docs/VALIDATION.md").read_text()
+PAGE, FIRST_PAGE = ((TOOLS.parent / name).read_text() for name in ("docs/VALIDATION.md", "README.md"))
 
 
 def rows_of(heading):
@@ -64,7 +64,15 @@ def test_the_table_of_cases():
 def test_the_first_page_tells_what_staggered_hours_save():
     before, after = (hours(run(name), slice(None)) for name in ("bottleneck", "bottleneck-staggered"))
     told = f"the delay falls by {100 * (1 - after / before):.0f} %, to {after:.0f} vehicle-hours"
-    assert told in (TOOLS.parent / "README.md").read_text()
+    assert told in FIRST_PAGE
+
+
+def test_the_first_page_tells_the_queue_and_the_delay_of_the_lane_drop():
+    drop = run("bottleneck")
+    reach, steps = queues_in(drop)[0].reach, round(hours(drop, slice(None)) * 360)
+    assert f"queue reaches {reach:g} km back and costs {delay(drop)} vehicle-hours" in FIRST_PAGE
+    assert f"The delay of {steps:,} vehicle-steps of 10 s is {delay(drop)} vehicle-hours" in FIRST_PAGE
+    assert f"the queue reached {round(reach / 0.25)} cells, {reach:g} km, back" in FIRST_PAGE
 
 
 @pytest.mark.parametrize("cell, step, told", rows_of("A red light"))
@@ -106,7 +114,7 @@ def test_the_tables_have_a_row_for_each_length_of_cells():
 def test_what_the_cells_of_the_lane_drop_hold(step, names):
     """At 08:00 m08 holds 26, and at 07:20 five cells hold what the page says."""
     row = run("bottleneck").occupancy.loc[step, names]
-    told = "holds 26 vehicles at 08:00" if names == ["m08"] else (
+    told = "At 08:00 m08 holds 26 vehicles" if names == ["m08"] else (
         "At 07:20 the cells m13 to m17 of the lane drop hold {:.1f}, {:.1f}, {:.1f}, {:.1f} and {:.1f} vehicles".format(*row))
     assert told in PAGE
     assert names != ["m08"] or round(row["m08"]) == 26

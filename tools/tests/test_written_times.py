@@ -47,6 +47,8 @@ def test_no_day():
     ((2019, 12, 4), (2019, 12, 6), False), ((2019, 12, 4), (2019, 12, 4), False), ((2019, 12, 4), (2019, 12, 3), False),
     # The next day where the day stands before the month, or behind it.
     ((31, 12, 2019), (1, 1, 2020), True), ((12, 31, 19), (1, 1, 20), True), ((4, 12, 2019), (4, 13, 2019), True), ((4, 12, 2019), (5, 12, 2019), True),
+    # Two digits are of a year from 2000 on, and 2000 has a 29th of February, as 1900 hasn't.
+    ((28, 2, 0), (29, 2, 0), True), ((28, 2, 1900), (29, 2, 1900), False),
     ((31, 12, 99), (1, 1, 100), False), ((30, 4, 19), (31, 4, 19), False), ("4 Dec", "5 Dec", False), ((4, 12, 2019), "5 Dec", False)])
 def test_the_next_day(earlier, later, wanted):
     assert follows(earlier, later) == wanted

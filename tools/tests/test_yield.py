@@ -144,11 +144,12 @@ def test_a_permitted_left_turn_passes_what_it_does_by_hand(tmp_path, recording_p
     assert flow(report, "s-y1", 20, 60) == pytest.approx(capacity, rel=0.01)
 
 
-def test_a_left_turn_is_alone_in_the_phase_in_which_it_is_not_permitted(tmp_path, recording_program):
-    more = PERMITTED.replace("SNEAKERS", "0").replace('{ from = ["e"], start = 35', '{ from = ["s"], start = 30, green = 5 }, '
+@pytest.mark.parametrize("sneakers", ["0", "2"])
+def test_a_left_turn_is_alone_in_the_phase_in_which_it_is_not_permitted(tmp_path, recording_program, sneakers):
+    more = PERMITTED.replace("SNEAKERS", sneakers).replace('{ from = ["e"], start = 35', '{ from = ["s"], start = 30, green = 5 }, '
                                                       '{ from = ["e"], start = 35')
     _, report = settle(tmp_path, CROSSING.format(more=more))
-    # In 6 s more at 1,800 vehicles/h 3 pass, 180 in an hour.
+    # In 6 s more at 1,800 vehicles/h 3 pass, 180 in an hour. Nobody turns late where the green goes on.
     assert flow(report, "s-y1", 20, 60) == pytest.approx(357.3 + 180, rel=0.01)
 
 
@@ -159,6 +160,48 @@ def test_a_left_turn_out_of_a_side_street_waits_for_a_right_of_way_that_waits_it
     right = next(one for one in found.study.yields if one.road == "e-y").capacities[-1]
     # Of the 1,169.5 who may turn left by 400·0.63412/0.21689, 600 do; beside them 504.6 might leave the side street.
     assert float(right.flow) == pytest.approx(504.6 * (1 - 600 / 1169.5), rel=0.01)
+
+
+OUT_OF_E = 'yields = [{ movement = ["e", "y"], yields_to = [["n", "x"], OTHER], KEYS }]'
+
+
+@pytest.mark.parametrize("part, capacity", [("", 297.7), (", 0.5", 442.7), (", 2", 132.2)])
+def test_a_part_of_a_flow_counts_as_the_study_says(tmp_path, recording_program, part, capacity):
+    # Of 600 vehicles/h beside 400 count all, half or twice as many: past 1,000, 700 and 1,600 by Harders with 6.2 and 3.3 s.
+    more = OUT_OF_E.replace("OTHER", f'["s", "y"{part}]').replace("KEYS", 'kind = "minor-right"')
+    found, _ = settle(tmp_path, CROSSING.format(more=more))
+    assert last_limits(found) == {"e-y": pytest.approx(capacity, rel=0.003)}
+
+
+def test_what_passes_is_that_of_the_flow_in_the_same_interval(tmp_path, recording_program):
+    text = SIDE.format(main='[["07:00", "07:30", 300], ["07:30", "08:00", 900]]', low=100, high=100)
+    found, _ = settle(tmp_path, text.replace("step = 2", 'step = 2\nyield_interval = "10 min"'))
+    limits = {float(one.start): float(one.flow) for one in found.study.yields[0].capacities}
+    # In the interval from 07:30 on who comes first needs 15 s to the merge, so of 10 min 15 s have 300 and the others 900 an hour.
+    assert sorted(limits)[1:] == [start for start in range(600, 3600, 600) if start in limits] and 1800 in limits
+    assert limits[1800] == pytest.approx(346.9, rel=0.01) and limits[600] == pytest.approx(744.3, rel=0.003)
+
+
+@pytest.mark.parametrize("keys, critical, follow_up, gives_way", [
+    ('kind = "minor-left"', "7.1", "3.5", False), ('kind = "minor-left", legs = 3', "6.4", "3.5", False),
+    ('kind = "minor-left", priority_lanes = 4, legs = 3', "6.8", "3.5", False), ('kind = "minor-right", legs = 3', "6.2", "3.3", False),
+    ('kind = "minor-right", priority_lanes = 6', "7.1", "3.9", False), ('kind = "minor-through"', "6.5", "4", False),
+    ('kind = "major-left", priority_lanes = 6', "5.3", "3.1", True), ('kind = "major-left", control = "stop"', "4.1", "2.2", False),
+    ('kind = "minor-right", control = "give_way"', "6.2", "3.3", True), ('kind = "roundabout"', "4.976", "2.609", True),
+    ('critical_gap = "5 s", follow_up = "3 s"', "5", "3", True), ('kind = "minor-left", follow_up = "3 s"', "7.1", "3", False)])
+def test_the_keys_of_a_study_say_the_gaps(tmp_path, keys, critical, follow_up, gives_way):
+    more = OUT_OF_E.replace("OTHER", '["s", "y"]').replace("KEYS", keys)
+    one, = read_study(write(tmp_path, CROSSING.format(more=more))).yields
+    assert (one.gaps.critical, one.gaps.follow_up, one.gaps.give_way) == (Fraction(critical), Fraction(follow_up), gives_way)
+
+
+def test_a_median_before_six_lanes_has_no_usual_gap(tmp_path):
+    keys = 'kind = "minor-left", priority_lanes = 6, median = 1, first = [["n", "x"]]'
+    more = OUT_OF_E.replace("OTHER", '["s", "y"]').replace("KEYS", keys)
+    with pytest.raises(Problem, match=r"yields\[1\].stage_gap: is missing"):
+        read_study(write(tmp_path, CROSSING.format(more=more)))
+    one, = read_study(write(tmp_path, CROSSING.format(more=more.replace("median", 'stage_gap = "7 s", median')))).yields
+    assert one.stage.critical == 7
 
 
 @pytest.mark.parametrize("more, why", [

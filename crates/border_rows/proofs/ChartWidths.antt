@@ -8,14 +8,14 @@ use Rattle.std.proofs.lemmas.List.FromFn.{length-range_with_len}
 use Rattle.std.proofs.lemmas.List.Sums.{length-filter, sum-map, sum_by-cons, sum_by-le, sum_by-le-sum_by}
 use Rattle.std.proofs.lemmas.Simd.{map-map}
 use Rattle.signal_plan.proofs.Sums.{sum_by-swap, sum_by_agree, sum_by_range_one}
-use Rattle.network_file.specs.Network.{Network}
+use Rattle.network_file.specs.Network.{IsNetwork, Network}
 use Rattle.network_file.proofs.NetworkFacts.{few_records}
 use Rattle.region_cut.specs.Chart.{ChartLists, IsChart, border_of, chart_of, list_at}
 use Rattle.region_cut.specs.Cuttings.{region_at, region_count}
 use Rattle.region_cut.specs.Joins.{is_border}
 use Rattle.region_cut.proofs.Cuttings.{region_count-few}
 use Rattle.region_cut.proofs.Membership.{region_at-there}
-use Rattle.border_rows.specs.Places.{IsOfNetwork, base_of, width_at, widths_of, words_of}
+use Rattle.border_rows.specs.Places.{base_of, width_at, widths_of, words_of}
 use Rattle.border_rows.proofs.PlaceLaws.{base-le-words, base_more}
 
 pub length-widths_of : (chart : ChartLists) → IsChart chart → length (widths_of chart) ≡ region_count chart.cut
@@ -69,27 +69,27 @@ widths-le-cells chart net charted =
     let widths = ap (λ lists. sum (map length lists)) border ∙ ap sum (map-map length (border_of net chart.cut) regions) ∙ sum-map (λ r. length (border_of net chart.cut r)) regions in
     omega (arith, widths, borders-le-cells net chart.cut)
 
-pub words-fit : (chart : ChartLists) → IsChart chart → IsOfNetwork chart → words_of (widths_of chart) < 2 ^ 32
-words-fit chart sound of =
+pub words-fit : (net : Network) (chart : ChartLists) → IsChart chart → IsNetwork net → chart ≡ chart_of net chart.cut → words_of (widths_of chart) < 2 ^ 32
+words-fit net chart sound network charted =
     let regions = region_count-few (length chart.cut) chart.cut sound.cutting in
-    let cells = of.sound.sound.few_cells in
+    let cells = network.sound.few_cells in
     omega (
       arith,
       words_of-sum (widths_of chart),
       length-widths_of chart sound,
       regions,
-      widths-le-cells chart of.net of.charted,
+      widths-le-cells chart net charted,
       cells,
-      few_records of.net.format,
+      few_records net.format,
     )
 
 -- the words up to those of the next region
-pub next_words : (chart : ChartLists) (r words width : ℕ) → IsChart chart → IsOfNetwork chart → r < region_count chart.cut →
+pub next_words : (net : Network) (chart : ChartLists) (r words width : ℕ) → IsChart chart → IsNetwork net → chart ≡ chart_of net chart.cut → r < region_count chart.cut →
     words ≡ base_of (widths_of chart) r → width ≡ length (list_at chart.border r) →
     (width ≡ width_at (widths_of chart) r) × (words + 2 + 2 * width ≡ base_of (widths_of chart) (r + 1)) × (words + 2 + 2 * width < 2 ^ 32)
-next_words chart r words width sound of within behind wide =
+next_words net chart r words width sound network charted within behind wide =
     let widths : List ℕ = widths_of chart in
     let there : r < length widths = omega (arith, length-widths_of chart sound) in
     let own : width ≡ width_at widths r = wide ∙ sym (width_at-widths_of chart r) in
     let next : words + 2 + 2 * width ≡ base_of widths (r + 1) = omega (arith, base_more widths r there) in
-    (own, next, omega (arith, base_more widths r there, base-le-words widths r there, words-fit chart sound of))
+    (own, next, omega (arith, base_more widths r there, base-le-words widths r there, words-fit net chart sound network charted))

@@ -2,8 +2,7 @@
 -- its step word, a row of a word for each border cell, and a second such row.
 use Rattle.std.specs.Prelude.{◌≡◌, ℕ, ◌+◌, ◌*◌, ◌<◌, List, length, map, slice_index, take}
 use Rattle.std.specs.List.{sum_by}
-use Rattle.network_file.specs.Network.{IsNetwork, Network}
-use Rattle.region_cut.specs.Chart.{ChartLists, chart_of}
+use Rattle.region_cut.specs.Chart.{ChartLists}
 
 -- how many border cells each region of a chart has
 abbrev pub widths_of : ChartLists → List ℕ
@@ -38,9 +37,3 @@ pub record HasRowWord (widths : List ℕ) (r parity j : ℕ) : Type 0 where
   pub region : r < length widths
   pub row : parity < 2
   pub cell : j < width_at widths r
-
--- the chart is one of a network
-pub record IsOfNetwork (chart : ChartLists) : Type 0 where
-  pub net : Network
-  pub sound : IsNetwork net
-  pub charted : chart ≡ chart_of net chart.cut

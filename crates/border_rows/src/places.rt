@@ -1,5 +1,5 @@
 ghost use Rattle.std.specs.Prelude.{◌≡◌, ◌+◌, ◌*◌, ◌<◌, ◌≤◌, ◌^◌, IfOk, length};
-ghost use Rattle.border_rows.specs.Places.{IsOfNetwork, base_of, claim_place, row_place, step_place, width_at, widths_of, words_of};
+ghost use Rattle.border_rows.specs.Places.{base_of, claim_place, row_place, step_place, width_at, widths_of, words_of};
 
 use crate::span::Span;
 use no_memory::NoMemory;
@@ -26,11 +26,12 @@ impl Model for Places {
 }
 
 impl Places {
-    /// The places for the regions of a chart.
+    /// The places for the regions of a layout; an error says that memory was refused.
     pub fn new(alloc: Global, layout: &Layout) -> Result<Places, NoMemory>
-        requires { IsOfNetwork layout.now.chart }
         ensures { IfOk result (λ places. places ≡ widths_of layout.now.chart) }
     {
+        let net = layout.net();
+        let _steps = net.steps;
         let mut spans = Vec::new(alloc);
         let mut words = 0;
         for r in 0..layout.regions() {

@@ -11,6 +11,7 @@ pub struct Terms<'a> {
 
 /// A region as a seat holds it. No value of it is made.
 pub struct Hold {
+    /// The number of the region.
     pub region: u64,
     /// Whether the seat knows the step at which it took the region.
     pub known: bool,
@@ -26,14 +27,19 @@ pub struct Hold {
 
 /// A step that a region has published.
 pub struct PublishedStep {
+    /// The number of the region.
     pub region: u64,
+    /// The step that it published.
     pub step: u64,
 }
 
 /// A neighbour that was found a step lower than a region.
 pub struct Short {
+    /// The number of the region that was to go on.
     pub region: u64,
+    /// The number of the neighbour that has to go first.
     pub neighbour: u64,
+    /// The step at which the neighbour was found.
     pub step: u64,
 }
 

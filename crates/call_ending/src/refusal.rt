@@ -8,7 +8,9 @@ use no_memory::NoMemory;
 /// A line that standard error gets, with its line end.
 #[derive(Debug, Drop)]
 pub enum Line {
+    /// A line that is the same in every call.
     Fixed(&'static [u8]),
+    /// A line that was made for this call.
     Made(Vec<u8>),
 }
 

@@ -1,16 +1,15 @@
-ghost use Rattle.std.specs.Prelude.{◌≡◌, ◌≤◌, ◌++◌, IfErr, IfOk, Some, codes, drop, length};
+ghost use Rattle.std.specs.Prelude.{◌≡◌, ◌≤◌, ◌++◌, IfErr, IfOk, codes, drop, length};
 ghost use Rattle.std.specs.List.{flat_map};
-ghost use Rattle.csv.specs.Records.{fields_of};
 ghost use Rattle.converted_file.specs.Converted.{converted, record_line};
 ghost use Rattle.record_fields.specs.FileRecords.{IsReading, records_left};
 ghost use Rattle.network_file.specs.Reading.{network_of};
 ghost use Rattle.network_file.specs.Refused.{IsRefusal};
 ghost use Rattle.converted_file.specs.SameNetwork.{SaysTheSame};
 
-use csv::{ByteRecord, Reader};
+use csv::Reader;
 use network_file::{MOST_BYTES, Net, NetRefusal};
 use no_memory::NoMemory;
-use record_fields::{field, next_record, open_records};
+use record_fields::{FileRecord, next_record, open_records};
 use std::alloc::Global;
 
 /// The text of a file in format 2, of the same network, without comments, blank lines and quotes.
@@ -29,7 +28,7 @@ fn text_of_records(alloc: Global, bytes: &[u8]) -> Result<Vec<u8>, NoMemory>
     ensures { IfOk result (λ text. text.items ≡ converted bytes.now) }
 {
     let mut reader = open_records(alloc, bytes);
-    let mut row = ByteRecord::new(alloc);
+    let mut row = FileRecord::new(alloc);
     text_read(alloc, &mut reader, &mut row)
 }
 
@@ -37,10 +36,10 @@ fn text_of_records(alloc: Global, bytes: &[u8]) -> Result<Vec<u8>, NoMemory>
 fn text_read(
     alloc: Global,
     reader: &mut Reader<&[u8]>,
-    row: &mut ByteRecord,
+    row: &mut FileRecord,
 ) -> Result<Vec<u8>, NoMemory>
-    requires { IsReading (λ s. Some s.now) reader.old }
-    ensures { IfOk result (λ text. text.items ≡ codes "ctm,2\n" ++ flat_map record_line (drop 1 (records_left (λ s. Some s.now) reader.old))) }
+    requires { IsReading reader.old }
+    ensures { IfOk result (λ text. text.items ≡ codes "ctm,2\n" ++ flat_map record_line (drop 1 (records_left reader.old))) }
 {
     let text = header(alloc)?;
     if next_record(reader, row)? {
@@ -63,10 +62,10 @@ fn header(alloc: Global) -> Result<Vec<u8>, NoMemory>
 fn with_lines(
     text: Vec<u8>,
     reader: &mut Reader<&[u8]>,
-    row: &mut ByteRecord,
+    row: &mut FileRecord,
 ) -> Result<Vec<u8>, NoMemory>
-    requires { IsReading (λ s. Some s.now) reader.old }
-    ensures { IfOk result (λ more. more.items ≡ text.items ++ flat_map record_line (records_left (λ s. Some s.now) reader.old)) }
+    requires { IsReading reader.old }
+    ensures { IfOk result (λ more. more.items ≡ text.items ++ flat_map record_line (records_left reader.old)) }
 {
     let mut text = text;
     while next_record(reader, row)? {
@@ -76,15 +75,15 @@ fn with_lines(
 }
 
 /// A text with a record as one more line.
-fn with_line(text: Vec<u8>, row: &ByteRecord) -> Result<Vec<u8>, NoMemory>
-    ensures { IfOk result (λ more. more.items ≡ text.items ++ record_line (fields_of row.now)) }
+fn with_line(text: Vec<u8>, row: &FileRecord) -> Result<Vec<u8>, NoMemory>
+    ensures { IfOk result (λ more. more.items ≡ text.items ++ record_line (row.now)) }
 {
     let mut text = text;
     for i in 0..row.len() {
         if i > 0 {
             text.push(b',')?;
         }
-        text.extend_from_slice(field(row, i))?;
+        text.extend_from_slice(row.field(i))?;
     }
     text.push(b'\n')?;
     Ok(text)

@@ -1,4 +1,4 @@
-//! The converted file: a network file written again in format 2, without comments, blank lines and quotes.
+//! Writes a network file again in format 2, without comments, blank lines and quotes. The network stays the same.
 #![tactic(auto)]
 
 mod conversion;

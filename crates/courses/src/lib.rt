@@ -1,5 +1,8 @@
-//! Values that change from step to step, followed forward: what is in force at a step, and up to which step it stays so.
-//! As long as nothing changes, the plan is not asked. It knows no network and no places.
+//! Values of a network's plan that change from step to step: what a cell sends or receives at most, what a link carries at
+//! most, a gate's demand, a diverge's turning shares.
+//!
+//! A course follows one such value forward. It answers with the value in force at a step and the first step at which that
+//! may end ([`Now`]); until then the plan isn't asked again. The crate knows no network and no places.
 #![tactic(auto)]
 
 mod cell_course;

@@ -3,9 +3,11 @@ use Rattle.std.specs.Prelude.{ℕ, ⊤, List, Ok, Err}
 use Rattle.command_words.specs.declared.mode.Mode.{Mode}
 use Rattle.command_words.specs.declared.mode.Mode.TheVariants.{Run, Watch, Sample, Save, Resume, Choose, Recut, Cut, Check, Convert}
 use Rattle.network_file.specs.Reading.{network_of}
+use Rattle.saved_run.specs.Reading.{content_of}
 use Rattle.workerless_call.specs.NetworkInput.{IsNetworkWith}
 use Rattle.workerless_call.specs.Task.{Task}
 use Rattle.run_modes.specs.Told.{HasToldRun, HasToldSample}
+use Rattle.saved_modes.specs.Told.{HasToldRecut, HasToldResume, HasToldSave}
 use Rattle.ctm_call.specs.Answer.{Answer, IsTextOf}
 
 -- by the mode
@@ -13,10 +15,10 @@ abbrev pub IsToldBy : (held freed : (region step : ℕ) → Type 0) → Mode →
 IsToldBy held freed Run task = IsNetworkWith (network_of task.input) (λ net. HasToldRun held freed net task.request)
 IsToldBy held freed Watch task = IsNetworkWith (network_of task.input) (λ net. HasToldRun held freed net task.request)
 IsToldBy held freed Sample task = IsNetworkWith (network_of task.input) (λ net. HasToldSample held freed net task.request)
-IsToldBy held freed Save task = ⊤
-IsToldBy held freed Resume task = ⊤
+IsToldBy held freed Save task = IsNetworkWith (network_of task.input) (λ net. HasToldSave held freed net task.request)
+IsToldBy held freed Resume task = HasToldResume held freed (content_of task.input)
 IsToldBy held freed Choose task = ⊤
-IsToldBy held freed Recut task = ⊤
+IsToldBy held freed Recut task = IsNetworkWith (network_of task.input) (λ net. HasToldRecut held freed net task.request)
 IsToldBy held freed Cut task = ⊤
 IsToldBy held freed Check task = ⊤
 IsToldBy held freed Convert task = ⊤

@@ -29,8 +29,8 @@ pub fn ctm<R: Threads + Sync, S: Source, O: Sink, E: Sink, G: Gate>(
 ) -> Status
     // There is an input, which is what the source has left where it tells it, or the made network, and by the answer to the
     // words and this input the call ended in one of five ways: it is done, the answer is a refusal, a read of the source
-    // failed where the mode reads it, a write of the text failed, or memory was refused. Where a run, a watched run or a
-    // sample has its text, the gate was told of each region of the cutting at each step.
+    // failed where the mode reads it, a write of the text failed, or memory was refused. Where a mode that takes regions through
+    // steps has its text, the gate was told of each of its regions at each step that it takes it through.
     ensures ended { (input : List ℕ) × IsInputOf (requested words.now) (S.left source.old) input
         × HasEnded (IsAnswered (G.told_held gate.now) (G.told_freed gate.now) (answer_of words.now input)) (why_in (answer_of words.now input))
         (IsReadWhole (requested words.now) (S.left source.new))

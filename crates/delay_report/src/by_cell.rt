@@ -6,7 +6,6 @@ ghost use Rattle.delay_report.specs.Regions.{AreNotesOf, AreRowsOf, HaveNotes, H
 ghost use Rattle.region_step.specs.declared.note.Note.{Note as NoteValue};
 
 use flow_model::Row;
-use network_file::Net;
 use no_memory::NoMemory;
 use region_cut::Layout;
 use region_step::{Note, Region};
@@ -49,13 +48,13 @@ impl ByCell<'_> {
     }
 
     /// The rows of all cells.
-    pub(crate) fn rows(&self, alloc: Global, net: &Net) -> Result<Vec<Row>, NoMemory>
-        requires one_each { length self.now.layout.now.chart.cut ≡ length net.now.cells }
+    pub(crate) fn rows(&self, alloc: Global) -> Result<Vec<Row>, NoMemory>
         requires placed { AreCellPlaces self.now.layout.now.chart (length self.now.layout.now.chart.cut) self.now.places.now }
         requires rows { HaveRows self.now.layout.now.chart self.now.regions.now }
-        ensures one_each { IfOk result (λ own. length own.items ≡ length net.now.cells) }
+        ensures one_each { IfOk result (λ own. length own.items ≡ length self.now.layout.now.net.cells) }
         ensures rows { IfOk result (λ own. (rows : List RowValue) → AreRowsOf self.now.layout.now.chart self.now.regions.now rows → own.items ≡ rows) }
     {
+        let net = self.layout.net();
         let mut rows = Vec::with_capacity(alloc, net.cells.len())?;
         for i in 0..net.cells.len() as u32 {
             rows.push(self.row(i))?;

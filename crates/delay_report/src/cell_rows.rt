@@ -22,13 +22,13 @@ pub(crate) fn cell_rows(
     ensures one_each { IfOk result (λ both. length both.1.items ≡ length layout.now.net.cells) }
     ensures rows { IfOk result (λ both. (rows : List RowValue) → AreRowsOf layout.now.chart regions.now rows → both.1.items ≡ rows) }
 {
-    let net = layout.net();
+    let _net = layout.net();
     let places = cell_places(alloc, layout)?;
     let by_cell = ByCell {
         layout,
         regions,
         places: &places,
     };
-    let rows = by_cell.rows(alloc, net)?;
+    let rows = by_cell.rows(alloc)?;
     Ok((places, rows))
 }

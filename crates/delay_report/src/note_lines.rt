@@ -8,24 +8,24 @@ ghost use Rattle.region_step.specs.declared.note.Note.{Note as NoteValue};
 
 use crate::by_cell::ByCell;
 use line_fields::{put_amount, put_count};
-use network_file::{Cell, Net};
+use network_file::Cell;
 use no_memory::NoMemory;
 use region_step::{Note, is_recorded};
 
 /// Appends a line for each recorded step and each cell.
 pub(crate) fn put_note_lines(
     text: &mut Vec<u8>,
-    net: &Net,
     by_cell: &ByCell,
     every: u64,
 ) -> Result<(), NoMemory>
-    requires one_each { length by_cell.now.layout.now.chart.cut ≡ length net.now.cells }
     requires placed { AreCellPlaces by_cell.now.layout.now.chart (length by_cell.now.layout.now.chart.cut) by_cell.now.places.now }
     requires rows { HaveRows by_cell.now.layout.now.chart by_cell.now.regions.now }
-    requires notes { HaveNotes by_cell.now.layout.now.chart by_cell.now.regions.now (recorded_count net.now.steps every) }
-    ensures { OnOk result ((note : ℕ → ℕ → NoteValue) → AreNotesOf by_cell.now.layout.now.chart by_cell.now.regions.now (recorded net.now.steps every 0 net.now.steps) note →
-        text.new.items ≡ text.old.items ++ note_lines net.now.cells note (recorded net.now.steps every 0 net.now.steps)) }
+    requires notes { HaveNotes by_cell.now.layout.now.chart by_cell.now.regions.now (recorded_count by_cell.now.layout.now.net.steps every) }
+    ensures { OnOk result ((note : ℕ → ℕ → NoteValue) →
+        AreNotesOf by_cell.now.layout.now.chart by_cell.now.regions.now (recorded by_cell.now.layout.now.net.steps every 0 by_cell.now.layout.now.net.steps) note →
+        text.new.items ≡ text.old.items ++ note_lines by_cell.now.layout.now.net.cells note (recorded by_cell.now.layout.now.net.steps every 0 by_cell.now.layout.now.net.steps)) }
 {
+    let net = by_cell.layout.net();
     let mut k = 0;
     for t in 0..net.steps + 1 {
         if is_recorded(net.steps, every, t) {

@@ -54,7 +54,7 @@ pub fn report(
     };
     let mut text = Vec::new(alloc);
     put_report_line(&mut text, net)?;
-    put_note_lines(&mut text, net, &by_cell, every)?;
+    put_note_lines(&mut text, &by_cell, every)?;
     put_cell_lines(&mut text, &net.cells, &rows)?;
     put_total_line(&mut text, net, &rows)?;
     Ok(text)

@@ -1,9 +1,8 @@
-//! Flights and books: what is under way between cells, and the sums of a network, by rows of cells that may stand at
-//! different steps (docs/MODEL.md).
+//! The sums of a network by the rows of its cells, which may stand at different steps (docs/MODEL.md).
 //!
-//! The flight of a connector is what has gone out of its cells upstream and hasn't come into its cells downstream, 0
-//! where these stand at one step. With the flights the books balance at whatever steps the cells stand. The delay is the
-//! sum of what the cells waited. No call takes memory.
+//! The flight of a connector is what has gone out of its cells upstream and hasn't come into its cells downstream. It is 0
+//! where these cells stand at one step. With the flights the books balance: what is inside and in flight is what was there
+//! at first and entered, less what left. The delay is the sum of the cells' waits. No call takes memory.
 #![tactic(auto)]
 
 mod balance;

@@ -1,7 +1,6 @@
 ghost use Rattle.std.specs.Prelude.{◌≡◌, ◌≤◌, Ok, IfErr, IfOk, length};
 ghost use Rattle.record_fields.specs.Answers.{Answers, IsFaultOf};
-ghost use Rattle.record_fields.specs.FileRecords.{file_records_of};
-ghost use Rattle.record_fields.specs.RecordsLeft.{IsReadable, left_of};
+ghost use Rattle.record_fields.specs.FileRecords.{IsReading, file_records_of, records_left};
 ghost use Rattle.network_file.specs.Reading.{cutting_of_draft, network_in_all, network_of, read_records};
 ghost use Rattle.network_file.specs.Refused.{IsRefusal};
 
@@ -12,8 +11,9 @@ use crate::format::format_of;
 use crate::limits::MOST_BYTES;
 use crate::net::Net;
 use crate::records::take_record;
+use csv::Reader;
 use fixed_flow::MOST_PARTS;
-use record_fields::{Code, FileRecord, RecordRefusal, Records};
+use record_fields::{Code, FileRecord, RecordRefusal, next_record, open_records};
 use std::alloc::Global;
 
 /// Reads a file: its header, and then the later records one after the other.
@@ -22,25 +22,25 @@ pub(crate) fn read_file(alloc: Global, bytes: &[u8]) -> Result<Net, NetRefusal>
     ensures network { IfOk result (λ net. network_of bytes.now ≡ Ok net) }
     ensures refusal { IfErr result (λ refusal. IsRefusal refusal (network_of bytes.now)) }
 {
-    let mut records = Records::of_file(alloc, bytes);
+    let mut records = open_records(alloc, bytes);
     let mut row = FileRecord::new(alloc);
     read_all(alloc, bytes, &mut records, &mut row)
 }
 
 /// The network of a file of which all records are left to read.
-fn read_all<'a>(
+fn read_all(
     alloc: Global,
     bytes: &[u8],
-    records: &mut Records<'a>,
-    row: &mut FileRecord<'a>,
+    records: &mut Reader<&[u8]>,
+    row: &mut FileRecord,
 ) -> Result<Net, NetRefusal>
     requires few { length bytes.now ≤ MOST_BYTES }
-    requires reading { IsReadable records.old }
-    requires left { left_of records.old ≡ file_records_of bytes.now }
+    requires reading { IsReading records.old }
+    requires left { records_left records.old ≡ file_records_of bytes.now }
     ensures network { IfOk result (λ net. network_of bytes.now ≡ Ok net) }
     ensures refusal { IfErr result (λ refusal. IsRefusal refusal (network_of bytes.now)) }
 {
-    if !records.next(row)? {
+    if !next_record(records, row)? {
         return Err(NetRefusal::at(1, Code::NoHeader));
     }
     let Some(format) = format_of(row) else {
@@ -51,21 +51,21 @@ fn read_all<'a>(
 }
 
 /// Takes the records behind the header into a draft without records, one after the other.
-fn read_later<'a>(
+fn read_later(
     alloc: Global,
     bytes: &[u8],
     draft: NetDraft,
-    records: &mut Records<'a>,
-    row: &mut FileRecord<'a>,
+    records: &mut Reader<&[u8]>,
+    row: &mut FileRecord,
 ) -> Result<Net, NetRefusal>
-    requires reading { IsReadable records.old }
-    requires few { length (left_of records.old) ≤ MOST_BYTES }
-    ensures network { IfOk result (λ net. read_records 2 draft (left_of records.old) ≡ Ok net) }
-    ensures refusal { IfErr result (λ refusal. IsRefusal refusal (read_records 2 draft (left_of records.old))) }
+    requires reading { IsReading records.old }
+    requires few { length (records_left records.old) ≤ MOST_BYTES }
+    ensures network { IfOk result (λ net. read_records 2 draft (records_left records.old) ≡ Ok net) }
+    ensures refusal { IfErr result (λ refusal. IsRefusal refusal (read_records 2 draft (records_left records.old))) }
 {
     let mut draft = draft;
     let mut place = 2;
-    while records.next(row)? {
+    while next_record(records, row)? {
         draft = match take_record(bytes, draft, row) {
             Ok(more) => more,
             Err(refusal) => return Err(NetRefusal::of_record(place, refusal)),

@@ -1,9 +1,13 @@
-ghost use Rattle.std.specs.Prelude.{◌≡◌, ◌≤◌, IfOk, length, min};
+ghost use Rattle.std.specs.Prelude.{◌≡◌, ◌≤◌, IfOk, IsOk, length, min};
+ghost use Rattle.region_cut.specs.Cuttings.{region_count};
 ghost use Rattle.region_step.specs.Start.{zero_start};
 ghost use Rattle.snapshot.specs.Rooms.{IsRoomFor};
 ghost use Rattle.snapshot.specs.Shots.{AreStepsBetween};
 ghost use Rattle.snapshot.specs.Snapshots.{IsSnapshot};
+ghost use Rattle.worker_claim.specs.Driving.{AllReach};
+ghost use Rattle.worker_claim.specs.Telling.{AreTold};
 ghost use Rattle.network_run.specs.Near.{near_end};
+ghost use Rattle.network_run.specs.Telling.{HasTold};
 
 use crate::run::Run;
 use no_memory::NoMemory;
@@ -17,9 +21,9 @@ use std::thread::Threads;
 /// How many steps past a step its snapshot may show a region.
 const NEAR: u64 = 4;
 
-/// A room with a snapshot of the regions of a network that is cut, near the step `until`, or near the last step where that comes first.
-/// So many workers take all regions there from step 0. Then the snapshot is taken while they go on, so it has each region
-/// at that step or at most four steps past it.
+/// A room with a snapshot of the regions of a layout near the step `until`, or near the last step where that comes first. So
+/// many workers take all regions there from step 0. Then the snapshot is taken while they go on, so it has each region at
+/// that step or at most four steps past it. The observer is told of each step before `until`.
 pub fn room_near<R: Threads + Sync, G: Gate>(
     rt: &R,
     alloc: Global,
@@ -32,12 +36,14 @@ pub fn room_near<R: Threads + Sync, G: Gate>(
     ensures room { IfOk result (IsRoomFor layout.now.chart) }
     ensures snapshot { IfOk result (IsSnapshot layout.now.net layout.now.chart.cut (zero_start layout.now.net layout.now.chart.cut)) }
     ensures near { IfOk result (λ room. AreStepsBetween layout.now.net layout.now.chart.cut (min until layout.now.net.steps) (near_end layout.now.net until) room.steps) }
+    ensures told { IsOk result → HasTold (G.told_held gate.now) (G.told_freed gate.now) (region_count layout.now.chart.cut) (min until layout.now.net.steps) }
 {
     let net = layout.net();
     let setup = Setup::zero(alloc, layout, 0)?;
     let mut room = ShotRoom::new(alloc, layout)?;
     let mut run = Run::open(alloc, &setup, workers)?;
     run.show_near(rt, layout, &mut room, until.min(net.steps), gate);
+    let _regions = run.close();
     Ok(room)
 }
 
@@ -56,6 +62,9 @@ impl<'a> Run<'a> {
         requires room { IsRoomFor self.old.terms.setup.now.chart room.old }
         requires reach { self.old.knows.reach ≡ 0 }
         requires in_time { from ≤ layout.now.net.steps }
+        ensures terms { self.new.terms ≡ self.old.terms }
+        ensures told { AreTold (G.told_held gate.now) (G.told_freed gate.now) self.old.knows.log self.new.knows.log }
+        ensures done { AllReach (region_count self.old.terms.setup.now.chart.cut) from self.new.knows }
         ensures room { IsRoomFor self.old.terms.setup.now.chart room.new }
         ensures snapshot { IsSnapshot layout.now.net self.old.terms.setup.now.chart.cut (zero_start layout.now.net self.old.terms.setup.now.chart.cut) room.new }
         ensures near { AreStepsBetween layout.now.net self.old.terms.setup.now.chart.cut from (near_end layout.now.net from) room.new.steps }

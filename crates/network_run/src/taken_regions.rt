@@ -12,7 +12,7 @@ use region_step::{Region, Setup};
 use std::alloc::Global;
 use std::thread::Threads;
 
-/// The regions of a network that is cut, at the last step, taken there from step 0 by so many workers. Each is recorded at each step that
+/// The regions of a layout at the last step, taken there from step 0 by so many workers. Each is recorded at each step that
 /// `every` divides and at the last one, never where `every` is 0. The observer is told of each of its steps. All memory is
 /// taken before the first step, but for what the workers' deques may ask for and do without.
 pub fn last_regions<R: Threads + Sync, G: Gate>(

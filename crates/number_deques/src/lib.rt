@@ -1,4 +1,4 @@
-//! Numbers of regions that workers hand to each other: each has a nest, with a deque of its own from which the others
+//! Numbers of regions that workers hand to each other. Each worker has a nest: a deque of its own, from which the others
 //! steal, and handles on theirs.
 //!
 //! `nests` makes the nests of a crew, empty, and [`Nest`] has what one member does: it fills its deque, takes the next

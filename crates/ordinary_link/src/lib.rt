@@ -5,7 +5,7 @@
 //! parts. No call takes memory.
 //!
 //! `send_row`, `link_row` and `step_row` do the same for many cells at once. No crate uses them: regions
-//! step by one loop over their places, which is faster (docs/DECISIONS.md). They stand for a caller that
+//! step by one loop over their places, which is faster (docs/inside/DECISIONS.md). They stand for a caller that
 //! keeps its cells in columns.
 #![tactic(auto)]
 

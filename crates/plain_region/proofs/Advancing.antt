@@ -28,7 +28,7 @@ use Rattle.plain_region.specs.declared.tie.Tie.{Tie}
 
 pub scene : (net : Network) (chart : ChartLists) (region : PlainValue) → IsNetwork net → IsIn net chart region → region.state.step < net.steps →
     HasRowsInBounds net chart region.state → HasHaloPut net chart region.state →
-    IsScene net region.state.step (list_at chart.cells region.state.number) (halo_cells chart region.state.number) region.layout.ties region.state.rows region.state.put
+    IsScene net region.state.step (list_at chart.cells region.state.number) (halo_cells chart region.state.number) region.body.ties region.state.rows region.state.put
 scene net chart region sound inside before bounds halo =
     let r : ℕ = region.state.number in
     let here = ground net chart.cut chart r sound inside.charted inside.one_of.there in
@@ -51,7 +51,7 @@ scene net chart region sound inside before bounds halo =
 -- the same of what was read from the region
 pub scene-read : (net : Network) (chart : ChartLists) (region : PlainValue) (t : ℕ) (cells halo : List ℕ) (ties : List Tie) (rows : List Row) (put : List (Option ℕ)) →
     IsNetwork net → IsIn net chart region → region.state.step < net.steps → HasRowsInBounds net chart region.state → HasHaloPut net chart region.state →
-    t ≡ region.state.step → cells ≡ list_at chart.cells region.state.number → halo ≡ halo_cells chart region.state.number → ties ≡ region.layout.ties →
+    t ≡ region.state.step → cells ≡ list_at chart.cells region.state.number → halo ≡ halo_cells chart region.state.number → ties ≡ region.body.ties →
     rows ≡ region.state.rows → put ≡ region.state.put → IsScene net t cells halo ties rows put
 scene-read net chart region t cells halo ties rows put sound inside before bounds told at own around tied row_each put_each =
     rw (at, own, around, tied, row_each, put_each) (scene net chart region sound inside before bounds told)
@@ -106,7 +106,7 @@ next_rows-read net chart region t cells halo rows put at own around row_each put
 
 -- a region with the same ties and borders that has come a step on
 pub advanced-inside : (net : Network) (chart : ChartLists) (old new : PlainValue) → IsIn net chart old → old.state.step < net.steps → new.state ≡ advanced net chart old.state →
-    new.layout.ties ≡ old.layout.ties → new.layout.border ≡ old.layout.border → IsIn net chart new
+    new.body.ties ≡ old.body.ties → new.body.border ≡ old.body.border → IsIn net chart new
 unfolding advanced
 advanced-inside net chart old new inside before is ties border =
     record {

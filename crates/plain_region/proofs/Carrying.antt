@@ -22,7 +22,7 @@ use Rattle.region_body.proofs.Parting.{flow_between-three, three_in_bounds}
 use Rattle.region_step.specs.Advance.{known}
 use Rattle.region_step.specs.Apart.{AreApart}
 use Rattle.plain_region.specs.Carrying.{CanCarry, IsChangeOf, IsScene, IsThere, carried_of, change_at, held_at, moved_by}
-use Rattle.plain_region.specs.Layout.{IsPlaceOf, IsTie, place_at}
+use Rattle.plain_region.specs.Ties.{IsPlaceOf, IsTie, place_at}
 use Rattle.plain_region.specs.declared.change.Change.{Change}
 use Rattle.plain_region.specs.declared.place.Place.{Place}
 use Rattle.plain_region.specs.declared.place.Place.TheVariants.{Own, Halo}

@@ -12,7 +12,7 @@ use Rattle.flow_model.specs.declared.carried.Flow.{Flow}
 use Rattle.region_cut.specs.ConnectorCells.{three_cells}
 use Rattle.region_step.specs.Apart.{AreApart}
 use Rattle.plain_region.specs.Carrying.{change_at, moved_by, no_change, with_entering, with_leaving}
-use Rattle.plain_region.specs.Layout.{IsPlaceOf, place_at}
+use Rattle.plain_region.specs.Ties.{IsPlaceOf, place_at}
 use Rattle.plain_region.specs.declared.change.Change.{Change}
 use Rattle.plain_region.specs.declared.place.Place.{Place}
 use Rattle.plain_region.specs.declared.place.Place.TheVariants.{Own, Halo}

@@ -6,7 +6,7 @@ use Rattle.region_step.specs.Advance.{known}
 use Rattle.region_step.specs.Apart.{AreApart}
 use Rattle.region_step.proofs.Places.{known-halo, known-own}
 use Rattle.plain_region.specs.Carrying.{held_at}
-use Rattle.plain_region.specs.Layout.{IsPlaceOf}
+use Rattle.plain_region.specs.Ties.{IsPlaceOf}
 use Rattle.plain_region.specs.declared.place.Place.{Place}
 use Rattle.plain_region.specs.declared.place.Place.TheVariants.{Own, Halo}
 

@@ -14,7 +14,7 @@ use Rattle.flow_model.specs.State.{occupancy, row_at}
 use Rattle.flow_model.specs.declared.carried.Flow.{Flow}
 use Rattle.flow_model.specs.declared.row.Row.{Row}
 use Rattle.region_step.specs.Apart.{AreApart}
-use Rattle.plain_region.specs.Layout.{IsTie, place_at}
+use Rattle.plain_region.specs.Ties.{IsTie, place_at}
 use Rattle.plain_region.specs.declared.change.Change.{Change}
 use Rattle.plain_region.specs.declared.place.Place.{Place}
 use Rattle.plain_region.specs.declared.place.Place.TheVariants.{Own, Halo}

@@ -1,6 +1,6 @@
-pub mod Layout
+pub mod Carrying
 pub mod CellRows
+pub mod Opened
 pub mod Opening
 pub mod Plain
-pub mod Opened
-pub mod Carrying
+pub mod Ties

@@ -4,7 +4,7 @@ use Rattle.network_file.specs.Network.{Network}
 use Rattle.region_cut.specs.Chart.{ChartLists, chart_of, list_at}
 use Rattle.region_cut.specs.Cuttings.{region_count}
 use Rattle.region_step.specs.Opened.{halo_cells}
-use Rattle.plain_region.specs.Layout.{AreTies}
+use Rattle.plain_region.specs.Ties.{AreTies}
 use Rattle.region_step.specs.Opening.{ArePlaces}
 use Rattle.plain_region.specs.Plain.{PlainValue}
 
@@ -15,7 +15,7 @@ pub record IsOf (chart : ChartLists) (region : PlainValue) : Type 0 where
   pub before : length region.state.before ≡ length (list_at chart.cells region.state.number)
   pub put : length region.state.put ≡ length (list_at chart.halo region.state.number)
   -- each border cell's place among its cells
-  pub border : ArePlaces (list_at chart.cells region.state.number) (list_at chart.border region.state.number) region.layout.border
+  pub border : ArePlaces (list_at chart.cells region.state.number) (list_at chart.border region.state.number) region.body.border
 
 -- the region was opened with this network and this chart of it
 pub record IsIn (net : Network) (chart : ChartLists) (region : PlainValue) : Type 0 where
@@ -23,4 +23,4 @@ pub record IsIn (net : Network) (chart : ChartLists) (region : PlainValue) : Typ
   pub one_of : IsOf chart region
   pub in_time : region.state.step ≤ net.steps
   pub ties : AreTies net (list_at chart.cells region.state.number) (halo_cells chart region.state.number)
-      (list_at chart.connectors region.state.number) region.layout.ties
+      (list_at chart.connectors region.state.number) region.body.ties

@@ -1,5 +1,5 @@
-//! The regions of a cut network, by a program that follows the definition line by line. In a step each connector carries
-//! its flow by what its cells hold, and then each row changes by what entered and left its cell.
+//! A region by the plain definition, which the fast region of `region_step` is compared with. In a step each connector
+//! carries its flow by what its cells hold; then each row changes by what entered and left its cell.
 //!
 //! `PlainRegion` is opened, told of its halo and advanced as `Region` of `region_step` is, and comes to the same states.
 //! No program runs it: `run_trials` takes both through the same networks and compares them.

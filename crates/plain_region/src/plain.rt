@@ -16,11 +16,11 @@ use region_step::{Note, Start, is_recorded};
 use std::alloc::Global;
 use std::marker::Model;
 
-/// A region of a cut network, with the rows of its cells at its step, which the plain program of the definition takes
+/// A region of a layout, with the rows of its cells at its step, which the plain program of the definition takes
 /// through its steps.
 ///
-/// It is opened with a network, its chart and a start, and used with that network and that chart alone. Before each
-/// step its halo is told what the cells around it hold as that step begins.
+/// It is opened with a layout and a start, and used with that layout alone. Before each step its halo is told what the cells
+/// around it hold as that step begins.
 #[derive(Debug, Drop)]
 pub struct PlainRegion {
     number: u32,
@@ -49,7 +49,7 @@ impl Model for PlainRegion {
         trail = region.trail.items;
         put = region.put.items;
       };
-      layout = record { ties = region.wiring.ties.items; border = region.wiring.border.items };
+      body = record { ties = region.wiring.ties.items; border = region.wiring.border.items };
     } };
 }
 

@@ -1,7 +1,7 @@
 ghost use Rattle.std.specs.Prelude.{◌≡◌, ◌<◌, ◌^◌, All, IfOk, length};
 ghost use Rattle.std.specs.List.Sorted.{IsStrictlyIncreasing};
 ghost use Rattle.network_file.specs.Connectors.{connector_at};
-ghost use Rattle.plain_region.specs.Layout.{AreTies, IsPlaceOf, IsTie};
+ghost use Rattle.plain_region.specs.Ties.{AreTies, IsPlaceOf, IsTie};
 ghost use Rattle.region_body.specs.Joining.{AreKnown, IsKnown};
 
 use crate::place::Place;

@@ -1,7 +1,7 @@
 ghost use Rattle.std.specs.Prelude.{◌<◌, IfOk};
 ghost use Rattle.region_cut.specs.Chart.{list_at};
 ghost use Rattle.region_cut.specs.Cuttings.{region_count};
-ghost use Rattle.plain_region.specs.Layout.{AreTies};
+ghost use Rattle.plain_region.specs.Ties.{AreTies};
 ghost use Rattle.region_step.specs.Opened.{halo_cells};
 ghost use Rattle.region_step.specs.Opening.{ArePlaces};
 ghost use Rattle.std.specs.Prelude.{◌≡◌};

@@ -1,8 +1,5 @@
 pub mod CheckLemmas
-mod CutLemmas
 pub mod KindWords
 mod MarkLemmas
-mod PartLemmas
-mod PlainLemmas
 pub mod RecordLemmas
 mod RegionLemmas

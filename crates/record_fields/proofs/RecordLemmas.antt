@@ -1,5 +1,5 @@
 -- A read takes at least a byte of the file, so the records left are those of the bytes left.
-use Rattle.std.proofs.Common.{ℕ, zero, suc, ◌≡◌, ◌<◌, ◌≤◌, ◌+◌, Bool, true, false, List, [], ◌∷◌, ◌++◌, Option, Some, None, ◌∙◌, ap, refl, length, arith, add-one, inl, cond}
+use Rattle.std.proofs.Common.{ℕ, zero, suc, ◌≡◌, ◌<◌, ◌≤◌, ◌+◌, Bool, true, false, List, [], ◌∷◌, ◌++◌, Option, Some, None, ◌∙◌, ap, refl, length, arith, Bor, add-one, inl, cond}
 use Rattle.std.proofs.lemmas.Bool.Decides.{nat_tests}
 use Rattle.csv.specs.Machine.{Read, ends_at_end, is_end, next_record, step, fields_after, field_after}
 use Rattle.csv.specs.Reading.{is_bom, strip_bom, stops_reader, ExplainsRead, Reached, ReadRecord, is_flexible, records_from, records_next, took_first}
@@ -9,7 +9,7 @@ use Rattle.csv.specs.declared.reader.Reader.{Reader}
 use Rattle.csv.proofs.ReadFacts.{rows-end, rows-more}
 use Rattle.csv.specs.declared.parser.State.{State}
 use Rattle.csv.specs.declared.parser.State.TheVariants as st
-use Rattle.record_fields.specs.FileRecords.{IsReading, config, records_left, file_records_of}
+use Rattle.record_fields.specs.FileRecords.{IsReading, bytes_of, config, records_left, file_records_of}
 
 -- a byte that ends a record leaves no record open
 closed : (s : State) (c : ℕ) → is_end (step config s c).1 ≡ true → ends_at_end (step config s c).0 ≡ false
@@ -97,13 +97,13 @@ read-is : (p : Read) (r : List (List ℕ)) (s : State) (ys : List ℕ) → r ≡
 read-is p r s ys a b c = rw (a, ← b, ← c) refl
 
 -- a read that found a record, by the records that are left
-pub records_left-next : {R : Type 0} (rem : R → Option (List ℕ)) (a b : Reader R) (r : List (List ℕ))
-    → IsReading rem a → ReadRecord rem a b true r → took_first b ≡ true → is_flexible b ≡ is_flexible a
-    → (records_left rem a ≡ r ∷ records_left rem b) × IsReading rem b
+pub records_left-next : (a b : Reader (Bor (List ℕ))) (r : List (List ℕ))
+    → IsReading a → ReadRecord bytes_of a b true r → took_first b ≡ true → is_flexible b ≡ is_flexible a
+    → (records_left a ≡ r ∷ records_left b) × IsReading b
 unfolding Reached records_left
-records_left-next rem a b r reading read first kept =
+records_left-next a b r reading read first kept =
     let (y, known) = reading.known in
-    let (z, after, (p, is, row, (state, rest))) = rows-more rem a b r config a.state y y [] reading.format known (refl, refl) read in
+    let (z, after, (p, is, row, (state, rest))) = rows-more bytes_of a b r config a.state y y [] reading.format known (refl, refl) read in
     let found : next_record config a.state [] [] y ≡ Some (r, b.state, z) = is ∙ read-is p r b.state z row state rest in
     let (left, between) = records_from-next a.state b.state r y z reading.between found in (
       rw (known, after) left,
@@ -118,22 +118,22 @@ records_left-next rem a b r reading read first kept =
     )
 
 -- a read that found none
-pub records_left-end : {R : Type 0} (rem : R → Option (List ℕ)) (a b : Reader R) (r : List (List ℕ))
-    → IsReading rem a → ReadRecord rem a b false r → records_left rem a ≡ []
+pub records_left-end : (a b : Reader (Bor (List ℕ))) (r : List (List ℕ))
+    → IsReading a → ReadRecord bytes_of a b false r → records_left a ≡ []
 unfolding records_left
-records_left-end rem a b r reading read =
+records_left-end a b r reading read =
     let (y, known) = reading.known in
-    rw known (records_from-end a.state y (rows-end rem a b r config y reading.format known read))
+    rw known (records_from-end a.state y (rows-end bytes_of a b r config y reading.format known read))
 
 -- a reader of records of any length fails for the reader underneath or out of memory
-pub stops_reader-flexible : {R : Type 0} (rem : R → Option (List ℕ)) (a b : Reader R) (k : ErrorKind) → is_flexible a ≡ true → ExplainsRead rem a b false k
+pub stops_reader-flexible : (a b : Reader (Bor (List ℕ))) (k : ErrorKind) → is_flexible a ≡ true → ExplainsRead bytes_of a b false k
     → stops_reader k ≡ true
-stops_reader-flexible rem a b (kind.Io e) flexible why = refl
-stops_reader-flexible rem a b kind.OutOfMemory flexible why = refl
-stops_reader-flexible rem a b (kind.UnequalLengths pos expected len) flexible why = cc (why.0, flexible)
-stops_reader-flexible rem a b (kind.Utf8 pos err) flexible why = cc why.0
-stops_reader-flexible rem a b (kind.Serialize text) flexible why = absurd why
-stops_reader-flexible rem a b (kind.Deserialize pos err) flexible why = absurd why
+stops_reader-flexible a b (kind.Io e) flexible why = refl
+stops_reader-flexible a b kind.OutOfMemory flexible why = refl
+stops_reader-flexible a b (kind.UnequalLengths pos expected len) flexible why = cc (why.0, flexible)
+stops_reader-flexible a b (kind.Utf8 pos err) flexible why = cc why.0
+stops_reader-flexible a b (kind.Serialize text) flexible why = absurd why
+stops_reader-flexible a b (kind.Deserialize pos err) flexible why = absurd why
 
 length-records_from : (n : ℕ) (s : State) (xs : List ℕ) → length (records_from config n s xs) ≤ n
 unfolding records_from

@@ -1,5 +1,6 @@
 -- The records of a file, and those that a reader of it has left.
 use Rattle.std.specs.Prelude.{◌≡◌, ℕ, ◌+◌, List, [], Option, Some, None, true, false, length}
+use Rattle.std.specs.Borrow.{Bor}
 use Rattle.csv.specs.Machine.{ends_at_end}
 use Rattle.csv.specs.Reading.{Ready, default_config, is_flexible, reader_config, reader_state, reader_trim, records, records_from, source_of, strip_bom}
 use Rattle.csv.specs.declared.parser.Config.{Config}
@@ -20,16 +21,19 @@ abbrev pub records_in : State → Option (List ℕ) → List (List (List ℕ))
 records_in state None = []
 records_in state (Some bytes) = records_from config (length bytes + 1) state bytes
 
--- the records that a reader has left
-unfoldable pub records_left : {R : Type 0} → (R → Option (List ℕ)) → Reader R → List (List (List ℕ))
-records_left remaining reader = records_in (reader_state reader) (source_of remaining reader)
+abbrev pub bytes_of : Bor (List ℕ) → Option (List ℕ)
+bytes_of source = Some source.now
+
+-- the records that a reader of bytes has left
+unfoldable pub records_left : Reader (Bor (List ℕ)) → List (List (List ℕ))
+records_left reader = records_in (reader_state reader) (source_of bytes_of reader)
 
 -- the reader stands between two records of bytes that are known
-pub record IsReading {R : Type 0} (remaining : R → Option (List ℕ)) (reader : Reader R) : Type 0 where
+pub record IsReading (reader : Reader (Bor (List ℕ))) : Type 0 where
   pub plain : reader_trim reader ≡ trim.None
   -- records of any number of fields
   pub flexible : is_flexible reader ≡ true
   pub ready : Ready reader
   pub format : reader_config reader ≡ config
-  pub known : (bytes : List ℕ) × (source_of remaining reader ≡ Some bytes)
+  pub known : (bytes : List ℕ) × (source_of bytes_of reader ≡ Some bytes)
   pub between : ends_at_end (reader_state reader) ≡ false

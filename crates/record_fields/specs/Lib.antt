@@ -5,8 +5,5 @@ pub mod FaultCode
 pub mod Fields
 pub mod FileRecords
 pub mod Marks
-pub mod Parts
-pub mod PlainText
 pub mod RecordKinds
-pub mod RecordsLeft
 pub mod Regions

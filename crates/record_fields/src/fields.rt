@@ -7,7 +7,7 @@ use csv::ByteRecord;
 use fixed_flow::{Amount, AmountFault, MOST_PARTS, whole};
 
 /// The field at a place, counted from 0, or nothing where the record ends before it.
-pub fn field(row: &ByteRecord, i: usize) -> &[u8]
+pub(crate) fn field(row: &ByteRecord, i: usize) -> &[u8]
     ensures { result.now ≡ field (fields_of row.now) i }
 {
     match row.get(i) {

@@ -3,6 +3,7 @@ ghost use Rattle.csv.specs.Records.{fields_of};
 ghost use Rattle.csv.specs.Reading.{error_kind, stops_reader};
 ghost use Rattle.record_fields.specs.FileRecords.{IsReading, records_left, file_records_of};
 
+use crate::file_record::FileRecord;
 use csv::{ByteRecord, Error, ErrorKind, Reader, ReaderBuilder};
 use no_memory::NoMemory;
 use std::alloc::Global;
@@ -10,8 +11,8 @@ use std::alloc::Global;
 /// A reader of the records of a file: byte records without a header row, of any length, with `#`
 /// before a comment.
 pub fn open_records(alloc: Global, bytes: &[u8]) -> Reader<&[u8]>
-    ensures reading { IsReading (λ s. Some s.now) result }
-    ensures left { records_left (λ s. Some s.now) result ≡ file_records_of bytes.now }
+    ensures reading { IsReading result }
+    ensures left { records_left result ≡ file_records_of bytes.now }
 {
     ReaderBuilder::new()
         .has_headers(false)
@@ -20,14 +21,24 @@ pub fn open_records(alloc: Global, bytes: &[u8]) -> Reader<&[u8]>
         .from_reader(alloc, bytes)
 }
 
-/// Reads the next record, if there is one.
-pub fn next_record(reader: &mut Reader<&[u8]>, row: &mut ByteRecord) -> Result<bool, NoMemory>
-    requires { IsReading (λ s. Some s.now) reader.old }
-    ensures reading { IfOk result (λ found. found ≡ true → IsReading (λ s. Some s.now) reader.new) }
-    ensures found { IfOk result (λ found. found ≡ true → records_left (λ s. Some s.now) reader.old ≡ fields_of row.new ∷ records_left (λ s. Some s.now) reader.new) }
-    ensures end { IfOk result (λ found. found ≡ false → records_left (λ s. Some s.now) reader.old ≡ []) }
+/// Reads the next record, if there is one; an error says that memory was refused.
+pub fn next_record(reader: &mut Reader<&[u8]>, row: &mut FileRecord) -> Result<bool, NoMemory>
+    requires { IsReading reader.old }
+    ensures reading { IfOk result (λ found. found ≡ true → IsReading reader.new) }
+    ensures found { IfOk result (λ found. found ≡ true → records_left reader.old ≡ row.new ∷ records_left reader.new) }
+    ensures end { IfOk result (λ found. found ≡ false → records_left reader.old ≡ []) }
 {
-    match reader.read_byte_record(row) {
+    next_fields(reader, &mut row.fields)
+}
+
+/// The same for the fields of a record.
+fn next_fields(reader: &mut Reader<&[u8]>, fields: &mut ByteRecord) -> Result<bool, NoMemory>
+    requires { IsReading reader.old }
+    ensures reading { IfOk result (λ found. found ≡ true → IsReading reader.new) }
+    ensures found { IfOk result (λ found. found ≡ true → records_left reader.old ≡ fields_of fields.new ∷ records_left reader.new) }
+    ensures end { IfOk result (λ found. found ≡ false → records_left reader.old ≡ []) }
+{
+    match reader.read_byte_record(fields) {
         Ok(found) => Ok(found),
         Err(error) => Err(out_of_memory(error)),
     }

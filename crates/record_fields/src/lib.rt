@@ -1,9 +1,8 @@
 //! The records of a network file one by one: the fields of each, its kind, what its fields say by themselves, and
 //! why one is refused (docs/FORMAT.md).
 //!
-//! `records` gives the records of a file as `file_record`s: `plain_text` cuts a text without quotes into `parts`, and
-//! `file_records` reads any text (`csv`). `record_kind` has their kinds, `fields` their numbers, `name` the names of
-//! cells, `code` and `record_refusal` their faults. `marks` is a set of cell numbers, and `region_table` has the
+//! `file_records` reads a file (`csv`) as `file_record`s. `record_kind` has their kinds, `fields` their numbers, `name` the
+//! names of cells, `code` and `record_refusal` their faults. `marks` is a set of cell numbers, and `region_table` has the
 //! region records so far.
 #![tactic(auto)]
 
@@ -13,22 +12,18 @@ mod file_record;
 mod file_records;
 mod marks;
 mod name;
-mod parts;
-mod plain_text;
 mod record_kind;
 mod record_refusal;
-mod records;
 mod region_record;
 mod region_table;
 
 pub use code::Code;
-pub use fields::{amount_within, field, range_within, ratio, weights, whole_within};
+pub use fields::{amount_within, range_within, ratio, weights, whole_within};
 pub use file_record::FileRecord;
 pub use file_records::{next_record, open_records};
 pub use marks::Marks;
 pub use name::Name;
 pub use record_kind::RecordKind;
 pub use record_refusal::RecordRefusal;
-pub use records::Records;
 pub use region_record::RegionRecord;
 pub use region_table::RegionTable;

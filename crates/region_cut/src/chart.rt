@@ -43,7 +43,7 @@ impl Model for Chart {
 
 impl Chart {
     /// The chart of a network that is cut so. Where memory is refused the cutting is gone.
-    pub fn new(alloc: Global, net: &Net, cut: Cut) -> Result<Chart, NoMemory>
+    pub(crate) fn new(alloc: Global, net: &Net, cut: Cut) -> Result<Chart, NoMemory>
         requires { length cut ≡ length net.now.cells }
         ensures chart { IfOk result (λ chart. chart ≡ chart_of net.now cut) }
         ensures cut { IfOk result (λ chart. chart.cut ≡ cut) }
@@ -68,7 +68,7 @@ impl Chart {
     }
 
     /// How many regions there are.
-    pub fn regions(&self) -> u32
+    pub(crate) fn regions(&self) -> u32
         ensures count { result ≡ region_count self.now.cut }
         ensures few { result ≤ MOST_REGIONS }
         ensures sound { IsChart self.now }
@@ -77,7 +77,7 @@ impl Chart {
     }
 
     /// The region of a cell.
-    pub fn region_of(&self, cell: u32) -> u32
+    pub(crate) fn region_of(&self, cell: u32) -> u32
         requires { cell < length self.now.cut }
         ensures { result ≡ region_at self.now.cut cell }
     {
@@ -85,7 +85,7 @@ impl Chart {
     }
 
     /// The cells of region `r`.
-    pub fn cells(&self, r: u32) -> &[u32]
+    pub(crate) fn cells(&self, r: u32) -> &[u32]
         requires { r < region_count self.now.cut }
         ensures list { result.now ≡ list_at self.now.cells r }
         ensures there { All (λ i. i < length self.now.cut) result.now }
@@ -94,7 +94,7 @@ impl Chart {
     }
 
     /// The neighbours of region `r`: a connector touches cells of both.
-    pub fn neighbours(&self, r: u32) -> &[u32]
+    pub(crate) fn neighbours(&self, r: u32) -> &[u32]
         requires { r < region_count self.now.cut }
         ensures list { result.now ≡ list_at self.now.neighbours r }
         ensures there { All (λ q. q < region_count self.now.cut) result.now }
@@ -103,7 +103,7 @@ impl Chart {
     }
 
     /// The cells of region `r` that share a connector with another region.
-    pub fn border(&self, r: u32) -> &[u32]
+    pub(crate) fn border(&self, r: u32) -> &[u32]
         requires { r < region_count self.now.cut }
         ensures list { result.now ≡ list_at self.now.border r }
         ensures there { All (λ i. i < length self.now.cut) result.now }
@@ -112,7 +112,7 @@ impl Chart {
     }
 
     /// The connectors that touch a cell of region `r`.
-    pub fn connectors(&self, r: u32) -> &[u32]
+    pub(crate) fn connectors(&self, r: u32) -> &[u32]
         requires { r < region_count self.now.cut }
         ensures { result.now ≡ list_at self.now.connectors r }
     {
@@ -120,7 +120,7 @@ impl Chart {
     }
 
     /// The cells of other regions that a connector of region `r` touches, in the order of their numbers.
-    pub fn halo(&self, r: u32) -> &[Halo]
+    pub(crate) fn halo(&self, r: u32) -> &[Halo]
         requires { r < region_count self.now.cut }
         ensures list { result.now ≡ list_at self.now.halo r }
         ensures there { All (IsPlaced self.now) result.now }

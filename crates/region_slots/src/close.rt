@@ -4,7 +4,9 @@ use region_step::Region;
 /// What a field comes to: the step of each region, and the regions at these steps.
 #[derive(Drop)]
 pub struct Closed {
+    /// The step of each region, in order of number.
     pub steps: Vec<u64>,
+    /// The regions at these steps, in order of number.
     pub regions: Vec<Region>,
 }
 

@@ -1,4 +1,4 @@
-//! The shared field: regions that any thread may take, advance by a step and give back (docs/FIELD.md).
+//! The shared field: regions that any thread may take, advance by a step and give back (docs/inside/FIELD.md).
 //!
 //! `open` makes a field and a pass with all of its seats; `share` and `unite` cut passes and join them; `turn` takes a
 //! region one step on where nothing stands in its way, `look` tells the step that a region has published, and `shot` shows

@@ -24,7 +24,7 @@ use Rattle.region_step.proofs.Room.{recorded_after-next}
 
 -- what its step stands on, by what was read from it
 can_advance : (net : Network) (chart : ChartLists) (region : RegionValue) → IsNetwork net → IsIn net chart region → HasRowsInBounds net chart region.state → HasHaloPut net chart region.state →
-    CanStep net (list_at chart.cells region.state.number) region.state.step region.layout.ordered region.state.put
+    CanStep net (list_at chart.cells region.state.number) region.state.step region.body.ordered region.state.put
 can_advance net chart region sound inside bounds halo =
     let cells : List ℕ = list_at chart.cells region.state.number in
     let around : List ℕ = halo_cells chart region.state.number in
@@ -47,7 +47,7 @@ can_advance net chart region sound inside bounds halo =
 -- the same of a region as it was read, and of lists that were read from it
 pub can_advance-read : (net : Network) (chart : ChartLists) (read region : RegionValue) (cells : List ℕ) (put : List (Option ℕ)) → read ≡ region →
     IsNetwork net → IsIn net chart region → HasRowsInBounds net chart region.state → HasHaloPut net chart region.state →
-    cells ≡ list_at chart.cells read.state.number → put ≡ read.state.put → CanStep net cells read.state.step read.layout.ordered put
+    cells ≡ list_at chart.cells read.state.number → put ≡ read.state.put → CanStep net cells read.state.step read.body.ordered put
 can_advance-read net chart read region cells put is sound inside bounds halo own told =
     rw (own, told, is) (can_advance net chart region sound inside bounds halo)
 
@@ -59,7 +59,7 @@ pub record HasStepped (net : Network) (chart : ChartLists) (region : RegionValue
 
 next-is : (net : Network) (chart : ChartLists) (region : RegionValue) → IsIn net chart region →
     rows_after net region.state.step (known (list_at chart.cells region.state.number) (halo_cells chart region.state.number) region.state.rows region.state.put)
-    (list_at chart.cells region.state.number) (rows_in region.layout.ordered) ≡ next_rows_of net chart region.state
+    (list_at chart.cells region.state.number) (rows_in region.body.ordered) ≡ next_rows_of net chart region.state
 next-is net chart region inside = rw (← inside.row_each) refl
 
 -- the step of its cells says so
@@ -75,9 +75,9 @@ SaysBefore net t cells ordered put new = (can : CanStep net cells t ordered put)
 
 stepped : (net : Network) (chart : ChartLists) (region : RegionValue) (new : OrderedCells) →
     IsNetwork net → IsIn net chart region → HasRowsInBounds net chart region.state → HasHaloPut net chart region.state →
-    SaysRows net region.state.step (list_at chart.cells region.state.number) region.layout.ordered region.state.put new →
-    SaysOrdered net region.state.step (list_at chart.cells region.state.number) region.layout.ordered region.state.put new →
-    SaysBefore net region.state.step (list_at chart.cells region.state.number) region.layout.ordered region.state.put new → HasStepped net chart region new
+    SaysRows net region.state.step (list_at chart.cells region.state.number) region.body.ordered region.state.put new →
+    SaysOrdered net region.state.step (list_at chart.cells region.state.number) region.body.ordered region.state.put new →
+    SaysBefore net region.state.step (list_at chart.cells region.state.number) region.body.ordered region.state.put new → HasStepped net chart region new
 unfolding can_advance
 stepped net chart region new sound inside bounds halo rows ordered before =
     let can = can_advance net chart region sound inside bounds halo in
@@ -90,7 +90,7 @@ stepped net chart region new sound inside bounds halo rows ordered before =
 pub stepped-read : (net : Network) (chart : ChartLists) (read region : RegionValue) (cells : List ℕ) (put : List (Option ℕ)) (new : OrderedCells) → read ≡ region →
     IsNetwork net → IsIn net chart region → HasRowsInBounds net chart region.state → HasHaloPut net chart region.state →
     cells ≡ list_at chart.cells read.state.number → put ≡ read.state.put →
-    SaysRows net read.state.step cells read.layout.ordered put new → SaysOrdered net read.state.step cells read.layout.ordered put new → SaysBefore net read.state.step cells read.layout.ordered put new →
+    SaysRows net read.state.step cells read.body.ordered put new → SaysOrdered net read.state.step cells read.body.ordered put new → SaysBefore net read.state.step cells read.body.ordered put new →
     HasStepped net chart region new
 stepped-read net chart read region cells put new is sound inside bounds halo own told =
     rw (own, told, is) (stepped net chart region new sound inside bounds halo)
@@ -126,8 +126,8 @@ noted-room cells trail later room false rows long fits =
 
 -- a region with the same borders, its cells placed a step on, and no less room, that has come a step on
 pub advanced-inside : (net : Network) (chart : ChartLists) (old new : RegionValue) → IsIn net chart old → old.state.step < net.steps → new.state ≡ advanced net chart old.state →
-    AreOrdered net (list_at chart.cells old.state.number) (halo_cells chart old.state.number) (list_at chart.connectors old.state.number) (old.state.step + 1) new.layout.ordered →
-    new.state.rows ≡ rows_in new.layout.ordered → new.layout.border ≡ old.layout.border → old.layout.room ≤ new.layout.room → IsIn net chart new
+    AreOrdered net (list_at chart.cells old.state.number) (halo_cells chart old.state.number) (list_at chart.connectors old.state.number) (old.state.step + 1) new.body.ordered →
+    new.state.rows ≡ rows_in new.body.ordered → new.body.border ≡ old.body.border → old.body.room ≤ new.body.room → IsIn net chart new
 unfolding advanced
 advanced-inside net chart old new inside before is placed row_each border room =
     let r : ℕ = old.state.number in
@@ -135,7 +135,7 @@ advanced-inside net chart old new inside before is placed row_each border room =
     let rows : List Row = next_rows_of net chart old.state in
     let long : length rows ≡ length cells = length-rows_after net old.state.step _ cells old.state.rows in
     let later : ℕ = recorded_after net.steps old.state.every (old.state.step + 1) in
-    let notes = noted-room (length cells) (length old.state.trail) later old.layout.room (is_recorded net.steps old.state.every (old.state.step + 1)) rows long
+    let notes = noted-room (length cells) (length old.state.trail) later old.body.room (is_recorded net.steps old.state.every (old.state.step + 1)) rows long
     (rw (recorded_after-next net.steps old.state.every old.state.step before) at inside.room) in
     record {
       charted = inside.charted;
@@ -160,7 +160,7 @@ advanced-inside net chart old new inside before is placed row_each border room =
 -- the notes of a step more find room
 pub notes-fit : (net : Network) (chart : ChartLists) (region : RegionValue) (rows : List Row) → IsIn net chart region → region.state.step < net.steps →
     length rows ≡ length (list_at chart.cells region.state.number) → is_recorded net.steps region.state.every (region.state.step + 1) ≡ true →
-    length region.state.trail + length rows ≤ region.layout.room
+    length region.state.trail + length rows ≤ region.body.room
 notes-fit net chart region rows inside before long recorded =
     let more = recorded_after-next net.steps region.state.every region.state.step before in
     let count : recorded_after net.steps region.state.every region.state.step ≡ 1 + recorded_after net.steps region.state.every (region.state.step + 1) =

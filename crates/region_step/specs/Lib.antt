@@ -5,7 +5,6 @@ pub mod Setup
 pub mod Fitting
 pub mod Grid
 pub mod Ordered
-pub mod Layout
 pub mod Opening
 pub mod Apart
 pub mod Opened

@@ -19,7 +19,7 @@ pub record IsOf (chart : ChartLists) (region : RegionValue) : Type 0 where
   pub before : length region.state.before ≡ length (list_at chart.cells region.state.number)
   pub put : length region.state.put ≡ length (list_at chart.halo region.state.number)
   -- each border cell's place among its cells
-  pub border : ArePlaces (list_at chart.cells region.state.number) (list_at chart.border region.state.number) region.layout.border
+  pub border : ArePlaces (list_at chart.cells region.state.number) (list_at chart.border region.state.number) region.body.border
 
 -- the region was opened with this network and this chart of it
 pub record IsIn (net : Network) (chart : ChartLists) (region : RegionValue) : Type 0 where
@@ -28,8 +28,8 @@ pub record IsIn (net : Network) (chart : ChartLists) (region : RegionValue) : Ty
   pub in_time : region.state.step ≤ net.steps
   -- its cells stand as places at its step, and these have its rows
   pub ordered : AreOrdered net (list_at chart.cells region.state.number) (halo_cells chart region.state.number)
-      (list_at chart.connectors region.state.number) region.state.step region.layout.ordered
-  pub row_each : region.state.rows ≡ rows_in region.layout.ordered
+      (list_at chart.connectors region.state.number) region.state.step region.body.ordered
+  pub row_each : region.state.rows ≡ rows_in region.body.ordered
   -- there is room for all notes to come
   pub room : length region.state.trail +
-      length (list_at chart.cells region.state.number) * recorded_after net.steps region.state.every region.state.step ≤ region.layout.room
+      length (list_at chart.cells region.state.number) * recorded_after net.steps region.state.every region.state.step ≤ region.body.room

@@ -2,7 +2,7 @@
 use Rattle.std.specs.Prelude.{ℕ, List, Option}
 use Rattle.flow_model.specs.declared.row.Row.{Row}
 use Rattle.region_step.specs.declared.note.Note.{Note}
-use Rattle.region_step.specs.Layout.{Layout}
+use Rattle.region_step.specs.Ordered.{OrderedCells}
 
 -- how far a region has come
 pub record RegionState : Type 0 where
@@ -21,7 +21,15 @@ pub record RegionState : Type 0 where
   -- for each place of its halo what was put there for the step to come
   pub put : List (Option ℕ)
 
--- its state, and what its body keeps
+-- what a region keeps beside its state
+pub record Body : Type 0 where
+  -- its cells as places
+  pub ordered : OrderedCells
+  -- the place of each border cell among its cells
+  pub border : List ℕ
+  -- for how many notes there is room
+  pub room : ℕ
+
 pub record RegionValue : Type 0 where
   pub state : RegionState
-  pub layout : Layout
+  pub body : Body

@@ -1,5 +1,8 @@
-//! The regions of a network that is cut, each advanced one step at a time by itself. A start says where they begin; a
-//! setup is a layout with a start, and what a field of regions is opened with.
+//! A region of a network that is cut, advanced one step at a time by itself.
+//!
+//! A [`Region`] has the rows of its cells and the notes of recorded steps. Before a step it is told what the cells of its
+//! halo hold. A [`Start`] says at which step each region begins, and with which rows. A [`Setup`] is what regions are opened
+//! with: a layout, a start, and how often they are recorded.
 #![tactic(auto)]
 
 mod bounds;

@@ -18,7 +18,7 @@ use region_cut::Layout;
 use std::alloc::Global;
 use std::marker::Model;
 
-/// A region of a cut network, with the rows of its cells at its step.
+/// A region of a layout, with the rows of its cells at its step.
 ///
 /// It is opened with a layout and a start, and used with that layout alone. Before each
 /// step its halo is told what the cells around it hold as that step begins.
@@ -53,7 +53,7 @@ impl Model for Region {
         trail = region.trail.items;
         put = region.put.items;
       };
-      layout = record { ordered = region.cells; border = region.border.items; room = vec_capacity region.trail };
+      body = record { ordered = region.cells; border = region.border.items; room = vec_capacity region.trail };
     } };
 }
 

@@ -1,15 +1,22 @@
 -- The parts of a run, and their cuttings.
 use Rattle.std.specs.Prelude.{All, replicate, slice_index}
-use Rattle.std.proofs.Common.{◌≡◌, ℕ, suc, ◌+◌, ◌<◌, ◌≤◌, List, ◌∷◌, Option, Some, None, length, refl, subst, ap, ◌∙◌, arith}
+use Rattle.std.proofs.Common.{◌≡◌, inl, inr, ℕ, suc, ◌+◌, ◌*◌, ◌/◌, ◌<◌, ◌≤◌, List, ◌∷◌, Option, Some, None, length, refl, subst, sym, ap, ◌∙◌, arith}
+use Rattle.std.proofs.Math.Nat.{div-le_self, div-mul-le_self}
+use Rattle.std.proofs.lemmas.Bool.{cases_eq}
 use Rattle.std.proofs.lemmas.List.{get_or-replicate}
 use Rattle.std.proofs.lemmas.List.FromFn.{get_or-map-range_with_len, length-map-range_with_len}
+use Rattle.std.proofs.lemmas.Nat.{le-div}
 use Rattle.network_file.specs.Network.{Network}
+use Rattle.region_cut.specs.Chart.{list_at}
 use Rattle.region_cut.specs.Cuttings.{region_count}
 use Rattle.region_cut.proofs.EvenCutting.{length-even_cutting}
 use Rattle.region_step.specs.Standing.{AllStand}
 use Rattle.region_step.specs.Start.{StartLists}
+use Rattle.snapshot.specs.Shots.{goal_of}
 use Rattle.delay_report.specs.Ended.{AreAtTheEnd}
+use Rattle.network_run.specs.Telling.{HasToldFrom}
 use Rattle.saved_modes.specs.Recutting.{IsLastPart, IsPart, part_cutting, part_cuttings, step_of}
+use Rattle.saved_modes.specs.Told.{HasToldBetween}
 use Rattle.saved_modes.specs.declared.recutting.Part.{Part}
 
 -- the regions of a part that ends at the last step stand there
@@ -43,3 +50,40 @@ cuttings-one_each cells regions parts k d within =
 -- and as those behind the first have
 pub others-one_each : (cells : ℕ) (cuts : List (List ℕ)) (cut : List ℕ) (others : List (List ℕ)) → cuts ≡ cut ∷ others → AreOneEach cells cuts → AreOneEach cells others
 others-one_each cells cuts cut others is all = λ k d within. subst (AreOneEach cells) is all (suc k) d (omega (arith, within))
+
+-- regions that all start at one step were told of from there on
+pub told-between : (held freed : ℕ → ℕ → Type 0) (start : StartLists) (cut : List ℕ) (from goal : ℕ) → start.steps ≡ replicate (region_count cut) from →
+    HasToldFrom held freed (region_count cut) start.steps goal → HasToldBetween held freed (region_count cut) from goal
+told-between held freed start cut from goal steps told = λ r s within later below.
+    told r s within (omega (arith, ap (λ list. slice_index list r) steps, get_or-replicate (region_count cut) r from 0 within, later)) below
+
+-- the first goal is step 0, and no goal lies before the last one
+pub goal-first : (steps parts : ℕ) → goal_of steps parts 0 ≡ 0
+goal-first steps parts = let none : 0 * steps ≡ 0 = omega arith in omega (arith, none, div-le_self (0 * steps) parts)
+
+pub goals-rise : (steps parts i : ℕ) → 1 ≤ parts → goal_of steps parts i ≤ goal_of steps parts (i + 1)
+goals-rise steps parts i some =
+    let more : (i + 1) * steps ≡ i * steps + steps = grind arith in
+    le-div (i * steps / parts) ((i + 1) * steps) parts (omega (arith, some)) (omega (arith, more, div-mul-le_self (i * steps) parts))
+
+-- what was told of the parts before part i
+abbrev pub HasToldFirst : (held freed : ℕ → ℕ → Type 0) → (steps parts : ℕ) → (cuts : List (List ℕ)) → (i : ℕ) → Type 0
+HasToldFirst held freed steps parts cuts i = (k : ℕ) → k < i → HasToldBetween held freed (region_count (list_at cuts k)) (goal_of steps parts k) (goal_of steps parts (k + 1))
+
+-- and of one part more
+pub told-next : (held freed : ℕ → ℕ → Type 0) (steps parts : ℕ) (cuts : List (List ℕ)) (i : ℕ) (cut : List ℕ) (from goal : ℕ) → list_at cuts i ≡ cut → from ≡ goal_of steps parts i →
+    goal ≡ goal_of steps parts (i + 1) → HasToldFirst held freed steps parts cuts i → HasToldBetween held freed (region_count cut) from goal → HasToldFirst held freed steps parts cuts (i + 1)
+told-next held freed steps parts cuts i cut from goal own begins ends before told = λ k within.
+    elim (cases_eq k i) [
+      | inl last ↦ rw (last, own, ← begins, ← ends) told
+      | inr other ↦ before k (omega (arith, within, other))
+    ]
+
+-- the cuttings behind the first
+pub left-next : (cuts all others : List (List ℕ)) (cut : List ℕ) (i : ℕ) → ((j : ℕ) → list_at cuts j ≡ list_at all (i + j)) → cuts ≡ cut ∷ others →
+    (list_at all i ≡ cut) × ((j : ℕ) → list_at others j ≡ list_at all (i + 1 + j))
+left-next cuts all others cut i are is =
+    let here : i + 0 ≡ i = omega arith in (
+      ap (list_at all) (sym here) ∙ sym (are 0) ∙ ap (λ list. list_at list 0) is,
+      λ j. let there : i + suc j ≡ i + 1 + j = omega arith in ap (λ list. list_at list (suc j)) (sym is) ∙ are (suc j) ∙ ap (list_at all) there,
+    )

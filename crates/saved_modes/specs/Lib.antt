@@ -2,3 +2,4 @@ pub mod RecutMode
 pub mod Recutting
 pub mod ResumeMode
 pub mod SaveMode
+pub mod Told

@@ -1,10 +1,13 @@
-ghost use Rattle.std.specs.Prelude.{◌≡◌, ◌≤◌, IfErr, IfOk, None, length};
+ghost use Rattle.std.specs.Prelude.{◌≡◌, ◌≤◌, IfErr, IfOk, IsOk, None, length};
 ghost use Rattle.command_words.specs.Words.{IsInRange};
+ghost use Rattle.network_file.specs.Reading.{network_of};
 ghost use Rattle.network_file.specs.declared.limits.TheConstants.{MOST_BYTES, MOST_REGIONS};
 ghost use Rattle.delay_report.specs.Report.{report_of};
 ghost use Rattle.call_ending.specs.Refusing.{IsRefusalOf};
 ghost use Rattle.saved_modes.specs.RecutMode.{IsRecutText, recut_refused};
 ghost use Rattle.saved_modes.specs.Recutting.{part_cutting, part_cuttings};
+ghost use Rattle.saved_modes.specs.Told.{HasToldRecut};
+ghost use Rattle.workerless_call.specs.NetworkInput.{IsNetworkWith};
 ghost use Rattle.workerless_call.specs.Task.{task_of};
 
 use crate::recutting::recut_report;
@@ -29,6 +32,7 @@ pub fn recut_text<R: Threads + Sync, G: Gate>(
     requires in_range { IsInRange request }
     requires few_bytes { length input.now ≤ MOST_BYTES }
     ensures text { IfOk result (λ text. (recut_refused (task_of request input.now) ≡ None) × IsRecutText (task_of request input.now) text.items) }
+    ensures told { IsOk result → IsNetworkWith (network_of input.now) (λ net. HasToldRecut (G.told_held gate.now) (G.told_freed gate.now) net request) }
     ensures refusal { IfErr result (IsRefusalOf (recut_refused (task_of request input.now)) ⊥) }
 {
     let net = match network_in(alloc, input) {
@@ -47,7 +51,8 @@ fn report_in_parts<R: Threads + Sync, G: Gate>(
     gate: &G,
 ) -> Result<Vec<u8>, NoMemory>
     requires { IsInRange request }
-    ensures { IfOk result (λ text. text.items ≡ report_of net.now 0) }
+    ensures text { IfOk result (λ text. text.items ≡ report_of net.now 0) }
+    ensures told { IsOk result → HasToldRecut (G.told_held gate.now) (G.told_freed gate.now) net.now request }
 {
     let _steps = net.steps;
     let regions = regions_wanted(net, request);

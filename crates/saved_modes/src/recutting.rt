@@ -1,11 +1,13 @@
-ghost use Rattle.std.specs.Prelude.{◌≡◌, ◌<◌, ◌≤◌, ℕ, All, IfOk, Some, length, replicate, slice_index};
+ghost use Rattle.std.specs.Prelude.{◌≡◌, ◌<◌, ◌≤◌, ℕ, All, IfOk, IsOk, Some, length, replicate, slice_index};
 ghost use Rattle.region_cut.specs.Cuttings.{region_count};
 ghost use Rattle.region_cut.specs.LawfulSteps.{AreLawful};
 ghost use Rattle.region_step.specs.Standing.{AllStand};
 ghost use Rattle.region_step.specs.Start.{Fits, IsTrueStart};
 ghost use Rattle.snapshot.specs.Shots.{goal_of};
 ghost use Rattle.delay_report.specs.Report.{report_of};
+ghost use Rattle.network_run.specs.Telling.{HasToldFrom};
 ghost use Rattle.saved_modes.specs.Recutting.{IsLastPart, IsPart, step_of};
+ghost use Rattle.saved_modes.specs.Told.{HasToldBetween, HasToldParts};
 
 use delay_report::report_from;
 use network_file::Net;
@@ -44,6 +46,7 @@ pub fn recut_report<R: Threads + Sync, G: Gate>(
 
     // That of the plain recurrences, whatever the cuttings.
     ensures text { IfOk result (λ text. text.items ≡ report_of net.now 0) }
+    ensures told { IsOk result → HasToldParts (G.told_held gate.now) (G.told_freed gate.now) net.now.steps cuts.items }
 {
     let _steps = net.steps;
     let parts = cuts.len() as u32;
@@ -99,6 +102,7 @@ fn next_part<'n, R: Threads + Sync, G: Gate>(
     requires workers { (1 ≤ workers) × (workers ≤ 16) }
     ensures part { IfOk result (IsPart net.now) }
     ensures goal { IfOk result (λ part. part.step ≡ goal) }
+    ensures told { IsOk result → HasToldBetween (G.told_held gate.now) (G.told_freed gate.now) (region_count cut) (step_of last.entry) goal }
 {
     let layout = Layout::new(alloc, net, cut)?;
     let start = part_start(alloc, last, &layout)?;
@@ -125,7 +129,8 @@ fn part_regions<R: Threads + Sync, G: Gate>(
     requires before { (r : ℕ) → r < region_count layout.now.chart.cut → slice_index start.steps r ≤ goal }
     requires in_time { goal ≤ layout.now.net.steps }
     requires workers { (1 ≤ workers) × (workers ≤ 16) }
-    ensures { IfOk result (λ regions. AllStand layout.now.net layout.now.chart start 0 (replicate (region_count layout.now.chart.cut) goal) regions.items) }
+    ensures stand { IfOk result (λ regions. AllStand layout.now.net layout.now.chart start 0 (replicate (region_count layout.now.chart.cut) goal) regions.items) }
+    ensures told { IsOk result → HasToldFrom (G.told_held gate.now) (G.told_freed gate.now) (region_count layout.now.chart.cut) start.steps goal }
 {
     let setup = Setup::new(layout, start, 0);
     regions_from(rt, alloc, &setup, goal, workers, gate)

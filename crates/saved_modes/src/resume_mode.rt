@@ -1,13 +1,16 @@
-ghost use Rattle.std.specs.Prelude.{◌≡◌, ◌≤◌, IfErr, IfOk, None, Some, length, replicate};
+ghost use Rattle.std.specs.Prelude.{◌≡◌, ◌≤◌, IfErr, IfOk, IsOk, None, Some, length, replicate};
 ghost use Rattle.command_words.specs.Words.{IsInRange};
 ghost use Rattle.region_cut.specs.Cuttings.{region_count};
 ghost use Rattle.region_step.specs.Standing.{AllStand};
 ghost use Rattle.region_step.specs.Start.{IsTrueStart};
 ghost use Rattle.saved_run.specs.Loading.{CanStart};
+ghost use Rattle.saved_run.specs.Reading.{content_of};
 ghost use Rattle.delay_report.specs.FromStart.{report_from};
 ghost use Rattle.delay_report.specs.Report.{report_of};
 ghost use Rattle.call_ending.specs.Refusing.{IsRefusalOf};
 ghost use Rattle.saved_modes.specs.ResumeMode.{IsResumeText, resume_refused, saved_refused, why_of_fault};
+ghost use Rattle.network_run.specs.Telling.{HasToldFrom};
+ghost use Rattle.saved_modes.specs.Told.{HasToldResume};
 ghost use Rattle.workerless_call.specs.Task.{task_of};
 
 use call_ending::{Cause, Line, Refusal};
@@ -34,6 +37,7 @@ pub fn resume_text<R: Threads + Sync, G: Gate>(
 ) -> Result<Vec<u8>, Refusal>
     requires in_range { IsInRange request }
     ensures text { IfOk result (λ text. (resume_refused (task_of request input.now) ≡ None) × IsResumeText (task_of request input.now) text.items) }
+    ensures told { IsOk result → HasToldResume (G.told_held gate.now) (G.told_freed gate.now) (content_of input.now) }
     ensures refusal { IfErr result (IsRefusalOf (resume_refused (task_of request input.now)) ⊥) }
 {
     let saved = match load(alloc, input) {
@@ -62,6 +66,7 @@ fn report_on<R: Threads + Sync, G: Gate>(
 
     // Of a true start it is the report of the plain recurrences.
     ensures plain { IfOk result (λ text. IsTrueStart layout.now.net layout.now.chart.cut start → text.items ≡ report_of layout.now.net 0) }
+    ensures told { IsOk result → HasToldFrom (G.told_held gate.now) (G.told_freed gate.now) (region_count layout.now.chart.cut) start.steps layout.now.net.steps }
 {
     let regions = last_regions_from(rt, alloc, layout, start, workers, gate)?;
     let text = report_from(alloc, layout, &regions)?;
@@ -79,7 +84,8 @@ fn last_regions_from<R: Threads + Sync, G: Gate>(
 ) -> Result<Vec<Region>, NoMemory>
     requires can_start { CanStart layout.now.net layout.now.chart.cut start }
     requires workers { (1 ≤ workers) × (workers ≤ 16) }
-    ensures { IfOk result (λ regions. AllStand layout.now.net layout.now.chart start 0 (replicate (region_count layout.now.chart.cut) layout.now.net.steps) regions.items) }
+    ensures stand { IfOk result (λ regions. AllStand layout.now.net layout.now.chart start 0 (replicate (region_count layout.now.chart.cut) layout.now.net.steps) regions.items) }
+    ensures told { IsOk result → HasToldFrom (G.told_held gate.now) (G.told_freed gate.now) (region_count layout.now.chart.cut) start.steps layout.now.net.steps }
 {
     let net = layout.net();
     let setup = Setup::new(layout, start, 0);

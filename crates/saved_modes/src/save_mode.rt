@@ -1,9 +1,11 @@
-ghost use Rattle.std.specs.Prelude.{◌≡◌, ◌≤◌, IfErr, IfOk, None, Ok, length};
+ghost use Rattle.std.specs.Prelude.{◌≡◌, ◌≤◌, IfErr, IfOk, IsOk, None, Ok, length};
 ghost use Rattle.command_words.specs.Words.{IsInRange};
 ghost use Rattle.network_file.specs.Reading.{network_of};
 ghost use Rattle.network_file.specs.declared.limits.TheConstants.{MOST_BYTES};
 ghost use Rattle.call_ending.specs.Refusing.{IsRefusalOf};
 ghost use Rattle.saved_modes.specs.SaveMode.{IsSaveText, IsSavedRun, save_refused};
+ghost use Rattle.saved_modes.specs.Told.{HasToldSave};
+ghost use Rattle.workerless_call.specs.NetworkInput.{IsNetworkWith};
 ghost use Rattle.workerless_call.specs.Task.{task_of};
 
 use call_ending::Refusal;
@@ -28,6 +30,7 @@ pub fn saved_text<R: Threads + Sync, G: Gate>(
     requires in_range { IsInRange request }
     requires few_bytes { length input.now ≤ MOST_BYTES }
     ensures text { IfOk result (λ text. (save_refused (task_of request input.now) ≡ None) × IsSaveText (task_of request input.now) text.items) }
+    ensures told { IsOk result → IsNetworkWith (network_of input.now) (λ net. HasToldSave (G.told_held gate.now) (G.told_freed gate.now) net request) }
     ensures refusal { IfErr result (IsRefusalOf (save_refused (task_of request input.now)) ⊥) }
 {
     match network_in(alloc, input) {
@@ -48,7 +51,8 @@ fn saved_near<R: Threads + Sync, G: Gate>(
     requires in_range { IsInRange request }
     requires network { network_of input.now ≡ Ok net.now }
     requires few_bytes { length input.now ≤ MOST_BYTES }
-    ensures { IfOk result (λ text. IsSavedRun net.now request input.now text.items) }
+    ensures saved { IfOk result (λ text. IsSavedRun net.now request input.now text.items) }
+    ensures told { IsOk result → HasToldSave (G.told_held gate.now) (G.told_freed gate.now) net.now request }
 {
     let _steps = net.steps;
     let until = u64::from(request.until);

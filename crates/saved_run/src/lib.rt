@@ -1,5 +1,7 @@
-//! Where a run goes on: its regions at steps of their own, written as text and read again, and regions that all stand at
-//! one step, opened again in another cutting of the network (`even_start`).
+//! A saved run: its regions at steps of their own, written as text with the network's file and read again.
+//!
+//! `save_text` writes the text and `load` reads it. `even_start` opens a run again in another cutting of the network, from
+//! regions that all stand at one step.
 #![tactic(auto)]
 
 mod fault;

@@ -1,4 +1,4 @@
-//! The text of a shot of a run that is watched (docs/FORMAT.md, "The shots").
+//! The text of a shot: of a run that is watched, all regions at one moment (docs/FORMAT.md, "The shots").
 #![tactic(auto)]
 
 mod flight_lines;

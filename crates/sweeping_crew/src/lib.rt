@@ -1,5 +1,5 @@
-//! A crew whose members sweep, with no numbers of regions handed on: the plain form of the crew that the program runs by, on
-//! which no program stands.
+//! The plain form of a crew: its members sweep, one turn on each region in order, and hand no numbers of regions on. No
+//! program stands on it; the trials of the field compare with it.
 //!
 //! `drive` makes a number of sweeps with one pass, `crew` has several members drive at once, each in a thread of its own
 //! where one can be made, and `crew_watch` does so while one more pass takes a shot. No call takes memory.

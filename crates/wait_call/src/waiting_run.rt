@@ -16,8 +16,8 @@ use std::alloc::Global;
 use std::sync::Wait;
 use std::thread::Threads;
 
-/// The regions of a network that is cut, at the last step, recorded at none, taken there from step 0 by so many workers that wait where they
-/// would sweep in vain. All memory is taken before the first step.
+/// The regions of a layout at the last step, recorded at none, taken there from step 0 by so many workers that wait where
+/// they would sweep in vain. All memory is taken before the first step.
 pub(crate) fn last_regions<R: Threads + Wait + Sync, G: Gate>(
     rt: &R,
     alloc: Global,

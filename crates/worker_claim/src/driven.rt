@@ -6,10 +6,15 @@ use region_slots::Turn;
 /// How many turns came to each answer, and whether all turns of the last sweep found their region at the goal or past it.
 #[derive(Clone, Copy, Debug, Drop, PartialEq, Eq)]
 pub struct Driven {
+    /// Turns that took their region one step on.
     pub moved: u64,
+    /// Turns that found their region held.
     pub held: u64,
+    /// Turns that gave their region back, since a neighbour stood one step lower.
     pub behind: u64,
+    /// Turns that found their region at the goal or past it.
     pub ended: u64,
+    /// Whether all turns of the last sweep found their region at the goal or past it.
     pub all: bool,
 }
 

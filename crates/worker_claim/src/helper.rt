@@ -13,7 +13,9 @@ const PATIENCE: u32 = 16;
 /// its nest.
 #[derive(Drop)]
 pub struct Helper {
+    /// The member: its pass, and what came of its last turns.
     pub member: Member,
+    /// Its deque, and its handles on the deques of the others.
     pub nest: Nest,
 }
 

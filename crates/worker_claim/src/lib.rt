@@ -1,9 +1,12 @@
-//! Workers at a shared field: each takes turns on the regions with a pass of its own.
+//! Workers at a shared field. Each has a pass of its own and takes turns on the regions.
 //!
-//! `sweep` makes one turn on each region, and `finish` brings all regions to the goal with the pass that has all seats. The
-//! helpers of `crew_hints` and `crew_watch_hints` hand the numbers of regions to each other through their nests
-//! (`number_deques`), all at once, each in a thread of its own where one can be made, the second beside one more pass that
-//! takes a shot (`watch`). No call takes memory but those with helpers, which never answer that there is none.
+//! - [`sweep`] makes one turn on each region.
+//! - [`crew_hints`] has helpers work all at once, each in a thread of its own where one can be made. They hand the numbers of
+//!   regions to each other through their nests (`number_deques`).
+//! - [`crew_watch_hints`] does so while one more pass takes a shot ([`watch`]).
+//! - [`finish`] brings all regions to the goal with the pass that has all seats.
+//!
+//! No call takes memory but those with helpers, and these never answer that there is none.
 #![tactic(auto)]
 
 mod driven;

@@ -4,8 +4,11 @@ use region_slots::Pass;
 /// A member of a crew: a pass, the region at which its sweeps begin, and what came of its last turns.
 #[derive(Drop)]
 pub struct Member {
+    /// The pass by which it takes regions.
     pub pass: Pass,
+    /// The number of the region at which its sweeps begin.
     pub first: u32,
+    /// What came of its last turns.
     pub driven: Driven,
 }
 

@@ -17,9 +17,10 @@ from ..study.plan import Study
 from ..yielding.settling import DAMPING, LEAST_MOVE, limited, wanted_of
 from ..yielding.yielding import Yielding
 from .choices import Choice
+from .courses import Courses
 from .departures import Departures, departures_of
 from .forks import Rounded, exits_ahead, forks_of, parts_of, refuse_shares
-from .given_ways import given_choice
+from .first_ways import given_choice
 from .legs import Legs
 from .loading import loaded, moved, share_bounds
 from .passing import Passing, Passings
@@ -27,13 +28,21 @@ from .searching import Search
 from .shared_network import SharedNetwork
 from .swapping import Pace, swap
 from .times import Gap, gap_of, times_of
-from .trickle import let_through
+from .closed_branches import let_through
 from .ways_file import WayRow, rows_of
 
-RECORDED = 6  # so often in an interval of choice the runs are recorded, where steps and the program allow it
-LEAST_RECORDED = 60  # so often in a run at least
+EXACT = 1_000_000  # cells times steps; so many at most are recorded step by step, which makes all times exact
+RECORDED = 6  # so often in an interval of choice runs of more are recorded, where steps and the program allow it
+LEAST_RECORDED = 60  # so often in such a run at least
 
 Numbers = numpy.ndarray
+
+
+def recorded_every(steps: int, cells: int, width: int) -> int:
+    """From which step to which the runs are recorded, where an interval of choice has so many steps."""
+    if steps * cells <= EXACT:
+        return 1
+    return max(recording_step(steps, cells), min(width // RECORDED, steps // LEAST_RECORDED))
 
 
 @dataclass(frozen=True)
@@ -83,8 +92,7 @@ class Assignment:
         self.bounds = share_bounds(self.departures.width, self.network.steps, sum(len(fork.cells) for fork in self.forks))
         self.choices: list[Choice] = [given_choice(study, self.legs, self.shared.built.units, trips, self.departures)
                                       for trips in study.trips]
-        self.every = max(recording_step(self.network.steps, len(self.network.cells)),
-                         min(self.departures.width // RECORDED, self.network.steps // LEAST_RECORDED))
+        self.every = recorded_every(self.network.steps, len(self.network.cells), self.departures.width)
         self.crowded: set[tuple[str, str]] = set()  # the pairs for whose quickest ways there is no room
         self.times: list[Numbers] = []
         self.parts: list[Numbers] = []
@@ -121,7 +129,7 @@ class Assignment:
             counts = self._loaded()
 
     def _loaded(self) -> Numbers:
-        return loaded(self.choices, self.departures, self.passing, self.bounds)
+        return loaded(self.choices, self.courses)
 
     def _run(self, counts: Numbers) -> None:
         """Runs the network with the shares of what comes to the branches."""
@@ -131,7 +139,7 @@ class Assignment:
         self.text, self.report = run(content, self.study.path.name, self.shared.built.units, self.every, self.workers,
                                      self.program, network=self.network)
         self.passing = self.passings.of(self.report)
-        self.wanted = wanted_of(self.yielding, self.report)
+        self.wanted = wanted_of(self.yielding, dict.fromkeys((one.width for one in self.yielding), self.report))
         self.limits_moved = max((one.move(rates) for one, rates in zip(self.yielding, self.wanted)), default=0.0)
 
     def _limit(self, part: float) -> None:
@@ -157,8 +165,8 @@ class Assignment:
                         self.crowded.add((choice.source, choice.into))
 
     def _measure(self) -> None:
-        self.times = [times_of(choice, vehicles, self.departures, self.passing)
-                      for choice, vehicles in zip(self.choices, self.departures.vehicles)]
+        self.courses = Courses(self.choices, self.departures, self.passing, self.bounds)
+        self.times = times_of(self.courses)
 
     def rows(self) -> list[WayRow]:
         """The ways by pair and interval, with who set out on them and what they took."""

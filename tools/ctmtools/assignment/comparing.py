@@ -6,7 +6,7 @@ from collections.abc import Iterator, Sequence
 
 import pandas
 
-from ..report.page import table, told
+from ..report.summary import table, number_text
 from ..report.reading import Report
 from .ways_file import WayRow, ways_of_report
 
@@ -40,11 +40,11 @@ def pair_changes(first: Report, second: Report) -> Iterator[str]:
     gained, lost = int((frame.rise <= -LEAST).sum()), int((frame.rise >= LEAST).sum())
     yield (f"\nOf {len(frame)} pairs {gained} gained and {lost} lost; the mean from gate to exit in min, the greatest "
            "changes:\n")
-    rows = [(source, into, told(row.vehicles_second), told(row.minutes_first), told(row.minutes_second), _signed(row.rise),
+    rows = [(source, into, number_text(row.vehicles_second), number_text(row.minutes_first), number_text(row.minutes_second), _signed(row.rise),
              _signed(row.hours)) for (source, into), row in frame[:MOST_PAIRS].iterrows()]
     yield from table([("from", "to", "vehicles", "A", "B", "B - A", "vehicle-hours"), *rows], right=range(2, 7))
 
 
 def _signed(value: float) -> str:
-    text = told(abs(value))
+    text = number_text(abs(value))
     return "0" if text == "0" else ("+" if value > 0 else "-") + text

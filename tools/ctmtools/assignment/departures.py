@@ -39,8 +39,8 @@ class Departures:
         return self.vehicles.reshape(len(self.pairs), self.intervals, self.parts).sum(axis=2)
 
     def summed(self, values: Numbers) -> Numbers:
-        """The sums by interval of values by span."""
-        return values.reshape(self.intervals, self.parts).sum(axis=1)
+        """The sums by interval of values by span, in rows."""
+        return values.reshape(-1, self.intervals, self.parts).sum(axis=2)
 
     def begins(self, interval: int) -> int:
         """The step at which an interval begins."""

@@ -13,7 +13,7 @@ from ..study.reading import read_study
 from ..units import clock_text
 from .assigning import Assignment
 from .choices import Choice
-from .given_ways import way_of
+from .first_ways import way_of
 from .legs import Way
 from .ways_file import LEAST, WayRow, read_ways
 

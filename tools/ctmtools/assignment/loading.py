@@ -7,8 +7,7 @@ from collections.abc import Sequence
 import numpy
 
 from .choices import Choice
-from .departures import Departures
-from .passing import Passing
+from .courses import Courses
 
 Numbers = numpy.ndarray
 
@@ -17,22 +16,20 @@ MOST_SHARES = 50_000  # diverges times spans of shares, about
 FINEST = 30  # spans of shares in an interval of choice, at most
 
 
-def loaded(choices: Sequence[Choice], departures: Departures, passing: Passing, bounds: Numbers) -> Numbers:
+def loaded(choices: Sequence[Choice], courses: Courses) -> Numbers:
     """The vehicles that enter each leg in each span of shares: a row for each leg, of which gates have none.
 
     The cumulative departures on a way, moved to the moments at which they leave each leg, are those into the next one.
     """
-    legs = passing.legs
-    counts = numpy.zeros((len(legs.legs), len(bounds) - 1))
-    for choice, vehicles in zip(choices, departures.vehicles):
-        parts = numpy.repeat(choice.parts, departures.parts, axis=1)
-        for way, part in zip(choice.ways, parts):
-            if not part.any():
-                continue
-            come = numpy.concatenate([[0.0], numpy.cumsum(vehicles * part)])
-            for leg, moments in zip(way[1:], passing.along(way, departures.bounds)):
-                counts[leg] += numpy.diff(numpy.interp(bounds, moments, come))
-    return counts
+    departures = courses.departures
+    parts = numpy.concatenate([choice.parts for choice in choices])
+    vehicles = numpy.repeat(parts, departures.parts, axis=1) * departures.vehicles[courses.pairs]
+    come = numpy.hstack([numpy.zeros((len(vehicles), 1)), numpy.cumsum(vehicles, axis=1)])
+    span = numpy.minimum(courses.origins, vehicles.shape[1] - 1).astype(int)
+    rows = courses.rows[:, None]
+    before = come[rows, span]
+    passed = before + (courses.origins - span) * (come[rows, span + 1] - before)
+    return courses.into @ numpy.diff(passed, axis=1)
 
 
 def share_bounds(width: int, steps: int, diverges: int) -> Numbers:

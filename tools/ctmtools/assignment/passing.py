@@ -7,53 +7,61 @@ its last one.
 
 from __future__ import annotations
 
-from collections.abc import Iterable
+from collections.abc import Iterable, Iterator, Sequence
 
 import numpy
+from scipy.interpolate import interp1d
 
+from ..report.curves import left_at
 from ..report.reading import Report
-from ..report.travel import left_at
-from .legs import Legs, Way
+from .legs import Legs
 
 LEFT_BEHIND = 0.01  # vehicles; the rounding of a diverge leaves up to 0.002 in the cell before it
 BEYOND = 3  # so many times the steps of the run go the curves that are told; behind the run travel times stay
 CLOSED = 0.02  # a capacity of less than this part of the cell's own lets nobody through
 MOMENTS = 800  # of a grid, about
+LEAST = 1e-9  # of a span of the grid, which rounding may leave of nothing
 SPAN = 20  # of so many parts of the run the last one tells how fast a queue that is left at the end goes on
 
 Numbers = numpy.ndarray
 
 
 class Passing:
-    """For each leg the moment, in steps, at which who enters it at each moment of a grid leaves it."""
+    """For each leg the moment, in steps, at which who enters it at each moment of a grid leaves it.
+
+    The grid is even but for its last span.
+    """
 
     def __init__(self, legs: Legs, grid: Numbers, chains: Numbers) -> None:
         self.legs = legs
         self.grid = numpy.append(grid, BEYOND * grid[-1])
         last = chains[:, -1:] + (BEYOND - 1) * grid[-1]
-        self.chains = numpy.maximum.accumulate(numpy.hstack([chains, last]), axis=1)
-        self.left = numpy.empty((len(legs.legs), len(self.grid)))
-        for number, leg in enumerate(legs.legs):
-            moments = self.grid
-            for chain in leg.chains:
-                moments = numpy.interp(moments, self.grid, self.chains[chain])
-            self.left[number] = moments
-        self._along: dict[Way, list[Numbers]] = {}
+        chains = numpy.maximum.accumulate(numpy.hstack([chains, last]), axis=1)
+        self.left = numpy.tile(self.grid, (len(legs.legs), 1))
+        for numbers, own in in_turn([leg.chains for leg in legs.legs]):
+            self.left[numbers] = self._read(chains, own, self.left[numbers])
 
-    def through(self, leg: int, entered: Numbers) -> Numbers:
-        """When those leave a leg that enter it at some moments."""
-        beyond = numpy.maximum(entered - self.grid[-1], 0)
-        return numpy.interp(entered, self.grid, self.left[leg]) + beyond
+    def through(self, legs: Numbers, entered: Numbers) -> Numbers:
+        """When those leave legs that enter them at some moments: a row for each of these legs."""
+        return self._read(self.left, legs, entered)
 
-    def along(self, way: Way, entered: Numbers) -> list[Numbers]:
-        """When those leave each leg of a way that set out at some moments, which are the same in all calls for a way."""
-        if way not in self._along:
-            found, moments = [], entered
-            for leg in way:
-                moments = self.through(leg, moments)
-                found.append(moments)
-            self._along[way] = found
-        return self._along[way]
+    def _read(self, curves: Numbers, rows: Numbers, moments: Numbers) -> Numbers:
+        """What rows of curves over the grid have at the moments of each; behind the grid they rise as time does."""
+        last = len(self.grid) - 2
+        within = numpy.minimum(moments, self.grid[-1])
+        span = numpy.minimum(within / (self.grid[1] - self.grid[0]), last - 1).astype(int)
+        span[within >= self.grid[last]] = last
+        begin, rows = self.grid[span], rows[:, None]
+        part = (within - begin) / (self.grid[span + 1] - begin)
+        before = curves[rows, span]
+        return before + part * (curves[rows, span + 1] - before) + (moments - within)
+
+
+def in_turn(rows: Sequence[Sequence[int]]) -> Iterator[tuple[Numbers, Numbers]]:
+    """The first members of all rows, then the second ones, and so on: the numbers of the rows that have one, and these."""
+    for place in range(max(map(len, rows), default=0)):
+        own = [number for number, row in enumerate(rows) if len(row) > place]
+        yield numpy.array(own), numpy.array([rows[number][place] for number in own])
 
 
 class Passings:
@@ -67,8 +75,10 @@ class Passings:
         self.first = numpy.array([places[chain[0]] for chain in legs.chains])
         self.last = numpy.array([places[chain[-1]] for chain in legs.chains])
         self.cells = numpy.array([places[cell] for chain in legs.chains for cell in chain])
-        self.begins = numpy.cumsum([0, *map(len, legs.chains[:-1])])  # of the chains among these
-        self.closed = [list(self._closed(chain)) for chain in legs.chains]
+        self.lengths = numpy.array([len(chain) for chain in legs.chains])
+        self.begins = numpy.cumsum([0, *self.lengths[:-1]])  # of the chains among these
+        closed = {number: list(self._closed(chain)) for number, chain in enumerate(legs.chains)}
+        self.closed = {number: own for number, own in closed.items() if own}
 
     def _closed(self, chain: Iterable[str]) -> Iterable[tuple[int, int, int]]:
         """For a chain's cells that let nobody through for some time: the place in it, and the steps from and to."""
@@ -81,45 +91,45 @@ class Passings:
     def free(self) -> Passing:
         """The passing at free flow, where who comes to a closed cell waits until it is open."""
         grid = numpy.linspace(0, self.steps, min(self.steps, MOMENTS) + 1)
-        return Passing(self.legs, grid, numpy.array([self._soonest(chain, grid) for chain in range(len(self.legs.chains))]))
+        return Passing(self.legs, grid, self._soonest(grid))
 
     def of(self, report: Report) -> Passing:
         """The passing of a run; between two records as many come in each moment."""
         recorded = numpy.asarray(report.times, dtype=float)
         grid = _finer(recorded)
         departed, held = report.departed.to_numpy(), report.occupancy.to_numpy()
-        come = numpy.ascontiguousarray((held[:, self.first] + departed[:, self.first]).T)
+        come = (held[:, self.first] + departed[:, self.first]).T
         come += (numpy.add.reduceat(held[0, self.cells], self.begins) - held[0, self.first])[:, None]
-        gone = numpy.ascontiguousarray(departed[:, self.last].T)
-        return Passing(self.legs, grid, numpy.array([
-            numpy.maximum(_queued(recorded, numpy.interp(grid, recorded, come[chain]), gone[chain]),
-                          self._soonest(chain, grid)) for chain in range(len(self.legs.chains))]))
+        left = _queued(recorded, interp1d(recorded, come)(grid), numpy.ascontiguousarray(departed[:, self.last].T))
+        return Passing(self.legs, grid, numpy.maximum(left, self._soonest(grid)))
 
-    def _soonest(self, chain: int, entered: Numbers) -> Numbers:
-        """When who enters a chain leaves it at the soonest: a step in each cell, and the wait at closed ones."""
-        moments, place = entered, 0
-        for closed, begin, end in self.closed[chain]:
-            moments = moments + (closed - place)
-            moments = numpy.where((moments - 1 >= begin) & (moments - 1 < end), end + 1, moments)
-            moments = numpy.where((moments >= begin) & (moments < end), end, moments)
-            place = closed
-        return moments + (len(self.legs.chains[chain]) - place)
+    def _soonest(self, entered: Numbers) -> Numbers:
+        """When who enters each chain leaves it at the soonest: a step in each cell, and the wait at closed ones."""
+        left = entered + self.lengths[:, None]
+        for chain, closed in self.closed.items():
+            moments, place = entered, 0
+            for cell, begin, end in closed:
+                moments = moments + (cell - place)
+                moments = numpy.where((moments - 1 >= begin) & (moments - 1 < end), end + 1, moments)
+                moments = numpy.where((moments >= begin) & (moments < end), end, moments)
+                place = cell
+            left[chain] = moments + (self.lengths[chain] - place)
+        return left
 
 
 def _finer(recorded: Numbers) -> Numbers:
-    """Moments between recorded steps, and these, but none within a step."""
-    count = max(1, min(int(recorded[1] - recorded[0]), round(MOMENTS / len(recorded))))
-    return numpy.interp(numpy.arange(count * (len(recorded) - 1) + 1) / count, numpy.arange(len(recorded)), recorded)
+    """Moments between recorded steps, and these, but none within a step; the last of them may be nearer to the one before."""
+    between = recorded[1] - recorded[0]
+    width = between / max(1, min(int(between), round(MOMENTS / len(recorded))))
+    return numpy.append(numpy.arange(numpy.ceil(recorded[-1] / width - LEAST)) * width, recorded[-1])
 
 
 def _queued(recorded: Numbers, come: Numbers, gone: Numbers) -> Numbers:
-    """When who enters a chain as these numbers leave it by its curve; behind the run the queue goes on as at its end."""
+    """When who enters chains as these numbers leaves each by its curve; behind the run the queue goes on as at its end."""
     numbers = come - LEFT_BEHIND
     left = left_at(recorded, gone, numbers)
-    lost = numpy.isnan(left)
-    if lost.any():
-        since = max(0, min(len(recorded) - 2, int(len(recorded) * (1 - 1 / SPAN))))
-        rate = (gone[-1] - gone[since]) / (recorded[-1] - recorded[since])
-        wait = (numbers - gone[-1]) / rate if rate > 0 else numpy.inf
-        left = numpy.where(lost, recorded[-1] + numpy.minimum(wait, recorded[-1]), left)
-    return left
+    since = max(0, min(len(recorded) - 2, int(len(recorded) * (1 - 1 / SPAN))))
+    rate = (gone[:, -1:] - gone[:, [since]]) / (recorded[-1] - recorded[since])
+    wait = numpy.full(left.shape, recorded[-1])  # as if for a run more, at most
+    numpy.divide(numbers - gone[:, -1:], rate, out=wait, where=rate > 0)
+    return numpy.where(numpy.isnan(left), recorded[-1] + numpy.minimum(wait, recorded[-1]), left)

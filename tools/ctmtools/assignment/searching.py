@@ -2,7 +2,7 @@
 
 from __future__ import annotations
 
-from collections.abc import Iterator, Sequence
+from collections.abc import Iterable, Iterator, Sequence
 
 import numpy
 from scipy.sparse import csr_matrix
@@ -35,25 +35,23 @@ class Search:
 
     def _graph(self) -> csr_matrix:
         count, width = len(self.slots), self.slots[1]
-        rows, columns, times = [], [], []
-        for number, leg in enumerate(self.legs.legs):
-            if leg.end is None:
-                continue
-            left = self.passing.through(number, self.slots)
-            behind = numpy.minimum(numpy.rint(left / width), count - 1).astype(int)
-            here = number * count + numpy.arange(count)
-            for following in leg.follows:
-                rows.append(following * count + behind)
-            if not leg.follows:
-                rows.append(numpy.full(count, self.exits[leg.end]))
-            for _ in leg.follows or (leg.end,):
-                columns.append(here)
-                times.append(numpy.maximum(left - self.slots, LEAST))
-        size = len(self.legs.legs) * count + len(self.exits)
-        shape = (size, size)
-        if not rows:
-            return csr_matrix(shape)
-        return csr_matrix((numpy.concatenate(times), (numpy.concatenate(rows), numpy.concatenate(columns))), shape)
+        legs = self.legs.legs
+        left = self.passing.through(numpy.arange(len(legs)), numpy.tile(self.slots, (len(legs), 1)))
+        behind = numpy.minimum(numpy.rint(left / width), count - 1).astype(int)
+        times = numpy.maximum(left - self.slots, LEAST)
+        nodes = numpy.arange(len(legs) * count).reshape(len(legs), count)
+        ups, downs = self._numbers((number, following) for number, leg in enumerate(legs) for following in leg.follows)
+        lasts, exits = self._numbers((number, self.exits[leg.end]) for number, leg in enumerate(legs)
+                                     if leg.end is not None and not leg.follows)
+        rows = numpy.concatenate([(downs[:, None] * count + behind[ups]).ravel(), numpy.repeat(exits, count)])
+        own = numpy.concatenate([ups, lasts])
+        size = len(legs) * count + len(self.exits)
+        return csr_matrix((times[own].ravel(), (rows, nodes[own].ravel())), (size, size))
+
+    @staticmethod
+    def _numbers(pairs: Iterable[tuple[int, int]]) -> Numbers:
+        """The first numbers of pairs, and the second ones."""
+        return numpy.array(list(pairs), dtype=int).reshape(-1, 2).T
 
     def ways(self, wanted: Sequence[tuple[str, Sequence[tuple[str, float]]]]) -> Iterator[list[Way | None]]:
         """For each exit the ways of the least time into it from each gate at each moment; None where there is none.

@@ -8,25 +8,22 @@ from dataclasses import dataclass
 import numpy
 
 from .choices import Choice
+from .courses import Courses
 from .departures import Departures
-from .passing import Passing
 
 Numbers = numpy.ndarray
 
 
-def times_of(choice: Choice, vehicles: Numbers, departures: Departures, passing: Passing) -> Numbers:
-    """The mean steps from gate to exit on each way of a pair in each interval: a row for each way.
+def times_of(courses: Courses) -> list[Numbers]:
+    """The mean steps from gate to exit on each way of each pair in each interval: a row for each way.
 
     They are means over those who set out; where nobody does, over the interval.
     """
-    bounds = departures.bounds
-    weights = vehicles + 1e-9 * numpy.diff(bounds)
-    sums = departures.summed(weights)
-    rows = []
-    for way in choice.ways:
-        steps = passing.along(way, bounds)[-1] - bounds
-        rows.append(departures.summed(weights * (steps[:-1] + steps[1:]) / 2) / sums)
-    return numpy.array(rows).reshape(len(choice.ways), departures.intervals)
+    departures, pairs = courses.departures, courses.pairs
+    weights = departures.vehicles + 1e-9 * numpy.diff(departures.bounds)
+    steps = courses.arrived - departures.bounds
+    means = departures.summed(weights[pairs] * (steps[:, :-1] + steps[:, 1:]) / 2) / departures.summed(weights)[pairs]
+    return numpy.split(means, numpy.searchsorted(pairs, numpy.arange(1, len(weights))))
 
 
 @dataclass(frozen=True)

@@ -13,11 +13,11 @@ import numpy
 from ..network_file.network import read_bytes
 from ..problem import Problem
 from ..report.reading import Report
-from ..ties import checksum
+from ..checksums import checksum
 from ..units import Units, clock_text, seconds_of_clock
 from .choices import Choice
 from .departures import Departures
-from .given_ways import road_of
+from .first_ways import road_of
 from .legs import Legs, Way
 
 COLUMNS = ("from", "to", "start", "way", "vehicles", "minutes", "roads")

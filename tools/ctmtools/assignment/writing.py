@@ -13,7 +13,7 @@ from ..problem import Problem
 from ..report.reading import Report
 from ..running import opened, placed, run_into
 from ..study.writing import study_text
-from ..ties import checksum
+from ..checksums import checksum
 from ..units import units_path
 from .assigned_study import AssignedStudy
 from .assigning import Assignment, Round

@@ -12,9 +12,9 @@ import pandas
 from ..detectors.formats import BEGINS_WITH_TIME
 from ..detectors.names import TIMES, plain
 from ..detectors.reading import read
-from ..detectors.several import paths_of
+from ..detectors.file_set import paths_of
 from ..detectors.table import Source, named, source_of
-from ..detectors.wanted import Wanted
+from ..detectors.selection import Wanted
 from ..problem import Problem
 from ..report.queues import SLOW
 

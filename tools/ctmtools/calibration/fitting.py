@@ -5,6 +5,7 @@ from __future__ import annotations
 from collections.abc import Callable, Sequence
 from dataclasses import dataclass
 from fractions import Fraction
+from math import inf
 from pathlib import Path
 from typing import Any
 
@@ -40,6 +41,10 @@ class Range:
     low: float
     high: float
 
+    def __post_init__(self) -> None:
+        if not self.key or not -inf < self.low < self.high < inf:
+            raise Problem(f"--vary {self.key}={self.low:g}:{self.high:g}: expected KEY=LOW:HIGH, the lower one first")
+
 
 def range_of(text: str) -> Range:
     """The range that KEY=LOW:HIGH spells."""
@@ -49,8 +54,6 @@ def range_of(text: str) -> Range:
         low, high = map(float, parts)
     except ValueError:
         raise Problem(f"--vary {text}: expected KEY=LOW:HIGH") from None
-    if not key or not low < high:
-        raise Problem(f"--vary {text}: expected KEY=LOW:HIGH, the lower one first")
     return Range(key, low, high)
 
 

@@ -13,9 +13,9 @@ from ..detectors.formats import needed
 from ..detectors.names import plain
 from ..detectors.numbers import by_text, numbers
 from ..detectors.reading import read
-from ..detectors.several import paths_of
+from ..detectors.file_set import paths_of
 from ..detectors.table import Source, named, source_of
-from ..detectors.wanted import Wanted
+from ..detectors.selection import Wanted
 from ..problem import Problem
 from ..report.reading import Report
 from ..report.travel import cell_before

@@ -14,17 +14,19 @@ import pandas
 from ..assignment.assigning import Assignment, Round
 from ..assignment.diversion import ways_of_study
 from ..assignment.task import MEASURES, AssignTask, begun, measure_assigned, measures, step_of
-from ..assignment.told import not_settled, pair_lines, rounded_lines, settled_lines
+from ..assignment.messages import not_settled, pair_lines, rounded_lines, settled_lines
 from ..assignment.writing import drawn, places_of, written
 from ..files import write
 from ..problem import Problem
 from ..program import program_path
-from ..report.page import table, told
+from ..report.summary import table, number_text
 from ..running import processors
 from ..study.reading import read_values, study_of
-from ..study.telling import told as told_of_study
+from ..study.messages import built_lines as told_of_study
 from ..study.trips import part_of_drivers
 from ..sweeps.workers import beside, cluster, here
+from ..progress import bar
+from .finite import Finite
 
 EPILOG = """\b
 Examples:
@@ -45,7 +47,7 @@ The traffic is the program's: one run a round. tools/docs/routes.md has the meth
               help="An earlier assignment, whose ways the drivers have.")
 @click.option("--informed", metavar="PART[,PART..]", help="The part of the drivers who choose; else the study's.")
 @click.option("--after", metavar="TIME", help="Only who set out then or later choose anew.")
-@click.option("--gap", default=0.01, show_default=True, type=click.FloatRange(0, min_open=True),
+@click.option("--gap", default=0.01, show_default=True, type=Finite(0, min_open=True),
               help="The relative gap below which it ends.")
 @click.option("--iterations", default=50, show_default=True, type=click.IntRange(1, 10_000), help="The most rounds.")
 @click.option("-o", "--output", metavar="FILE.toml", type=click.Path(), help="Where the study goes; the rest beside it.")
@@ -99,29 +101,24 @@ def _parts(text: str | None) -> list[float | None]:
 def _rounds(assignment: Assignment, gap: float, iterations: int) -> list[Round]:
     """Goes from round to round, with a bar on a terminal, and tells what each came to."""
     rounds: list[Round] = []
-    shown = click.get_text_stream("stderr")
-    with click.progressbar(assignment.rounds(gap, iterations), length=iterations, label="rounds", show_pos=True,
-                           show_eta=False, file=shown, item_show_func=_shown) as bar:
-        rounds += bar
+    with bar(iterations, "rounds at most") as shown:
+        for done in assignment.rounds(gap, iterations):
+            rounds.append(done)
+            shown(1, f"gap {done.gap.relative:.4f}")
     heads = ("round", "gap", "delay (vehicle-hours)", "changed", "moved between branches")
-    lines = [(f"{done.number}", f"{done.gap.relative:.5f}", told(done.delay), f"{done.changed:,.1f}", f"{done.moved:.2%}")
+    lines = [(f"{done.number}", f"{done.gap.relative:.5f}", number_text(done.delay), f"{done.changed:,.1f}", f"{done.moved:.2%}")
              for done in rounds]
     click.echo("\n" + "\n".join(table([heads, *lines], right=range(5))))
     return rounds
 
 
-def _shown(done: Round | None) -> str | None:
-    """What stands behind the bar."""
-    return f"gap {done.gap.relative:.4f}" if done else None
-
-
 def _tell(assignment: Assignment, rounds: Sequence[Round], gap: float, ways: Sequence[Any], passing: Sequence[str]) -> None:
     """Tells how it ended: the gap, what rounding did, what passes of those who give way, and the ways of the pairs."""
     found = measures(assignment, rounds[-1])
-    click.echo(f"\nVehicles  {told(found['served_vehicles'])} were served, {told(found['inside_vehicles'])} are still "
+    click.echo(f"\nVehicles  {number_text(found['served_vehicles'])} were served, {number_text(found['inside_vehicles'])} are still "
                "inside")
-    click.echo(f"Time      {told(found['travel_vehicle_hours'])} vehicle-hours, {told(found['mean_minutes'])} min for each, of "
-               f"which the delay is {told(found['delay_vehicle_hours'])} vehicle-hours\n")
+    click.echo(f"Time      {number_text(found['travel_vehicle_hours'])} vehicle-hours, {number_text(found['mean_minutes'])} min for each, of "
+               f"which the delay is {number_text(found['delay_vehicle_hours'])} vehicle-hours\n")
     for line in [*not_settled(assignment, rounds, gap), *rounded_lines(assignment), *passing]:
         click.echo(line)
     for line in pair_lines(ways):
@@ -133,9 +130,10 @@ def _done(tasks: Sequence[AssignTask], jobs: int | None, address: str | None) ->
     count = min(jobs or processors(), len(tasks))
     done = cluster(tasks, address, measure_assigned) if address else here(tasks, measure_assigned) if count == 1 else \
         beside(tasks, count, measure_assigned)
-    with closing(done), click.progressbar(done, length=len(tasks), label=f"{len(tasks)} assignments",
-                                          file=click.get_text_stream("stderr")) as bar:
-        yield from bar
+    with closing(done), bar(len(tasks), f"{len(tasks)} assignments") as shown:
+        for one in done:
+            shown()
+            yield one
 
 
 def _tell_table(tasks: Sequence[AssignTask], done: Iterator[tuple[int, dict[str, Any]]], output: str | None) -> None:
@@ -147,7 +145,7 @@ def _tell_table(tasks: Sequence[AssignTask], done: Iterator[tuple[int, dict[str,
     lines: list[tuple[str, ...]] = [("informed", "rounds", "gap", "delay (vehicle-hours)", "all time (vehicle-hours)",
                                      "mean (min)", "served", "inside", "")]
     for _, row in frame.iterrows():
-        figures = [f"{row.rounds:.0f}", f"{row.gap:.5f}", *(told(row[name]) for name in MEASURES[2:])] if not row.error else \
+        figures = [f"{row.rounds:.0f}", f"{row.gap:.5f}", *(number_text(row[name]) for name in MEASURES[2:])] if not row.error else \
             [""] * len(MEASURES)
         lines.append((f"{row.informed:g}", *figures, f"failed: {row.error}" if row.error else ""))
     click.echo("\n".join(table(lines, right=range(8))))

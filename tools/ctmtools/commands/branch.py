@@ -11,11 +11,12 @@ import pandas
 from ..moments.futures import futures_of, reports_of
 from ..moments.moment import read_moment
 from ..report.comparing import side_by_side
-from ..report.page import table, told
-from ..report.unlike import unlike
+from ..report.summary import table, number_text
+from ..report.comparability import unlike
 from ..units import Units
-from ..working import bar
+from ..progress import bar
 from .compare import signed
+from .finite import Finite
 
 EPILOG = """\b
 Example:
@@ -34,7 +35,7 @@ are written, for `ctm-tools compare`."""
 @click.argument("sources", metavar="STUDY.toml|NET.csv..", type=click.Path(), nargs=-1, required=True)
 @click.option("-o", "--output", metavar="FOLDER", type=click.Path(), help="Write the reports there.")
 @click.option("-j", "--jobs", metavar="N", type=click.IntRange(1, 256), help="Runs side by side; else as many as processors.")
-@click.option("--value-of-time", metavar="MONEY", type=click.FloatRange(0), help="What an hour of delay costs.")
+@click.option("--value-of-time", metavar="MONEY", type=Finite(0), help="What an hour of delay costs.")
 def command(saved: str, sources: tuple[str, ...], output: str | None, jobs: int | None, value_of_time: float | None) -> None:
     """Run several futures of one saved moment, and compare their delays with the first one's."""
     moment = read_moment(saved)
@@ -64,8 +65,8 @@ def beside_each_other(frame: pandas.DataFrame, what: str) -> Iterator[str]:
     rows = []
     for name, row in frame.iterrows():
         part = f"{row.part:+.1%}" if abs(row.part) >= 0.0005 else ""
-        rows.append([str(name), *map(told, (row.came, row.served, row.inside, row.delay)), signed(row.rise), part])
+        rows.append([str(name), *map(number_text, (row.came, row.served, row.inside, row.delay)), signed(row.rise), part])
         if "cost" in frame:
-            rows[-1].append(told(row.cost))
+            rows[-1].append(number_text(row.cost))
     rows[0][5] = ""
     return table([heads + ["cost"] * ("cost" in frame), *rows], right=range(1, 8))

@@ -7,7 +7,7 @@ import click
 from ..files import guard_network, network_target, write_network
 from ..study.network_text import build
 from ..study.reading import read_study
-from ..study.telling import told
+from ..study.messages import built_lines
 from ..units import units_path
 
 EPILOG = """\b
@@ -35,5 +35,5 @@ def command(study: str, output: str | None) -> None:
     write_network(built, target)
     lines = built.text.count("\n")
     click.echo(f"{target} and {units_path(target)}: {lines} lines, a step of {built.units.step:g} s")
-    for line in told(built):
+    for line in built_lines(built):
         click.echo(f"  {line}")

@@ -10,9 +10,9 @@ import click
 from ..calibration.fitting import FILE, Calibration, by_place, fitted, most_runs, range_of
 from ..calibration.observed import read_observed
 from ..problem import Interrupted, Problem
-from ..report.page import table, told
+from ..report.summary import table, number_text
 from ..study.reading import read_study
-from ..working import bar
+from ..progress import bar
 from .detector_options import detector_options, wanted_by
 
 EPILOG = """\b
@@ -83,8 +83,8 @@ def command(study: str, observed: tuple[str, ...], places: tuple[str, ...], vari
     click.echo(f"\nDistance {found.distance:.4f}, with the study as it stands {found.before:.4f}; {found.runs} runs\n")
     rows = [("detector", "rows", "GEH, mean", "GEH below 5", "RMSE flow, vehicles/h", "RMSE speed, km/h")]
     for place, row in by_place(found.modelled, seen).iterrows():
-        rows.append((str(place), f"{row['rows']:.0f}", f"{row.geh:.2f}", f"{row.below_5:.0%}", told(row.rmse_flow),
-                     told(row.rmse_speed) if row.rmse_speed == row.rmse_speed else "-"))
+        rows.append((str(place), f"{row['rows']:.0f}", f"{row.geh:.2f}", f"{row.below_5:.0%}", number_text(row.rmse_flow),
+                     number_text(row.rmse_speed) if row.rmse_speed == row.rmse_speed else "-"))
     click.echo("\n".join(table(rows, right=range(1, 6))))
     save(against(found.modelled, seen, f"{Path(study).stem}: {_values(found.values)}"), picture)
     click.echo(f"\n{picture}")

@@ -10,11 +10,11 @@ import pandas
 from ..files import write
 from ..plans.choosing import Choice
 from ..problem import Interrupted, one_line
-from ..report.page import table, told
-from ..study.telling import warned_before_runs
+from ..report.summary import table, number_text
+from ..study.messages import warned_before_runs
 from ..sweeps.task import study
 from ..sweeps.variations import shown, variation
-from ..working import bar
+from ..progress import bar
 
 EPILOG = """\b
 Examples:
@@ -71,7 +71,7 @@ def _tell(choice: Choice, frame: pandas.DataFrame, rows: int) -> None:
     for _, row in frame.head(rows).iterrows():
         remark = f"failed: {one_line(row.error)}" if row.error else \
             f"rounded: {row.rounded}" if row.rounded not in ("", same) else ""
-        lines.append((*(shown(row[key]) for key in choice.keys), "" if row.error else told(row.delay_vehicle_hours), remark))
+        lines.append((*(shown(row[key]) for key in choice.keys), "" if row.error else number_text(row.delay_vehicle_hours), remark))
     click.echo("\n".join(table(lines, right=range(len(choice.keys) + 1))))
     if len(frame) > rows:
         click.echo(f"  and {len(frame) - rows} more rows")

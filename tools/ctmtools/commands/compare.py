@@ -9,10 +9,11 @@ import pandas
 
 from ..assignment.comparing import pair_changes
 from ..files import write
-from ..report.comparing import compare, totals, travel
-from ..report.page import table, told
+from ..report.comparing import compare, part_of, totals, travel
+from ..report.summary import table, number_text
 from ..report.reading import read_report
-from ..report.unlike import otherwise, unlike
+from ..report.comparability import otherwise, unlike
+from .finite import Finite
 from .reports import on_reports
 
 EPILOG = """\b
@@ -36,7 +37,7 @@ MOST_ROADS = 6  # so many roads are told with their travel time
 @click.option("--plot", "picture", metavar="FILE.png|svg", type=click.Path(),
               help="Draw the difference of the densities, B less A, as a time-space diagram.")
 @click.option("--road", metavar="ROAD", help="The road to draw; else the longest route.")
-@click.option("--value-of-time", metavar="MONEY", type=click.FloatRange(0), help="What an hour of delay costs.")
+@click.option("--value-of-time", metavar="MONEY", type=Finite(0), help="What an hour of delay costs.")
 @on_reports
 def command(first: str, second: str, rows: int, output: str | None, picture: str | None, road: str | None,
             value_of_time: float | None, units: str | None, network: str | None) -> None:
@@ -55,10 +56,10 @@ def command(first: str, second: str, rows: int, output: str | None, picture: str
     click.echo()
     lines = [("", "A", "B", "B - A", "")]
     for name, row in sums.iterrows():
-        part = row.rise / row["first"] if row["first"] else 0
+        part = part_of(row.rise, row["first"])
         change = f"{part:+.1%}" if abs(part) >= 0.0005 else ""
         of = {"delay": f", {unit}", "cost of the delay": ""}.get(str(name), ", vehicles")
-        lines.append((f"{name}{of}", told(row["first"]), told(row["second"]), signed(row.rise), change))
+        lines.append((f"{name}{of}", number_text(row["first"]), number_text(row["second"]), signed(row.rise), change))
     click.echo("\n".join(table(lines, right=(1, 2, 3, 4))))
     for line in [*_travel(travel(one, two)), *pair_changes(one, two)]:
         click.echo(line)
@@ -90,16 +91,16 @@ def _travel(frame: pandas.DataFrame) -> Iterator[str]:
         return
     yield (f"\nMean travel time from end to end in min, {min(MOST_ROADS, len(changed))} of {len(changed)} roads that "
            "differ:\n")
-    rows = [(road, told(row["first"]), told(row["second"]), signed(row.rise))
+    rows = [(road, number_text(row["first"]), number_text(row["second"]), signed(row.rise))
             for road, row in changed[:MOST_ROADS].iterrows()]
     yield from table([("road", "A", "B", "B - A"), *rows], right=(1, 2, 3))
 
 
 def _told(value: float) -> str:
-    return "none" if value != value else told(value)
+    return "none" if value != value else number_text(value)
 
 
 def signed(value: float) -> str:
     """A difference with its sign."""
-    text = told(abs(value))
+    text = number_text(abs(value))
     return "0" if text == "0" else ("+" if value > 0 else "-") + text

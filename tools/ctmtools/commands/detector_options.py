@@ -10,7 +10,7 @@ import click
 
 from ..detectors.days import ORDERS
 from ..detectors.rules import RULES, rules_of
-from ..detectors.wanted import Wanted
+from ..detectors.selection import Wanted
 from ..study.quantities import duration
 
 Command = TypeVar("Command", bound=Callable[..., Any])

@@ -11,8 +11,9 @@ from ..detectors.reading import COLUMNS, read, times_of
 from ..detectors.rules import RULES
 from ..files import write
 from ..problem import Problem
-from ..report.page import table
+from ..report.summary import table
 from .detector_options import detector_options, wanted_by
+from .finite import Finite
 
 EPILOG = """\b
 Examples:
@@ -27,7 +28,7 @@ file that is none of these is told which columns are missing. tools/docs/detecto
 @click.command(epilog=EPILOG)
 @click.argument("files", metavar="FILE..", nargs=-1, required=True, type=click.Path())
 @detector_options
-@click.option("--lanes", type=click.FloatRange(0.1), help="Of each station, where the files don't say it.")
+@click.option("--lanes", type=Finite(0.1), help="Of each station, where the files don't say it.")
 @click.option("-o", "--output", metavar="FILE.csv", type=click.Path(), help="Where the rows go that are left, in one format.")
 def command(files: tuple[str, ...], output: str | None, **terms: Any) -> None:
     """Read files of detectors, and tell what is in them, what is left out by which rule, and what is missing."""

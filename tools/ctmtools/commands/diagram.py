@@ -10,6 +10,7 @@ import click
 from ..calibration.diagram import fit, read_states
 from ..problem import Problem
 from .detector_options import detector_options, wanted_by
+from .finite import Finite
 
 EPILOG = """\b
 Examples:
@@ -24,8 +25,8 @@ study's [lane]."""
 
 @click.command(epilog=EPILOG)
 @click.argument("detectors", metavar="FILE..", nargs=-1, required=True, type=click.Path())
-@click.option("--lanes", type=click.FloatRange(0.1), help="Of how many lanes its flows are, where the file doesn't say it; else 1.")
-@click.option("--vehicle-length", "length", metavar="METRES", type=click.FloatRange(0.1, 100),
+@click.option("--lanes", type=Finite(0.1), help="Of how many lanes its flows are, where the file doesn't say it; else 1.")
+@click.option("--vehicle-length", "length", metavar="METRES", type=Finite(0.1, 100),
               help="Of a vehicle and the detector, by which an occupancy is a density.")
 @detector_options
 @click.option("-o", "--output", metavar="FILE.png|svg|pdf", type=click.Path(), help="Where the plot goes.")

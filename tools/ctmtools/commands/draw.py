@@ -9,14 +9,15 @@ import click
 
 from ..files import write
 from ..problem import Interrupted, Problem
-from ..report.page import table, told
+from ..report.summary import table
 from ..study.times import Times
 from ..uncertainty.drawn_runs import DrawnRuns
-from ..uncertainty.interval import Within, within
-from ..uncertainty.reliability import PERCENTS, Chance, Spread
-from ..uncertainty.results import TIME, Results, results_of
+from ..uncertainty.interval import within
+from ..uncertainty.results import Results, results_of
+from ..uncertainty.results_files import write_results
 from ..uncertainty.task import Asked
-from ..working import bar
+from ..uncertainty.telling import HEADS, compared_lines, plan_lines, spread_rows
+from ..progress import bar
 
 EPILOG = """\b
 Examples:
@@ -35,8 +36,6 @@ tools/docs/uncertainty.md has the rest: values drawn together, and incidents.
 
 A draw depends on the seed, its number and the keys alone: it is the same for each plan and by any number of workers.
 The runs are kept in FOLDER/runs.csv as they come; called again, draw makes those that are missing."""
-
-MOST_WAYS = 12  # so many roads are told, those with the greatest planning time index
 
 
 @click.command(epilog=EPILOG)
@@ -76,7 +75,7 @@ def command(sources: tuple[str, ...], runs: int, seed: int, given: str | None, r
     for line in drawn_runs.warnings():
         click.echo(line)
     _do(drawn_runs, jobs, address)
-    _tell(results_of(drawn_runs, ends), folder, drawn_runs.within)
+    _tell(results_of(drawn_runs, ends), folder, drawn_runs.is_narrow)
 
 
 def _do(drawn_runs: DrawnRuns, jobs: int | None, address: str | None) -> None:
@@ -92,16 +91,16 @@ def _do(drawn_runs: DrawnRuns, jobs: int | None, address: str | None) -> None:
         raise Interrupted(f"stopped with {drawn_runs.missing} of {asked} runs left; the same call goes on with them") from None
 
 
-def _tell(results: Results, folder: Path, narrow: Within | None) -> None:
+def _tell(results: Results, folder: Path, is_narrow: bool) -> None:
     """Prints what the draws tell, and writes the tables and the picture."""
-    write(folder / "draws.csv", results.draws.to_csv(index=False))
+    write_results(results, folder)
     failed = results.draws[results.draws.error != ""]
     if len(failed):
         click.echo(f"{len(failed)} of {len(results.draws)} runs failed; the same call tries them again; the first, draw "
                    f"{failed.draw.iloc[0]} of {failed.plan.iloc[0]}: {failed.error.iloc[0]}")
     if len(failed) == len(results.draws):
         raise Problem("no run succeeded")
-    for line in _lines(results, narrow):
+    for line in _lines(results, is_narrow):
         click.echo(line)
     write(folder / "summary.csv", results.summary.to_csv(index=False, float_format="%.9g"))
     from ..plots.draws import draw
@@ -111,12 +110,12 @@ def _tell(results: Results, folder: Path, narrow: Within | None) -> None:
     click.echo(f"\n{folder / 'draws.csv'}, {folder / 'summary.csv'}, {folder / 'plot.png'}")
 
 
-def _lines(results: Results, narrow: Within | None) -> Iterator[str]:
+def _lines(results: Results, is_narrow: bool) -> Iterator[str]:
     """What the draws tell, as lines."""
     stopped = f", where the interval was narrow enough; {results.asked_for} were asked for" \
         if results.count < results.asked_for else ""
-    yield f"{results.title}: {results.count} draws, seed {results.seed}{stopped}"
-    if narrow and results.count == results.asked_for and not narrow.is_reached(results.judged):
+    yield f"{results.title}: {results.count} draw{'s'[:results.count != 1]}, seed {results.seed}{stopped}"
+    if not is_narrow:
         yield "The interval isn't as narrow as was asked for; more --runs go on from here"
     for plan in results.plans:
         yield ""
@@ -125,63 +124,9 @@ def _lines(results: Results, narrow: Within | None) -> Iterator[str]:
         if not len(results.own(plan)):
             yield "  No run succeeded."
             continue
-        yield from _spreads(results, plan)
-        yield from _chances(results, plan)
+        yield from table([("", *HEADS), *spread_rows(results, plan)], right=range(1, 9))
+        for line in plan_lines(results, plan):
+            yield f"  {line}"
     for second in results.plans[1:]:
-        yield ""
-        yield from _compared(results, second)
-
-
-def _spreads(results: Results, plan: str) -> Iterator[str]:
-    """The table of delay and travel times of a plan."""
-    rows: list[tuple[str, ...]] = [("", "as it stands", "mean", "95 % interval", *(f"{percent} %" for percent in PERCENTS),
-                                    "planning time index", "buffer index")]
-    found = results.spreads(plan)
-    times = sorted((name for name in found if name.startswith(TIME)), key=lambda name: -results.planning_time_index(plan, name))
-    for name in ["delay", *times[:MOST_WAYS]]:
-        spread, unit = found[name], "vehicle-hours" if name == "delay" else "min"
-        indices = ("", "") if name == "delay" else (f"{results.planning_time_index(plan, name):.2f}",
-                                                    f"{results.buffer_index(plan, name):.0%}")
-        rows.append((f"{name} ({unit})", _number(results.as_it_stands(plan, name)), told(spread.mean), _interval(spread),
-                     *(told(spread.percentiles[percent]) for percent in PERCENTS), *indices))
-    yield from table(rows, right=range(1, 9))
-    if len(times) > MOST_WAYS:
-        yield f"  and {len(times) - MOST_WAYS} more roads in summary.csv"
-    inside = results.inside(plan)
-    if inside:
-        yield f"  In {inside} draw{'s'[:inside > 1]} vehicles are inside at the end: a part of their delay is still to come."
-
-
-def _interval(spread: Spread) -> str:
-    return f"{told(spread.of_mean[0])} to {told(spread.of_mean[1])}" if spread.count > 1 else "-"
-
-
-def _number(value: float | None) -> str:
-    return "-" if value is None else told(value)
-
-
-def _chances(results: Results, plan: str) -> Iterator[str]:
-    """How probable it is that a queue passes a place or lasts past a time."""
-    for place in results.places:
-        yield f"  A queue passes {place} in {_chance(results.passing(plan, place))}"
-    for time in results.times:
-        yield f"  A queue lasts past {time} in {_chance(results.lasting(plan, time))}"
-
-
-def _chance(chance: Chance) -> str:
-    low, high = chance.interval
-    return f"{chance.part:.0%} of draws (95 % interval {100 * low:.0f} to {100 * high:.0f} %)"
-
-
-def _compared(results: Results, second: str) -> Iterator[str]:
-    """The plan beside the first, draw by draw."""
-    first, found = results.plans[0], results.compared(second)
-    if found is None:
-        yield f"{first} and {second} have no draw in common in which both succeeded"
-        return
-    sign = -1 if found.difference.mean < 0 else 1
-    ends = sorted(sign * end for end in found.difference.of_mean)
-    middle = sorted(sign * end for end in found.middle)
-    yield f"{second} has less delay than {first} in {_chance(found.less)}"
-    yield (f"  It has {told(sign * found.difference.mean)} vehicle-hours {'less' if sign < 0 else 'more'} in the mean, "
-           f"95 % interval {told(ends[0])} to {told(ends[1])}; in 95 % of draws {told(middle[0])} to {told(middle[1])}")
+        first, *more = compared_lines(results, second)
+        yield from ("", first, *(f"  {line}" for line in more))

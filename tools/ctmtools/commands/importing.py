@@ -4,6 +4,7 @@ from __future__ import annotations
 
 import tomllib
 from dataclasses import replace
+from math import isfinite
 from pathlib import Path
 
 import click
@@ -18,6 +19,7 @@ from ..imports.traffic import traffic_of
 from ..imports.trip_study import open_traffic, trip_study_text
 from ..problem import Problem
 from ..study.quantities import clock, duration
+from .finite import Finite
 
 EPILOG = """\b
 Examples:
@@ -60,7 +62,7 @@ demand and turning shares by --interval. Streets on which nobody drives are left
 @click.option("--after", default="30 min", show_default=True, metavar="TIME", help="How long the study goes on then.")
 @click.option("--interval", default="15 min", show_default=True, metavar="TIME",
               help="The spans by which demand and shares change.")
-@click.option("--headway", default=1.4, show_default=True, metavar="SECONDS", type=click.FloatRange(0.5, 5),
+@click.option("--headway", default=1.4, show_default=True, metavar="SECONDS", type=Finite(0.5, 5),
               help="Between two vehicles that follow each other; with 7.5 m a vehicle it gives each lane's capacity.")
 def sumo(network: str, routes: tuple[str, ...], additional: tuple[str, ...], trips: bool, taz: str | None,
          matrices: tuple[str, ...], output: str | None, step: str, start: str, until: str, after: str, interval: str,
@@ -102,6 +104,8 @@ def seconds(text: str, key: str, least: float = 0.1) -> float:
         found = float(text)
     except ValueError:
         found = float(duration(text, key))
+    if not isfinite(found):
+        raise Problem(f"{key}: expected a length of time, found {text}")
     if found < least:
         raise Problem(f"{key}: must be {least:g} s or more")
     return found
@@ -173,7 +177,7 @@ and latitude.""")
 @click.option("--start", default="06:00", show_default=True, metavar="TIME", help="The clock time at which the study begins.")
 @click.option("--until", default="1 h", show_default=True, metavar="TIME", help="How long vehicles come.")
 @click.option("--after", default="30 min", show_default=True, metavar="TIME", help="How long the study goes on then.")
-@click.option("--headway", default=1.4, show_default=True, metavar="SECONDS", type=click.FloatRange(0.5, 5),
+@click.option("--headway", default=1.4, show_default=True, metavar="SECONDS", type=Finite(0.5, 5),
               help="Between two vehicles that follow each other; with 7.5 m a vehicle it gives each lane's capacity.")
 def osm(map_file: str, box: str | None, roads: str | None, trips: bool, output: str | None, step: str, start: str, until: str,
         after: str, headway: float) -> None:

@@ -4,7 +4,7 @@ from __future__ import annotations
 
 import click
 
-from ..given import read_as
+from ..file_kinds import read_as
 from ..network_file.examining import examine
 from ..network_file.warnings import shortened
 from ..units import read_units, units_path

@@ -16,17 +16,18 @@ from ..moments.metered_run import MeteredRun, kept_path, metered_run
 from ..problem import Interrupted, Problem
 from ..report.by_road import roads_and_gates
 from ..report.comparing import side_by_side
-from ..report.page import table, told, where
+from ..report.summary import table, number_text, where
 from ..report.reading import Report
 from ..study.network_text import build
 from ..study.plan import Meter, Study
 from ..study.quantities import duration
 from ..study.reading import read_study
-from ..study.telling import told as told_of
+from ..study.messages import built_lines as told_of
 from ..units import units_path
-from ..working import bar
+from ..progress import bar
 from .branch import beside_each_other
 from .compare import signed
+from .finite import Finite
 
 EPILOG = """\b
 Examples:
@@ -46,16 +47,16 @@ MOST_PLACES = 6  # so many roads and gates are told with their change of delay
 @click.command(epilog=EPILOG)
 @click.argument("source", metavar="STUDY.toml", type=click.Path())
 @click.option("--ramp", metavar="RAMP", help="The metered ramp, where the study has no [[meters]].")
-@click.option("--gain", metavar="K", type=click.FloatRange(0, min_open=True),
+@click.option("--gain", metavar="K", type=Finite(0, min_open=True),
               help="Vehicles/h for each per cent of occupancy; by default 70.")
-@click.option("--occupancy", metavar="PERCENT", type=float, help="The set point.")
+@click.option("--occupancy", metavar="PERCENT", type=Finite(0, 100, min_open=True, max_open=True), help="The set point.")
 @click.option("--interval", metavar="TIME", help="From one rate to the next; by default 1 min.")
-@click.option("--least", metavar="RATE", type=click.FloatRange(0), help="The least rate, vehicles/h; by default 240.")
-@click.option("--most", metavar="RATE", type=click.FloatRange(0), help="The greatest; by default what the ramp can pass.")
+@click.option("--least", metavar="RATE", type=Finite(0), help="The least rate, vehicles/h; by default 240.")
+@click.option("--most", metavar="RATE", type=Finite(0), help="The greatest; by default what the ramp can pass.")
 @click.option("-o", "--output", metavar="FILE.report", type=click.Path(), help="Where the report of the metered run goes.")
 @click.option("--rates", metavar="FILE.csv", type=click.Path(), help="Write the rates and occupancies there.")
 @click.option("--plot", "picture", metavar="FILE.png|svg|pdf", type=click.Path(), help="Draw them over time.")
-@click.option("--value-of-time", metavar="MONEY", type=click.FloatRange(0), help="What an hour of delay costs.")
+@click.option("--value-of-time", metavar="MONEY", type=Finite(0), help="What an hour of delay costs.")
 def command(source: str, ramp: str | None, output: str | None, rates: str | None, picture: str | None,
             value_of_time: float | None, **figures: Any) -> None:
     """Run a study with ramp meters that follow the occupancy behind them, by ALINEA, beside one without.
@@ -117,7 +118,7 @@ def _page(done: MeteredRun, value_of_time: float | None) -> Iterator[str]:
     yield ""
     heads = ("ramp", "detector", "set point, %", "gain", "rates, vehicles/h", "least set")
     rows = [(gauge.meter.ramp, where(report, gauge.detector), f"{gauge.wanted:.4g}", f"{float(gauge.meter.gain):g}",
-             f"{gauge.least:,.6g} to {gauge.most:,.6g}", told(done.rates[done.rates.ramp == gauge.meter.ramp].rate.min()))
+             f"{gauge.least:,.6g} to {gauge.most:,.6g}", number_text(done.rates[done.rates.ramp == gauge.meter.ramp].rate.min()))
             for gauge in done.gauges]
     yield from table([heads, *rows], right=range(2, 6))
     yield ""
@@ -128,9 +129,9 @@ def _page(done: MeteredRun, value_of_time: float | None) -> Iterator[str]:
     yield ""
     rise, unit = frame.rise["metered"], frame.attrs["units"]["delay"]
     if rise <= -0.005:
-        yield f"The meters lower the delay by {told(-rise)} {unit}, {-frame.part['metered']:.1%}."
+        yield f"The meters lower the delay by {number_text(-rise)} {unit}, {-frame.part['metered']:.1%}."
     elif rise >= 0.005:
-        yield f"The meters don't lower the delay: it rises by {told(rise)} {unit}."
+        yield f"The meters don't lower the delay: it rises by {number_text(rise)} {unit}."
     else:
         yield "The meters don't lower the delay: it is the same."
 
@@ -142,6 +143,6 @@ def _places(without: Report, report: Report) -> Iterator[str]:
         one, two = (report.units.hours(float(each.cells.wait[cells].sum())) for each in (without, report))
         if abs(two - one) >= 0.005:
             changes.append((abs(two - one), name, one, two))
-    rows = [(name, told(one), told(two), signed(two - one)) for _, name, one, two in sorted(changes, reverse=True)]
+    rows = [(name, number_text(one), number_text(two), signed(two - one)) for _, name, one, two in sorted(changes, reverse=True)]
     if rows:
         yield from table([("delay, vehicle-hours", "without", "metered", ""), *rows[:MOST_PLACES]], right=(1, 2, 3))

@@ -11,11 +11,12 @@ import click
 from ..plans.searching import BEST, Search, best_study
 from ..plans.timing import Point
 from ..problem import Interrupted, Problem
-from ..report.page import kilometre, table, told
+from ..report.comparing import LEAST_WHOLE
+from ..report.summary import kilometre, table, number_text
 from ..study.quantities import duration
 from ..study.reading import read_values
 from ..sweeps.task import Task, measure
-from ..working import bar
+from ..progress import bar
 
 EPILOG = """\b
 Examples:
@@ -50,7 +51,7 @@ def command(source: str, signals: bool, generations: int, population: int, seed:
     try:
         with bar(generations, f"{generations} generations") as done:
             best = search.run(generations, population, seed, lambda generation, runs, hours: done(
-                1, f"{runs} runs, least delay {told(hours)} vehicle-hours"))
+                1, f"{runs} runs, least delay {number_text(hours)} vehicle-hours"))
     except KeyboardInterrupt:
         raise Interrupted(f"stopped after {search.runs} runs; the same call goes on with what is missing") from None
     best_study(search, best, source, folder)
@@ -70,19 +71,19 @@ def _tell(search: Search, best: Point, source: str, target: Path) -> None:
     start = search.timing.start
     rows: list[tuple[str, ...]] = [("", "turns green at (s)", "now", "green (s)", "now")]
     for (place, first, greens), (_, now, split) in zip(search.timing.rows(start), search.timing.rows(best)):
-        rows.append((place, told(float(first)), told(float(now)), *(
-            "/".join(told(float(green)) for green in each) for each in (greens, split))))
+        rows.append((place, number_text(float(first)), number_text(float(now)), *(
+            "/".join(number_text(float(green)) for green in each) for each in (greens, split))))
     click.echo("\n".join(table(rows, right=range(1, 5))))
     before, after = (_measured(path, str(search.program)) for path in (source, str(target)))
     rows = [("", "before", "after")]
     for name, label in (("delay_vehicle_hours", "delay (vehicle-hours)"), ("longest_queue_km", "longest queue (km)"),
                         ("most_waiting_vehicles", "most waiting"), ("served_vehicles", "served"),
                         ("inside_vehicles", "inside"), ("travel_time_min", "travel time (min)")):
-        shown = kilometre if name == "longest_queue_km" else told
+        shown = kilometre if name == "longest_queue_km" else number_text
         rows.append((label, *("-" if one[name] != one[name] else shown(one[name]) for one in (before, after))))
     click.echo("\n" + "\n".join(table(rows, right=(1, 2))))
     old, new = before["delay_vehicle_hours"], after["delay_vehicle_hours"]
-    part = f"{1 - new / old:.1%} less delay" if old else "No delay before"
+    part = f"{1 - new / old:.1%} less delay" if old >= LEAST_WHOLE else "No delay before"
     click.echo(f"\n{part}; {search.runs} runs in this call, {len(search.tried.delays)} plans tried in all\n"
                f"{search.tried.path}, {target}")
 

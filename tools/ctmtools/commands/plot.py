@@ -7,6 +7,7 @@ from typing import Any
 import click
 
 from ..report.reading import read_report
+from .finite import Finite
 from .reports import Command, on_reports
 
 EPILOG = """\b
@@ -81,7 +82,7 @@ Examples:
 @on_picture
 @on_time
 @click.option("--cell", "cells", metavar="CELL", multiple=True, help="A cell; may be given again.")
-@click.option("--background", metavar="FLOW", type=float, help="Take off this flow, in vehicles/h.")
+@click.option("--background", metavar="FLOW", type=Finite(0), help="Take off this flow, in vehicles/h.")
 @click.option("--shifted", is_flag=True, help="Move each curve on by the free-flow time to the last cell.")
 def n_curves(**named: Any) -> None:
     """Cumulative curves: all vehicles that have gone out of chosen cells, over time."""

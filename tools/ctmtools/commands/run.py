@@ -12,11 +12,12 @@ from ..moments.actuated_signals import kept_path as greens_path
 from ..moments.moment import Moment
 from ..moments.stretches import kept_moment, kept_path, run_in_stretches, stretch_of
 from ..problem import Interrupted
-from ..report.page import page
+from ..report.summary import page
 from ..report.reading import Report
+from ..run_time import estimated
 from ..running import Prepared, opened, placed, run_into
 from ..units import units_path
-from ..working import bar, working
+from ..progress import bar, lasting
 
 EPILOG = """\b
 Examples:
@@ -64,7 +65,7 @@ def command(source: str, output: str | None, every: int | None, workers: int | N
     if prepared.told:
         click.echo()
     if not stretch:
-        with working("ctm is running"):
+        with lasting("ctm is running", lambda: estimated(prepared, every, workers)):
             report = run_into(target, prepared, every, workers, _news)
     else:
         report = _in_stretches(target, prepared, stretch, begun, workers)

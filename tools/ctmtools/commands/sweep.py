@@ -10,10 +10,10 @@ import pandas
 
 from ..files import write
 from ..problem import Interrupted, Problem
-from ..report.page import kilometre, table, told
+from ..report.summary import kilometre, table, number_text
 from ..sweeps.sweeping import Sweep
 from ..sweeps.variations import Variation, shown, variation
-from ..working import bar
+from ..progress import bar
 
 EPILOG = """\b
 Examples:
@@ -98,9 +98,9 @@ def _tell(sweep: Sweep, rows: int, folder: Path, drawn: Sequence[str]) -> None:
     lines = [(*keys, "delay (vehicle-hours)", "longest queue (km)", "most waiting", "served", "inside",
               "travel time (min)", "")]
     for _, row in frame.head(rows).iterrows():
-        figures = ("",) * 6 if row.error else (told(row.delay_vehicle_hours), kilometre(row.longest_queue_km),
-                                               f"{row.most_waiting_vehicles:,.0f}", told(row.served_vehicles),
-                                               told(row.inside_vehicles), _minutes(row.travel_time_min))
+        figures = ("",) * 6 if row.error else (number_text(row.delay_vehicle_hours), kilometre(row.longest_queue_km),
+                                               f"{row.most_waiting_vehicles:,.0f}", number_text(row.served_vehicles),
+                                               number_text(row.inside_vehicles), _minutes(row.travel_time_min))
         lines.append((*(shown(row[key]) for key in keys), *figures, _remark(row, same)))
     click.echo("\n".join(table(lines, right=range(len(keys) + 6))))
     if len(frame) > rows:
@@ -123,7 +123,7 @@ def _tell(sweep: Sweep, rows: int, folder: Path, drawn: Sequence[str]) -> None:
 
 
 def _minutes(value: float) -> str:
-    return told(value) if value == value else "-"
+    return number_text(value) if value == value else "-"
 
 
 def _remark(row: pandas.Series, same: str) -> str:

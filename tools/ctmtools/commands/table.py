@@ -12,6 +12,7 @@ from ..report.by_road import by_road
 from ..report.reading import read_report
 from ..report.states import states, totals
 from ..study.quantities import duration
+from .finite import Finite
 from .reports import on_reports
 
 EPILOG = """\b
@@ -38,7 +39,7 @@ With --totals: cell, occupancy, come, gone (vehicles), delay (vehicle-hours), ro
 @click.option("--totals", "ends", is_flag=True, help="The cells at the end, one row each; it needs no records.")
 @click.option("--by", type=click.Choice(["cell", "road", "ramp"]), default="cell", show_default=True, help="What a row is of.")
 @click.option("--interval", metavar="TIME", help="By road or ramp: the span of a row, as \"15 min\"; else the whole time.")
-@click.option("--value-of-time", metavar="MONEY", type=click.FloatRange(0),
+@click.option("--value-of-time", metavar="MONEY", type=Finite(0),
               help="By road or ramp, or with --totals: what an hour of delay costs.")
 @click.option("--cell", "cells", metavar="CELL", multiple=True, help="These cells alone; may be given again.")
 @click.option("--separator", default=",", show_default=True, help="What stands between fields.")

@@ -7,7 +7,7 @@ import pandas
 
 from ..files import write
 from ..problem import Problem
-from ..report.page import table, told, where
+from ..report.summary import table, number_text, where
 from ..report.reading import Report, read_report
 from ..report.travel import chain_of, travel_times
 from ..study.quantities import duration
@@ -81,13 +81,13 @@ def told_times(report: Report, cells: list[str], frame: pandas.DataFrame) -> lis
     rows: list[tuple[str, ...]] = [("set out from", "vehicles", f"mean, {unit}", "least", "most", "km/h")]
     for row in frame.itertuples():
         clock = report.units.clock(row.step) if report.units.known else f"{row.step:g}"
-        rows.append((clock, told(row.vehicles), *map(_figure, (row.mean, row.least, row.most, row.speed))))
-    free = f"{told(frame['free'].iloc[0])} {unit} at free flow, {len(cells)} steps"
+        rows.append((clock, number_text(row.vehicles), *map(_figure, (row.mean, row.least, row.most, row.speed))))
+    free = f"{number_text(frame['free'].iloc[0])} {unit} at free flow, {len(cells)} steps"
     return [f"{head}, {free}", "", *table(rows, right=range(1, 6))] + _late(frame)
 
 
 def _figure(value: float) -> str:
-    return told(value) if value == value else "-"
+    return number_text(value) if value == value else "-"
 
 
 def _late(frame: pandas.DataFrame) -> list[str]:

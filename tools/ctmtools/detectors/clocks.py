@@ -14,7 +14,7 @@ from ..problem import Problem
 from .formats import Format
 from .numbers import by_text
 from .table import Source
-from .wanted import Wanted
+from .selection import Wanted
 from .written_times import Day, Moment, day, day_text, moment
 
 

@@ -40,8 +40,7 @@ class Days:
 
     def leave_out(self, holidays: Sequence[datetime.date]) -> list[str]:
         """The days that are holidays; they aren't chosen by a word."""
-        if holidays:
-            self._need_dates("holidays")
+        self._need_dates("holidays")
         self.free = {text for text, date in self.dates.items() if date in holidays}
         return [text for text in self.days if text in self.free]
 

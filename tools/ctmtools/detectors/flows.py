@@ -9,7 +9,7 @@ from ..problem import Problem
 from ..units import DAY
 from .days import comes_again
 from .formats import VEHICLES
-from .several import Files
+from .file_set import Files
 
 HOUR = 3600
 DIGITS = 6  # of the decimals of all numbers, so that those of two units are the same
@@ -27,12 +27,12 @@ def with_flows(files: Files, frame: pandas.DataFrame) -> tuple[pandas.DataFrame,
     else:
         frame = frame.sort_values(["station", "moment", "again"], kind="stable", ignore_index=True)
         frame = _once(files, _with_hours_again(files, frame))
-        per, interval = files.per(), files.interval() or _asked(files) or _usual(files, frame)
+        per, interval = files.per(), _said(files) or _usual(files, frame)
     _check_grid(files, frame, interval)
     flow = frame.amount * HOUR / interval if per == "interval" else frame.amount
-    lanes = frame.lanes.groupby(frame.station, observed=True).transform("max")
+    lanes = frame.lanes.where(frame.lanes > 0).groupby(frame.station, observed=True).transform("max")
     if files.wanted.lanes is not None:
-        lanes = frame.lanes.fillna(files.wanted.lanes) if frame.lanes.isna().any() else lanes
+        lanes = lanes.fillna(files.wanted.lanes)
     occupancy = frame.occupancy.fillna(frame.occupied / interval / lanes.fillna(1) * 100)
     frame = frame.assign(flow=flow, occupancy=occupancy, lanes=lanes, interval=interval)
     measures = ["flow", "speed", "occupancy", "density", "observed"]
@@ -48,6 +48,14 @@ def _check_order(files: Files, frame: pandas.DataFrame) -> None:
         row = rows.loc[back.idxmax()]
         before = files.where(rows.loc[back.idxmax() - 1])
         raise Problem(f"{files.place(row)} is of an earlier time than {before}, and no dates tell of which day")
+
+
+def _said(files: Files) -> float:
+    """The interval that the files say or that is asked for; 0 where neither is."""
+    own, asked = files.interval(), _asked(files)
+    if own and asked and own != asked:
+        raise Problem(f"{files.name}: is of intervals of {own} s, and an interval of {asked:g} s is asked")
+    return own or asked
 
 
 def _asked(files: Files) -> float:
@@ -115,10 +123,11 @@ def _of_vehicles(files: Files, frame: pandas.DataFrame) -> pandas.DataFrame:
     begin = (frame.second // interval * interval).astype(int)
     frame = frame.assign(moment=frame.moment - frame.second + begin, second=begin, amount=1.0, slowness=1 / frame.speed)
     keys = ["station", "day", "moment", "second"]
-    found = frame.groupby(keys, observed=True, as_index=False).agg(
+    counted = frame.groupby([*keys, "again"], observed=True, as_index=False).agg(
         amount=("amount", "sum"), occupied=("occupied", "sum"), slowness=("slowness", "mean"), line=("line", "first"),
         file=("file", "first"), lanes=("lanes", "max"))
-    found = found.assign(speed=1 / found.slowness, occupancy=numpy.nan, density=numpy.nan, observed=numpy.nan, again=False)
+    counted = counted.assign(speed=1 / counted.slowness)
+    found, again = counted[~counted.again], counted[counted.again]
     spans = found.groupby(["station", "day"], observed=True).agg(first=("moment", "min"), last=("moment", "max"), line=("line", "first"),
                                                                 file=("file", "first"), midnight=("second", "min")).reset_index()
     counts = ((spans["last"] - spans["first"]) // interval + 1).astype(int)
@@ -128,4 +137,6 @@ def _of_vehicles(files: Files, frame: pandas.DataFrame) -> pandas.DataFrame:
     columns = ["amount", "occupied", "speed", "lanes"]
     filled = whole[[*keys, "line", "file"]].merge(found[[*keys, *columns]], "left", keys)
     filled[["amount", "occupied"]] = filled[["amount", "occupied"]].fillna(0)
-    return filled.assign(occupancy=numpy.nan, density=numpy.nan, observed=numpy.nan, again=False)
+    whole = pandas.concat([filled.assign(again=False), again[[*filled.columns, "again"]]])
+    whole = whole.assign(occupancy=numpy.nan, density=numpy.nan, observed=numpy.nan)
+    return whole.sort_values(["station", "moment", "again"], kind="stable", ignore_index=True)

@@ -9,7 +9,7 @@ from dataclasses import dataclass, field
 from ..problem import Problem
 from .names import COUNTS, DATES, ENDS, INTERVAL, STATIONS, TIMES, Quantity, plain, quantity_of, station_and_quantity
 from .table import Source, named
-from .wanted import Wanted
+from .selection import Wanted
 
 PEMS = "PeMS's Station 5-Minute"
 LONG, WIDE, VEHICLES = "a row a station and time", "a column a station", "a row a vehicle"

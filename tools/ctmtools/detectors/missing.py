@@ -8,9 +8,9 @@ import numpy
 import pandas
 
 from ..problem import Problem
-from ..units import clock_text
+from ..units import DAY, clock_text
 from .days import is_skipped
-from .several import Files
+from .file_set import Files
 
 MEASURES = ["flow", "speed", "occupancy", "density"]
 
@@ -33,15 +33,15 @@ def filled(files: Files, frame: pandas.DataFrame, interval: float) -> tuple[pand
     """
     frame = frame[frame.flow.notna()]
     grid = _grid(files, frame, interval)
-    whole = grid.merge(frame, "left", ["station", "day", "second"])
-    gone = whole.flow.isna()
-    first = _at(whole.loc[gone.idxmax()]) if gone.any() else ""
+    gone = ~numpy.isin(_places(grid), _places(frame))
+    first = _at(grid.iloc[gone.argmax()]) if gone.any() else ""
     missing = Missing(int(gone.sum()), first)
     asked = files.wanted.missing
     if asked is None or not gone.any():
         return frame, missing
     if asked == "error":
         raise Problem(f"{files.name}: no flow for {first}; say missing = \"zero\" or \"interpolate\"")
+    whole = grid.merge(frame, "left", ["station", "day", "second"])
     whole["moment"] = whole.moment.fillna(_moments(whole))
     if asked == "zero":
         whole["flow"] = whole.flow.fillna(0)
@@ -59,20 +59,33 @@ def filled(files: Files, frame: pandas.DataFrame, interval: float) -> tuple[pand
 
 
 def _grid(files: Files, frame: pandas.DataFrame, interval: float) -> pandas.DataFrame:
-    """Each station's intervals of each day, from the first to the last that any station has then."""
-    spans = frame.groupby("day", observed=True).second.agg(["min", "max"])
-    zone = files.wanted.zone
-    grids = []
+    """Each station's intervals of each day, from the first to the last that any station has then.
+
+    A station's intervals may begin some seconds behind those of others, all of its own by as many.
+    """
+    behind = frame.second % interval
+    spans = (frame.second - behind).groupby(frame.day, observed=True).agg(["min", "max"])
+    zone, days, seconds = files.wanted.zone, [numpy.empty(0, dtype=int)], [numpy.empty(0, dtype=int)]
     for day, row in spans.iterrows():
-        seconds = numpy.arange(row["min"], row["max"] + 1, interval).astype(int)
+        own = numpy.arange(row["min"], row["max"] + 1, interval).astype(int)
         date = files.days.dates.get(str(day))
         if zone and date:
-            seconds = numpy.array([one for one in seconds if not is_skipped(date, int(one), zone)], dtype=int)
-        grids.append(pandas.DataFrame({"day": day, "second": seconds}))
-    times = pandas.concat(grids) if grids else pandas.DataFrame({"day": [], "second": []})
-    stations = pandas.DataFrame({"station": list(dict.fromkeys(frame.station))})
-    whole = stations.merge(times, "cross")
-    return whole.astype({"station": frame.station.dtype, "day": frame.day.dtype})
+            own = numpy.array([one for one in own if not is_skipped(date, int(one), zone)], dtype=int)
+        seconds.append(own)
+        days.append(numpy.full(len(own), frame.day.cat.categories.get_loc(day)))
+    stations, times = frame.station.cat.codes.unique(), numpy.concatenate(seconds)
+    late = behind.groupby(frame.station.cat.codes).first()[stations].to_numpy(dtype=int)
+    return pandas.DataFrame({
+        "station": pandas.Categorical.from_codes(numpy.repeat(stations, len(times)), dtype=frame.station.dtype),
+        "day": pandas.Categorical.from_codes(numpy.tile(numpy.concatenate(days), len(stations)), dtype=frame.day.dtype),
+        "second": numpy.tile(times, len(stations)) + numpy.repeat(late, len(times))})
+
+
+def _places(frame: pandas.DataFrame) -> numpy.ndarray:
+    """A number for each station, day and second, the same in frames of the same stations and days."""
+    codes = frame.station.cat.codes.to_numpy(dtype=int) * len(frame.day.cat.categories) + frame.day.cat.codes.to_numpy(dtype=int)
+    places: numpy.ndarray = codes * (DAY + 1) + frame.second.to_numpy(dtype=int)
+    return places
 
 
 def _moments(whole: pandas.DataFrame) -> pandas.Series:

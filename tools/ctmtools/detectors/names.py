@@ -24,7 +24,8 @@ COUNTS = ("count", "counts", "vehicles")
 HOUR = ("vehicles/h", "veh/h", "vehicles/hour", "veh/hour", "vph")
 INTERVAL = ("vehicles", "veh", "vehicles/interval", "veh/interval")
 SPEEDS = {"km/h": 1.0, "kmh": 1.0, "kph": 1.0, "mph": float(MILE), "mi/h": float(MILE), "m/s": 3.6}
-OCCUPANCIES = {"%": 1.0, "percent": 1.0, "pct": 1.0, "share": 100.0, "fraction": 100.0, "0-1": 100.0}
+SHARE = 100.0  # of a share of 1
+OCCUPANCIES = {"%": 1.0, "percent": 1.0, "pct": 1.0, "share": SHARE, "fraction": SHARE, "0-1": SHARE}
 SECONDS = {"s": 1.0, "sec": 1.0, "seconds": 1.0, "ms": 0.001}
 UNITS: dict[str, tuple[str, ...]] = {
     "flow": (*HOUR, *INTERVAL), "speed": tuple(SPEEDS), "occupancy": (*OCCUPANCIES, *SECONDS), "occupied": tuple(SECONDS),

@@ -48,19 +48,19 @@ def by_text(column: pandas.Series, read: Callable[[str, str], Value], key: Calla
     `read` takes a text and its key, and `key` makes one of a line. Of several texts that can't be read the first in the file is
     told.
     """
-    codes, texts = column.cat.codes.to_numpy(), column.cat.categories
+    codes, texts = column.cat.codes.to_numpy(), list(column.cat.categories)
     places = numpy.full(len(texts), -1)
     places[codes[::-1]] = numpy.arange(len(codes))[::-1]  # the first row of each text
     values: list[Value | None] = [None] * len(texts)
-    faults: dict[int, Problem] = {}
-    for code, (text, place) in enumerate(zip(texts, places)):
+    faults: dict[int, str] = {}
+    for code, (text, place) in enumerate(zip(texts, places.tolist())):
         if place >= 0 and (blanks or text.strip()):
             try:
-                values[code] = read(text, key(column.index[place]))
-            except Problem as problem:
-                faults[place] = problem
+                values[code] = read(text, "")
+            except Problem:
+                faults[place] = text
     if faults:
-        raise faults[min(faults)]
+        read(faults[min(faults)], key(column.index[min(faults)]))  # is refused again, with its place
     return values
 
 
@@ -73,7 +73,11 @@ def numbers(column: pandas.Series, decimal: str | None, path: object, name: str,
                                            for i, text in enumerate(column.cat.categories)])
     if decimal is None and any("." in text and not THOUSANDS.fullmatch(text.strip()) for text in column.cat.categories):
         decimal = "."
+    plain = re.compile(rf"[0-9]{{1,9}}(?:{re.escape(decimal)}[0-9]+)?" if decimal else "[0-9]{1,9}")  # about which there is no doubt
+
     def read(text: str, key: str) -> float:
+        if plain.fullmatch(text):
+            return float(text.replace(decimal or ".", "."))
         value = number(text, decimal, key, what)
         if value > MOST:
             raise Problem(f"{key}: expected {what}, found \"{text}\"")

@@ -3,7 +3,7 @@
 from __future__ import annotations
 
 import datetime
-from collections.abc import Iterable
+from collections.abc import Iterable, Sequence
 from dataclasses import dataclass, field
 from pathlib import Path
 
@@ -14,9 +14,9 @@ from .days import hours_of, holidays_of
 from .flows import with_flows
 from .missing import Missing, filled
 from .rules import Rule, broken
-from .several import Files
+from .file_set import Files
 from .table import named
-from .wanted import Wanted
+from .selection import Wanted
 
 MEASURES = ["flow", "speed", "occupancy", "density"]
 COLUMNS = ["station", "day", "second", *MEASURES, "observed", "lanes", "file", "line"]
@@ -45,7 +45,7 @@ def read(names: str | Path | Iterable[str | Path], wanted: Wanted) -> Read:
     if days is not None and len(days) < len(files.days.days):
         lines.append(f"taken: {named(days)}")
     frame, left, interval = kept_rows(files, days)
-    first = _read_line(files, pandas.concat([frame, left]), interval)
+    first = _read_line(files, [frame, left], interval)
     frame, missing = filled(files, frame, interval)
     found = Read(files, frame, left, interval, missing)
     found.lines = [first, *lines, *left_lines(left, wanted.leave_out, files)]
@@ -78,7 +78,8 @@ def chosen_days(files: Files) -> tuple[list[str] | None, list[str]]:
     dates = list(files.days.dates.values())
     free = files.days.leave_out(holidays_of(wanted.holidays, sorted({date.year for date in dates}))) if wanted.holidays else []
     days = files.days.chosen(wanted.dates or ("all",))
-    lines = [f"holidays: {named(free)}, left out"] if [text for text in free if text not in days] else []
+    gone = [text for text in free if text not in days]
+    lines = [f"holidays: {named(gone)}, left out"] if gone else []
     return days, lines + hour_lines(files, days)
 
 
@@ -102,7 +103,7 @@ def left_lines(left: pandas.DataFrame, rules: Iterable[Rule], files: Files) -> l
     for rule in [*rules, SECOND_HOUR]:
         rows = left[left.rule == (rule.name if isinstance(rule, Rule) else rule)]
         if len(rows):
-            first = rows.sort_values(["file", "line"]).iloc[0]
+            first = rows.loc[rows.line[rows.file == rows.file.min()].idxmin()]
             lines.append(f"left out: {len(rows):,} by {rule}, the first in {files.where(first)}")
         elif isinstance(rule, Rule):
             none.append(str(rule))
@@ -123,13 +124,13 @@ def times_of(found: Read) -> pandas.Series:
     return pandas.to_datetime(found.rows.day.astype(object).map(dates)) + pandas.to_timedelta(found.rows.second, unit="s")
 
 
-def _read_line(files: Files, frame: pandas.DataFrame, interval: float) -> str:
+def _read_line(files: Files, frames: Sequence[pandas.DataFrame], interval: float) -> str:
     """What was read: stations, days, intervals and rows, and in which format."""
-    stations = frame.station.nunique()
-    there = set(frame.day.unique())
+    names, there = (set[str]().union(*(frame[name].unique() for frame in frames)) for name in ("station", "day"))
+    stations, rows = len(names), sum(map(len, frames))
     days = [text for text in files.days.days if text in there] if files.dated else []
     per = "vehicles in the interval" if files.per() == "interval" else "vehicles/h"
     span = f", {len(days)} day{'s' * (len(days) != 1)} ({days[0]}{f' to {days[-1]}' * (len(days) > 1)})" if days else ""
     lasting = f"{interval / 60:g} min" if interval >= 60 else f"{interval:g} s"
     return (f"{files.name}: {' and '.join(files.formats)}, {per}; {stations} station{'s' * (stations != 1)}{span}, intervals of "
-            f"{lasting}, {len(frame):,} rows")
+            f"{lasting}, {rows:,} rows")

@@ -52,18 +52,20 @@ def speed(frame: pandas.DataFrame, limit: float | None) -> pandas.Series:
 
 def constant(frame: pandas.DataFrame, limit: float | None) -> pandas.Series:
     """Flow, occupancy and speed, not all 0, that stay the same in more rows on end than the limit."""
-    values = frame[["flow", "occupancy", "speed"]].fillna(-1)
-    follows = (frame.station == frame.station.shift()) & (frame.moment - frame.moment.shift() == frame.interval)
-    same = (values == values.shift()).all(axis=1) & follows
-    runs = (~same).cumsum()
-    return (runs.groupby(runs).transform("size") > limit) & (values > 0).any(axis=1)
+    columns = [frame[name].fillna(-1) for name in ("flow", "occupancy", "speed")]
+    goes_on = (frame.station.cat.codes.diff() == 0) & (frame.moment.diff() == frame.interval)
+    same = goes_on & numpy.logical_and.reduce([column.diff() == 0 for column in columns])
+    runs = (~same).cumsum().to_numpy()
+    return numpy.logical_or.reduce([column > 0 for column in columns]) & pandas.Series(numpy.bincount(runs)[runs] > limit, frame.index)
 
 
 def capacity(frame: pandas.DataFrame, limit: float | None) -> pandas.Series:
     """More vehicles/h in a lane than can pass."""
-    unknown = frame.lanes.isna()
+    unknown = frame.lanes.isna() & (frame.flow > 0)
     if unknown.any():
-        raise Problem("the rule capacity needs the number of lanes, and the files don't say it; say lanes")
+        station = frame.station[unknown.idxmax()]
+        raise Problem(f"the rule capacity needs the number of lanes, and the files don't say it{f' of station {station}' * bool(station)}; "
+                      "say lanes")
     return frame.flow > limit * frame.lanes
 
 
@@ -74,7 +76,8 @@ def observed(frame: pandas.DataFrame, limit: float | None) -> pandas.Series:
 
 def repeated(frame: pandas.DataFrame, limit: float | None) -> pandas.Series:
     """Rows that stand there again, with the same values."""
-    return frame.duplicated([*AT, "flow", "occupancy", "speed", "density", "observed"])
+    twice = frame.duplicated(AT, keep=False)
+    return frame[twice].duplicated([*AT, "flow", "occupancy", "speed", "density", "observed"]).reindex(frame.index, fill_value=False)
 
 
 # For each rule what finds its rows, and its limit where it has one.
@@ -122,19 +125,20 @@ def broken(frame: pandas.DataFrame, rules: Sequence[Rule]) -> pandas.Series:
 
     The frame is in the order of stations and times.
     """
-    found = pandas.Series("", index=frame.index, dtype=object)
-    for rule in rules:
+    found = numpy.zeros(len(frame), dtype=int)  # the number of the rule, from 1 on
+    for i, rule in enumerate(rules, 1):
         if rule.name == DAY:
-            hit = _days(frame, found, rule.limit or 0)
+            hit = _days(frame, (found == 0) & frame.flow.notna() & ~frame.again.astype(bool), rule.limit or 0)
         else:
             hit = RULES[rule.name][0](frame, rule.limit)
-        found[hit & (found == "")] = rule.name
-    return found
+        found[hit.to_numpy(dtype=bool) & (found == 0)] = i
+    return pandas.Series(numpy.array(["", *(rule.name for rule in rules)], dtype=object)[found], index=frame.index)
 
 
-def _days(frame: pandas.DataFrame, found: pandas.Series, limit: float) -> pandas.Series:
-    """The rows of days of a station of which too few are left, of as many as any station has on that day."""
+def _days(frame: pandas.DataFrame, kept: pandas.Series, limit: float) -> pandas.Series:
+    """The kept rows of days of a station that has too few of them, of as many times as any station has on that day."""
     keys: list[Any] = [frame.station, frame.day]
-    left = (found == "").groupby(keys, observed=True).transform("sum")
-    most = frame.second.groupby(frame.day, observed=True).transform("nunique")
-    return left < most * limit / 100
+    left = kept.groupby(keys, observed=True).transform("sum")
+    times = frame.second.groupby(keys, observed=True).transform("nunique")
+    most = times.groupby(frame.day, observed=True).transform("max")
+    return kept & (left < most * limit / 100)

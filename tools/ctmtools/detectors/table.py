@@ -7,7 +7,6 @@ import io
 import re
 from collections.abc import Sequence
 from dataclasses import dataclass
-from operator import methodcaller
 from pathlib import Path
 
 import numpy
@@ -61,8 +60,8 @@ def _with_blank(rows: pandas.DataFrame, columns: Sequence[int]) -> pandas.DataFr
 def source_of(path: str | Path, separator: str | None = None) -> Source:
     """The text of a file as a table; without a separator that which its first line has, else a comma."""
     path, text = Path(path), text_of(path)
-    if separator is not None and (len(separator) != 1 or separator in "\n\""):
-        raise Problem(f"{path}: a separator is one character, found \"{separator}\"")
+    if separator is not None and (len(separator) != 1 or separator in "\n\"" or not separator.isascii()):
+        raise Problem(f"{path}: a separator is one character of ASCII, found \"{separator}\"")
     plain = re.sub(r'"[^"]*"', "", text) if '"' in text else text
     if plain.count("\n") < text.count("\n"):
         raise Problem(f"{path}: a field in quotes goes over several lines, or a quote is left open")
@@ -78,7 +77,10 @@ def source_of(path: str | Path, separator: str | None = None) -> Source:
 
 def _widths(plain: str, separator: str) -> numpy.ndarray:
     """How many fields each line of a text without quotes has."""
-    return numpy.fromiter(map(methodcaller("count", separator), plain.split("\n")), dtype=numpy.int64) + 1
+    letters = numpy.frombuffer(f"{plain}\n".encode(), dtype=numpy.uint8)
+    before = numpy.searchsorted(numpy.flatnonzero(letters == ord(separator)), numpy.flatnonzero(letters == ord("\n")))
+    widths: numpy.ndarray = numpy.diff(before, prepend=0) + 1
+    return widths
 
 
 def named(names: Sequence[str]) -> str:

@@ -6,7 +6,7 @@ from collections.abc import Callable, Iterator
 from dataclasses import dataclass
 
 from .greens import kept_green, overlap
-from .streets import ALL_STOP, LEFT, RIGHT, STOP, THROUGH, ZIPPER, Movement, Street, Streets, named
+from .streets import ALL_STOP, LEFT, RIGHT, STOP, THROUGH, ZIPPER, Movement, Streets, grouped, named
 from .traffic import Traffic
 
 MOST_NAMED = 12  # movements that a note names; the study has all of them at their junctions
@@ -52,6 +52,9 @@ class GivingWay:
 
     def __init__(self, found: Streets, traffic: Traffic) -> None:
         self.found = found
+        self.coming = grouped(found.streets.values(), lambda street: street.end)
+        self.leaving = grouped(found.streets.values(), lambda street: street.start)
+        self.ways_of = grouped(found.ways, lambda way: way[0])
         driven = {way: sum(row) for way, row in traffic.moved.items() if sum(row) > 0}
         heeded = {way: [other for other in found.ways[way].yields if other in driven] for way in driven if way in found.ways}
         self.left: dict[str, list[Movement]] = {}
@@ -112,24 +115,21 @@ class GivingWay:
             return "roundabout"
         if own.turns == LEFT:
             return "major-left" if self._has_priority(way[0]) else "minor-left"
-        return "minor-right" if own.turns == RIGHT else "minor-through"
+        merges = all(other[1] == way[1] for other in own.yields)  # it crosses nobody, as a turn to the right
+        return "minor-right" if merges or own.turns == RIGHT else "minor-through"
 
     def _has_priority(self, street: str) -> bool:
         """Whether who drives through from a street gives way to nobody; where nobody drives through, whether somebody does."""
-        ways = [way for pair, way in self.found.ways.items() if pair[0] == street]
+        ways = [self.found.ways[pair] for pair in self.ways_of[street]]
         through = [way for way in ways if way.turns == THROUGH] or ways
         return any(not way.yields for way in through)
 
-    def _coming(self, node: str) -> list[Street]:
-        return [street for street in self.found.streets.values() if street.end == node]
-
     def _lanes(self, node: str) -> int:
         """The lanes of the streets with priority at a node, both directions together: 2, 4 or 6."""
-        lanes = sum(street.lanes for street in self._coming(node) if self._has_priority(street.name))
+        lanes = sum(street.lanes for street in self.coming[node] if self._has_priority(street.name))
         return min(6, max(2, lanes + lanes % 2))
 
     def _legs(self, node: str) -> int:
         """3 where three streets meet at a node, and else 4."""
-        arms = {street.start for street in self._coming(node)}
-        arms |= {street.end for street in self.found.streets.values() if street.start == node}
+        arms = {street.start for street in self.coming[node]} | {street.end for street in self.leaving[node]}
         return 3 if len(arms) <= 3 else 4

@@ -3,6 +3,7 @@
 from __future__ import annotations
 
 import re
+from collections.abc import Mapping
 from math import inf
 from pathlib import Path
 
@@ -10,7 +11,8 @@ from ..problem import Problem
 from ..study.quantities import MILE
 from .gmns_places import Places
 from .gmns_tables import ZONAL, Row, once, read_table
-from .streets import ALL_STOP, BY_TIME, GIVE_WAY, STOP, Movement, Program, Said, Span, Street, Streets, Way, named
+from .streets import (ALL_STOP, BY_TIME, GIVE_WAY, STOP, Movement, Program, Said, Span, Street, Streets, Way, grouped,
+                      named)
 from .sumo import always, joined
 from .turning import meet, turn_of
 
@@ -55,6 +57,7 @@ class Reader:
         self.pairs: dict[str, Movement | None] = {}  # the streets of each movement's name; none where cars may not use them
         self.left: set[str] = set()  # links that cars may not use
         self.yielding: set[Movement] = set()  # movements that give way by their ctrl_type
+        self.at: Mapping[str, list[Movement]] = {}  # the movements of each node
         self.unsaid: dict[str, str] = {}  # the control of nodes that don't say who gives way
 
     def links(self) -> None:
@@ -112,13 +115,15 @@ class Reader:
                 way.control = control
             if row.text("share"):
                 self.found.shares[pair] = self.found.shares.get(pair, 0.0) + row.number("share", least=0.0)
+        self.at = grouped(self.found.ways, lambda pair: self.found.streets[pair[0]].end)
         self._yields()
         self._check_shares(rows)
         if not rows:
             self.found.notes.append("there is no movement.csv: at each node all ways but that back are taken")
+            leaving = grouped(self.found.streets.values(), lambda street: street.start)
             for one in self.found.streets.values():
-                for two in self.found.streets.values():
-                    if one.end == two.start and one.start != two.end:
+                for two in leaving[one.end]:
+                    if one.start != two.end:
                         self.found.ways[one.name, two.name] = Way(min(one.lanes, two.lanes), one.lanes)
 
     def _control(self, row: Row, pair: Movement) -> str:
@@ -173,8 +178,8 @@ class Reader:
 
     def _others(self, pair: Movement) -> set[Movement]:
         """The movements that come from other streets to the node of one, and meet it there."""
-        node, ways = self.found.streets[pair[0]].end, self.found.ways
-        return {other for other in ways if other[0] != pair[0] and self.found.streets[other[0]].end == node and
+        ways = self.found.ways
+        return {other for other in self.at[self.found.streets[pair[0]].end] if other[0] != pair[0] and
                 meet(pair, ways[pair], other, ways[other])}
 
     def signals(self) -> None:
@@ -193,10 +198,12 @@ class Reader:
             self.found.notes.append("there is no movement.csv, so the signals aren't kept: all movements are green at all times")
             return
         self._check_signals(phases, served)
+        phases_of = grouped(phases, lambda row: row.text("timing_plan_id"))
+        services_of = grouped(served, lambda row: row.text("timing_phase_id"))
         for plan in plans.values():
-            own = [row for row in phases if row.text("timing_plan_id") == plan.text("timing_plan_id")]
+            own = phases_of[plan.text("timing_plan_id")]
             if own:
-                self._plan(plan, own, served, offsets.get(plan.text("timing_plan_id"), 0.0))
+                self._plan(plan, own, services_of, offsets.get(plan.text("timing_plan_id"), 0.0))
         always(self.found, {pair for pair, way in self.found.ways.items() if way.green})
         for pair in self.yielding:
             program = self.found.programs.get(self.found.streets[pair[0]].end)
@@ -213,15 +220,16 @@ class Reader:
                 if row.text(column) not in names:
                     raise Problem(f"{row.key(column)}: there is none of this name, \"{row.text(column)}\"")
 
-    def _plan(self, plan: Row, phases: list[Row], served: list[Row], offset: float) -> None:
+    def _plan(self, plan: Row, phases: list[Row], services_of: Mapping[str, list[Row]], offset: float) -> None:
+        """The greens of a plan's phases; `services_of` are the movements of each phase."""
         spans = phase_spans(phases)
         cycle = plan.number("cycle_length", 0.0, 0.0) or max(
             end + row.number("clearance", 0.0, 0.0) for row, (_, end) in zip(phases, spans))
         greens: dict[Movement, list[tuple[Span, bool]]] = {}
         for row, span in zip(phases, spans):
-            for service in served:
+            for service in services_of[row.text("timing_phase_id")]:
                 pair = self.pairs.get(service.text("mvmt_id"))
-                if service.text("timing_phase_id") == row.text("timing_phase_id") and pair:
+                if pair:
                     greens.setdefault(pair, []).append((span, service.text("protection").lower() == "permitted"))
         for pair, own in greens.items():
             self.found.programs[self.found.streets[pair[0]].end] = Program(cycle, offset % cycle)

@@ -6,7 +6,7 @@ from collections import Counter
 from collections.abc import Collection, Container, Iterator, Mapping
 from dataclasses import dataclass
 
-from .streets import Movement, Program, Span, Streets, Way, named
+from .streets import Movement, Program, Span, Streets, Way, grouped, named
 from .traffic import Traffic
 
 SEVERAL = "they control several junctions"
@@ -57,21 +57,22 @@ def stages(ways: Mapping[Movement, Way], giving: Container[Movement], cycle: flo
 
 
 class Following:
-    """The nodes of a network whose greens follow traffic in the study, and by reason the signals that are kept as fixed ones."""
+    """The nodes of a network whose greens follow traffic in the study, and by reason the signals that are kept as fixed ones.
+
+    `at` has the movements with traffic of each node.
+    """
 
     def __init__(self, found: Streets, traffic: Traffic, giving: Collection[Movement]) -> None:
         self.nodes: set[str] = set()
         self.fixed: dict[str, list[str]] = {}
-        at: dict[str, list[Movement]] = {}
-        for pair in traffic.ways():
-            if pair in found.ways:
-                at.setdefault(found.streets[pair[0]].end, []).append(pair)
+        self.at = grouped((pair for pair in traffic.ways() if pair in found.ways), lambda pair: found.streets[pair[0]].end)
         signals = Counter(program.signal for program in found.programs.values())
         for node, program in found.programs.items():
-            if not program.stages or node not in at:
+            own = self.at[node]
+            if not program.stages or not own:
                 continue
-            reason = SEVERAL if signals[program.signal] > 1 else PERMITTED if any(pair in giving for pair in at[node]) else \
-                self._reason(found, at[node], program)
+            reason = SEVERAL if signals[program.signal] > 1 else PERMITTED if any(pair in giving for pair in own) else \
+                self._reason(found, own, program)
             if reason is None:
                 self.nodes.add(node)
             else:

@@ -15,7 +15,7 @@ from .map_places import Place, notes_of
 from .osm_ends import Ends, drop_ways_to_nowhere, metres, middle
 from .osm_map import Map, Point, Way, way_of
 from .standard_programs import call
-from .streets import Street, Streets
+from .streets import Street, Streets, grouped
 from .sumo import read_net, streets_of
 from .sumo_net import Net
 
@@ -37,7 +37,7 @@ SAYS = {
     "dead end": "streets end within the map, and have a gate or an exit there",
     "barred": "ways are barred to cars and left out",
     "missing": "ways miss nodes that aren't in the file, past which they go straight",
-    GUESSED_SPEED: "ways have no speed on the map, and that of their class, or of their radius",
+    GUESSED_SPEED: "ways have no speed on the map, or none that says both directions, and have a guess",
     GUESSED_LANES: "ways have no number of lanes on the map, or none that says both directions, and have a guess",
     "joined": "junctions are made of several nodes, as those of carriageways side by side",
     "roundabout": "roundabouts are rings of streets, on which who drives round has priority",
@@ -73,7 +73,9 @@ def read_map(path: str, classes: Sequence[str], box: Box | None, step: float) ->
         words = [word for name, value in WORDS.items() for word in (f"--{name}", value)]
         heard = call("netconvert", ["--osm-files", str(said), "--output-file", str(network), *words], path)
         net = read_net(network)
-    reader = Reader(found, {way.name: way for way in ways}, net, path)
+    by_name = {way.name: way for way in ways}
+    add_rings(net, by_name)
+    reader = Reader(found, by_name, net, path)
     reader.read(box or found.bounds)
     reader.tell_guesses(set(UNREAD.findall(heard)))
     reader.tell_ways(barred)
@@ -96,6 +98,15 @@ def _xml(path: str, box: Box | None, folder: Path) -> Path:
         call("osmium", ["tags-filter", str(source), "w/highway", "r/type=restriction", "-o", str(roads)], path)
         return roads
     return source
+
+
+def add_rings(net: Net, ways: dict[str, Way]) -> None:
+    """Puts the map's roundabouts of one or two arms, which netconvert takes for none, among those of its network."""
+    known = {name for names in net.roundabouts for name in names}
+    for name, edges in grouped(net.edges, lambda edge: way_of(edge.name, ways).name).items():
+        if osm_roads.is_ring(ways[name]) and known.isdisjoint(edge.name for edge in edges):
+            net.roundabouts.append(frozenset(edge.name for edge in edges))
+            net.ring_nodes.append([edge.start for edge in edges])
 
 
 class Reader:
@@ -195,20 +206,18 @@ class Reader:
 
     def tell_guesses(self, unread: set[str]) -> None:
         """Says of which ways the speed or the lanes are a guess; of `unread` netconvert couldn't read the speed."""
-        streets: dict[str, list[Street]] = {}
-        for street in self.streets.streets.values():
-            streets.setdefault(way_of(street.name, self.ways).name, []).append(street)
-        for name, own in streets.items():
-            way, first = self.ways[name], own[0]
-            if not osm_roads.says(way, osm_roads.SPEEDS) or name in unread:
-                by = f"a radius of {self.radii[first.name]:.0f} m" if first.name in self.radii else f"the class {way.kind}"
-                self.places.append(Place(GUESSED_SPEED, way.title, first.points[0], f"{first.speed:.0f} km/h by {by}"))
-            lanes = " and ".join(str(count) for count in dict.fromkeys(street.lanes for street in own))
-            if not osm_roads.says(way, osm_roads.LANES):
-                self.places.append(Place(GUESSED_LANES, way.title, first.points[0], f"{lanes} by the class {way.kind}"))
-            elif osm_roads.parted(way):
-                self.places.append(Place(GUESSED_LANES, way.title, first.points[0], f"{lanes} of the {way.tags['lanes']} of both "
-                                         "directions"))
+        for name, own in grouped(self.streets.streets.values(), lambda street: way_of(street.name, self.ways).name).items():
+            way = self.ways[name]
+            fast = own if name in unread else _unsaid(way, own, osm_roads.SPEEDS)
+            if fast:
+                by = f" by a radius of {self.radii[fast[0].name]:.0f} m" if fast[0].name in self.radii else \
+                    f" by the class {way.kind}" if name in unread else _by(way, osm_roads.SPEEDS)
+                self.places.append(Place(GUESSED_SPEED, way.title, fast[0].points[0], f"{fast[0].speed:.0f} km/h{by}"))
+            wide = own if osm_roads.parted(way) else _unsaid(way, own, osm_roads.LANES)
+            if wide:
+                lanes = " and ".join(str(count) for count in dict.fromkeys(street.lanes for street in wide))
+                by = f" of the {way.tags['lanes']} of both directions" if osm_roads.parted(way) else _by(way, osm_roads.LANES)
+                self.places.append(Place(GUESSED_LANES, way.title, wide[0].points[0], lanes + by))
 
     def tell_ways(self, barred: Sequence[Way]) -> None:
         """Says which ways are barred to cars, and which miss nodes."""
@@ -227,3 +236,13 @@ class Reader:
             if street.length < cell / 2:
                 self.places.append(Place("short", street.title, street.points[0], f"{1000 * street.length:.0f} m, and a cell has "
                                          f"{1000 * cell:.0f} m"))
+
+
+def _unsaid(way: Way, own: Sequence[Street], keys: Sequence[str]) -> list[Street]:
+    """Those of a way's streets of whose direction it says none of some keys."""
+    return [street for street in own if not osm_roads.says_of(way, keys, back=street.name.startswith(f"-{way.name}"))]
+
+
+def _by(way: Way, keys: Sequence[str]) -> str:
+    """By what a guess is made of what a way says none of some keys of."""
+    return ", of the direction of which the map says none" if osm_roads.says(way, keys) else f" by the class {way.kind}"

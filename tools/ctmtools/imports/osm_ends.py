@@ -4,7 +4,7 @@ from __future__ import annotations
 
 import re
 from bisect import bisect
-from collections.abc import Iterator, Sequence
+from collections.abc import Iterable, Iterator, Sequence
 from math import cos, hypot, radians
 
 import networkx
@@ -12,7 +12,7 @@ import networkx
 from .map_places import Place
 from .osm_map import Point
 from .osm_map import reach as reach_of
-from .streets import Street, Streets
+from .streets import Street, Streets, grouped
 
 EDGE = 50.0  # metres within which an end lies at the edge of the map
 GAP = 25.0  # metres between two ends that a gap may lie between
@@ -93,8 +93,8 @@ def drop_ways_to_nowhere(streets: Streets, ends: Ends) -> list[Place]:
         exit_.name for exit_ in ends.exits()])
     for name in causes:
         causes[name] = "no gate leads to it" if name not in onward else "it leads to no exit" if name not in back else ""
-    parts = [[name for name in part if not causes[name]] for part in networkx.weakly_connected_components(graph)]
-    largest = max(parts, key=lambda part: (sum(streets.streets[name].length for name in part), sorted(part)))
+    parts = _joined(streets, [name for name in causes if not causes[name]])
+    largest: list[str] = max(parts, key=lambda part: (sum(streets.streets[name].length for name in part), sorted(part)), default=[])
     edge = {street.name for street in ends.gates() if ends.at_edge(street.points[0])} | {
         street.name for street in ends.exits() if ends.at_edge(street.points[-1])}
     for part in parts:
@@ -108,6 +108,15 @@ def drop_ways_to_nowhere(streets: Streets, ends: Ends) -> list[Place]:
     for way in [way for way in streets.ways if not streets.streets.keys() >= set(way)]:
         del streets.ways[way]
     return [*reversed(told.values())]
+
+
+def _joined(streets: Streets, names: Iterable[str]) -> list[list[str]]:
+    """Streets as parts of the map of which no two have a node in common, both directions of a street in one part."""
+    graph = networkx.Graph((street.start, street.end) for street in streets.streets.values())
+    part: dict[str, str] = {}
+    for nodes in networkx.connected_components(graph):
+        part.update(dict.fromkeys(nodes, min(nodes)))
+    return [*grouped(names, lambda name: part[streets.streets[name].start]).values()]
 
 
 def _reached(graph: networkx.DiGraph, starts: list[str]) -> set[str]:

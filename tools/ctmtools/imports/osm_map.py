@@ -9,6 +9,7 @@ from pathlib import Path
 from xml.etree import ElementTree
 
 from ..problem import Problem, one_line
+from .streets import Item
 from .sumo_net import Element, check_root, opened
 
 Point = tuple[float, float]  # longitude and latitude in degrees
@@ -76,14 +77,20 @@ def _take(found: Map, element: Element, told: str) -> None:
         west, south, east, north = (_degrees(element, name, key) for name in ("minlon", "minlat", "maxlon", "maxlat"))
         found.bounds = west, south, east, north
     elif element.tag == "node":
-        found.nodes[element.get("id", "")] = _degrees(element, "lon", key), _degrees(element, "lat", key)
+        _put(found.nodes, element.get("id", ""), (_degrees(element, "lon", key), _degrees(element, "lat", key)), key)
         if tags.get("highway") == SIGNALS:
             found.signals.add(element.get("id", ""))
     elif element.tag == "way" and "highway" in tags:
         name = element.get("id", "")
-        found.ways[name] = Way(name, [node.get("ref", "") for node in element.iter("nd")], tags)
+        _put(found.ways, name, Way(name, [node.get("ref", "") for node in element.iter("nd")], tags), key)
     elif tags.get("type", "").startswith("restriction"):
         found.turns.append(element)
+
+
+def _put(items: dict[str, Item], name: str, item: Item, key: str) -> None:
+    """Puts a node or a way where there is none of its number, or one alike, as where two extracts overlap."""
+    if items.setdefault(name, item) != item:
+        raise Problem(f"{key}: is there twice, and not alike")
 
 
 def _degrees(element: Element, name: str, key: str) -> float:

@@ -17,7 +17,9 @@ ACCESS = ("motorcar", "motor_vehicle", "vehicle", "access")  # who may use a way
 BARRED = frozenset(["no", "private", "agricultural", "forestry", "delivery", "emergency", "military", "psv", "bus"])
 SPEEDS = ("maxspeed", "maxspeed:forward", "maxspeed:backward", "maxspeed:type", "zone:maxspeed")
 LANES = ("lanes", "lanes:forward", "lanes:backward")
+ROUND = ("roundabout", "circular")
 WHOLE = re.compile(r"[1-9][0-9]?")
+RULE = re.compile(r"\d+|[A-Z]{2}:\w+")  # a zone's speed, or the rule of a country by which one holds
 SPEED = re.compile(r"(?i)(?=.*[1-9])\d+(\.\d+)? *(km/h|kmh|kph|mph)?|none|walk|[A-Z]{2}:\w+")
 
 
@@ -58,11 +60,10 @@ def is_barred(way: Way) -> bool:
 
 
 def readable(way: Way) -> Way:
-    """A way without the lanes and speeds that no number can be read of."""
-    tags = {key: value for key, value in way.tags.items()
-            if not (key in LANES and not WHOLE.fullmatch(value.strip()) or
-                    key in SPEEDS[:3] and not SPEED.fullmatch(value.strip()))}
-    return replace(way, tags=tags)
+    """A way without the lanes and speeds that no number can be read of, and these without spaces around them."""
+    forms = {**dict.fromkeys(LANES, WHOLE), **dict.fromkeys(SPEEDS[:3], SPEED), **dict.fromkeys(SPEEDS[3:], RULE)}
+    tags = {key: value.strip() if key in forms else value for key, value in way.tags.items()}
+    return replace(way, tags={key: value for key, value in tags.items() if key not in forms or forms[key].fullmatch(value)})
 
 
 def says(way: Way, keys: Sequence[str]) -> bool:
@@ -70,10 +71,16 @@ def says(way: Way, keys: Sequence[str]) -> bool:
     return any(key in way.tags for key in keys)
 
 
+def says_of(way: Way, keys: Sequence[str], back: bool) -> bool:
+    """Whether a way says one of some keys of both its directions, or of the one with it, or `back` against it."""
+    other = ":forward" if back else ":backward"
+    return says(way, [key for key in keys if not key.endswith(other)])
+
+
 def parted(way: Way) -> bool:
     """Whether a way says an odd number of lanes of both directions together, and not how many each has."""
     lanes = way.tags.get("lanes", "")
-    return bool(lanes) and int(lanes) % 2 == 1 and int(lanes) > 1 and not is_oneway(way) and not says(way, LANES[1:])
+    return bool(lanes) and int(lanes) % 2 == 1 and not is_oneway(way) and not says(way, LANES[1:])
 
 
 def is_oneway(way: Way) -> bool:
@@ -82,4 +89,9 @@ def is_oneway(way: Way) -> bool:
     if said in ("no", "false", "0"):
         return False
     return said in ("yes", "true", "1", "-1", "reverse") or way.kind in ("motorway", "motorway_link") or \
-        way.tags.get("junction") in ("roundabout", "circular")
+        way.tags.get("junction") in ROUND
+
+
+def is_ring(way: Way) -> bool:
+    """Whether a way is a whole roundabout by itself."""
+    return way.tags.get("junction") in ROUND and way.nodes[0] == way.nodes[-1] and is_oneway(way)

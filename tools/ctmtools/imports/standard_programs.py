@@ -8,6 +8,7 @@ import subprocess
 from collections.abc import Sequence
 
 from ..problem import Problem, one_line
+from ..processes import aside, called, ended
 
 PACKAGES = {"netconvert": "sumo", "osmium": "osmium-tool"}  # of Debian
 MOST_TOLD = 3  # lines of what a program says of its failure
@@ -21,11 +22,14 @@ def call(program: str, words: Sequence[str], source: str) -> str:
     if path is None:
         raise Problem(f"{program}, which reads {source}, isn't installed: sudo apt-get install {PACKAGES[program]}")
     around = {name: value for name, value in os.environ.items() if name != OWN_TYPES}
-    done = subprocess.run([path, *words], env={**around, **SETTINGS}, stdin=subprocess.DEVNULL, stdout=subprocess.PIPE,
-                          stderr=subprocess.STDOUT)
-    said = done.stdout.decode("utf-8", "replace")
-    if done.returncode:
-        raise Problem(f"{source}: {program} failed with status {done.returncode}: {_cause(said)}")
+    with called([path, *words], env={**around, **SETTINGS}, stdin=subprocess.DEVNULL, stdout=subprocess.PIPE,
+                stderr=subprocess.STDOUT) as process:
+        assert process.stdout  # it is a pipe
+        out = aside(process.stdout.read)
+        status = ended(process, out)
+    said = out.result().decode("utf-8", "replace")
+    if status:
+        raise Problem(f"{source}: {program} failed with status {status}: {_cause(said)}")
     return said
 
 

@@ -2,7 +2,10 @@
 
 from __future__ import annotations
 
+from collections import defaultdict
+from collections.abc import Callable, Iterable, Mapping
 from dataclasses import dataclass, field
+from typing import TypeVar
 
 Movement = tuple[str, str]  # a street and the one that it leads into
 Span = tuple[float, float]  # from and to, in seconds
@@ -128,6 +131,17 @@ class Streets:
     gates: dict[str, list[tuple[float, float, float]]] = field(default_factory=dict)  # from, to, vehicles/h, with them
     said: list[Said] = field(default_factory=list)
     crs: str | None = None
+
+
+Item = TypeVar("Item")
+
+
+def grouped(items: Iterable[Item], name: Callable[[Item], str]) -> Mapping[str, list[Item]]:
+    """The items of each name, in their order; none of a name that no item has."""
+    found: dict[str, list[Item]] = defaultdict(list)
+    for item in items:
+        found[name(item)].append(item)
+    return found
 
 
 def named(names: list[str], most: int = 3) -> str:

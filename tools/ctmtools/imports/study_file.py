@@ -12,12 +12,12 @@ import networkx
 from ..study.coordinates import decimals_of
 from ..study.crossings import MOST_ARMS
 from ..study.quantities import clock
-from ..study.rounding import told
+from ..study.rounding import rounded_text
 from ..study.writing import quoted
 from .giving_way import GivingWay
 from .greens import Following, kept_green, stages, stages_of
 from .road_names import LONGEST_NAME, apart, heading, short_name
-from .streets import Movement, Program, Stage, Street, Streets, Way
+from .streets import Movement, Program, Stage, Street, Streets, Way, grouped
 from .traffic import EXIT, GATE, Traffic
 
 HOUR = 3600
@@ -69,8 +69,10 @@ class Writer:
         self.giving = GivingWay(found, traffic)
         self.following = Following(found, traffic, self.giving.taken)
         self.joints = self._joints()
+        self.unopposed = grouped((way for ways in self.giving.left.values() for way in ways), lambda way: way[0])
         self.crossed = {arm for comes, _ in self.joints if len(comes) > 1 for arm in comes}
         self.chains = self._chains()
+        self.chain_of = {street: chain for chain in self.chains for street in chain}
         self.names: dict[str, str] = {}
         self.cells: dict[str, str] = {}
         self._name_roads()
@@ -109,9 +111,10 @@ class Writer:
         graph = networkx.Graph()
         graph.add_edges_from(((one, "comes"), (two, "leaves")) for one, two in self.traffic.ways())
         self._unite(graph)
+        order = {arm: place for place, arm in enumerate(graph)}
         found = []
         for arms in networkx.connected_components(graph):
-            own = [arm for arm in graph if arm in arms]
+            own = sorted(arms, key=order.__getitem__)
             found.append(([arm for arm, side in own if side == "comes"], [arm for arm, side in own if side == "leaves"]))
         return found
 
@@ -119,16 +122,15 @@ class Writer:
         """Joins those who give way with those to whom they do, also where no street has both, and all of a node whose greens
         follow traffic; where that makes too many arms, they give way no longer."""
         for node in self.following.nodes:
-            ways = [way for way in self.traffic.ways() if way in self.found.ways and self.found.streets[way[0]].end == node]
+            ways = self.following.at[node]
             graph.add_edges_from(((ways[0][0], "comes"), (way[0], "comes")) for way in ways[1:])
         for way, one in list(self.giving.taken.items()):
-            wider = networkx.Graph(graph)
-            wider.add_edges_from(((way[0], "comes"), (other[0], "comes")) for other in one.others)
-            arms = networkx.node_connected_component(wider, (way[0], "comes"))
+            ends = [(other[0], "comes") for other in (way, *one.others)]
+            arms = set().union(*(networkx.node_connected_component(graph, end) for end in ends))
             if max(sum(side == each for _, side in arms) for each in ("comes", "leaves")) > MOST_ARMS:
                 self.giving.leave([way], TOO_WIDE)
             else:
-                graph.add_edges_from(((way[0], "comes"), (other[0], "comes")) for other in one.others)
+                graph.add_edges_from((ends[0], end) for end in ends[1:])
 
     def _signalled(self, street: str) -> bool:
         return street in self.found.streets and self.found.streets[street].end in self.found.programs
@@ -272,7 +274,7 @@ class Writer:
     def _node(self, comes: list[str], leaves: list[str]) -> Iterator[str]:
         """What joins roads, gates and exits at a node: nothing, a merge, a diverge or a junction."""
         signal = any(self._signalled(street) for street in comes)
-        unopposed = [self._moving(way) for ways in self.giving.left.values() for way in ways if way[0] in comes]
+        unopposed = [self._moving(way) for one in comes for way in self.unopposed[one]]
         if unopposed:
             yield f"# Give way to others, and don't wait for them here: {', '.join(unopposed)}"
         if len(comes) == len(leaves) == 1:
@@ -299,7 +301,7 @@ class Writer:
 
     def _straight(self, one: str, two: str) -> Iterator[str]:
         """A link from a street to the one into which all drive, with the signal between them."""
-        if GATE + two == one or EXIT + one == two or not any(chain[0] == two for chain in self.chains):
+        if GATE + two == one or EXIT + one == two or self.chain_of[two][0] != two:
             return  # a gate, an exit, or a road that goes on
         yield "[[links]]"
         yield f"from = {quoted(self.names[one])}"
@@ -307,7 +309,7 @@ class Writer:
         yield ""
         if self._dark((one, two)):
             yield from self._closed(self.names[one], 0.999 * sum(self.found.streets[street].length for street in
-                                    next(chain for chain in self.chains if one in chain)))
+                                                                 self.chain_of[one]))
         elif self._signalled(one):
             program = self.found.programs[self.found.streets[one].end]
             (start, green), _ = self._phases([(one, two)], program.cycle)[0]
@@ -432,7 +434,7 @@ class Writer:
                  for one in street) < self._cell(chain[0]) / 2]
         if short:
             notes.append(f"{len(short)} roads are shorter than half a cell and become one, as "
-                         f"{told(sum(self.found.streets[one].length for one in short[0]) * 1000)} m at "
+                         f"{rounded_text(sum(self.found.streets[one].length for one in short[0]) * 1000)} m at "
                          f"{self._called(short[0][0])}")
         return notes
 

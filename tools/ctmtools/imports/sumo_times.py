@@ -22,7 +22,7 @@ def seconds_of(text: str, key: str) -> float:
 def amount_of(text: str, key: str, expected: str = "a number of 0 or more") -> float:
     """The number that a text spells, which isn't negative."""
     try:
-        found = float(text)
+        found = math.nan if "_" in text else float(text)  # Python takes 1_000 for a number
     except ValueError:
         found = math.nan
     if not 0 <= found < math.inf:

@@ -2,6 +2,7 @@
 
 from __future__ import annotations
 
+import re
 from collections.abc import Iterator, Sequence
 from dataclasses import dataclass, field
 from pathlib import Path
@@ -14,7 +15,9 @@ from . import gmns_tables
 from .gmns_tables import ZONAL, once, read_table
 from .streets import Said, Streets, Trip
 from .sumo_net import read_xml
+from .sumo_times import amount_of
 
+TIMES = re.compile(r"(\d+)\.(\d+)\s+(\d+)\.(\d+)(\s.*)?", re.ASCII)  # hours and minutes, twice
 
 @dataclass
 class Zone:
@@ -32,12 +35,14 @@ def read_districts(found: Streets, path: str | Path) -> Zones:
     """The districts of a file of SUMO: their edges, or sources and sinks with weights."""
     zones: Zones = {}
     for element in read_xml(path, "additional", "tazs").iter("taz"):
-        zone = zones.setdefault(element.get("id", ""), Zone())
+        name = element.get("id", "")
+        zone = zones.setdefault(name, Zone())
         for street in element.get("edges", "").split():
             zone.sources[street] = zone.sinks[street] = 1.0
         for tag, streets in (("tazSource", zone.sources), ("tazSink", zone.sinks)):
             for end in element.iter(tag):
-                streets[end.get("id", "")] = float(end.get("weight", "1"))
+                street = end.get("id", "")
+                streets[street] = amount_of(end.get("weight", "1"), f"{path}: taz {name}, {tag} {street}: weight")
     for zone in zones.values():
         for streets in (zone.sources, zone.sinks):
             for street in [street for street in streets if street not in found.streets]:
@@ -51,33 +56,30 @@ def read_matrix(path: str | Path) -> tuple[float, float, list[Row]]:
     """The seconds from and to, and the rows, of a matrix in SUMO's formats O and V."""
     lines = [line.strip() for line in read_bytes(path).decode("utf-8", "replace").splitlines()]
     kept = [(number, line) for number, line in enumerate(lines, 1) if line and not line.startswith("*")]
-    if len(kept) < 4 or not kept[0][1].startswith(("$O", "$V")):
+    sort = kept[0][1].partition(";")[0] if kept else ""
+    if not sort.startswith(("$O", "$V")):
         raise Problem(f"{path}: no matrix of SUMO; the first line begins with $O or $V")
-    (begin, end), factor = _times(path, kept[1]), _numbers(path, kept[2], 1)[0]
-    rows = _list_rows(path, kept[3:]) if kept[0][1].startswith("$O") else _square_rows(path, kept[3:])
+    kept = kept[2 if "M" in sort else 1:]  # after an M a line says the type of the vehicles
+    if len(kept) < 3:
+        raise Problem(f"{path}: ends before its times, its factor and its rows")
+    (begin, end), factor = _times(path, kept[0]), _number(path, kept[1])
+    rows = _list_rows(path, kept[2:]) if sort.startswith("$O") else _square_rows(path, kept[2:])
     return begin, end, [(source, into, vehicles * factor) for source, into, vehicles in rows]
 
 
 def _times(path: str | Path, line: tuple[int, str]) -> tuple[float, float]:
-    """Times as `hh.mm hh.mm`, in seconds."""
-    texts = line[1].split()
-    _numbers(path, line, 2)
-    begin, end = (60 * (60 * int(hours) + int((minutes or "0").ljust(2, "0"))) for hours, _, minutes in
-                  (text.partition(".") for text in texts))
+    """Two times in seconds, each written as the hour, a point and the whole minutes: 7.5 is five past seven, as in SUMO."""
+    found = TIMES.fullmatch(line[1])
+    if not found:
+        raise Problem(f"{path}: line {line[0]}: expected two times as hours.minutes, as 7.00 8.30, found \"{line[1]}\"")
+    begin, end = (60 * (60 * int(found[hour]) + int(found[hour + 1])) for hour in (1, 3))
     if end <= begin:
         raise Problem(f"{path}: line {line[0]}: the end isn't after the start")
     return begin, end
 
 
-def _numbers(path: str | Path, line: tuple[int, str], count: int) -> list[float]:
-    texts = line[1].split()
-    try:
-        found = [float(text) for text in texts]
-    except ValueError:
-        raise Problem(f"{path}: line {line[0]}: expected numbers, found \"{line[1]}\"") from None
-    if len(found) != count or min(found) < 0:
-        raise Problem(f"{path}: line {line[0]}: expected {count} numbers that aren't negative, found \"{line[1]}\"")
-    return found
+def _number(path: str | Path, line: tuple[int, str]) -> float:
+    return amount_of(line[1], f"{path}: line {line[0]}")
 
 
 def _list_rows(path: str | Path, lines: Sequence[tuple[int, str]]) -> Iterator[Row]:
@@ -85,19 +87,25 @@ def _list_rows(path: str | Path, lines: Sequence[tuple[int, str]]) -> Iterator[R
         texts = line.split()
         if len(texts) != 3:
             raise Problem(f"{path}: line {number}: expected from, to and vehicles, found \"{line}\"")
-        yield texts[0], texts[1], _numbers(path, (number, texts[2]), 1)[0]
+        yield texts[0], texts[1], _number(path, (number, texts[2]))
 
 
 def _square_rows(path: str | Path, lines: Sequence[tuple[int, str]]) -> Iterator[Row]:
     """The rows of a matrix: the number of districts, their names, and all numbers row by row."""
     texts = [(number, text) for number, line in lines for text in line.split()]
-    count = int(_numbers(path, texts[0], 1)[0])
+    count = _count(path, texts[0])
     names, numbers = [text for _, text in texts[1:1 + count]], texts[1 + count:]
     if len(names) != count or len(numbers) != count * count:
         raise Problem(f"{path}: {count} districts need as many names and {count * count} numbers; found {len(names)} and "
                       f"{len(numbers)}")
     for place, number in enumerate(numbers):
-        yield names[place // count], names[place % count], _numbers(path, number, 1)[0]
+        yield names[place // count], names[place % count], _number(path, number)
+
+
+def _count(path: str | Path, line: tuple[int, str]) -> int:
+    if not line[1].isascii() or not line[1].isdecimal():
+        raise Problem(f"{path}: line {line[0]}: expected the number of districts, found \"{line[1]}\"")
+    return int(line[1])
 
 
 def read_gmns_trips(found: Streets, folder: str | Path, until: float) -> None:

@@ -22,9 +22,9 @@ from ..files import write
 from ..network_file.editing import with_records
 from ..study.network_text import FIXED, Built
 from ..study.plan import ActuatedJunction, ActuatedPhase, StopLine, Study
-from ..ties import checksum
+from ..checksums import checksum
 from ..units import cell_of
-from .going_on import Runner
+from .runner import Runner
 from .moment import Moment, moment_of
 
 KEPT = ".actuated.json"  # the ending of what is kept of greens that aren't done

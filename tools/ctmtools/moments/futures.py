@@ -14,7 +14,7 @@ from ..program import News
 from ..report.reading import Report, report_of
 from ..running import Prepared, kept, opened, placed, processors
 from .agreement import difference
-from .going_on import Runner
+from .runner import Runner
 from .moment import Moment
 
 

@@ -15,7 +15,7 @@ from ..running import Prepared, placed, run_into
 from ..running import run as run_network
 from ..study.network_text import Built
 from ..study.plan import Meter
-from .going_on import Runner
+from .runner import Runner
 from .metering import Gauge, Metered, gauge_of, intervals, meter
 
 KEPT = ".meter.json"  # the ending of what is kept of a run that isn't done

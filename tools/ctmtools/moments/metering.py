@@ -25,10 +25,10 @@ from ..network_file.network import Network
 from ..problem import Problem
 from ..study.network_text import Built
 from ..study.plan import Meter
-from ..ties import checksum
+from ..checksums import checksum
 from ..units import Units
 from .agreement import Plan, last_of, plan_of
-from .going_on import Runner
+from .runner import Runner
 from .moment import Moment, moment_of
 
 HOUR = 3600

@@ -15,7 +15,7 @@ from ..running import Prepared, kept, many_workers
 from ..study.quantities import duration
 from ..units import Units
 from .agreement import difference
-from .going_on import Runner
+from .runner import Runner
 from .moment import BEGINNING, SUFFIX, Moment, moment_of
 
 Reached = Callable[[int], object]  # takes the step of a moment that stands in its file

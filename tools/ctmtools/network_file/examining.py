@@ -6,12 +6,12 @@ from collections.abc import Sequence
 from dataclasses import dataclass, field
 
 from ..problem import Problem
-from ..program import News, ask
-from ..ties import check_network
+from ..program import News, ask, why
+from ..checksums import check_network
 from ..units import Units, units_path
 from .faults import Fault, first_fault
 from .kinds import NUMBERS
-from .network import clipped, network_of, told
+from .network import clipped, network_of, fault_line
 from .records import Record, line_of, read_records, text_of_line
 from .warnings import Warning, warnings_of
 
@@ -36,13 +36,13 @@ def examine(content: bytes, name: str, news: News | None = None, units: Units | 
         check_network(network, units or Units(), name, units_path(name))
         return Findings(answer.out.decode().strip(), warnings=warnings_of(network, units))
     if answer.status != 3:
-        raise Problem(f"{name}: {answer.line or f'ctm ended with status {answer.status}'}")
+        raise Problem(f"{name}: {why(answer)}")
     records = read_records(content)
     fault = first_fault(records)
     own = f"ctm: network: record {fault.record} code {NUMBERS[fault.code]} {fault.code}" if fault else "no fault"
     if fault is None or own != answer.line:
         raise Problem(f"{name}: {answer.line}; these tools find {own}, so no hint can be given")
-    return Findings(answer.line, told(content, records, fault), _shown(content, records, fault))
+    return Findings(answer.line, fault_line(content, records, fault), _shown(content, records, fault))
 
 
 def _shown(content: bytes, records: Sequence[Record], fault: Fault) -> str:

@@ -92,7 +92,7 @@ def network_of(content: bytes, name: str = "the network") -> Network:
     records = read_records(content)
     fault = first_fault(records)
     if fault:
-        raise Problem(f"{name}: {told(content, records, fault)}")
+        raise Problem(f"{name}: {fault_line(content, records, fault)}")
     rows: Rows = {sort: [] for sort in ("cells", "links", "signals", "limits", "demands", "turns")}
     steps = 0
     for record in records[1:]:
@@ -106,7 +106,7 @@ def network_of(content: bytes, name: str = "the network") -> Network:
     return Network(steps, **frames, records=records, content=content)
 
 
-def told(content: bytes, records: Sequence[Record], fault: Fault) -> str:
+def fault_line(content: bytes, records: Sequence[Record], fault: Fault) -> str:
     """A fault in one line: where it stands, what stands there, what was expected, and a hint."""
     hint = hint_of(content, records, fault)
     place = _place_of(content, records, fault)

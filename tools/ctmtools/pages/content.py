@@ -3,16 +3,18 @@
 from __future__ import annotations
 
 from collections.abc import Sequence
+from pathlib import Path
 from typing import Any
 
 import numpy
 
 from ..problem import Problem
 from ..report.names import listed, names_of
-from ..report.page import told
+from ..report.summary import number_text
 from ..report.queues import SLOW
 from ..report.reading import Report
 from .background import Background
+from .draws import draws_of
 from .frames import Frames, bounds_of, steps_an_hour
 from .networks import is_measured, network_of, roads_of
 from .provenance import provenance
@@ -25,8 +27,11 @@ SHOWN = {"density": ("vehicles/km", "vehicles in a cell"), "flow": ("vehicles/h"
          "speed": ("km/h", "cells in a step"), "place": ("km", "cell")}
 
 
-def data_of(reports: Sequence[Report], background: Background | None = None) -> dict[str, Any]:
-    """What the page shows: networks, and for each report its frames, the tables, and where the page opens."""
+def data_of(reports: Sequence[Report], background: Background | None = None, draws: Path | None = None) -> dict[str, Any]:
+    """What the page shows: networks, and for each report its frames, the tables, and where the page opens.
+
+    `draws` is the folder of draws of a report's network, by default one that stands beside a report.
+    """
     first, names = reports[0], names_of(reports)
     _need_alike(reports)
     bounds, measured = bounds_of(reports), all(map(is_measured, reports))
@@ -46,7 +51,7 @@ def data_of(reports: Sequence[Report], background: Background | None = None) -> 
             "networks": networks, "reports": shown, "opening": opening(frames),
             "tables": {"roads": table_of(reports), "cells": differing(reports, names), "told": unlike_lines(reports, names),
                        "reports": reports_of(reports, names) if len(reports) > 1 else None},
-            "ways": ways_of(reports), "background": background.told() if background else None}
+            "ways": ways_of(reports), "draws": draws_of(reports, names, draws), "background": background.told() if background else None}
 
 
 def _need_alike(reports: Sequence[Report]) -> None:
@@ -93,8 +98,8 @@ def _subtitle(reports: Sequence[Report]) -> str:
     time = f"{units.clock(0)} to {units.clock(reports[0].steps)}" if units.known else f"{reports[0].steps} steps"
     if len(reports) > 1:
         return time
-    return (f"{time}. {told(total.entered)} vehicles came, {told(total.left)} were served, {told(total.inside)} are still "
-            f"inside, delay {told(units.hours(total.delay))} {units.delay_unit}")
+    return (f"{time}. {number_text(total.entered)} vehicles came, {number_text(total.left)} were served, {number_text(total.inside)} are still "
+            f"inside, delay {number_text(units.hours(total.delay))} {units.delay_unit}")
 
 
 def _notes(reports: Sequence[Report], bounds: Sequence[int]) -> str:

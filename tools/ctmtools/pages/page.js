@@ -21,6 +21,7 @@ function show() {
   drawSpace();
   drawCurves();
   drawWays();
+  drawDraws();
   fitTable();
   mark();
 }
@@ -92,5 +93,6 @@ addEventListener("beforeprint", toPaper);
 addEventListener("afterprint", toScreen);
 fillRoads();
 fillPairs();
+fillDraws();
 drawTables();
 show();

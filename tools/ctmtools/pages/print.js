@@ -1,4 +1,4 @@
-// In print: A4, two pages, in the colours of paper; the first has the drawings, the second the cell and the table.
+// In print: A4, in the colours of paper; the first page has the drawings, the second the cell and the table, a third the draws.
 const MILLIMETRE = 96 / 25.4, PAGE = (297 - 28) * MILLIMETRE - 8;  // px of a page within its margins
 const MOST_SPACE = 480, LINE = 30;  // px
 const MOST_WAYS_PRINTED = 6;  // so many ways at least have room
@@ -31,6 +31,7 @@ function toPaper() {
   originShown = byId("origin").open;
   byId("origin").open = true;
   document.documentElement.classList.add("printing");
+  byId("notes").after(byId("draws"));
   tellWays("");
   show();
   fitPages();
@@ -41,6 +42,7 @@ function toScreen() {
   state.printing = false;
   byId("origin").open = originShown;
   document.documentElement.classList.remove("printing");
+  byId("tabled").before(byId("draws"));
   byId("space").style.height = "";
   byId("more").textContent = "";
   if (data.ways) tellWays(waysText());

@@ -8,7 +8,7 @@ from collections.abc import Sequence
 from importlib import import_module
 from pathlib import Path
 
-from ..program import TOP
+from ..program import TOP, of_the_package
 from ..report.reading import Report
 
 
@@ -18,12 +18,15 @@ def provenance(reports: Sequence[Report]) -> str:
 
 
 def version() -> str:
-    """The version and the commit of the repository of these tools, as `./ctm --version` has them, where they stand in one."""
+    """The version and the commit of these tools, as `ctm --version` has them: of their repository, or of their package."""
+    built = of_the_package("BUILD")
+    if built:
+        return built.read_text().partition("\n")[0]
     try:
         told = subprocess.run([TOP / "ctm", "--version"], capture_output=True, text=True, timeout=20, check=True)
     except (OSError, subprocess.SubprocessError):
         number = getattr(import_module("ctmtools"), "__version__", "")
-        return " ".join(filter(None, ["ctm-tools", number])) + ", outside of its repository"
+        return " ".join(filter(None, ["ctm-tools", number])) + ", outside of its repository and of a package"
     return told.stdout.strip()
 
 

@@ -12,7 +12,7 @@ from ..report.comparing import compare, side_by_side
 from ..report.queues import standing
 from ..report.reading import Report
 from ..report.travel import road_times
-from ..report.unlike import otherwise, unlike
+from ..report.comparability import otherwise, unlike
 from .junctions import junctions_of
 from .networks import is_measured, roads_of
 

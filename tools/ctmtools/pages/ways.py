@@ -5,7 +5,7 @@ from __future__ import annotations
 from collections.abc import Iterable, Sequence
 from typing import Any
 
-from ..assignment.given_ways import cells_along
+from ..assignment.first_ways import cells_along
 from ..assignment.ways_file import WayRow, ways_of_report
 from ..report.reading import Report
 from ..study.plan import Route

@@ -10,7 +10,7 @@ from pathlib import Path
 
 from ..network_file.kinds import CELLS
 from ..problem import Problem
-from ..program import ask
+from ..program import ask, in_words, why
 from ..study.network_text import Builder
 from ..study.plan import Study
 from ..study.rounding import Rounding
@@ -89,11 +89,11 @@ def delays(content: bytes, count: int, program: str | Path | None = None) -> lis
     """The delays of so many plans behind a base, in vehicle-steps, as the program answers them."""
     answer = ask(["choose"], content, program)
     if answer.status == WORDS_REFUSED:
-        raise Problem("this ctm has no mode choose; build the newest")
+        raise Problem(f"{in_words(program)} has no mode choose; build the newest ctm")
     if answer.status:
-        raise Problem(answer.line or f"ctm ended with status {answer.status}")
+        raise Problem(why(answer, program))
     rows = [line.split(",") for line in answer.out.decode().splitlines()]
     found = [Fraction(row[2]) for row in rows if row[0] == "plan"]
     if len(found) != count or not rows or rows[-1] != ["choice", str(found.index(min(found)))]:
-        raise Problem(f"the program's answer isn't that of {count} plans")
+        raise Problem(f"what {in_words(program)} answered isn't of {count} plans")
     return found

@@ -20,7 +20,7 @@ from ..study.writing import study_text
 from ..sweeps.task import Task, fingerprint
 from .candidates import MOST_PLANS, candidate, judged
 from .timing import Point, Timing
-from .tried import Tried
+from .tried_plans import Tried
 
 FILE, BEST = "tried.csv", "best.toml"
 News = Callable[[int, int, float], object]  # takes the generation, the runs so far, and the least delay in vehicle-hours

@@ -7,11 +7,11 @@ from matplotlib.axes import Axes
 from matplotlib.figure import Figure
 from matplotlib.ticker import FuncFormatter
 
+from ..uncertainty.bars import bars_of
 from ..uncertainty.reliability import PERCENTS
 from ..uncertainty.results import Results
 from .figure import beside, drawing, figure, head, legend_below, named, style
 
-FEWEST, MOST = 5, 40  # bars
 GREY = "#777777"
 PERCENT = FuncFormatter(lambda part, _: f"{100 * part:g}%")
 
@@ -19,14 +19,11 @@ PERCENT = FuncFormatter(lambda part, _: f"{100 * part:g}%")
 @drawing
 def draw(results: Results) -> Figure:
     """Draws the distribution of each plan's delays above its sum, on which the percentiles are marked."""
-    delays = {plan: results.delays(plan).to_numpy() for plan in results.plans if len(results.own(plan))}
+    delays = results.succeeded
     drawn, (above, below) = figure(2, size=(8, 5.6), sharex=True)
-    every = numpy.concatenate(list(delays.values()))
-    bars = min(MOST, max(FEWEST, round(len(every) / len(delays)) // 10))
-    edges = numpy.linspace(every.min(), every.max() if every.max() > every.min() else every.min() + 1, bars + 1)
+    edges, shares = bars_of(delays)
     for i, (plan, values) in enumerate(delays.items()):
-        shares = numpy.histogram(values, edges)[0] / len(values)
-        above.stairs(shares, edges, label=results.titles[plan], fill=False, **style(i))
+        above.stairs(shares[plan], edges, label=results.titles[plan], fill=False, **style(i))
         below.step([edges[0], *numpy.sort(values), edges[-1]], [*numpy.arange(len(values) + 1) / len(values), 1], where="post",
                    **style(i))
         below.plot(numpy.percentile(values, PERCENTS), numpy.array(PERCENTS) / 100, "o", markersize=4, color=style(i)["color"])

@@ -10,7 +10,7 @@ import networkx
 
 from ..report.reading import Report
 from ..report.routes import main_route
-from .middles import Point, middle, middles
+from .unplaced_joints import Point, middle, middles
 
 Line = list[Point]
 Joint = tuple[str, str]  # a sort of joint, and the cell that names it

@@ -10,7 +10,7 @@ import pandas
 from matplotlib.axes import Axes
 from matplotlib.figure import Figure
 
-from ..report.page import length, spilled, told, where
+from ..report.summary import length, spilled, number_text, where
 from ..report.queues import SLOW, Queue, course, cycle_of, is_short, queues_in, reach_of_part
 from ..report.reading import Report
 from ..report.routes import road_of
@@ -85,8 +85,8 @@ def _notes(report: Report, queues: list[Queue], rest: list[Queue]) -> Iterator[s
     yield f"Reach in whole cells, slower than {SLOW:.0%} of free flow{cycles}"
     for queue in queues:
         for spill in spills(report, queue):
-            yield spilled(report, queue, spill)
+            yield spilled(report, spill)
     if rest:
         far = max(rest, key=lambda queue: queue.reach)
         yield (f"Not drawn: {len(rest)} more, the longest {length(report, far.reach)} from {where(report, far.origin)}; "
-               f"{told(report.units.hours(sum(queue.delay for queue in rest)))} {report.units.delay_unit} in all")
+               f"{number_text(report.units.hours(sum(queue.delay for queue in rest)))} {report.units.delay_unit} in all")

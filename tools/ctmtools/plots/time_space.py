@@ -13,7 +13,7 @@ from matplotlib.lines import Line2D
 from matplotlib.patches import Patch
 
 from ..problem import Problem
-from ..report.page import spilled
+from ..report.summary import spilled
 from ..report.queues import SLOW, standing
 from ..report.reading import Report
 from ..report.routes import kilometres, route_of
@@ -53,7 +53,7 @@ def draw(report: Report, road: str | None = None, first: str | None = None, last
     draw_junctions(axes, report, cells, bounds)
     for queue, spill in spilled_queues(report):
         if queue.spans.keys() & set(cells):
-            note(axes, spilled(report, queue, spill))
+            note(axes, spilled(report, spill))
     bar = drawn.colorbar(mesh, ax=axes, pad=0.02)
     bar.set_label(f"{of.capitalize()} ({SHADED[of][0 if known else 1]})")
     bar.outline.set_visible(False)

@@ -9,7 +9,7 @@ import pandas
 
 from ..problem import Problem
 from ..units import MILE_KM
-from .page import where
+from .summary import where
 from .queues import standing
 from .reading import Report
 from .states import times

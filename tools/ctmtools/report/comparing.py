@@ -10,6 +10,9 @@ from ..problem import Problem
 from .reading import Report
 from .travel import road_times
 
+LEAST_WHOLE = 0.005  # what is less is told as 0, and nothing is told as a part of 0
+MOST_TIMES = 100  # what rises to more than so many times and one had next to none before, so how many times tells nothing
+
 
 def compare(first: Report, second: Report) -> pandas.DataFrame:
     """A row for each cell of both reports: delay and gone of each and their rise, the greatest changes of delay first.
@@ -52,8 +55,8 @@ def totals(first: Report, second: Report, value_of_time: float | None = None) ->
 def side_by_side(reports: Mapping[str, Report], value_of_time: float | None = None) -> pandas.DataFrame:
     """A row for each report, by its name: what came, was served and is inside at the end, the delay, and its rise.
 
-    The rise is that over the first one's delay, in all and as a part of it. With a value of time, in money an hour, `cost`
-    is what the delay costs.
+    The rise is that over the first one's delay, in all and as a part of it, as `part_of` has it. With a value of time, in
+    money an hour, `cost` is what the delay costs.
     """
     known = all(report.units.known for report in reports.values())
     if value_of_time is not None and not known:
@@ -64,11 +67,16 @@ def side_by_side(reports: Mapping[str, Report], value_of_time: float | None = No
         frame["delay"] = [report.units.hours(report.total.delay) for report in reports.values()]
     first = frame.delay.iloc[0]
     frame["rise"] = frame.delay - first
-    frame["part"] = frame.rise / first if first else float("nan")
+    frame["part"] = [part_of(rise, first) for rise in frame.rise]
     if value_of_time is not None:
         frame["cost"] = frame.delay * value_of_time
     frame.attrs["units"] = {"delay": "vehicle-hours" if known else "vehicle-steps"}
     return frame
+
+
+def part_of(rise: float, first: float) -> float:
+    """A rise as a part of what was first; lacking where that is told as 0, or is next to nothing beside the rise."""
+    return rise / first if first >= LEAST_WHOLE and rise <= MOST_TIMES * first else float("nan")
 
 
 def travel(first: Report, second: Report) -> pandas.DataFrame:

@@ -10,7 +10,7 @@ import networkx
 import numpy
 import pandas
 
-from .heads import Span, Spans, before_closure, heads
+from .queue_heads import Span, Spans, before_closure, heads
 from .reading import Report
 
 SLOW = 0.8  # a cell is in a queue where its traffic moves slower than this part of the free-flow speed
@@ -131,14 +131,14 @@ def reach_of_part(report: Report, queue: Queue, part: Origin) -> pandas.Series:
 def _reach_over_time(report: Report, origin: str, spans: Spans, start: int) -> numpy.ndarray:
     """How far the cells to which a queue grew from an origin reach back, from each recorded step on."""
     reach, ways = numpy.zeros(len(report.times) - 1), _ways(report, origin, spans)
-    for cell, own in _grown(report, origin, spans, start).items():
+    for cell, own in grown_from(report, origin, spans, start).items():
         if report.need_network().kinds[cell] == "road":
             for begin, end in own:
                 reach[begin:end] = numpy.maximum(reach[begin:end], ways[cell])
     return reach
 
 
-def _grown(report: Report, origin: str, spans: Spans, start: int) -> dict[str, list[Span]]:
+def grown_from(report: Report, origin: str, spans: Spans, start: int) -> dict[str, list[Span]]:
     """The spans of the cells to which a queue grew from an origin, from a step on: each began no sooner than one behind it.
 
     What stood there before it came is another's, which began elsewhere.
@@ -266,7 +266,7 @@ def _ways(report: Report, origin: str, spans: Spans) -> dict[str, float]:
 
 def _reach(report: Report, origin: str, spans: Spans, start: int) -> tuple[str, float, int]:
     """The cell that lies farthest upstream of those to which a queue grew, the way to its upstream end, and when it came."""
-    ways, kinds, grown = _ways(report, origin, spans), report.need_network().kinds, _grown(report, origin, spans, start)
+    ways, kinds, grown = _ways(report, origin, spans), report.need_network().kinds, grown_from(report, origin, spans, start)
     farthest = max((cell for cell in grown if kinds[cell] == "road"), key=lambda cell: ways[cell], default=origin)
     return farthest, ways[farthest], grown[farthest][0][0]
 

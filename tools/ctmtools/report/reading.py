@@ -13,7 +13,7 @@ import pandas
 
 from ..network_file.network import Network, read_bytes, read_network
 from ..problem import Problem
-from ..ties import ADVICE, check_network, check_report, units_of, unlike_network
+from ..checksums import ADVICE, check_network, check_report, check_run, units_of, unlike_network
 from ..units import Units, read_units, units_path
 
 
@@ -110,8 +110,10 @@ def read_report(path: str | Path, units: str | Path | None = None, network: str 
     if units and not units_file.exists():
         raise Problem(f"{units_file}: no such file or directory")
     report.units = read_units(units_file)
-    check_report(report, content, path, units_file)
+    by_run = check_report(report, content, path, units_file)
     report.network = _network_beside(path, units_file, report, network)
+    if by_run and report.network is not None:
+        check_run(report, report.network, network or report.units.network or path.with_suffix(".csv"))
     if report.network is not None and not report.units.known and not units:
         report.units = _units_of_network(report, network)
     return report
@@ -153,7 +155,7 @@ def report_of(content: bytes, name: str = "the report") -> Report:
         raise Problem(f"{name}: no report of ctm; `ctm-tools run` writes one")
     try:
         steps, count = int(terms[1]), int(terms[2])
-        first_cell = 0 if rest.startswith(b"cell,") else rest.index(b"\ncell,") + 1
+        first_cell = 0 if rest.startswith(b"cell,") else rest.index(b"\n", rest.rindex(b"\nat,") + 1) + 1
         *lines, last = rest[first_cell:].decode("ascii").splitlines()
         rows = [line.split(",") for line in lines]
         if len(rows) != count or any(row[0] != "cell" for row in rows) or not last.startswith("total,"):
@@ -174,12 +176,23 @@ def _records(content: bytes, names: Sequence[str]) -> tuple[numpy.ndarray, panda
     first = content[:100 * count].split(b"\n", count)[:count]
     if content and [line.split(b",")[2].decode() for line in first] != names:
         raise ValueError
-    rows = pandas.read_csv(io.BytesIO(content), header=None, usecols=[0, 1, 3, 4], engine="c",
-                           dtype={0: "category", 1: "int64", 3: "float64", 4: "float64"}) if content else \
-        pandas.DataFrame({column: [] for column in (0, 1, 3, 4)})
-    if len(rows) % count or set(rows[0].unique()) - {"at"}:
+    begins = _begins(content)
+    if len(begins) % count:
         raise ValueError
-    times = rows[1].to_numpy(dtype=int)[::count]
+    times = numpy.array([int(content[begin:begin + 30].split(b",")[1]) for begin in begins[::count]], dtype=int)
+    rows = pandas.read_csv(io.BytesIO(content), header=None, usecols=[3, 4], engine="c", dtype="float64") if content else \
+        pandas.DataFrame({column: [] for column in (3, 4)})
+    if rows.isna().to_numpy().any():
+        raise ValueError
     shape = (len(times), count)
     return (times, pandas.DataFrame(rows[3].to_numpy(dtype=float).reshape(shape), index=times, columns=names),
             pandas.DataFrame(rows[4].to_numpy(dtype=float).reshape(shape), index=times, columns=names))
+
+
+def _begins(content: bytes) -> numpy.ndarray:
+    """Where the lines of records begin."""
+    letters = numpy.frombuffer(content, numpy.uint8)
+    begins = numpy.append(0, numpy.flatnonzero(letters == ord("\n")) + 1)[:-1]
+    if any((letters[begins + place] != letter).any() for place, letter in enumerate(b"at,")):
+        raise ValueError
+    return begins

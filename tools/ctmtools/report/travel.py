@@ -14,6 +14,7 @@ import numpy
 import pandas
 
 from ..problem import Problem
+from .curves import left_at
 from .reading import Report
 from .routes import main_route, road_of
 from .states import times
@@ -73,21 +74,10 @@ def _left(report: Report, cell: str, entered: Numbers) -> Numbers:
     recorded = numpy.asarray(report.times, dtype=float)
     departed = report.departed[cell].to_numpy()
     numbers = numpy.interp(entered, recorded, _arrivals(report, cell)) - DUST
-    left = left_at(recorded, departed, numbers)
+    left, = left_at(recorded, departed[None], numbers[None])
     # Nobody passes a cell in less than a step, and no moment is known behind the last one.
     soonest = entered + 1
     return numpy.where(soonest > recorded[-1], numpy.nan, numpy.fmax(left, soonest) + 0 * left)
-
-
-def left_at(recorded: Numbers, departed: Numbers, numbers: Numbers) -> Numbers:
-    """When so many have left, by the curve of departures at the recorded steps; lacking where they haven't."""
-    behind = numpy.searchsorted(departed, numbers)
-    found = numpy.clip(behind, 1, len(departed) - 1)
-    before, after = departed[found - 1], departed[found]
-    with numpy.errstate(invalid="ignore", divide="ignore"):
-        part = numpy.clip((numbers - before) / (after - before), 0, 1)
-    left = numpy.where(behind == 0, recorded[0], recorded[found - 1] + part * numpy.diff(recorded)[found - 1])
-    return numpy.where(behind == len(departed), numpy.nan, left)
 
 
 def travel_times(report: Report, cells: Sequence[str], every: float | None = None) -> pandas.DataFrame:

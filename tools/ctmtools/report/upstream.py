@@ -5,14 +5,16 @@ from __future__ import annotations
 from collections.abc import Sequence
 from dataclasses import dataclass
 
-from .queues import Queue, queues_in, standing
+from .queue_heads import Span
+from .queues import Queue, grown_from, queues_in, standing
 from .reading import Report
 
 
 @dataclass(frozen=True)
 class Spill:
-    """A gate that a queue reached: at which step, and the most vehicles that waited in it, with the step."""
+    """A gate that a queue reached from the cell where it began: at which step, and the most vehicles that waited, with the step."""
 
+    origin: str
     gate: str
     start: int
     most: float
@@ -20,15 +22,31 @@ class Spill:
 
 
 def spills(report: Report, queue: Queue) -> list[Spill]:
-    """The gates that a queue grew back into; a queue that began in a gate is no such one."""
+    """The gates that a queue grew back into; a queue that began in a gate and that no other one reached is no such one."""
     kinds, found = report.need_network().kinds, []
     began = {queue.origin, *(other.cell for other in queue.others)}
     for gate, spans in queue.spans.items():
-        if kinds[gate] == "gate" and gate not in began:
+        if kinds[gate] != "gate":
+            continue
+        origin, own = _met(report, queue, gate) if gate in began else (queue.origin, spans)
+        if own:
             waits = (report.held[gate] - report.flow[gate]).to_numpy()
-            most = max((step for begin, end in spans for step in range(begin, end)), key=lambda step: waits[step])
-            found.append(Spill(gate, int(report.times[spans[0][0]]), float(waits[most]), int(report.times[most])))
+            most = max((step for begin, end in own for step in range(begin, end)), key=lambda step: waits[step])
+            found.append(Spill(origin, gate, int(report.times[own[0][0]]), float(waits[most]), int(report.times[most])))
     return found
+
+
+def _met(report: Report, queue: Queue, gate: str) -> tuple[str, list[Span]]:
+    """The part of a queue that grew back to a gate where vehicles waited already, by where it began, and when both stood."""
+    parts = [(queue.origin, queue.start), *((other.cell, other.start) for other in queue.others)]
+    for origin, start in parts:
+        cells = grown_from(report, origin, queue.spans, start) if origin != gate else {}
+        both = [(max(one[0], two[0]), min(one[1], two[1])) for down in report.need_network().graph.successors(gate)
+                for one in cells.get(down, ()) for two in queue.spans[gate]]
+        met = sorted((begin, end) for begin, end in both if begin < end)
+        if met:
+            return origin, met
+    return gate, []
 
 
 def spilled_queues(report: Report) -> list[tuple[Queue, Spill]]:

@@ -12,9 +12,9 @@ from ..detectors.days import holidays_of
 from ..detectors.flows import HOUR
 from ..detectors.formats import VEHICLES
 from ..detectors.reading import hour_lines, kept_rows, left_lines
-from ..detectors.several import Files
+from ..detectors.file_set import Files
 from ..detectors.table import named
-from ..detectors.wanted import Wanted
+from ..detectors.selection import Wanted
 from ..problem import Problem
 from ..units import DAY
 

@@ -13,15 +13,15 @@ from typing import Any
 from ..detectors.days import ORDERS
 from ..detectors.flows import HOUR
 from ..detectors.rules import rules_of
-from ..detectors.several import paths_of
-from ..detectors.wanted import Wanted
+from ..detectors.file_set import paths_of
+from ..detectors.selection import Wanted
 from ..problem import Problem
 from ..units import DAY
 from .count_file import Row, counted
 from .entries import Entries, list_of
 from .plan import Flow
 from .quantities import duration, number, shown, word
-from .rounding import told
+from .rounding import rounded_text
 from .times import Times
 
 MISSING = ("error", "zero", "interpolate")
@@ -54,7 +54,7 @@ def flows_of_counts(table: Entries, times: Times) -> list[Flow]:
     more = _missed(missed, wanted.missing or "error", times) + "".join(f"; {line}" for line in found.lines)
     what = wanted.column or (f"station {wanted.station}" if wanted.station else "its flows")
     times.remarks.append(f"{table.place}: counts of {_lasting(interval)} from {Path(found.name).name}, {what}, "
-                         f"{told(vehicles)} vehicles in the study's time{more}")
+                         f"{rounded_text(vehicles)} vehicles in the study's time{more}")
     return flows
 
 
@@ -234,4 +234,4 @@ def _clock(time: Fraction, times: Times) -> str:
 
 def _lasting(seconds: Fraction) -> str:
     """A length of time in minutes, or in seconds where it isn't whole minutes."""
-    return f"{told(seconds)} s" if seconds % 60 else f"{told(seconds / 60)} min"
+    return f"{rounded_text(seconds)} s" if seconds % 60 else f"{rounded_text(seconds / 60)} min"

@@ -16,7 +16,7 @@ from ..problem import Problem
 from .crossings import green
 from .plan import (ActuatedJunction, ActuatedPhase, Crossing, Diverge, Matrix, Merge, Permission, Precedence, Road, Section,
                    Signal, Stream, Study, Turn, Way, Yield)
-from .rounding import told
+from .rounding import rounded_text
 from .ways import movements, named
 
 HOUR = 3600
@@ -229,7 +229,7 @@ class Expansion:
         """Says how long driving through takes."""
         ends = sorted({min(self.steps.values()), max(self.steps.values())})
         step = self.study.step
-        taken = " to ".join(told(steps * step) for steps in ends)
+        taken = " to ".join(rounded_text(steps * step) for steps in ends)
         off = "; the fewest of each approach are taken off its length" if self.crossing.within else ""
         self.study.remarks.append(
             f"{self.crossing.place}: {_counted(len(self.movements), 'movement')}, {_counted(len(self.made), 'cell')} of "

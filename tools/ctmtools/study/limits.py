@@ -14,7 +14,7 @@ from .capacities import Change, flow_left, lanes_left, least, most_opened, spans
 from .junctions import Junctions
 from .layout import HOUR, RoadCell
 from .plan import Closure, Exit, Gate, Opening, Study, Yield
-from .rounding import told
+from .rounding import rounded_text
 from .scale import Scale
 
 # The stretches of road in which changes overlap, each as its cells with these changes, by the places of the changes,
@@ -63,9 +63,9 @@ class Limits:
             for cells in stretches:
                 section, holding = cells[0][0].section, cells[0][1]
                 own, opened = lanes_left(section, holding)
-                beside = f" and {told(opened)} opened" if opened else ""
-                yield (f"{places} overlap on road {cells[0][0].road} from km {told(cells[0][0].start)} to "
-                       f"{told(cells[-1][0].end)}, {span}: {told(own)} of {section.lanes} lanes{beside} and "
+                beside = f" and {rounded_text(opened)} opened" if opened else ""
+                yield (f"{places} overlap on road {cells[0][0].road} from km {rounded_text(cells[0][0].start)} to "
+                       f"{rounded_text(cells[-1][0].end)}, {span}: {rounded_text(own)} of {section.lanes} lanes{beside} and "
                        f"{_flow(flow_left(section, holding))} are left")
 
     def _nodes(self) -> None:
@@ -150,4 +150,4 @@ def _places(holding: Sequence[Change]) -> str:
 
 
 def _flow(flow: Fraction) -> str:
-    return f"{told(flow)} vehicles/h"
+    return f"{rounded_text(flow)} vehicles/h"

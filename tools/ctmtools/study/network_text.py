@@ -12,7 +12,7 @@ from ..amounts import PARTS, amount_text, rounded_parts
 from ..network_file.faults import NAME, first_fault
 from ..network_file.kinds import CELLS, CONNECTORS, MOST_RECORDS, NAME_RULE
 from ..network_file.network import Network, network_of
-from ..network_file.network import told as fault_told
+from ..network_file.network import fault_line as fault_told
 from ..network_file.records import read_records
 from ..problem import Problem
 from ..units import Units, clock_text
@@ -22,7 +22,7 @@ from .layout import HOUR, Layout, RoadCell, Stretch
 from .limits import Limits
 from .plan import Section, Study
 from .plausible import implausible
-from .rounding import Rounding, told
+from .rounding import Rounding, rounded_text
 from .scale import Scale
 from .signals import Signals
 
@@ -117,14 +117,14 @@ class Builder:
             kept = sorted({float(cell.section.free_flow_speed) for cell in cells})
             yield (f"{part.place}: speed limits by time are out of the model's reach, since a cell is as long as the way of a "
                    f"step at the free-flow speed; road {part.road} has {' and '.join(f'{speed:g}' for speed in kept)} km/h at "
-                   f"all times, and not {told(limit.speed)} for a time")
+                   f"all times, and not {rounded_text(limit.speed)} for a time")
 
     def _opened(self) -> Iterator[str]:
         """What an opening makes of the room of its cells, which a closed lane has too."""
         for opening in self.study.openings:
             cells = self.junctions.cells_of(opening.part)
-            yield (f"{opening.part.place}: road {opening.part.road} from km {told(cells[0].start)} to "
-                   f"{told(cells[-1].end)} has the room of the opened lanes at all times")
+            yield (f"{opening.part.place}: road {opening.part.road} from km {rounded_text(cells[0].start)} to "
+                   f"{rounded_text(cells[-1].end)} has the room of the opened lanes at all times")
 
     def _head(self) -> Iterator[str]:
         """The comment that says the units."""

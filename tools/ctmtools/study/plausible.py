@@ -12,7 +12,7 @@ from ..units import clock_text
 from .crossings import common_green
 from .layout import Layout
 from .plan import Crossing, Gate, Section, Study
-from .rounding import told
+from .rounding import rounded_text
 from .ways import named
 
 LONGEST = 200  # km of a road
@@ -31,7 +31,7 @@ def implausible(study: Study, layout: Layout) -> Iterator[str]:
     """A line for each value of a study that no road has, with what may be meant."""
     for road in study.roads.values():
         if road.length > LONGEST:
-            yield (f"roads.{road.name}.length: {told(road.length)} km, which makes "
+            yield (f"roads.{road.name}.length: {rounded_text(road.length)} km, which makes "
                    f"{len(layout.cells[road.name]):,} cells; are metres meant? Then write \"{float(road.length):g} m\"")
         lines: dict[str, None] = {}
         for section in road.sections:
@@ -43,7 +43,7 @@ def implausible(study: Study, layout: Layout) -> Iterator[str]:
         yield from _first_few(list(_conflicts(crossing)), f"conflicts of phases at {crossing.place}")
     count = sum(map(len, layout.cells.values()))
     if count > MOST_CELLS:
-        yield (f"the study has {count:,} cells, which take long; a longer step gives fewer: with {told(study.step)} s "
+        yield (f"the study has {count:,} cells, which take long; a longer step gives fewer: with {rounded_text(study.step)} s "
                "a cell is as long as the way of that time at the free-flow speed")
 
 
@@ -71,7 +71,7 @@ def _conflicts(found: Crossing) -> Iterator[str]:
         pair = next(((one, two) for one in first.movements for two in second.movements
                      if one[0] != two[0] and (one, two) not in together), None)
         if seconds and pair:
-            yield (f"{found.place}.phases: phases {i} and {j} by their start are both green for {told(seconds)} s of each cycle, with "
+            yield (f"{found.place}.phases: phases {i} and {j} by their start are both green for {rounded_text(seconds)} s of each cycle, with "
                    f"{named(found, pair[0])} and {named(found, pair[1])}, which no phase has together")
 
 
@@ -83,5 +83,5 @@ def _lanes(section: Section) -> Iterator[str]:
             least = SLOWEST
         if not least <= value <= most:
             where = {"free_flow_speed": f" on {section.lanes} lane{'s'[:section.lanes != 1]}", "wave_speed": ""}
-            yield (f"{key}: {told(value)} {unit}{where.get(key, ' in a lane')} is hardly what a road has, {least} to "
+            yield (f"{key}: {rounded_text(value)} {unit}{where.get(key, ' in a lane')} is hardly what a road has, {least} to "
                    f"{most:,} {unit}; {hint.format(f'{float(value):g}')}")

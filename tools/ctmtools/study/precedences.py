@@ -26,7 +26,7 @@ def precedence(table: Entries, found: Crossing) -> Precedence:
         raise Problem(f"{table.key('yields_to')}: expected other movements than its own, one or more")
     gaps = _gaps(table, "permitted-left" if found.cycle is not None else None)
     holds, first = table.take("median", whole, 0), taken_ways(table, "first", found)
-    stage = replace(gaps, critical=table.take("stage_gap", duration, gaps.critical - A_STAGE * bool(holds)))
+    stage = _stage(table, gaps, holds)
     sneakers = table.take("sneakers", number, SNEAKERS)
     table.done()
     if bool(holds) != bool(first) or not set(first) < {other for other, _ in others}:
@@ -65,6 +65,13 @@ def _gaps(table: Entries, usual: str | None) -> Gaps:
     if not 0 < follow_up or critical < 0:
         raise Problem(f"{table.key('follow_up')}: must be above 0 s")
     return Gaps(critical, follow_up, kind.formula, _gives_way(table, name))
+
+
+def _stage(table: Entries, gaps: Gaps, holds: int) -> Gaps:
+    """The gaps of each stage of a median; those of six lanes aren't a second less, so the study has to say them."""
+    if holds and table.values.get("priority_lanes") == 6 and not table.has("stage_gap"):
+        raise Problem(f"{table.key('stage_gap')}: is missing; across six lanes that of a stage isn't known to be a second less")
+    return replace(gaps, critical=table.take("stage_gap", duration, gaps.critical - A_STAGE * bool(holds)))
 
 
 def _gives_way(table: Entries, kind: str | None) -> bool:

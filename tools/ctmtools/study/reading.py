@@ -7,7 +7,7 @@ from fractions import Fraction
 from pathlib import Path
 from typing import Any
 
-from ..given import read_as
+from ..file_kinds import read_as
 from ..problem import Problem, one_line
 from ..uncertainty.uncertainty import uncertainty_of
 from ..units import DAY

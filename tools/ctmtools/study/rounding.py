@@ -24,11 +24,11 @@ class Rounded:
         return abs(self.modelled - self.asked) > TOLD * abs(self.of)
 
     def __str__(self) -> str:
-        modelled = told(self.modelled, self.asked)
-        return f"{self.what}: {told(self.asked)} {self.unit} asked, {modelled} {self.unit} modelled"
+        modelled = rounded_text(self.modelled, self.asked)
+        return f"{self.what}: {rounded_text(self.asked)} {self.unit} asked, {modelled} {self.unit} modelled"
 
 
-def told(value: Fraction | float, beside: Fraction | float | None = None) -> str:
+def rounded_text(value: Fraction | float, beside: Fraction | float | None = None) -> str:
     """A number in at most six digits, or in as many as tell it from the one beside it."""
     digits = 6
     while beside is not None and value != beside and digits < 15 and \

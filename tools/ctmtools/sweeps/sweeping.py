@@ -10,10 +10,10 @@ from pathlib import Path
 import pandas
 
 from ..problem import NoSuchKey, Problem
-from ..program import program_path, takes
+from ..program import need_records, program_path
 from ..running import processors
 from ..study.reading import read_values
-from ..study.telling import warned_before_runs
+from ..study.messages import warned_before_runs
 from .results import Results
 from .task import Task, fingerprint, study
 from .variations import Variation, combinations
@@ -35,8 +35,7 @@ class Sweep:
         self.title = study(Task(values, str(source), {}, program)).title
         for one in variations:
             _need_key(Task(values, path, {one.key: one.values[0]}, program))
-        if not takes("--every"):
-            raise Problem("this ctm takes no --every, so it records nothing; build the newest")
+        need_records()
         self.marks = [fingerprint(task) for task in self.tasks]
         self.results = Results(None if folder is None else folder / "results.csv", self.keys, self.marks)
 

@@ -11,7 +11,7 @@ from typing import Any
 
 import numpy
 
-from ..detectors.several import paths_of
+from ..detectors.file_set import paths_of
 from ..problem import NoSuchKey, Problem, one_line
 from ..report.queues import Queue, queues_in
 from ..report.reading import Report
@@ -22,6 +22,7 @@ from ..study.counted_demands import counted_demands, names_of
 from ..study.plan import Study
 from ..study.reading import study_of
 from ..study.rounding import Rounding
+from ..checksums import checksum
 from .variations import changed
 
 MEASURES = ("delay_vehicle_hours", "longest_queue_km", "most_waiting_vehicles", "served_vehicles", "inside_vehicles",
@@ -50,14 +51,11 @@ def measure(task: Task) -> dict[str, Any]:
     try:
         if not Path(task.program).exists():
             raise Problem(f"there is no program {task.program} on this machine")
-        found = settled_by_runs(study(task), 1, task.program)
-        built = found.built
-        _, report = run(built.text.encode(), "the built network", built.units, task.every, 1, task.program)
+        report, _, notes = ran(study(task), task)
         queues = queues_in(report)
         values = (report.units.hours(report.total.delay), *_greatest(queues), report.total.left, report.total.inside,
                   _travel_time(report), waiting_upstream(report, queues))
-        return {**dict(zip(MEASURES, map(float, values))), "rounded": "; ".join(filter(None, [rounded(built.rounding), found.doubt])),
-                "error": ""}
+        return {**dict(zip(MEASURES, map(float, values))), "rounded": notes, "error": ""}
     except Problem as problem:
         return failed(problem)
     except Exception as error:  # whatever it is, it is this run's, and the other runs go on
@@ -67,6 +65,14 @@ def measure(task: Task) -> dict[str, Any]:
 def failed(why: object) -> dict[str, Any]:
     """What is measured of a run that failed."""
     return {**dict.fromkeys(MEASURES, float("nan")), "rounded": "", "error": one_line(why)}
+
+
+def ran(made: Study, task: Task) -> tuple[Report, str, str]:
+    """The report of a task's study, the checksum of its network, and what of it was rounded or isn't settled, in one line."""
+    found = settled_by_runs(made, 1, task.program)
+    built, content = found.built, found.built.text.encode()
+    _, report = run(content, "the built network", built.units, task.every, 1, task.program, network=built.network)
+    return report, checksum(content), "; ".join(filter(None, [rounded(built.rounding), found.doubt]))
 
 
 def rounded(rounding: Rounding) -> str:

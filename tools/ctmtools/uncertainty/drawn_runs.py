@@ -6,6 +6,7 @@ import hashlib
 import json
 from collections.abc import Iterator, Mapping, Sequence
 from contextlib import closing
+from dataclasses import replace
 from fractions import Fraction
 from pathlib import Path
 from typing import Any
@@ -14,10 +15,9 @@ import pandas
 
 from ..kept_rows import KeptRows
 from ..problem import Problem
-from ..program import program_path, takes
+from ..program import need_records, program_path
 from ..running import processors
-from ..study.network_text import build
-from ..study.telling import warned
+from ..study.messages import warned_before_runs
 from ..sweeps.task import Task, fingerprint
 from ..sweeps.workers import beside, cluster, here
 from .draw import drawn
@@ -28,6 +28,7 @@ from .reliability import DELAY, OF_ROAD, PAST, TRAVEL
 from .task import Asked, DrawTask, measure
 
 COLUMNS = ("mark", "run", "measured")
+MEASURED = 2  # the way in which runs are measured; what stands in a folder by an earlier one is made anew
 BATCH = 20  # draws after which it is seen whether an interval is narrow enough
 MOST_AT_ONCE = 1000  # draws that are given out at once
 AS_IT_STANDS = 0  # the number of the draw in which nothing is drawn
@@ -42,8 +43,7 @@ class DrawnRuns:
         self.program = str(program_path())
         self.plans = plans_of(sources)
         self.uncertainty = what_varies(self.plans, given)
-        if not takes("--every"):
-            raise Problem("this ctm takes no --every, so it records nothing; build the newest")
+        need_records()
         for plan in self.plans:
             need_what_varies(plan, self.uncertainty)
             plan.mark = fingerprint(self._task(plan, {}))
@@ -58,7 +58,7 @@ class DrawnRuns:
 
     def warnings(self) -> list[str]:
         """The warnings of the plans as they stand, each once."""
-        return list(dict.fromkeys(line for plan in self.plans for line in warned(build(plan.study))))
+        return list(dict.fromkeys(line for plan in self.plans for line in warned_before_runs(replace(plan.study, actuated=[]))))
 
     def as_it_stands(self) -> list[dict[str, Any]]:
         """The figures of each plan with nothing drawn; where one can't be run, the problem."""
@@ -79,7 +79,7 @@ class DrawnRuns:
         for first in range(1, self.runs + 1, width):
             self.count = min(first + width - 1, self.runs)
             yield from self._batch(first, self.count, jobs, address)
-            if self.within and self.within.is_reached(self.judged()):
+            if self.within and self.is_narrow:
                 return
 
     def _batch(self, first: int, last: int, jobs: int | None, address: str | None) -> Iterator[int]:
@@ -95,6 +95,11 @@ class DrawnRuns:
             for i, measured in done:
                 self._put(*missing[i], measured)
                 yield missing[i][1]
+
+    @property
+    def is_narrow(self) -> bool:
+        """Whether the interval is as narrow as was asked for, if it was."""
+        return self.within is None or self.within.is_reached(self.judged())
 
     def judged(self) -> list[float]:
         """What the interval is of: the delays of the draws, or of two plans or more the second's less the first's."""
@@ -151,7 +156,7 @@ class DrawnRuns:
     def _mark(self) -> str:
         """A short text that another uncertainty, seed or question would change, and with incidents another first plan."""
         first = self.plans[0].mark if self.uncertainty.incidents else ""
-        terms = (self.uncertainty, self.seed, self.asked, first)
+        terms = (MEASURED, self.uncertainty, self.seed, self.asked, first)
         return hashlib.sha256(repr(terms).encode()).hexdigest()[:16]
 
 

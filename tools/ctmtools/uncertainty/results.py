@@ -7,6 +7,7 @@ from dataclasses import dataclass
 from functools import cached_property
 from typing import Any
 
+import numpy
 import pandas
 
 from .drawn_runs import DrawnRuns, flat
@@ -22,7 +23,7 @@ class Results:
     """The draws of some plans, a row for each plan and draw, with the figures of the plans as they stand and their free times.
 
     `times` are the clock times that a queue may last past, in s after the start; `asked_for` are the draws that were asked
-    for, of which `count` were made.
+    for, of which `count` were made. `networks` has the checksum of the network of each plan as it stands.
     """
 
     title: str
@@ -35,7 +36,7 @@ class Results:
     stand: dict[str, dict[str, Any]]
     free: dict[str, dict[str, float]]
     draws: pandas.DataFrame
-    judged: list[float]
+    networks: dict[str, str]
 
     @property
     def plans(self) -> list[str]:
@@ -49,6 +50,11 @@ class Results:
     def delays(self, plan: str) -> pandas.Series:
         """The delays of a plan by draw, in vehicle-hours."""
         return self.own(plan)[DELAY].astype(float)
+
+    @property
+    def succeeded(self) -> dict[str, numpy.ndarray]:
+        """The delays of each plan of which a run succeeded, in vehicle-hours."""
+        return {plan: self.delays(plan).to_numpy() for plan in self.plans if len(self.own(plan))}
 
     @cached_property
     def _spreads(self) -> dict[str, dict[str, Spread]]:
@@ -151,4 +157,4 @@ def results_of(drawn_runs: DrawnRuns, times: Mapping[str, float] | None = None) 
     return Results(drawn_runs.plans[0].title, dict(zip(measured, titles)), drawn_runs.seed, drawn_runs.count, drawn_runs.runs,
                    drawn_runs.asked.places, dict(times or {}),
                    {plan: flat(one) for plan, one in measured.items()}, {plan: one["free"] for plan, one in measured.items()},
-                   drawn_runs.frame(), drawn_runs.judged())
+                   drawn_runs.frame(), {plan: one["network"] for plan, one in measured.items()})

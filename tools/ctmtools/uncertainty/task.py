@@ -13,10 +13,8 @@ from ..report.by_road import roads_and_gates
 from ..report.queues import standing
 from ..report.reading import Report
 from ..report.travel import cell_before, chain_of, trips
-from ..running import run
-from ..study.network_text import build
 from ..study.plan import Closure, Study
-from ..sweeps.task import Task, rounded, study
+from ..sweeps.task import Task, ran, study
 from .incident import happened
 from .reliability import DELAY
 from .uncertainty import Incidents
@@ -49,7 +47,7 @@ def measure(task: DrawTask) -> dict[str, Any]:
 
     Delay is in vehicle-hours, `last_queue_s` when the last queue cleared, in s after the start, or None without one;
     `delays` are those of each road and gate, `travel` and `free` the mean travel time of those who arrive and that at free flow,
-    in min, by road and route; `past` tells whether a queue stood before each place.
+    in min, by road and route; `past` tells whether a queue stood before each place; `network` is the checksum of the network.
     """
     try:
         if not Path(task.plan.program).exists():
@@ -57,8 +55,9 @@ def measure(task: DrawTask) -> dict[str, Any]:
         made = study(task.plan)
         closures = _closures(task, task.first) if task.first else []
         made.closures += closures
-        report, differing = _ran(made, task.plan)
-        return {**figures(report, task.asked), "incidents": len(closures), "rounded": differing, "error": ""}
+        report, network, notes = ran(made, task.plan)
+        report.need_records()
+        return {**figures(report, task.asked), "incidents": len(closures), "network": network, "rounded": notes, "error": ""}
     except Problem as problem:
         return {"error": one_line(problem)}
     except Exception as error:  # whatever it is, it is this run's, and the other runs go on
@@ -68,16 +67,9 @@ def measure(task: DrawTask) -> dict[str, Any]:
 def _closures(task: DrawTask, first: Task) -> list[Closure]:
     """The closures of a draw's incidents, the same for each plan."""
     made = study(first)
-    report, _ = _ran(made, first)
-    return happened(task.incidents, report, made, task.seed, task.number)
-
-
-def _ran(made: Study, task: Task) -> tuple[Report, str]:
-    """The report of a study, and what was rounded."""
-    built = build(made)
-    _, report = run(built.text.encode(), "the built network", built.units, task.every, 1, task.program, network=built.network)
+    report, _, _ = ran(made, first)
     report.need_records()
-    return report, rounded(built.rounding)
+    return happened(task.incidents, report, made, task.seed, task.number)
 
 
 def figures(report: Report, asked: Asked) -> dict[str, Any]:

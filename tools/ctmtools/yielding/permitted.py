@@ -66,6 +66,11 @@ class PermittedGreen:
         """In which steps of the cycle it gives way."""
         return numpy.array([any(in_span(time, span, self.cycle) for span in self.spans) for time in self.times])
 
+    def in_cycle(self, rates: Numbers) -> Numbers:
+        """What may pass in the mean of whole cycles, of the rates in each step of them: those in its green count."""
+        green = [in_span(time, self.green, self.cycle) for time in self.times]
+        return (rates * green).mean(axis=1)
+
     def rates(self, towards: Sequence[Opposing]) -> Numbers:
         """What may turn in each step of the cycle; as much as the cell passes where it doesn't give way."""
         rates = numpy.array([min(self.most, self._rate(time, towards)) for time in self.times])

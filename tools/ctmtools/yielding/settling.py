@@ -7,35 +7,39 @@ settled once no limit would move by more than 1 %.
 
 from __future__ import annotations
 
-from collections.abc import Callable, Sequence
+from collections.abc import Callable, Mapping, Sequence
 from dataclasses import dataclass, replace
-from math import gcd
 
 from ..program import recording_step
 from ..report.reading import Report
 from ..study.network_text import Built, build
 from ..study.plan import Study
 from .conflicts import Numbers
-from .told import told_of
-from .yielding import Yielding
+from .messages import passing_lines
+from .yielding import Waits, Yielding
 
 MOST_RUNS = 20
 LEAST_MOVE = 0.01  # by which a limit moves, as a part of it, below which it is settled
 DAMPING = 0.5
 SWINGS = 0.8  # of what limits moved before, above which they swing: from then on they go half as far
 
-Run = Callable[[Built, int], Report]  # runs what was built, and records it each so many steps
+Recorded = Mapping[int, Report]  # the reports of a run by how many steps lie between their records
+Run = Callable[[Built, Sequence[int]], Recorded]  # runs what was built, and records it each so many steps
 Done = Callable[..., object]  # is called after each run, with how many it counts and a text
 
 
 @dataclass(frozen=True)
 class Settled:
-    """A study with what passes of those who give way, its network, and after how many runs how far limits still moved."""
+    """A study with what passes of those who give way, its network, and after how many runs how far limits still moved.
+
+    `waits` are what vehicles lose by coming at random, for each of the study's `yields`.
+    """
 
     study: Study
     built: Built
     runs: int
     moved: float
+    waits: Sequence[Waits] = ()
 
     @property
     def is_settled(self) -> bool:
@@ -54,11 +58,12 @@ def settled(study: Study, run: Run, done: Done | None = None, shares_follow: boo
     if not study.yields:
         return Settled(study, built, 0, 0.0)
     ones = [Yielding(one, study, built) for one in study.yields]
-    every = max(recording_step(built.network.steps, len(built.network.cells)), gcd(*(one.width for one in ones)))
+    every = recorded_every(ones, recording_step(built.network.steps, len(built.network.cells)))
     runs, moves, before, part = 0, [float("inf")], float("inf"), 1.0
     while True:
-        report, runs = run(built, every), runs + 1
-        wanted = wanted_of(ones, report)
+        reports, runs = run(built, sorted(set(every.values()))), runs + 1
+        by_width = {width: reports[steps] for width, steps in every.items()}
+        wanted = wanted_of(ones, by_width)
         moves = [one.move(rates) for one, rates in zip(ones, wanted)]
         if done:
             done(1, f"limits move by {max(moves):.1%}" if runs > 1 else "without giving way")
@@ -69,7 +74,10 @@ def settled(study: Study, run: Run, done: Done | None = None, shares_follow: boo
         built = build(study, shares_follow)
     if done:
         done(MOST_RUNS - runs, "")
-    return Settled(study, _with_told(built, ones, moves, runs), runs, max(moves))
+    waits = [one.waits(by_width[one.width]) for one in ones]
+    remarks, warnings = passing_lines(ones, waits, moves, runs, LEAST_MOVE)
+    built = replace(built, remarks=[*built.remarks, *remarks], warnings=[*built.warnings, *warnings])
+    return Settled(study, built, runs, max(moves), waits)
 
 
 def limited(study: Study, ones: Sequence[Yielding], wanted: Sequence[Numbers], part: float) -> Study:
@@ -79,14 +87,21 @@ def limited(study: Study, ones: Sequence[Yielding], wanted: Sequence[Numbers], p
     return replace(study, yields=[replace(one.of, capacities=one.capacities()) for one in ones])
 
 
-def wanted_of(ones: Sequence[Yielding], report: Report) -> list[Numbers]:
-    """What passes of each by the flows of a run. Who gives way in turn to one that gives way is held up by its queue too."""
-    potential = {one.cell: one.potential(report) for one in ones}
+def recorded_every(ones: Sequence[Yielding], least: int) -> dict[int, int]:
+    """For each width of intervals how many steps lie between the records of its run, no fewer than the program's limit allows.
+
+    A width has the records of one that divides it, and else its own: a run more costs less than one recorded at what divides
+    all widths, which may be each step.
+    """
+    widths = sorted({one.width for one in ones})
+    return {width: max(least, next(part for part in widths if width % part == 0)) for width in widths}
+
+
+def wanted_of(ones: Sequence[Yielding], reports: Recorded) -> list[Numbers]:
+    """What passes of each by the flows of a run, whose reports are by the widths of intervals.
+
+    Who gives way in turn to one that gives way is held up by its queue too.
+    """
+    potential = {one.cell: one.potential(reports[one.width]) for one in ones}
     unsignalled = {one.cell: one for one in ones if one.green is None}
-    return [potential[one.cell] * one.unimpeded(report, unsignalled, potential) for one in ones]
-
-
-def _with_told(built: Built, ones: Sequence[Yielding], moves: Sequence[float], runs: int) -> Built:
-    """What was built, with lines on what passes, and on what doesn't settle."""
-    remarks, warnings = told_of(ones, moves, runs, LEAST_MOVE)
-    return replace(built, remarks=[*built.remarks, *remarks], warnings=[*built.warnings, *warnings])
+    return [potential[one.cell] * one.unimpeded(reports[one.width], unsignalled, potential) for one in ones]

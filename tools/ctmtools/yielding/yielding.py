@@ -3,6 +3,7 @@
 from __future__ import annotations
 
 from collections.abc import Iterator, Mapping
+from dataclasses import dataclass
 from fractions import Fraction
 from itertools import groupby
 
@@ -10,13 +11,26 @@ import numpy
 
 from ..amounts import PARTS, rounded_parts
 from ..report.reading import Report
+from ..study.gap_kinds import SIEGLOCH
 from ..study.network_text import Built
 from ..study.plan import Flow, Study, Yield
 from .conflicts import HOUR, Numbers, cell_of, flow_of, own_flow, streams_of, total
+from .control_delay import at_roundabout, at_signal, at_stop
 from .gaps import in_two_stages, passing
 from .permitted import PermittedGreen, opposing_of
 
 A_VEHICLE = 1.0  # vehicles/h below which a limit isn't held against itself
+FULL = 0.99  # of what may pass, from which on a queue stands; what may pass is settled to a hundredth
+
+
+@dataclass(frozen=True)
+class Waits:
+    """What vehicles lose by coming at random: how many do where no queue stands, in vehicle-hours; and in how many intervals one
+    does."""
+
+    vehicles: float
+    hours: float
+    full: int
 
 
 class Yielding:
@@ -62,6 +76,17 @@ class Yielding:
             if other is not of:
                 chance = chance * numpy.clip(1 - own_flow(report, other.of, other.bounds) / numpy.maximum(most[:, 0], A_VEHICLE), 0, 1)
         return chance[:, None]
+
+    def waits(self, report: Report) -> Waits:
+        """What vehicles lose by coming at random, in the intervals of a run in which fewer come than may pass."""
+        flows = own_flow(report, self.of, self.bounds)
+        capacities = self.green.in_cycle(self.rates) if self.green else self.rates[:, 0]
+        delay = at_signal if self.green else at_roundabout if self.of.gaps.formula == SIEGLOCH else at_stop
+        hours = numpy.diff(self.bounds) * self.step / HOUR
+        free = [(flow * lasting, delay(flow, capacity)) for flow, capacity, lasting in zip(flows, capacities, hours)
+                if 0 < flow < FULL * capacity]
+        return Waits(sum(vehicles for vehicles, _ in free), sum(vehicles * lost for vehicles, lost in free) / HOUR,
+                     int((flows >= FULL * numpy.maximum(capacities, A_VEHICLE)).sum()))
 
     def move(self, wanted: Numbers) -> float:
         """The most by which the limit of an interval would move to what is wanted, as a part of it."""

@@ -11,7 +11,7 @@ text_of records = codes "ctm,2\n" ++ flat_map record_line (drop 1 records)
 
 pub returns-then-branch : goal.returns-then-branch
 returns-then-branch c =
-    let rest = records_left (λ (s : Bor (List ℕ)). Some s.now) c.next_record.new.reader in
+    let rest = records_left c.next_record.new.reader in
     let whole = ap text_of (c.in_ok-next_record.ensures.found c.if-branch.true) ∙ ap (λ header. header ++ flat_map record_line rest) (sym c.in_ok-text.ensures) in
     rw whole c.with_lines.ensures
 

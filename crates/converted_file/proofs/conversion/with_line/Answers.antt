@@ -1,12 +1,11 @@
 use Rattle.std.proofs.Common.{rules, ◌≡◌, ◌++◌, ◌∷◌, ◌<◌, [], ◌∙◌, length, get_or, arith}
-use Rattle.csv.specs.Records.{fields_of}
 use Rattle.converted_file.proofs.JoinedLemmas.{line-first, line-more}
 use Rattle.converted_file.proofs.conversion.with_line.Goals.{then-i-gt0+in_ok-push, else-i-gt0}
 use Rattle.converted_file.proofs.conversion.with_line.Goals as goal
 
 pub loop-i-preserved : goal.loop-i-preserved
 loop-i-preserved c =
-    let fields = fields_of c.args.row.now in
+    let fields = c.args.row.now in
     let i = c.loop-i.i in
     let text = c.loop-i.text.items in
     let there : i < length fields = search rules in

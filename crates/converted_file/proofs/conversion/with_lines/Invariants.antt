@@ -7,11 +7,11 @@ use Rattle.converted_file.proofs.conversion.with_lines.Given as goal
 -- the text, and then the lines of the records that are left
 abbrev pub invariant-loop-text : goal.invariant-loop-text
 invariant-loop-text l = record {
-  reading : IsReading (λ (s : Bor (List ℕ)). Some s.now) l.reader;
-  whole : l.fn.text.items ++ flat_map record_line (records_left (λ (s : Bor (List ℕ)). Some s.now) l.initial.reader)
-      ≡ l.text.items ++ flat_map record_line (records_left (λ (s : Bor (List ℕ)). Some s.now) l.reader);
+  reading : IsReading l.reader;
+  whole : l.fn.text.items ++ flat_map record_line (records_left l.initial.reader)
+      ≡ l.text.items ++ flat_map record_line (records_left l.reader);
 }
 
 -- each turn takes a record
 abbrev pub decreases-loop-text : goal.decreases-loop-text
-decreases-loop-text l = length (records_left (λ (s : Bor (List ℕ)). Some s.now) l.reader)
+decreases-loop-text l = length (records_left l.reader)

@@ -1,7 +1,7 @@
 use Rattle.std.proofs.Common.{◌≡◌, ◌∙◌, [], List, ℕ, arith, length, ap}
 use Rattle.std.specs.Prelude.{Result}
 use Rattle.network_file.specs.Draft.{Draft}
-use Rattle.record_fields.specs.RecordsLeft.{left_of}
+use Rattle.record_fields.specs.FileRecords.{records_left}
 use Rattle.network_file.specs.Network.{Network}
 use Rattle.network_file.specs.Reading.{completed, read_records}
 use Rattle.network_file.specs.declared.fault.NetFault.{NetFault}
@@ -10,19 +10,19 @@ use Rattle.network_file.proofs.reading.read_later.Goals as goal
 
 pub returns-in-Err-clause-refusal : goal.returns-in-Err-clause-refusal
 returns-in-Err-clause-refusal c =
-    let rest = left_of c.next.new.self in
-    let next = c.in_ok-next.ensures.found c.if-branch.true in
-    rw c.of_record.ensures (read_records-refused c.loop-draft.place c.loop-draft.draft c.next.new.row rest c.in-Err.refusal
-    (read_records 2 c.args.draft (left_of c.args.records.now)) (rw next at c.loop-draft.invariant.same) c.in-Err.ensures)
+    let rest = records_left c.next_record.new.reader in
+    let next = c.in_ok-next_record.ensures.found c.if-branch.true in
+    rw c.of_record.ensures (read_records-refused c.loop-draft.place c.loop-draft.draft c.next_record.new.row rest c.in-Err.refusal
+    (read_records 2 c.args.draft (records_left c.args.records.now)) (rw next at c.loop-draft.invariant.same) c.in-Err.ensures)
 
 pub loop-draft-preserved : goal.loop-draft-preserved
 loop-draft-preserved c =
-    let rest = left_of c.next.new.self in
-    let next = c.in_ok-next.ensures.found c.if-branch.true in
+    let rest = records_left c.next_record.new.reader in
+    let next = c.in_ok-next_record.ensures.found c.if-branch.true in
     record {
-      reading = c.in_ok-next.ensures.reading c.if-branch.true;
+      reading = c.in_ok-next_record.ensures.reading c.if-branch.true;
       same = (rw next at c.loop-draft.invariant.same)
-          ∙ read_records-taken c.loop-draft.place c.loop-draft.draft c.in-Ok.more c.next.new.row rest c.in-Ok.ensures;
+          ∙ read_records-taken c.loop-draft.place c.loop-draft.draft c.in-Ok.more c.next_record.new.row rest c.in-Ok.ensures;
       few = omega (arith, c.loop-draft.invariant.few, ap length next);
     }
 
@@ -32,10 +32,10 @@ completes whole place draft left same none = same ∙ rw none (read_records-none
 
 pub returns-in-Ok-complete-clause-network : goal.returns-in-Ok-complete-clause-network
 returns-in-Ok-complete-clause-network c =
-    let whole = completes _ c.loop-draft.place c.loop-draft.draft _ c.loop-draft.invariant.same (c.in_ok-next.ensures.end c.if-branch.false) in
+    let whole = completes _ c.loop-draft.place c.loop-draft.draft _ c.loop-draft.invariant.same (c.in_ok-next_record.ensures.end c.if-branch.false) in
     whole ∙ completed-network c.loop-draft.place c.loop-draft.draft c.in-Ok-complete.net c.in-Ok-complete.ensures
 
 pub returns-in-Err-complete-clause-refusal : goal.returns-in-Err-complete-clause-refusal
 returns-in-Err-complete-clause-refusal c =
-    let whole = completes _ c.loop-draft.place c.loop-draft.draft _ c.loop-draft.invariant.same (c.in_ok-next.ensures.end c.if-branch.false) in
+    let whole = completes _ c.loop-draft.place c.loop-draft.draft _ c.loop-draft.invariant.same (c.in_ok-next_record.ensures.end c.if-branch.false) in
     rw (c.of_record-in-Err-complete.ensures, whole) (completed-refused c.loop-draft.place c.loop-draft.draft c.in-Err-complete.refusal c.in-Err-complete.ensures)

@@ -3,7 +3,7 @@ use Rattle.std.proofs.Common.{◌≡◌, ℕ, zero, suc, ◌<◌, [], ◌∷◌,
 use Rattle.network_file.specs.Connectors.{connector_at}
 use Rattle.network_file.proofs.NetworkFacts.{read_connector}
 use Rattle.region_cut.specs.ConnectorCells.{three_cells}
-use Rattle.plain_region.specs.Layout.{IsPlaceOf, place_at}
+use Rattle.plain_region.specs.Ties.{IsPlaceOf, place_at}
 use Rattle.region_body.proofs.Known.{known_cell}
 use Rattle.plain_region.proofs.tie.tied.Goals as goal
 

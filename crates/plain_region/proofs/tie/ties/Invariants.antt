@@ -1,6 +1,6 @@
 use Rattle.std.specs.Prelude.{All, map}
 use Rattle.std.proofs.Common.{◌≡◌, take}
-use Rattle.plain_region.specs.Layout.{IsTie}
+use Rattle.plain_region.specs.Ties.{IsTie}
 use Rattle.plain_region.proofs.tie.ties.Given as goal
 
 abbrev pub invariant-loop-k : goal.invariant-loop-k

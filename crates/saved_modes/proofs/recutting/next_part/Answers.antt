@@ -1,7 +1,9 @@
-use Rattle.std.proofs.Common.{ap, arith, refl, subst, sym}
+use Rattle.std.proofs.Common.{ℕ, ap, arith, refl, subst, sym}
+use Rattle.region_cut.specs.Cuttings.{region_count}
+use Rattle.saved_modes.specs.Told.{HasToldBetween}
 use Rattle.saved_modes.specs.Recutting.{IsLastPart, IsPart, step_of}
 use Rattle.saved_modes.specs.declared.recutting.Part.{Part}
-use Rattle.saved_modes.proofs.RecutParts.{start-below}
+use Rattle.saved_modes.proofs.RecutParts.{start-below, told-between}
 use Rattle.saved_modes.proofs.recutting.next_part.Goals as goal
 
 pub part_start-requires : goal.part_start-requires
@@ -24,7 +26,7 @@ returns-clause-part g c =
       at = record {
         fits = c.in_ok-start.ensures.fits;
         started = λ r within. omega (arith, start-below c.in_ok-start.start c.in_ok-layout.layout.chart.cut (step_of c.args.last) c.args.goal c.in_ok-start.ensures.steps c.requires.later r within);
-        stand = c.in_ok-regions.ensures;
+        stand = c.in_ok-regions.ensures.stand;
       };
       from = record {
         true_start = c.in_ok-start.ensures.true_start;
@@ -32,3 +34,10 @@ returns-clause-part g c =
         below = λ some r within. start-below c.in_ok-start.start c.in_ok-layout.layout.chart.cut (step_of c.args.last) c.args.goal c.in_ok-start.ensures.steps c.requires.later r within;
       };
     })
+
+pub returns-clause-told : goal.returns-clause-told
+returns-clause-told g c = λ done.
+    let held : ℕ → ℕ → Type 0 = g.G.Gate.told_held c.args.gate.now in
+    let freed : ℕ → ℕ → Type 0 = g.G.Gate.told_freed c.args.gate.now in
+    subst (λ cut. HasToldBetween held freed (region_count cut) (step_of c.args.last) c.args.goal) c.in_ok-layout.ensures.cut
+    (told-between held freed c.in_ok-start.start c.in_ok-layout.layout.chart.cut (step_of c.args.last) c.args.goal c.in_ok-start.ensures.steps (c.in_ok-regions.ensures.told refl))

@@ -13,3 +13,8 @@ regions_from-requires-clause-before g c = λ lifetimes outlive r within.
     let in_time : slice_index start.steps r ≤ c.args.layout.now.net.steps = lawful.in_time r 0 (omega (arith, within, count, lawful.one_each)) in
     let last : c.net.inside.steps ≡ c.args.layout.now.net.steps = ap (λ net. net.steps) (c.net.view_is ∙ c.net-net.ensures.network) in
     omega (arith, in_time, last, begun)
+
+pub returns-clause-told : goal.returns-clause-told
+returns-clause-told g c = λ done.
+    let last : c.net.inside.steps ≡ c.args.layout.now.net.steps = ap (λ net. net.steps) (c.net.view_is ∙ c.net-net.ensures.network) in
+    rw (c.new-setup.ensures, last) at (c.regions_from.ensures.told done)

@@ -1,5 +1,6 @@
+use Rattle.std.proofs.Common.{refl}
 use Rattle.saved_run.specs.Reading.{content_of}
-use Rattle.saved_modes.proofs.Resuming.{gone-on, loaded-starts, why-none}
+use Rattle.saved_modes.proofs.Resuming.{gone-on, loaded-starts, told-on, why-none}
 use Rattle.saved_modes.proofs.resume_mode.resume_text.Goals as goal
 
 pub report_on-requires-clause-can_start : goal.report_on-requires-clause-can_start
@@ -11,3 +12,8 @@ returns-clause-text g c = (
   gone-on (content_of c.args.input.now) c.in-Ok.saved.net c.in-Ok.saved.chart c.in-Ok.saved.start c.in_ok-text.text.items c.in-Ok.ensures.loaded
       (rw c.of-layout.ensures at c.in_ok-text.ensures.text) (rw c.of-layout.ensures at c.in_ok-text.ensures.plain),
 )
+
+pub returns-clause-told : goal.returns-clause-told
+returns-clause-told g c = λ done.
+    told-on (g.G.Gate.told_held c.args.gate.now) (g.G.Gate.told_freed c.args.gate.now) (content_of c.args.input.now) c.in-Ok.saved.net c.in-Ok.saved.chart c.in-Ok.saved.start c.in-Ok.ensures.loaded
+    (rw c.of-layout.ensures at (c.in_ok-text.ensures.told refl))

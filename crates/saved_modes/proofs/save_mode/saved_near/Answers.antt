@@ -1,11 +1,13 @@
-use Rattle.std.proofs.Common.{ℕ, List, length, arith, ap, subst, ◌∙◌}
+use Rattle.std.proofs.Common.{ℕ, List, length, min, arith, ap, refl, subst, ◌∙◌}
 use Rattle.network_file.specs.Network.{IsNetwork, Network}
 use Rattle.network_file.proofs.NetworkFacts.{few_cells}
 use Rattle.network_file.specs.Cutting.{IsCutting}
+use Rattle.region_cut.specs.Cuttings.{region_count}
 use Rattle.region_step.specs.Start.{zero_start}
 use Rattle.region_step.proofs.StartLaws.{zero_start-fits, zero_start-lawful, zero_start-true}
 use Rattle.saved_run.specs.Laws.{IsTrueShot}
 use Rattle.saved_run.specs.SavedText.{saved_text}
+use Rattle.network_run.specs.Telling.{HasTold}
 use Rattle.saved_modes.specs.SaveMode.{IsSavedNear}
 use Rattle.saved_modes.proofs.Saved.{shown-run}
 use Rattle.saved_modes.proofs.save_mode.saved_near.Goals as goal
@@ -13,8 +15,8 @@ use Rattle.saved_modes.proofs.save_mode.saved_near.Goals as goal
 pub save_text-requires-clause-few : goal.save_text-requires-clause-few
 save_text-requires-clause-few g c = omega (arith, (c.net-own.ensures.one_each ∙ ap (λ (n : Network). length n.cells) c.in_ok-layout.ensures.network), few_cells c.args.net.now (subst IsNetwork c.net.view_is c.net.invariant))
 
-pub returns : goal.returns
-returns g c =
+pub returns-clause-saved : goal.returns-clause-saved
+returns-clause-saved g c =
     let net = c.args.net.now in
     let sound = subst IsNetwork c.net.view_is c.net.invariant in
     let used : List ℕ = c.in_ok-layout.layout.chart.cut in
@@ -37,4 +39,15 @@ returns g c =
       cut = used;
       cutting = c.in_ok-layout.ensures.cutting;
       near = subst (λ until. IsSavedNear net c.in_ok-layout.layout.chart.cut until c.args.input.now c.in_ok-text.text.items) c.from-until.ensures near;
+    }
+
+pub returns-clause-told : goal.returns-clause-told
+returns-clause-told g c = λ done.
+    let held : ℕ → ℕ → Type 0 = g.G.Gate.told_held c.args.gate.now in
+    let freed : ℕ → ℕ → Type 0 = g.G.Gate.told_freed c.args.gate.now in
+    let used : List ℕ = c.in_ok-layout.layout.chart.cut in
+    record {
+      cut = used;
+      cutting = c.in_ok-layout.ensures.cutting;
+      told = subst (λ until. HasTold held freed (region_count used) (min until c.args.net.now.steps)) c.from-until.ensures (rw c.in_ok-layout.ensures.network at (c.in_ok-room.ensures.told refl));
     }

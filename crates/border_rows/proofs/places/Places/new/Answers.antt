@@ -1,4 +1,5 @@
-use Rattle.std.proofs.Common.{◌≡◌, ℕ, List, arith, rules, ap, length, sym, ◌∙◌}
+use Rattle.std.proofs.Common.{◌≡◌, ℕ, List, arith, rules, ap, length, subst, sym, ◌∙◌}
+use Rattle.network_file.specs.Network.{IsNetwork}
 use Rattle.border_rows.specs.Places.{base_of, widths_of, words_of}
 use Rattle.border_rows.specs.Spans.{spans_of, widths_in}
 use Rattle.border_rows.proofs.ChartWidths.{length-widths_of, next_words}
@@ -13,21 +14,24 @@ loop-r-init c = search rules
 pub overflow_cast-width : goal.overflow_cast-width
 overflow_cast-width c =
     let next =
-    next_words c.args.layout.now.chart c.loop-r.r c.loop-r.words (length c.border.result.now) c.regions-r-end.ensures.sound c.requires
+    next_words c.args.layout.now.net c.args.layout.now.chart c.loop-r.r c.loop-r.words (length c.border.result.now) c.regions-r-end.ensures.sound
+    (subst IsNetwork (c.net.view_is ∙ c.net-net.ensures.network) c.net.invariant) c.net-net.ensures.charted
     (omega (arith, c.regions-r-end.ensures.count)) c.loop-r.invariant.words (ap length c.border.ensures.list) in
     omega (arith, next.2)
 
 pub end-words-requires : goal.end-words-requires
 end-words-requires c =
     let next =
-    next_words c.args.layout.now.chart c.loop-r.r c.loop-r.words (length c.border.result.now) c.regions-r-end.ensures.sound c.requires
+    next_words c.args.layout.now.net c.args.layout.now.chart c.loop-r.r c.loop-r.words (length c.border.result.now) c.regions-r-end.ensures.sound
+    (subst IsNetwork (c.net.view_is ∙ c.net-net.ensures.network) c.net.invariant) c.net-net.ensures.charted
     (omega (arith, c.regions-r-end.ensures.count)) c.loop-r.invariant.words (ap length c.border.ensures.list) in
     next.2
 
 pub loop-r-preserved : goal.loop-r-preserved
 loop-r-preserved c =
     let next =
-    next_words c.args.layout.now.chart c.loop-r.r c.loop-r.words (length c.border.result.now) c.regions-r-end.ensures.sound c.requires
+    next_words c.args.layout.now.net c.args.layout.now.chart c.loop-r.r c.loop-r.words (length c.border.result.now) c.regions-r-end.ensures.sound
+    (subst IsNetwork (c.net.view_is ∙ c.net-net.ensures.network) c.net.invariant) c.net-net.ensures.charted
     (omega (arith, c.regions-r-end.ensures.count)) c.loop-r.invariant.words (ap length c.border.ensures.list) in
     record {
       spans =

@@ -7,6 +7,7 @@ use Rattle.region_step.proofs.Steps.{zero_start-at}
 use Rattle.snapshot.specs.Rooms.{RoomValue}
 use Rattle.snapshot.specs.Snapshots.{IsSnapshot}
 use Rattle.border_rows.specs.declared.view.Terms.{Terms}
+use Rattle.worker_claim.proofs.Telling.{told-more}
 use Rattle.network_run.proofs.run.Run.show_near.Goals as goal
 
 pub returns-clause-near : goal.returns-clause-near
@@ -27,3 +28,17 @@ returns-clause-near g c =
           let between = c.show_on_the_way.ensures.between r (omega (arith, there, count)) in
           (omega (arith, c.take_to.ensures.done r there, between.0), omega (arith, between.1, zero r, steps, c.requires.in_time));
     }
+
+pub returns-clause-terms : goal.returns-clause-terms
+returns-clause-terms g c = c.show_on_the_way.ensures.terms ∙ c.take_to.ensures.terms
+
+pub returns-clause-told : goal.returns-clause-told
+returns-clause-told g c =
+    told-more (g.G.Gate.told_held c.args.gate.now) (g.G.Gate.told_freed c.args.gate.now) c.args.self.now.knows.log c.take_to.new.self.knows.log
+    c.show_on_the_way.new.self.knows.log c.take_to.ensures.told c.show_on_the_way.ensures.told
+
+pub returns-clause-done : goal.returns-clause-done
+returns-clause-done g c = λ r there.
+    let steps : c.net.inside.steps ≡ c.args.layout.now.net.steps = ap (λ n. n.steps) (c.net.view_is ∙ c.net-net.ensures.network) in
+    let count : region_count c.take_to.new.self.terms.setup.now.chart.cut ≡ region_count c.args.self.now.terms.setup.now.chart.cut = ap (λ (t : Terms). region_count t.setup.now.chart.cut) c.take_to.ensures.terms in
+    omega (arith, c.show_on_the_way.ensures.done r (omega (arith, there, count)), steps, c.requires.in_time)

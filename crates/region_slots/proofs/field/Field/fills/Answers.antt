@@ -24,7 +24,7 @@ overflow_cast-j-end c =
     let chart : c.self.inside.layout.now.chart ≡ terms.setup.now.chart = sym c.self.invariant.1 ∙ ap (λ field. field.terms.setup.now.chart) c.self.view_is in
     let field : IsTableFor terms c.args.self.now.table = subst (λ (f : FieldValue). IsTableFor f.terms f.table) c.self.view_is c.self.invariant.3 in
     let list = c.border-border.ensures.list ∙ ap (λ (lists : ChartLists). list_at lists.border c.args.region) chart in
-    let few = words-fit terms.setup.now.chart field.chart record { net = terms.setup.now.net; sound = field.sound; charted = field.charted } in
+    let few = words-fit terms.setup.now.net terms.setup.now.chart field.chart field.sound field.charted in
     omega (arith, ap length list, width_at-widths_of terms.setup.now.chart c.args.region, few, base-le-words (widths_of terms.setup.now.chart) c.args.region (within-widths terms.setup.now.chart c.args.region field.chart c.requires.there))
 
 pub store_border_word-requires-clause-working : goal.store_border_word-requires-clause-working

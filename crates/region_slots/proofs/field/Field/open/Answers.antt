@@ -27,13 +27,6 @@ first_words-requires-clause-earlier c =
     ap (λ start. length start.earlier) c.start-start.ensures.start ∙ c.start-start.ensures.fits.earlier ∙
     sym (ap (λ start. length start.rows) c.start-start.ensures.start ∙ c.start-start.ensures.fits.rows)
 
-pub new-requires : goal.new-requires
-new-requires c = record {
-  net = c.layout-layout.result.now.net;
-  sound = subst IsNetwork (c.net.view_is ∙ c.net-net.ensures.network) c.net.invariant;
-  charted = c.net-net.ensures.charted;
-}
-
 pub new-requires-2 : goal.new-requires-2
 new-requires-2 c =
     let words = rw (c.layout-layout.ensures.chart, c.start-start.ensures.start) at c.in_ok-words.ensures in

@@ -33,7 +33,7 @@ note_step-requires c =
           let fit = notes-fit c.args.layout.now.net c.args.layout.now.chart c.args.self.now (next_rows_of c.args.layout.now.net c.args.layout.now.chart c.args.self.now.state) c.requires.opened c.requires.in_time
           (length-next_rows_of c.args.layout.now.net c.args.layout.now.chart c.args.self.now.state) here in
           let trail = ap (λ region. length region.state.trail) c.self.view_is in
-          let room = ap (λ region. region.layout.room) c.self.view_is in
+          let room = ap (λ region. region.body.room) c.self.view_is in
           omega (arith, fit, trail, room, long, length-next_rows_of c.args.layout.now.net c.args.layout.now.chart c.args.self.now.state);
     }
 
@@ -60,8 +60,8 @@ returns-clause-opened c =
     let done = stepped-read c.args.layout.now.net c.args.layout.now.chart _ c.args.self.now _ _ c.step.new.self c.self.view_is (subst IsNetwork (c.net.view_is ∙ c.net-net.ensures.network) c.net.invariant)
     c.requires.opened c.requires.in_bounds c.requires.halo c.cells-cells.ensures.list c.deref.ensures.value (rw c.net-net.ensures.network at c.step.ensures.rows) (rw c.net-net.ensures.network at c.step.ensures.ordered) (rw c.net-net.ensures.network at c.step.ensures.before) in
     advanced-inside c.args.layout.now.net c.args.layout.now.chart c.args.self.now _ c.requires.opened c.requires.in_time (returns-clause-state c)
-    done.ordered refl (ap (λ region. region.layout.border) c.self.view_is)
-    (rw (ap (λ region. region.layout.room) c.self.view_is) at c.note_step.ensures.room)
+    done.ordered refl (ap (λ region. region.body.border) c.self.view_is)
+    (rw (ap (λ region. region.body.room) c.self.view_is) at c.note_step.ensures.room)
 
 pub returns-clause-bounds : goal.returns-clause-bounds
 returns-clause-bounds c =

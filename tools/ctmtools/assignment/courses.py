@@ -1,0 +1,55 @@
+"""The ways of all pairs on their course through a run: when who sets out arrives, and who comes to each leg when."""
+
+from __future__ import annotations
+
+from collections.abc import Sequence
+
+import numpy
+from scipy.sparse import csr_matrix
+
+from ..report.curves import left_at
+from .choices import Choice
+from .departures import Departures
+from .passing import Passing, in_turn
+
+MOST_MOMENTS = 2_000_000  # that are worked out at once
+
+Numbers = numpy.ndarray
+
+
+class Courses:
+    """The ways as they stand, by one passing: a row for each way, pair by pair.
+
+    `arrived` has when those arrive who set out at the bounds of the departures. `origins` has a row for each way and each leg of
+    it but the first: who comes to the leg at each bound of the shares set out at the bound of the departures of this number,
+    which has a fraction; `rows` are the ways of these rows and `into` joins them to the legs.
+    """
+
+    def __init__(self, choices: Sequence[Choice], departures: Departures, passing: Passing, bounds: Numbers) -> None:
+        self.departures = departures
+        self.pairs = numpy.repeat(numpy.arange(len(choices)), [len(choice.ways) for choice in choices])
+        ways = [way for choice in choices for way in choice.ways]
+        self.arrived = numpy.tile(departures.bounds, (len(ways), 1))
+        rows: list[Numbers] = []
+        legs: list[Numbers] = []
+        origins: list[Numbers] = []
+        at_once = max(1, MOST_MOMENTS // len(departures.bounds))
+        for first in range(0, len(ways), at_once):
+            moments = self.arrived[first:first + at_once]
+            for place, (numbers, own) in enumerate(in_turn(ways[first:first + at_once])):
+                if place:
+                    rows.append(first + numbers)
+                    legs.append(own)
+                    origins.append(_origins(moments[numbers], bounds))
+                moments[numbers] = passing.through(own, moments[numbers])
+        self.rows = numpy.concatenate([numpy.empty(0, int), *rows])
+        self.origins = numpy.concatenate([numpy.empty((0, len(bounds))), *origins])
+        into = numpy.concatenate([numpy.empty(0, int), *legs]), numpy.arange(len(self.rows))
+        self.into = csr_matrix((numpy.ones(len(self.rows)), into), (len(passing.legs.legs), len(self.rows)))
+
+
+def _origins(moments: Numbers, bounds: Numbers) -> Numbers:
+    """The numbers, with fractions, of the departures' bounds whose moments are some others; the last one behind them all."""
+    last = moments.shape[1] - 1
+    found = left_at(numpy.arange(last + 1.0), moments, numpy.tile(bounds, (len(moments), 1)))
+    return numpy.where(numpy.isnan(found), last, found)
