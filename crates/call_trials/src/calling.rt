@@ -3,7 +3,7 @@ ghost use Rattle.std.specs.Prelude.{◌≤◌};
 use call_ending::Status;
 use ctm_call::ctm;
 use ctm_ports::{MemSink, MemSource, SureSink, SureSource};
-use region_slots::{Gate, OpenGate};
+use region_slots::{Observer, NoObserver};
 use std::alloc::{AllocError, Global};
 use std::panic::Expect;
 use std::process::Abort;
@@ -57,33 +57,33 @@ pub(crate) struct Ended<T> {
     pub(crate) err: T,
 }
 
-// A call with these words over the lines of these texts and past a gate, over ports that never fail.
-pub(crate) fn call_past<R: Threads + Sync, G: Gate>(
+// A call with these words over the lines of these texts and past an observer, over ports that never fail.
+pub(crate) fn call_past<R: Threads + Sync, W: Observer>(
     rt: &R,
     alloc: Global,
     words: &str,
     input: &[&str],
-    gate: &G,
+    observer: &W,
 ) -> Result<Ended<SureSink>, AllocError> {
     let words = words_of(alloc, words)?;
     let mut source = SureSource::new(lines(alloc, input)?);
     let mut out = SureSink::new(alloc);
     let mut err = SureSink::new(alloc);
-    let status = ctm(rt, alloc, &words, &mut source, &mut out, &mut err, gate);
+    let status = ctm(rt, alloc, &words, &mut source, &mut out, &mut err, observer);
     Ok(Ended { status, out, err })
 }
 
 // Looks whether such a call is done, and whether its text ends with the lines of these texts or is these lines.
-pub(crate) fn call_gives<R: Abort + Threads + Sync, G: Gate>(
+pub(crate) fn call_gives<R: Abort + Threads + Sync, W: Observer>(
     rt: &R,
     alloc: Global,
     words: &str,
     input: &[&str],
-    gate: &G,
+    observer: &W,
     texts: &[&str],
     is_whole: bool,
 ) {
-    let ended = call_past(rt, alloc, words, input, gate).expect(rt, "memory");
+    let ended = call_past(rt, alloc, words, input, observer).expect(rt, "memory");
     let want = lines(alloc, texts).expect(rt, "memory");
     let text = ended.out.bytes();
     assert_eq!(rt; ended.status, Status::Done);
@@ -139,6 +139,6 @@ fn call_over<R: Threads + Sync>(
     mut out: MemSink,
     mut err: MemSink,
 ) -> Ended<MemSink> {
-    let status = ctm(rt, alloc, words, &mut source, &mut out, &mut err, &OpenGate);
+    let status = ctm(rt, alloc, words, &mut source, &mut out, &mut err, &NoObserver);
     Ended { status, out, err }
 }

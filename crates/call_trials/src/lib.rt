@@ -1,12 +1,12 @@
-//! Trials of the call `ctm` with what no process can show: ports in memory that fail, and gates at which its workers meet.
+//! Trials of the call `ctm` with what no process can show: ports in memory that fail, and observers at which its workers meet.
 //! There is nothing here but tests; `tests/program` has all other runs, through the built program.
 #![tactic(auto)]
 
 #[cfg(test)]
 mod calling;
 #[cfg(test)]
-mod gate_tests;
+mod observer_tests;
 #[cfg(test)]
-mod gates;
+mod observers;
 #[cfg(test)]
 mod port_tests;

@@ -2,7 +2,7 @@ ghost use Rattle.std.specs.Prelude.{◌≤◌};
 
 use crate::calling::{CORRIDOR, CORRIDOR_AHEAD, CORRIDOR_REPORT, call_past, failing_call, lines};
 use call_ending::Status;
-use region_slots::OpenGate;
+use region_slots::NoObserver;
 use std::alloc::Global;
 use std::panic::Expect;
 use std::process::Abort;
@@ -147,7 +147,7 @@ fn a_call_out_of_memory_leaves_a_beginning_of_its_text(rt: HostRuntime) {
     let Ok(report) = lines(rt.alloc(), &[CORRIDOR_REPORT]) else {
         return;
     };
-    let Ok(ended) = call_past(&rt, rt.alloc(), "run --regions 2", &[CORRIDOR], &OpenGate) else {
+    let Ok(ended) = call_past(&rt, rt.alloc(), "run --regions 2", &[CORRIDOR], &NoObserver) else {
         return;
     };
     let text = ended.out.bytes();

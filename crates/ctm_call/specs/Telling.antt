@@ -1,4 +1,4 @@
--- What the gate of a call was told.
+-- What the observer of a call was told.
 use Rattle.std.specs.Prelude.{ℕ, ⊤, List, Ok, Err}
 use Rattle.command_words.specs.declared.mode.Mode.{Mode}
 use Rattle.command_words.specs.declared.mode.Mode.TheVariants.{Run, Watch, Sample, Save, Resume, Choose, Recut, Cut, Check, Convert}
@@ -23,7 +23,7 @@ IsToldBy held freed Cut task = ⊤
 IsToldBy held freed Check task = ⊤
 IsToldBy held freed Convert task = ⊤
 
--- a task that was answered by this text, and what the gate was told of it
+-- a task that was answered by this text, and what the observer was told of it
 abbrev pub IsAnswered : (held freed : (region step : ℕ) → Type 0) → Answer → List ℕ → Type 0
 IsAnswered held freed (Ok task) text = IsTextOf (Ok task) text × IsToldBy held freed task.request.mode task
 IsAnswered held freed (Err why) text = ⊥

@@ -12,7 +12,7 @@ ghost use Rattle.workerless_call.specs.Words.{requested};
 use call_ending::Refusal;
 use command_words::{Mode, Request};
 use ctm_ports::Source;
-use region_slots::Gate;
+use region_slots::Observer;
 use run_modes::{run_text, sample_text, watch_text};
 use saved_modes::{recut_text, resume_text, saved_text};
 use std::alloc::Global;
@@ -20,15 +20,15 @@ use std::thread::Threads;
 use workerless_call::{check_text, choose_text, convert_text, cut_text, input_of, request_of};
 
 /// The text that answers the words over the input that the source gives, or why there is none.
-pub(crate) fn answer<R: Threads + Sync, S: Source, G: Gate>(
+pub(crate) fn answer<R: Threads + Sync, S: Source, W: Observer>(
     rt: &R,
     alloc: Global,
     words: &[String],
     source: &mut S,
-    gate: &G,
+    observer: &W,
 ) -> Result<Vec<u8>, Refusal>
     ensures text { IfOk result (λ text. (input : List ℕ) × IsInputOf (requested words.now) (S.left source.old) input
-        × IsAnswered (G.told_held gate.now) (G.told_freed gate.now) (answer_of words.now input) text.items) }
+        × IsAnswered (W.told_held observer.now) (W.told_freed observer.now) (answer_of words.now input) text.items) }
     ensures refusal { IfErr result (λ refusal. (input : List ℕ) × IsInputOf (requested words.now) (S.left source.old) input
         × IsRefusalOf (why_in (answer_of words.now input)) (Reads (requested words.now) × Rose (S.faults source.old) (S.faults source.new)) refusal) }
     ensures unread { IsUnread (requested words.now) → source.new ≡ source.old }
@@ -43,31 +43,31 @@ pub(crate) fn answer<R: Threads + Sync, S: Source, G: Gate>(
         Ok(input) => input,
         Err(refusal) => return Err(refusal),
     };
-    text_of(rt, alloc, request, &input, gate)
+    text_of(rt, alloc, request, &input, observer)
 }
 
 // The text that answers a request with an input, by its mode.
-fn text_of<R: Threads + Sync, G: Gate>(
+fn text_of<R: Threads + Sync, W: Observer>(
     rt: &R,
     alloc: Global,
     request: Request,
     input: &[u8],
-    gate: &G,
+    observer: &W,
 ) -> Result<Vec<u8>, Refusal>
     requires in_range { IsInRange request }
     requires few_bytes { length input.now ≤ most_input request.mode }
     ensures text { IfOk result (λ text. (why_by request.mode (task_of request input.now) ≡ None) × IsTextBy request.mode (task_of request input.now) text.items) }
-    ensures told { IsOk result → IsToldBy (G.told_held gate.now) (G.told_freed gate.now) request.mode (task_of request input.now) }
+    ensures told { IsOk result → IsToldBy (W.told_held observer.now) (W.told_freed observer.now) request.mode (task_of request input.now) }
     ensures refusal { IfErr result (IsRefusalOf (why_by request.mode (task_of request input.now)) ⊥) }
 {
     match request.mode {
-        Mode::Run => run_text(rt, alloc, request, input, gate),
-        Mode::Watch => watch_text(rt, alloc, request, input, gate),
-        Mode::Sample => sample_text(rt, alloc, request, input, gate),
-        Mode::Save => saved_text(rt, alloc, request, input, gate),
-        Mode::Resume => resume_text(rt, alloc, request, input, gate),
+        Mode::Run => run_text(rt, alloc, request, input, observer),
+        Mode::Watch => watch_text(rt, alloc, request, input, observer),
+        Mode::Sample => sample_text(rt, alloc, request, input, observer),
+        Mode::Save => saved_text(rt, alloc, request, input, observer),
+        Mode::Resume => resume_text(rt, alloc, request, input, observer),
         Mode::Choose => choose_text(rt, alloc, input),
-        Mode::Recut => recut_text(rt, alloc, request, input, gate),
+        Mode::Recut => recut_text(rt, alloc, request, input, observer),
         Mode::Cut => cut_text(alloc, request, input),
         Mode::Check => check_text(alloc, input),
         Mode::Convert => convert_text(alloc, input),

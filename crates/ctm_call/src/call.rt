@@ -11,28 +11,28 @@ ghost use Rattle.workerless_call.specs.Words.{requested};
 use crate::answer::answer;
 use call_ending::{Status, end};
 use ctm_ports::{Sink, Source};
-use region_slots::Gate;
+use region_slots::Observer;
 use std::alloc::Global;
 use std::thread::Threads;
 
 /// Does what the words ask for, over the network that the source gives, and writes the text of it on `out`, or says on
 /// `err` why there is none (docs/FORMAT.md). The words are those after the program's name. Workers run in threads of
-/// `rt`, and the gate is told when they take a region and give it back.
-pub fn ctm<R: Threads + Sync, S: Source, O: Sink, E: Sink, G: Gate>(
+/// `rt`, and the observer is told when they take a region and give it back.
+pub fn ctm<R: Threads + Sync, S: Source, O: Sink, E: Sink, W: Observer>(
     rt: &R,
     alloc: Global,
     words: &[String],
     source: &mut S,
     out: &mut O,
     err: &mut E,
-    gate: &G,
+    observer: &W,
 ) -> Status
     // There is an input, which is what the source has left where it tells it, or the made network, and by the answer to the
     // words and this input the call ended in one of five ways: it is done, the answer is a refusal, a read of the source
     // failed where the mode reads it, a write of the text failed, or memory was refused. Where a mode that takes regions through
-    // steps has its text, the gate was told of each of its regions at each step that it takes it through.
+    // steps has its text, the observer was told of each of its regions at each step that it takes it through.
     ensures ended { (input : List ℕ) × IsInputOf (requested words.now) (S.left source.old) input
-        × HasEnded (IsAnswered (G.told_held gate.now) (G.told_freed gate.now) (answer_of words.now input)) (why_in (answer_of words.now input))
+        × HasEnded (IsAnswered (W.told_held observer.now) (W.told_freed observer.now) (answer_of words.now input)) (why_in (answer_of words.now input))
         (IsReadWhole (requested words.now) (S.left source.new))
         (Reads (requested words.now) × Rose (S.faults source.old) (S.faults source.new))
         result
@@ -49,6 +49,6 @@ pub fn ctm<R: Threads + Sync, S: Source, O: Sink, E: Sink, G: Gate>(
     ensures unread { IsUnread (requested words.now) → source.new ≡ source.old }
     ensures bounded { LosesAtMost (S.left source.old) (S.left source.new) (most_read (requested words.now)) }
 {
-    let answer = answer(rt, alloc, words, source, gate);
+    let answer = answer(rt, alloc, words, source, observer);
     end(answer, out, err)
 }

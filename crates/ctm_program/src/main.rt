@@ -4,7 +4,7 @@
 use call_ending::{Refusal, tell};
 use ctm_call::ctm;
 use ctm_ports::{StdSink, StdSource};
-use region_slots::OpenGate;
+use region_slots::NoObserver;
 use std::process::ExitCode;
 use workerless_call::given_words;
 
@@ -20,7 +20,7 @@ fn main(rt: HostRuntime) -> ExitCode {
             &mut source,
             &mut out,
             &mut err,
-            &OpenGate,
+            &NoObserver,
         ),
         Err(error) => tell(&Refusal::from(error), &mut err),
     };

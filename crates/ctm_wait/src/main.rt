@@ -3,7 +3,7 @@
 
 use call_ending::{Refusal, tell};
 use ctm_ports::{StdSink, StdSource};
-use region_slots::OpenGate;
+use region_slots::NoObserver;
 use std::process::ExitCode;
 use wait_call::ctm_wait;
 use workerless_call::given_words;
@@ -20,7 +20,7 @@ fn main(rt: HostRuntime) -> ExitCode {
             &mut source,
             &mut out,
             &mut err,
-            &OpenGate,
+            &NoObserver,
         ),
         Err(error) => tell(&Refusal::from(error), &mut err),
     };

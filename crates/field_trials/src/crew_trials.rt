@@ -30,10 +30,10 @@ pub(crate) fn two_members<R: Abort + Threads + Sync>(
     requires two { pass.knows.share ≡ 2 }
     requires in_time { last ≤ field.terms.setup.now.net.steps }
 {
-    let gate = Meeting::new();
+    let observer = Meeting::new();
     let other = field.share(&mut pass);
     assert!(rt; field.regions() == 4);
     let mut members = [Member::new(pass, 0), Member::new(other, 2)];
-    crew(rt, &field, &mut members, last, 64, &gate);
-    assert!(rt; gate.took_place());
+    crew(rt, &field, &mut members, last, 64, &observer);
+    assert!(rt; observer.took_place());
 }

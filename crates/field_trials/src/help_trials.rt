@@ -25,7 +25,7 @@ pub(crate) fn two_helpers<R: Abort + Threads + Sync>(
     requires two { pass.knows.share ≡ 2 }
     requires in_time { last ≤ field.terms.setup.now.net.steps }
 {
-    let gate = Meeting::new();
+    let observer = Meeting::new();
     let other = field.share(&mut pass);
     assert!(rt; field.regions() == 4);
     let (first, second) = two_nests(alloc, (&[0], &[1]), 4).expect(rt, "memory");
@@ -33,8 +33,8 @@ pub(crate) fn two_helpers<R: Abort + Threads + Sync>(
         helper_at(&field, pass, first, 0),
         helper_at(&field, other, second, 2),
     ];
-    crew_hints(rt, &field, &mut helpers, last, 64, &gate);
-    assert!(rt; gate.took_place());
+    crew_hints(rt, &field, &mut helpers, last, 64, &observer);
+    assert!(rt; observer.took_place());
 }
 
 // How a helper alone goes about that has the second of two nests, and what comes of it. Before, the nests are filled as for
@@ -67,13 +67,13 @@ pub(crate) fn a_helper_alone<R: Abort + Threads + Sync>(
     requires belongs { IsPassOf field pass }
     requires in_time { last ≤ field.terms.setup.now.net.steps }
 {
-    let gate = Notes::new();
+    let observer = Notes::new();
     assert!(rt; field.regions() == 4);
     let (_other, own) = two_nests(alloc, (way.other, way.own), 4).expect(rt, "memory");
     let mut helper = helper_at(&field, pass, own, way.first);
     let helpers = slice::from_mut(&mut helper);
-    crew_hints(rt, &field, helpers, way.goal.min(last), way.sweeps, &gate);
+    crew_hints(rt, &field, helpers, way.goal.min(last), way.sweeps, &observer);
     let want = counts(way.moved, way.behind, way.ended, way.all);
     assert_eq!(rt; helper.member.driven, want);
-    assert_eq!(rt; gate.all_worked(), way.worked);
+    assert_eq!(rt; observer.all_worked(), way.worked);
 }

@@ -22,7 +22,7 @@ fn turn_meanwhile(field: &Field, pass: &mut Pass, region: u32, goal: u64, pause:
 }
 
 // What a turn on region 0 comes to, and one on another region that another thread takes meanwhile, and which regions their
-// gate was told to be freed.
+// observer was told to be freed.
 pub(crate) fn turn_during_a_turn<R: Threads + Sync>(
     rt: &R,
     field: &Field,
@@ -39,20 +39,20 @@ pub(crate) fn turn_during_a_turn<R: Threads + Sync>(
     ensures also { IsPassOf field.now other.new }
 {
     let pause = Pause::new(0);
-    let gate = &pause;
+    let observer = &pause;
     let mut first = || -> Turn
         requires { IsPassOf field.now pass.now × (goal ≤ field.now.terms.setup.now.net.steps) }
         ensures { IsPassOf field.entry.now pass.exit.now }
     {
-        let (field, goal, gate) = (field, goal, gate);
-        field.turn(pass, 0, goal, gate)
+        let (field, goal, observer) = (field, goal, observer);
+        field.turn(pass, 0, goal, observer)
     };
     let mut second = || -> Turn
         requires { IsPassOf field.now other.now × (region < region_count field.now.terms.setup.now.chart.cut) × (goal ≤ field.now.terms.setup.now.net.steps) }
         ensures { IsPassOf field.entry.now other.exit.now }
     {
-        let (field, region, goal, gate) = (field, region, goal, gate);
-        turn_meanwhile(field, other, region, goal, gate)
+        let (field, region, goal, observer) = (field, region, goal, observer);
+        turn_meanwhile(field, other, region, goal, observer)
     };
     let (one, two) = join_mut(rt, &mut first, &mut second);
     (one, two, pause.notes.all_freed())
@@ -91,20 +91,20 @@ pub(crate) fn shot_during_a_turn<R: Threads + Sync>(
     ensures room { IsRoomFor field.now.terms.setup.now.chart room.new }
 {
     let pause = Pause::new(region);
-    let gate = &pause;
+    let observer = &pause;
     let mut turning = || -> Turn
         requires { IsPassOf field.now pass.now × (region < region_count field.now.terms.setup.now.chart.cut) × (goal ≤ field.now.terms.setup.now.net.steps) }
         ensures { IsPassOf field.entry.now pass.exit.now }
     {
-        let (field, region, goal, gate) = (field, region, goal, gate);
-        field.turn(pass, region, goal, gate)
+        let (field, region, goal, observer) = (field, region, goal, observer);
+        field.turn(pass, region, goal, observer)
     };
     let mut shooting = || -> Shot
         requires { IsPassOf field.now other.now × IsRoomFor field.now.terms.setup.now.chart room.now }
         ensures { IsPassOf field.entry.now other.exit.now × IsRoomFor field.entry.now.terms.setup.now.chart room.exit.now }
     {
-        let (field, gate) = (field, gate);
-        shot_meanwhile(field, other, room, gate)
+        let (field, observer) = (field, observer);
+        shot_meanwhile(field, other, room, observer)
     };
     join_mut(rt, &mut turning, &mut shooting)
 }

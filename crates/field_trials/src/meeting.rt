@@ -1,5 +1,5 @@
 use crate::pause::wait_for;
-use region_slots::Gate;
+use region_slots::Observer;
 use std::sync::atomic::{AtomicU64, Ordering};
 
 // Whether one of two that wait for each other has come, and whether it has met the other, however often it comes.
@@ -33,7 +33,7 @@ impl Party {
     }
 }
 
-// A gate at which the turn that holds region 0 at step 0 and the one that holds region 2 at step 1 wait for each other, so
+// An observer at which the turn that holds region 0 at step 0 and the one that holds region 2 at step 1 wait for each other, so
 // that one thread alone waits in vain.
 #[derive(Drop)]
 pub(crate) struct Meeting {
@@ -55,14 +55,14 @@ impl Meeting {
     }
 }
 
-impl Gate for Meeting {
+impl Observer for Meeting {
     ghost use Rattle.std.specs.Prelude.{⊤};
 
-    ghost told_held = { λ gate region step. ⊤ };
+    ghost told_held = { λ observer region step. ⊤ };
 
-    ghost told_freed = { λ gate region step. ⊤ };
+    ghost told_freed = { λ observer region step. ⊤ };
 
-    ghost told_watched = { λ gate done. ⊤ };
+    ghost told_watched = { λ observer done. ⊤ };
 
     fn held(&self, region: u32, step: u64) {
         let (own, other) = match (region, step) {

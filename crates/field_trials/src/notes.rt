@@ -1,7 +1,7 @@
-use region_slots::Gate;
+use region_slots::Observer;
 use std::sync::atomic::{AtomicU64, Ordering};
 
-// A gate that notes what it is told, as the digits of two numbers: one digit for each region at which a turn began to work,
+// An observer that notes what it is told, as the digits of two numbers: one digit for each region at which a turn began to work,
 // and two for each that was freed, the region and its step. Of a region the digit is 1 for region 0.
 #[derive(Drop)]
 pub(crate) struct Notes {
@@ -37,14 +37,14 @@ fn note(number: &AtomicU64, digit: u64) {
     );
 }
 
-impl Gate for Notes {
+impl Observer for Notes {
     ghost use Rattle.std.specs.Prelude.{⊤};
 
-    ghost told_held = { λ gate region step. ⊤ };
+    ghost told_held = { λ observer region step. ⊤ };
 
-    ghost told_freed = { λ gate region step. ⊤ };
+    ghost told_freed = { λ observer region step. ⊤ };
 
-    ghost told_watched = { λ gate done. ⊤ };
+    ghost told_watched = { λ observer done. ⊤ };
 
     fn held(&self, region: u32, step: u64) {
         note(&self.worked, u64::from(region) + 1);

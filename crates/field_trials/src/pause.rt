@@ -1,8 +1,8 @@
 use crate::notes::Notes;
-use region_slots::Gate;
+use region_slots::Observer;
 use std::sync::atomic::{AtomicU64, Ordering};
 
-// A gate at which a turn that holds a region waits for a while until another turn or a shot was tried. It notes what it is
+// An observer at which a turn that holds a region waits for a while until another turn or a shot was tried. It notes what it is
 // told.
 #[derive(Drop)]
 pub(crate) struct Pause {
@@ -43,14 +43,14 @@ pub(crate) fn wait_for(flag: &AtomicU64) -> bool {
     false
 }
 
-impl Gate for Pause {
+impl Observer for Pause {
     ghost use Rattle.std.specs.Prelude.{⊤};
 
-    ghost told_held = { λ gate region step. ⊤ };
+    ghost told_held = { λ observer region step. ⊤ };
 
-    ghost told_freed = { λ gate region step. ⊤ };
+    ghost told_freed = { λ observer region step. ⊤ };
 
-    ghost told_watched = { λ gate done. ⊤ };
+    ghost told_watched = { λ observer done. ⊤ };
 
     fn held(&self, region: u32, step: u64) {
         self.notes.held(region, step);

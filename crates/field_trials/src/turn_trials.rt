@@ -3,11 +3,11 @@ ghost use Rattle.region_slots.specs.FieldView.{IsPassOf};
 
 use crate::meanwhile::turn_during_a_turn;
 use crate::notes::Notes;
-use region_slots::{Closed, Field, Gate, OpenGate, Pass, Turn};
+use region_slots::{Closed, Field, Observer, NoObserver, Pass, Turn};
 use std::process::Abort;
 use std::thread::Threads;
 
-// A turn on one of two regions with a goal, what comes of it, and what the gate was told by then of regions that were freed.
+// A turn on one of two regions with a goal, what comes of it, and what the observer was told by then of regions that were freed.
 #[derive(Clone, Copy)]
 pub(crate) struct Told {
     pub(crate) region: u32,
@@ -23,16 +23,16 @@ fn take_turns<R: Abort>(rt: &R, field: &Field, pass: &mut Pass, last: u64, turns
     ensures belongs { IsPassOf field.now pass.new }
     ensures share { pass.new.knows.share ≡ pass.old.knows.share }
 {
-    let gate = Notes::new();
+    let observer = Notes::new();
     assert!(rt; field.regions() == 2);
     for told in turns {
-        let turn = field.turn(pass, told.region % 2, told.goal.min(last), &gate);
+        let turn = field.turn(pass, told.region % 2, told.goal.min(last), &observer);
         assert_eq!(rt; turn, told.turn);
-        assert_eq!(rt; gate.all_freed(), told.freed);
+        assert_eq!(rt; observer.all_freed(), told.freed);
     }
 }
 
-// A region waits for a neighbour that stands a step lower, and moves no further than the goal. The gate is told once that a
+// A region waits for a neighbour that stands a step lower, and moves no further than the goal. The observer is told once that a
 // region was freed that moved, and of no other.
 pub(crate) fn turns_in_order<R: Abort>(rt: &R, field: Field, mut pass: Pass, last: u64)
     requires belongs { IsPassOf field pass }
@@ -80,7 +80,7 @@ pub(crate) fn move_to<R: Abort>(
     ensures share { pass.new.knows.share ≡ pass.old.knows.share }
 {
     assert!(rt; region < field.regions());
-    let turn = field.turn(pass, region, last, &OpenGate);
+    let turn = field.turn(pass, region, last, &NoObserver);
     assert_eq!(rt; turn, Turn::Moved { step });
 }
 
@@ -94,7 +94,7 @@ pub(crate) fn shared_pass<R: Abort>(rt: &R, field: Field, mut pass: Pass, last: 
     let mut other = field.share(&mut pass);
     assert!(rt; field.regions() == 2);
     assert_eq!(rt; field.look(&mut other, 0), 0);
-    let ended = field.turn(&mut other, 0, 0, &OpenGate);
+    let ended = field.turn(&mut other, 0, 0, &NoObserver);
     assert_eq!(rt; ended, Turn::Ended { step: 0 });
     move_to(rt, &field, &mut pass, last, 0, 1);
     assert_eq!(rt; field.look(&mut other, 0), 1);
@@ -103,7 +103,7 @@ pub(crate) fn shared_pass<R: Abort>(rt: &R, field: Field, mut pass: Pass, last: 
     assert_eq!(rt; steps.as_slice(), [1, 0].as_slice());
 }
 
-// A region that is held is held for others alone. The gate is told once of each that moved that it was freed, and not by the
+// A region that is held is held for others alone. The observer is told once of each that moved that it was freed, and not by the
 // turn that found its region held.
 pub(crate) fn held_for_others<R: Abort + Threads + Sync>(
     rt: &R,
@@ -124,7 +124,7 @@ pub(crate) fn held_for_others<R: Abort + Threads + Sync>(
     assert_eq!(rt; both, (Turn::Moved { step: 2 }, Turn::Held, 12));
 }
 
-// A gate is told that a region is held before a neighbour's step is read: region 0 is held at step 1 and region 1 is taken
+// An observer is told that a region is held before a neighbour's step is read: region 0 is held at step 1 and region 1 is taken
 // to that step meanwhile, so that region 0 isn't found a step ahead.
 pub(crate) fn held_before_neighbours<R: Abort + Threads + Sync>(
     rt: &R,

@@ -14,7 +14,7 @@ use Rattle.region_slots.specs.Closing.{AreLogged}
 use Rattle.worker_claim.specs.Telling.{AreHelpersTold, AreMembersTold, AreTold}
 use Rattle.worker_claim.specs.declared.helper.Helper.{Helper}
 use Rattle.worker_claim.specs.declared.member.Member.{Member}
-use Rattle.worker_claim.proofs.Telling.{told-more, told-none}
+use Rattle.region_slots.proofs.Observed.{told-more, told-none}
 use Rattle.network_run.specs.Run.{HasLogged}
 use Rattle.network_run.specs.Telling.{AreFrom, HasTold, HasToldFrom}
 use Rattle.network_run.proofs.Crewing.{members_of}

@@ -5,14 +5,14 @@ ghost use Rattle.snapshot.specs.Rooms.{IsRoomFor};
 ghost use Rattle.snapshot.specs.Shots.{AreStepsBetween};
 ghost use Rattle.snapshot.specs.Snapshots.{IsSnapshot};
 ghost use Rattle.worker_claim.specs.Driving.{AllReach};
-ghost use Rattle.worker_claim.specs.Telling.{AreTold};
+ghost use Rattle.region_slots.specs.Moments.{AreTold};
 ghost use Rattle.network_run.specs.Near.{near_end};
-ghost use Rattle.network_run.specs.Telling.{HasTold};
+ghost use Rattle.network_run.specs.Telling.{HasTold, zero_setup};
 
 use crate::run::Run;
 use no_memory::NoMemory;
 use region_cut::Layout;
-use region_slots::Gate;
+use region_slots::Observer;
 use region_step::Setup;
 use snapshot::ShotRoom;
 use std::alloc::Global;
@@ -24,38 +24,38 @@ const NEAR: u64 = 4;
 /// A room with a snapshot of the regions of a layout near the step `until`, or near the last step where that comes first. So
 /// many workers take all regions there from step 0. Then the snapshot is taken while they go on, so it has each region at
 /// that step or at most four steps past it. The observer is told of each step before `until`.
-pub fn room_near<R: Threads + Sync, G: Gate>(
+pub fn room_near<R: Threads + Sync, W: Observer>(
     rt: &R,
     alloc: Global,
     layout: &Layout,
     until: u64,
     workers: u32,
-    gate: &G,
+    observer: &W,
 ) -> Result<ShotRoom, NoMemory>
     requires workers { (1 ≤ workers) × (workers ≤ 16) }
     ensures room { IfOk result (IsRoomFor layout.now.chart) }
     ensures snapshot { IfOk result (IsSnapshot layout.now.net layout.now.chart.cut (zero_start layout.now.net layout.now.chart.cut)) }
     ensures near { IfOk result (λ room. AreStepsBetween layout.now.net layout.now.chart.cut (min until layout.now.net.steps) (near_end layout.now.net until) room.steps) }
-    ensures told { IsOk result → HasTold (G.told_held gate.now) (G.told_freed gate.now) (region_count layout.now.chart.cut) (min until layout.now.net.steps) }
+    ensures told { IsOk result → HasTold (W.told_held observer.now) (W.told_freed observer.now) (zero_setup layout.now.net layout.now.chart.cut 0) (min until layout.now.net.steps) }
 {
     let net = layout.net();
     let setup = Setup::zero(alloc, layout, 0)?;
     let mut room = ShotRoom::new(alloc, layout)?;
     let mut run = Run::open(alloc, &setup, workers)?;
-    run.show_near(rt, layout, &mut room, until.min(net.steps), gate);
+    run.show_near(rt, layout, &mut room, until.min(net.steps), observer);
     let _regions = run.close();
     Ok(room)
 }
 
 impl<'a> Run<'a> {
     // Shows all regions of a run from step 0 in a room near the step `from`, after they have all come there.
-    fn show_near<R: Threads + Sync, G: Gate>(
+    fn show_near<R: Threads + Sync, W: Observer>(
         &mut self,
         rt: &R,
         layout: &Layout,
         room: &mut ShotRoom,
         from: u64,
-        gate: &G,
+        observer: &W,
     )
         requires network { self.old.terms.setup.now.net ≡ layout.now.net }
         requires start { self.old.terms.setup.now.start ≡ zero_start layout.now.net self.old.terms.setup.now.chart.cut }
@@ -63,15 +63,15 @@ impl<'a> Run<'a> {
         requires reach { self.old.knows.reach ≡ 0 }
         requires in_time { from ≤ layout.now.net.steps }
         ensures terms { self.new.terms ≡ self.old.terms }
-        ensures told { AreTold (G.told_held gate.now) (G.told_freed gate.now) self.old.knows.log self.new.knows.log }
+        ensures told { AreTold (W.told_held observer.now self.old.terms.setup.now) (W.told_freed observer.now self.old.terms.setup.now) self.old.knows.log self.new.knows.log }
         ensures done { AllReach (region_count self.old.terms.setup.now.chart.cut) from self.new.knows }
         ensures room { IsRoomFor self.old.terms.setup.now.chart room.new }
         ensures snapshot { IsSnapshot layout.now.net self.old.terms.setup.now.chart.cut (zero_start layout.now.net self.old.terms.setup.now.chart.cut) room.new }
         ensures near { AreStepsBetween layout.now.net self.old.terms.setup.now.chart.cut from (near_end layout.now.net from) room.new.steps }
     {
         let net = layout.net();
-        self.take_to(rt, from, gate);
+        self.take_to(rt, from, observer);
         let end = from.saturating_add(NEAR).min(net.steps);
-        self.show_on_the_way(rt, room, end, gate);
+        self.show_on_the_way(rt, room, end, observer);
     }
 }

@@ -2,7 +2,7 @@ ghost use Rattle.std.specs.Prelude.{◌≡◌, ◌↔◌, All, IsTrue};
 ghost use Rattle.std.specs.List.{list_any};
 
 use crate::crew::Crew;
-use region_slots::{Field, Gate, Pass, Shot};
+use region_slots::{Field, Observer, Pass, Shot};
 use snapshot::ShotRoom;
 use std::thread::Threads;
 use worker_claim::{Helper, crew_hints, crew_watch_hints};
@@ -26,12 +26,12 @@ impl Crew {
     /// Has the members make turns in rounds, until one has found all regions at the goal, or none has moved one, or there
     /// were as many rounds as there are steps to take. Each round but the last has moved a region. It gives their number.
     #[tactic(auto, using(crate::proofs::Told::members_none, crate::proofs::Told::members_more))]
-    pub(crate) fn drive<R: Threads + Sync, G: Gate>(
+    pub(crate) fn drive<R: Threads + Sync, W: Observer>(
         &mut self,
         rt: &R,
         field: &Field,
         goal: u64,
-        gate: &G,
+        observer: &W,
     ) -> u64
         requires regions { self.old.regions ≡ region_count field.now.terms.setup.now.chart.cut }
         requires enlisted { AreEnlisted field.now goal self.old.members }
@@ -39,14 +39,14 @@ impl Crew {
         ensures same { (self.new.workers ≡ self.old.workers) × (self.new.regions ≡ self.old.regions) }
         ensures many { length self.new.members ≡ length self.old.members }
         ensures enlisted { AreEnlisted field.now goal self.new.members }
-        ensures told { AreMembersTold (G.told_held gate.now) (G.told_freed gate.now) self.old.members self.new.members }
+        ensures told { AreMembersTold (W.told_held observer.now field.now.terms.setup.now) (W.told_freed observer.now field.now.terms.setup.now) self.old.members self.new.members }
         ensures rounds { AreRounds field.now result 1 self.old.members self.new.members }
         ensures few { result ≤ region_count field.now.terms.setup.now.chart.cut * goal }
         ensures over { IsOver self.new.members ⊎ (result ≡ min (region_count field.now.terms.setup.now.chart.cut * goal) (2 ^ 64 - 1)) }
     {
         let most = u64::from(field.regions()).saturating_mul(goal);
         for round in 0..most {
-            self.drive_round(rt, field, goal, gate);
+            self.drive_round(rt, field, goal, observer);
             if self.is_over() {
                 return round + 1;
             }
@@ -55,12 +55,12 @@ impl Crew {
     }
 
     // One round.
-    fn drive_round<R: Threads + Sync, G: Gate>(
+    fn drive_round<R: Threads + Sync, W: Observer>(
         &mut self,
         rt: &R,
         field: &Field,
         goal: u64,
-        gate: &G,
+        observer: &W,
     )
         requires regions { self.old.regions ≡ region_count field.now.terms.setup.now.chart.cut }
         requires enlisted { AreEnlisted field.now goal self.old.members }
@@ -69,21 +69,21 @@ impl Crew {
         ensures many { length self.new.members ≡ length self.old.members }
         ensures enlisted { AreEnlisted field.now goal self.new.members }
         ensures round { AreRounds field.now 1 1 self.old.members self.new.members }
-        ensures told { AreMembersTold (G.told_held gate.now) (G.told_freed gate.now) self.old.members self.new.members }
+        ensures told { AreMembersTold (W.told_held observer.now field.now.terms.setup.now) (W.told_freed observer.now field.now.terms.setup.now) self.old.members self.new.members }
         ensures moves { moves_of self.new.members ≡ moves_of self.old.members + last_moves self.new.members }
     {
-        crew_hints(rt, field, &mut self.helpers, goal, SWEEPS, gate);
+        crew_hints(rt, field, &mut self.helpers, goal, SWEEPS, observer);
     }
 
     /// The same, the first round beside a shot.
-    pub(crate) fn drive_watched<R: Threads + Sync, G: Gate>(
+    pub(crate) fn drive_watched<R: Threads + Sync, W: Observer>(
         &mut self,
         rt: &R,
         field: &Field,
         watcher: &mut Pass,
         room: &mut ShotRoom,
         goal: u64,
-        gate: &G,
+        observer: &W,
     ) -> Shot
         requires regions { self.old.regions ≡ region_count field.now.terms.setup.now.chart.cut }
         requires watcher { IsPassOf field.now watcher.old }
@@ -94,26 +94,26 @@ impl Crew {
         ensures watched { IsWatched field.now watcher_tries watcher.old watcher.new room.old room.new result }
         ensures many { length self.new.members ≡ length self.old.members }
         ensures enlisted { AreEnlisted field.now goal self.new.members }
-        ensures told { AreMembersTold (G.told_held gate.now) (G.told_freed gate.now) self.old.members self.new.members }
+        ensures told { AreMembersTold (W.told_held observer.now field.now.terms.setup.now) (W.told_freed observer.now field.now.terms.setup.now) self.old.members self.new.members }
         ensures rounds { (rounds : ℕ) × AreRounds field.now rounds 2 self.old.members self.new.members }
     {
-        let shot = self.watch_round(rt, field, watcher, room, goal, gate);
+        let shot = self.watch_round(rt, field, watcher, room, goal, observer);
         // A member that moved nothing may have met the watcher alone.
         if !self.is_done() {
-            self.drive(rt, field, goal, gate);
+            self.drive(rt, field, goal, observer);
         }
         shot
     }
 
     // One round beside a shot.
-    fn watch_round<R: Threads + Sync, G: Gate>(
+    fn watch_round<R: Threads + Sync, W: Observer>(
         &mut self,
         rt: &R,
         field: &Field,
         watcher: &mut Pass,
         room: &mut ShotRoom,
         goal: u64,
-        gate: &G,
+        observer: &W,
     ) -> Shot
         requires regions { self.old.regions ≡ region_count field.now.terms.setup.now.chart.cut }
         requires watcher { IsPassOf field.now watcher.old }
@@ -124,7 +124,7 @@ impl Crew {
         ensures watched { IsWatched field.now watcher_tries watcher.old watcher.new room.old room.new result }
         ensures many { length self.new.members ≡ length self.old.members }
         ensures enlisted { AreEnlisted field.now goal self.new.members }
-        ensures told { AreMembersTold (G.told_held gate.now) (G.told_freed gate.now) self.old.members self.new.members }
+        ensures told { AreMembersTold (W.told_held observer.now field.now.terms.setup.now) (W.told_freed observer.now field.now.terms.setup.now) self.old.members self.new.members }
         ensures round { AreRounds field.now 1 1 self.old.members self.new.members }
     {
         crew_watch_hints(
@@ -136,7 +136,7 @@ impl Crew {
             &mut self.helpers,
             goal,
             SWEEPS,
-            gate,
+            observer,
         )
     }
 

@@ -1,6 +1,6 @@
 use crate::crew::Crew;
 use no_memory::NoMemory;
-use region_slots::{Closed, Field, Gate, Pass, Shot};
+use region_slots::{Closed, Field, Observer, Pass, Shot};
 use region_step::{Region, Setup};
 use snapshot::ShotRoom;
 use std::alloc::Global;
@@ -33,13 +33,13 @@ impl<'a> Model for Run<'a> {
 }
 
 impl<'a> Run<'a> {
-    ghost use Rattle.std.specs.Prelude.{◌≡◌, ◌+◌, ◌<◌, ◌≤◌, ℕ, IfOk, max, slice_index};
+    ghost use Rattle.std.specs.Prelude.{◌≡◌, ◌+◌, ◌<◌, ◌≤◌, ℕ, List, IfOk, false, max, slice_index, true};
     ghost use Rattle.region_cut.specs.Cuttings.{region_count};
     ghost use Rattle.snapshot.specs.Rooms.{IsRoomFor};
     ghost use Rattle.snapshot.specs.Snapshots.{IsSnapshot};
     ghost use Rattle.region_slots.specs.Opening.{first_view};
     ghost use Rattle.worker_claim.specs.Driving.{AllReach};
-    ghost use Rattle.worker_claim.specs.Telling.{AreTold};
+    ghost use Rattle.region_slots.specs.Moments.{AreTold};
     ghost use Rattle.network_run.specs.Run.{IsLoggedWhereTheyCame, StandWhereTheyCame};
 
     /// A run of the regions of a setup by so many workers.
@@ -58,28 +58,28 @@ impl<'a> Run<'a> {
     }
 
     /// Takes all regions to a goal.
-    pub(crate) fn take_to<R: Threads + Sync, G: Gate>(&mut self, rt: &R, goal: u64, gate: &G)
+    pub(crate) fn take_to<R: Threads + Sync, W: Observer>(&mut self, rt: &R, goal: u64, observer: &W)
         requires in_time { goal ≤ self.old.terms.setup.now.net.steps }
         requires reach { self.old.knows.reach ≤ goal }
         ensures terms { self.new.terms ≡ self.old.terms }
         ensures reach { self.new.knows.reach ≤ goal }
-        ensures told { AreTold (G.told_held gate.now) (G.told_freed gate.now) self.old.knows.log self.new.knows.log }
+        ensures told { AreTold (W.told_held observer.now self.old.terms.setup.now) (W.told_freed observer.now self.old.terms.setup.now) self.old.knows.log self.new.knows.log }
         ensures done { AllReach (region_count self.old.terms.setup.now.chart.cut) goal self.new.knows }
     {
         self.crew.enlist(&self.field, &mut self.pass);
-        self.crew.drive(rt, &self.field, goal, gate);
+        self.crew.drive(rt, &self.field, goal, observer);
         self.crew.dismiss(&self.field, &mut self.pass);
-        finish(&self.field, &mut self.pass, goal, gate);
+        finish(&self.field, &mut self.pass, goal, observer);
     }
 
     /// The same, and shows all regions in a room once on the way, or at the goal where another seat had one of them at each of
     /// the tries.
-    pub(crate) fn show_on_the_way<R: Threads + Sync, G: Gate>(
+    pub(crate) fn show_on_the_way<R: Threads + Sync, W: Observer>(
         &mut self,
         rt: &R,
         room: &mut ShotRoom,
         goal: u64,
-        gate: &G,
+        observer: &W,
     )
         requires room { IsRoomFor self.old.terms.setup.now.chart room.old }
         requires in_time { goal ≤ self.old.terms.setup.now.net.steps }
@@ -87,20 +87,23 @@ impl<'a> Run<'a> {
         ensures terms { self.new.terms ≡ self.old.terms }
         ensures room { IsRoomFor self.old.terms.setup.now.chart room.new }
         ensures reach { self.new.knows.reach ≤ goal }
-        ensures told { AreTold (G.told_held gate.now) (G.told_freed gate.now) self.old.knows.log self.new.knows.log }
+        ensures told { AreTold (W.told_held observer.now self.old.terms.setup.now) (W.told_freed observer.now self.old.terms.setup.now) self.old.knows.log self.new.knows.log }
         ensures done { AllReach (region_count self.old.terms.setup.now.chart.cut) goal self.new.knows }
         ensures snapshot { IsSnapshot self.old.terms.setup.now.net self.old.terms.setup.now.chart.cut self.old.terms.setup.now.start room.new }
+        ensures told_before { (before : List ℕ) × W.told_watched observer.now self.old.terms.setup.now before false
+            × ((r : ℕ) → r < region_count self.old.terms.setup.now.chart.cut → (slice_index self.old.knows.seen r ≤ slice_index before r) × (slice_index before r ≤ slice_index room.new.steps r)) }
+        ensures told_after { W.told_watched observer.now self.old.terms.setup.now room.new.steps true }
         ensures between { (r : ℕ) → r < region_count self.old.terms.setup.now.chart.cut → (slice_index self.old.knows.seen r ≤ slice_index room.new.steps r)
             × (slice_index room.new.steps r ≤ max (slice_index self.old.terms.setup.now.start.steps r) goal) }
     {
         self.crew.enlist(&self.field, &mut self.pass);
         let shot = self
             .crew
-            .drive_watched(rt, &self.field, &mut self.pass, room, goal, gate);
+            .drive_watched(rt, &self.field, &mut self.pass, room, goal, observer);
         self.crew.dismiss(&self.field, &mut self.pass);
-        finish(&self.field, &mut self.pass, goal, gate);
+        finish(&self.field, &mut self.pass, goal, observer);
         if let Shot::Busy { region: _ } = shot {
-            self.field.shot(&mut self.pass, room, 1);
+            self.field.watch(&mut self.pass, room, 1, observer);
         }
     }
 

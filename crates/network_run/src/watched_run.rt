@@ -6,14 +6,14 @@ ghost use Rattle.snapshot.specs.Rooms.{IsRoomFor};
 ghost use Rattle.snapshot.specs.Shots.{goal_of};
 ghost use Rattle.shot_lines.specs.Shots.{AreShots};
 ghost use Rattle.worker_claim.specs.Driving.{AllReach};
-ghost use Rattle.worker_claim.specs.Telling.{AreTold};
-ghost use Rattle.network_run.specs.Telling.{HasTold};
+ghost use Rattle.region_slots.specs.Moments.{AreTold};
+ghost use Rattle.network_run.specs.Telling.{HasTold, HasToldShots, zero_setup};
 
 use crate::run::Run;
 use network_file::Net;
 use no_memory::NoMemory;
 use region_cut::Layout;
-use region_slots::Gate;
+use region_slots::Observer;
 use region_step::{Region, Setup};
 use shot_lines::shot_text;
 use snapshot::ShotRoom;
@@ -32,27 +32,28 @@ pub struct Watched {
 /// As `last_regions`, with so many shots on the way. The goals divide the steps evenly, rounded down; each shot is taken
 /// between a goal and the next, and at no step past it. All memory but that of the text is taken before the first step,
 /// but for what the workers' deques may ask for and do without.
-pub fn watched_regions<R: Threads + Sync, G: Gate>(
+pub fn watched_regions<R: Threads + Sync, W: Observer>(
     rt: &R,
     alloc: Global,
     layout: &Layout,
     every: u64,
     workers: u32,
     shots: u32,
-    gate: &G,
+    observer: &W,
 ) -> Result<Watched, NoMemory>
     requires workers { (1 ≤ workers) × (workers ≤ 16) }
     requires shots { (1 ≤ shots) × (shots + 1 < 2 ^ 32) }
     ensures shots { IfOk result (λ watched. AreShots layout.now.net layout.now.chart.cut shots watched.shots.items) }
     ensures stand { IfOk result (λ watched. AllStand layout.now.net layout.now.chart (zero_start layout.now.net layout.now.chart.cut) every
         (replicate (region_count layout.now.chart.cut) layout.now.net.steps) watched.regions.items) }
-    ensures told { IsOk result → HasTold (G.told_held gate.now) (G.told_freed gate.now) (region_count layout.now.chart.cut) layout.now.net.steps }
+    ensures told { IsOk result → HasTold (W.told_held observer.now) (W.told_freed observer.now) (zero_setup layout.now.net layout.now.chart.cut every) layout.now.net.steps }
+    ensures told_shots { IsOk result → HasToldShots (W.told_watched observer.now) (zero_setup layout.now.net layout.now.chart.cut every) shots }
 {
     let setup = Setup::zero(alloc, layout, every)?;
     let mut room = ShotRoom::new(alloc, layout)?;
     let mut run = Run::open(alloc, &setup, workers)?;
     let mut text = Vec::new(alloc);
-    run.take_shots(rt, layout, &mut room, shots, gate, &mut text)?;
+    run.take_shots(rt, layout, &mut room, shots, observer, &mut text)?;
     Ok(Watched {
         shots: text,
         regions: run.close(),
@@ -61,13 +62,13 @@ pub fn watched_regions<R: Threads + Sync, G: Gate>(
 
 impl<'a> Run<'a> {
     // Takes all regions of a run from step 0 to the last step, and appends the text of so many shots on the way.
-    fn take_shots<R: Threads + Sync, G: Gate>(
+    fn take_shots<R: Threads + Sync, W: Observer>(
         &mut self,
         rt: &R,
         layout: &Layout,
         room: &mut ShotRoom,
         shots: u32,
-        gate: &G,
+        observer: &W,
         text: &mut Vec<u8>,
     ) -> Result<(), NoMemory>
         requires network { (self.old.terms.setup.now.net ≡ layout.now.net) × (self.old.terms.setup.now.chart ≡ layout.now.chart) }
@@ -78,7 +79,8 @@ impl<'a> Run<'a> {
         requires nothing { text.old.items ≡ [] }
         ensures terms { IsOk result → self.new.terms ≡ self.old.terms }
         ensures reach { IsOk result → self.new.knows.reach ≤ layout.now.net.steps }
-        ensures told { IsOk result → AreTold (G.told_held gate.now) (G.told_freed gate.now) self.old.knows.log self.new.knows.log }
+        ensures told { IsOk result → AreTold (W.told_held observer.now self.old.terms.setup.now) (W.told_freed observer.now self.old.terms.setup.now) self.old.knows.log self.new.knows.log }
+        ensures told_shots { IsOk result → HasToldShots (W.told_watched observer.now) self.old.terms.setup.now shots }
         ensures last { IsOk result → AllReach (region_count layout.now.chart.cut) layout.now.net.steps self.new.knows }
         ensures shots { IsOk result → AreShots layout.now.net layout.now.chart.cut shots text.new.items }
     {
@@ -86,7 +88,7 @@ impl<'a> Run<'a> {
         let _steps = net.steps;
         for i in 0..shots {
             let goal = goal_at(net, shots, i + 1);
-            self.show_on_the_way(rt, room, goal, gate);
+            self.show_on_the_way(rt, room, goal, observer);
             shot_text(layout, room, i + 1, text)?;
         }
         Ok(())

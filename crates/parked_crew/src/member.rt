@@ -4,19 +4,19 @@ ghost use Rattle.parked_crew.specs.Parking.{IsBrought};
 
 use crate::board::Board;
 use crate::sweep::sweep;
-use region_slots::{Field, Gate, Pass};
+use region_slots::{Field, Observer, Pass};
 use std::sync::Wait;
 
 /// What a member of the crew does: it sweeps until a sweep finds all regions at the goal or past it, and waits after each
 /// that was in vain. The count is read before the sweep, so that a move which the sweep came too early to see is counted
 /// past it.
-pub(crate) fn work<R: Wait, G: Gate>(
+pub(crate) fn work<R: Wait, W: Observer>(
     rt: &R,
     field: &Field,
     pass: &mut Pass,
     goal: u64,
     board: &Board,
-    gate: &G,
+    observer: &W,
 )
     requires belongs { IsPassOf field.now pass.old }
     requires in_time { goal ≤ field.now.terms.setup.now.net.steps }
@@ -24,7 +24,7 @@ pub(crate) fn work<R: Wait, G: Gate>(
 {
     for _ in rt.forever() {
         let count = board.count(rt);
-        let swept = sweep(rt, field, pass, goal, board, gate);
+        let swept = sweep(rt, field, pass, goal, board, observer);
         if swept.is_done() {
             return;
         }

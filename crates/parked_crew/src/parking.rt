@@ -4,20 +4,20 @@ ghost use Rattle.parked_crew.specs.Parking.{AreBrought, ArePassesOf, IsBrought};
 
 use crate::board::Board;
 use crate::member::work;
-use region_slots::{Field, Gate, Pass};
+use region_slots::{Field, Observer, Pass};
 use std::sync::Wait;
 use std::thread::{Threads, for_each_mut};
 
 /// Brings all regions to the goal, or leaves them past it, by a member of the crew for each pass: all at once where the
 /// threads can be made, and one after the other where they can't. A member that would sweep in vain waits until another
 /// moves a region; turns by other passes don't wake it. So the call may wait; that it returns isn't proved.
-pub fn parked<R: Threads + Wait + Sync, G: Gate>(
+pub fn parked<R: Threads + Wait + Sync, W: Observer>(
     rt: &R,
     field: &Field,
     passes: &mut [Pass],
     goal: u64,
     board: &Board,
-    gate: &G,
+    observer: &W,
 )
     requires passes { ArePassesOf field.now passes.old }
     requires in_time { goal ≤ field.now.terms.setup.now.net.steps }
@@ -27,6 +27,6 @@ pub fn parked<R: Threads + Wait + Sync, G: Gate>(
     let member = move |_k: usize, pass: &mut Pass|
         requires { IsPassOf field.now pass.old × (goal ≤ field.now.terms.setup.now.net.steps) }
         ensures { IsBrought field.entry.now goal pass.old pass.new }
-    { work(rt, field, pass, goal, board, gate) };
+    { work(rt, field, pass, goal, board, observer) };
     for_each_mut(rt, passes, threads, &member);
 }

@@ -5,17 +5,17 @@ ghost use Rattle.parked_crew.specs.Sweeping.{HasSwept};
 
 use crate::board::Board;
 use crate::swept::Swept;
-use region_slots::{Field, Gate, Pass, Turn};
+use region_slots::{Field, Observer, Pass, Turn};
 use std::sync::Wait;
 
 /// One turn on each region, in order of number. Each move is counted on the board once it is published.
-pub(crate) fn sweep<R: Wait, G: Gate>(
+pub(crate) fn sweep<R: Wait, W: Observer>(
     rt: &R,
     field: &Field,
     pass: &mut Pass,
     goal: u64,
     board: &Board,
-    gate: &G,
+    observer: &W,
 ) -> Swept
     requires belongs { IsPassOf field.now pass.old }
     requires in_time { goal ≤ field.now.terms.setup.now.net.steps }
@@ -24,7 +24,7 @@ pub(crate) fn sweep<R: Wait, G: Gate>(
 {
     let mut swept = Swept::none();
     for region in 0..field.regions() {
-        let turn = field.turn(pass, region, goal, gate);
+        let turn = field.turn(pass, region, goal, observer);
         if matches!(turn, Turn::Moved { .. }) {
             board.raise(rt);
         }

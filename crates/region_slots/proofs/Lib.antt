@@ -7,6 +7,7 @@ pub mod Filling
 pub mod Gathering
 pub mod Looking
 pub mod NeighbourLooks
+pub mod Observed
 pub mod Openings
 pub mod Reading
 pub mod RowFilling

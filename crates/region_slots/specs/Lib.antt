@@ -2,6 +2,7 @@ pub mod Closing
 pub mod FieldView
 pub mod FirstWords
 pub mod Gathering
+pub mod Moments
 pub mod Opening
 pub mod Plays
 pub mod Shooting

@@ -10,9 +10,10 @@
 mod close;
 mod field;
 mod first_words;
-mod gate;
 mod gather;
 mod look;
+mod moment;
+mod observer;
 mod open;
 mod parts;
 mod pauses;
@@ -25,7 +26,8 @@ mod turn;
 
 pub use close::Closed;
 pub use field::{Field, Pass};
-pub use gate::{Gate, OpenGate};
+pub use moment::{Moment, Sight};
+pub use observer::{NoObserver, Observer};
 pub use pauses::Pauses;
 pub use shot::Shot;
 pub use turn::Turn;

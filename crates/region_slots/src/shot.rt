@@ -1,4 +1,6 @@
 use crate::field::{Field, Pass};
+use crate::moment::Sight;
+use crate::observer::Observer;
 use atomic_table::Seat;
 use border_rows::View;
 use region_step::Region;
@@ -14,7 +16,7 @@ pub enum Shot {
 }
 
 impl<'a> Field<'a> {
-    ghost use Rattle.std.specs.Prelude.{◌≡◌, ◌≤◌};
+    ghost use Rattle.std.specs.Prelude.{◌≡◌, ◌≤◌, false, true};
     ghost use Rattle.region_cut.specs.Cuttings.{region_count};
     ghost use Rattle.snapshot.specs.Rooms.{IsRoomFor};
     ghost use Rattle.region_slots.specs.FieldView.{HasCounts, HasSeenInTime, IsIdle, IsPassOf, IsSeatOf};
@@ -32,7 +34,28 @@ impl<'a> Field<'a> {
         self.shoots(&mut pass.seat, room, tries)
     }
 
-    // The same on a seat.
+    /// The same, told to the observer right before it and right after it.
+    pub fn watch<W: Observer>(
+        &self,
+        pass: &mut Pass,
+        room: &mut ShotRoom,
+        tries: u32,
+        observer: &W,
+    ) -> Shot
+        requires belongs { IsPassOf self.now pass.old }
+        requires room { IsRoomFor self.now.terms.setup.now.chart room.old }
+        requires tries { 1 ≤ tries }
+        ensures belongs { IsPassOf self.now pass.new × (pass.new.id ≡ pass.old.id) }
+        ensures shot { IsShotOf self.now.terms tries pass.old.knows pass.new.knows room.old room.new result }
+        ensures told { W.told_watched observer.now self.now.terms.setup.now pass.old.knows.seen false × W.told_watched observer.now self.now.terms.setup.now pass.new.knows.seen true }
+    {
+        observer.watched(&Sight::of(self, pass, false));
+        let shot = self.shot(pass, room, tries);
+        observer.watched(&Sight::of(self, pass, true));
+        shot
+    }
+
+    // A shot by a seat.
     fn shoots(
         &self,
         seat: &mut Seat<Region, View<'static>>,

@@ -1,5 +1,6 @@
 use crate::field::{Field, Pass};
-use crate::gate::Gate;
+use crate::moment::Moment;
+use crate::observer::Observer;
 use atomic_table::Seat;
 use border_rows::View;
 use region_step::Region;
@@ -27,7 +28,7 @@ impl<'a> Field<'a> {
 
     /// A turn on a region: it is taken, and where it stands below the goal and no neighbour stands a step lower it is
     /// taken through its step, and the observer is told. Then it is free again.
-    pub fn turn<G: Gate>(&self, pass: &mut Pass, region: u32, goal: u64, gate: &G) -> Turn
+    pub fn turn<W: Observer>(&self, pass: &mut Pass, region: u32, goal: u64, observer: &W) -> Turn
         requires belongs { IsPassOf self.now pass.old }
         requires there { region < region_count self.now.terms.setup.now.chart.cut }
         requires in_time { goal ≤ self.now.terms.setup.now.net.steps }
@@ -39,19 +40,19 @@ impl<'a> Field<'a> {
         ensures ended { (s : ℕ) → result ≡ Ended s → (goal ≤ s) × (pass.new.knows ≡ took_at pass.old.knows region s) × (slice_index pass.new.knows.seen region ≡ s) × (slice_index pass.old.knows.seen region ≤ s) }
         ensures behind { (q s : ℕ) → result ≡ Behind q s → IsBehind self.now.terms pass.old.knows pass.new.knows goal region q s }
         ensures moved { (s : ℕ) → result ≡ Moved s → IsMoved self.now.terms pass.old.knows pass.new.knows goal region s }
-        ensures told_behind { (q s : ℕ) → result ≡ Behind q s → G.told_held gate.now region (s + 1) }
-        ensures told_moved { (s : ℕ) → result ≡ Moved (s + 1) → G.told_held gate.now region s × G.told_freed gate.now region (s + 1) }
+        ensures told_behind { (q s : ℕ) → result ≡ Behind q s → W.told_held observer.now self.now.terms.setup.now region (s + 1) }
+        ensures told_moved { (s : ℕ) → result ≡ Moved (s + 1) → W.told_held observer.now self.now.terms.setup.now region s × W.told_freed observer.now self.now.terms.setup.now region (s + 1) }
     {
-        self.tries(&mut pass.seat, region, goal, gate)
+        self.tries(&mut pass.seat, region, goal, observer)
     }
 
     // The same on a seat.
-    fn tries<G: Gate>(
+    fn tries<W: Observer>(
         &self,
         seat: &mut Seat<Region, View<'static>>,
         region: u32,
         goal: u64,
-        gate: &G,
+        observer: &W,
     ) -> Turn
         requires seat { IsSeatOf self.now seat.old }
         requires idle { IsIdle seat.old.me.0 seat.old.me.1 }
@@ -66,8 +67,8 @@ impl<'a> Field<'a> {
         ensures ended { (s : ℕ) → result ≡ Ended s → (goal ≤ s) × (seat.new.me.0 ≡ took_at seat.old.me.0 region s) × (slice_index seat.new.me.0.seen region ≡ s) × (slice_index seat.old.me.0.seen region ≤ s) }
         ensures behind { (q s : ℕ) → result ≡ Behind q s → IsBehind self.now.terms seat.old.me.0 seat.new.me.0 goal region q s }
         ensures moved { (s : ℕ) → result ≡ Moved s → IsMoved self.now.terms seat.old.me.0 seat.new.me.0 goal region s }
-        ensures told_behind { (q s : ℕ) → result ≡ Behind q s → G.told_held gate.now region (s + 1) }
-        ensures told_moved { (s : ℕ) → result ≡ Moved (s + 1) → G.told_held gate.now region s × G.told_freed gate.now region (s + 1) }
+        ensures told_behind { (q s : ℕ) → result ≡ Behind q s → W.told_held observer.now self.now.terms.setup.now region (s + 1) }
+        ensures told_moved { (s : ℕ) → result ≡ Moved (s + 1) → W.told_held observer.now self.now.terms.setup.now region s × W.told_freed observer.now self.now.terms.setup.now region (s + 1) }
     {
         if !self.try_claim(seat, region) {
             return Turn::Held;
@@ -77,13 +78,13 @@ impl<'a> Field<'a> {
             self.free(seat, region);
             return Turn::Ended { step };
         }
-        gate.held(region, step);
+        observer.held(&Moment::taken(self, seat, region, step));
         if let Some((neighbour, s)) = self.clears(seat, region, step) {
             self.free(seat, region);
             return Turn::Behind { neighbour, step: s };
         }
         self.rises(seat, region, step);
-        gate.freed(region, step + 1);
+        observer.freed(&Moment::published(self, seat, region, step + 1));
         Turn::Moved { step: step + 1 }
     }
 }

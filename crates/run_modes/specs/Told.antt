@@ -1,4 +1,4 @@
--- What the gate of a run, a watch or a sample was told.
+-- What the observer of a run, a watch or a sample was told.
 use Rattle.std.specs.Prelude.{◌≡◌, ◌≢◌, ℕ, List, length}
 use Rattle.command_words.specs.declared.request.Request.{Request}
 use Rattle.network_file.specs.Network.{Network}
@@ -6,7 +6,7 @@ use Rattle.region_cut.specs.Cuttings.{even_cutting, region_count}
 use Rattle.network_run.specs.Telling.{HasTold}
 use Rattle.workerless_call.specs.UsedCutting.{IsCuttingOf, regions_asked}
 
--- of each region of the cutting that the request asks for, and for each step below the last one, the gate was told that the
+-- of each region of the cutting that the request asks for, and for each step below the last one, the observer was told that the
 -- region was held at it, and that it was freed at the next
 pub record HasToldRun (held freed : (region step : ℕ) → Type 0) (net : Network) (request : Request) : Type 0 where
   pub cut : List ℕ

@@ -15,23 +15,23 @@ use delay_report::run_report;
 use network_file::Net;
 use network_run::last_regions;
 use no_memory::NoMemory;
-use region_slots::Gate;
+use region_slots::Observer;
 use std::alloc::Global;
 use std::thread::Threads;
 use workerless_call::{large_record, layout_asked, network_in, records_too_much};
 
 /// The report of a network that workers take through all its steps, in regions.
-pub fn run_text<R: Threads + Sync, G: Gate>(
+pub fn run_text<R: Threads + Sync, W: Observer>(
     rt: &R,
     alloc: Global,
     request: Request,
     input: &[u8],
-    gate: &G,
+    observer: &W,
 ) -> Result<Vec<u8>, Refusal>
     requires in_range { IsInRange request }
     requires few_bytes { length input.now ≤ MOST_BYTES }
     ensures text { IfOk result (λ text. (run_refused (task_of request input.now) ≡ None) × IsRunText (task_of request input.now) text.items) }
-    ensures told { IsOk result → IsNetworkWith (network_of input.now) (λ net. HasToldRun (G.told_held gate.now) (G.told_freed gate.now) net request) }
+    ensures told { IsOk result → IsNetworkWith (network_of input.now) (λ net. HasToldRun (W.told_held observer.now) (W.told_freed observer.now) net request) }
     ensures refusal { IfErr result (IsRefusalOf (run_refused (task_of request input.now)) ⊥) }
 {
     let net = match network_in(alloc, input) {
@@ -41,24 +41,24 @@ pub fn run_text<R: Threads + Sync, G: Gate>(
     if records_too_much(&net, u64::from(request.every)) {
         return Err(large_record());
     }
-    Ok(report_of_run(rt, alloc, &net, request, gate)?)
+    Ok(report_of_run(rt, alloc, &net, request, observer)?)
 }
 
 // The report, whatever it records.
-fn report_of_run<R: Threads + Sync, G: Gate>(
+fn report_of_run<R: Threads + Sync, W: Observer>(
     rt: &R,
     alloc: Global,
     net: &Net,
     request: Request,
-    gate: &G,
+    observer: &W,
 ) -> Result<Vec<u8>, NoMemory>
     requires { IsInRange request }
     ensures text { IfOk result (λ text. text.items ≡ report_of net.now request.every) }
-    ensures told { IsOk result → HasToldRun (G.told_held gate.now) (G.told_freed gate.now) net.now request }
+    ensures told { IsOk result → HasToldRun (W.told_held observer.now) (W.told_freed observer.now) net.now request }
 {
     let _steps = net.steps;
     let every = u64::from(request.every);
     let layout = layout_asked(alloc, net, request)?;
-    let regions = last_regions(rt, alloc, &layout, every, request.workers, gate)?;
+    let regions = last_regions(rt, alloc, &layout, every, request.workers, observer)?;
     run_report(alloc, &layout, &regions, every)
 }

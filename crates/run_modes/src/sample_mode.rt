@@ -16,47 +16,47 @@ use network_file::Net;
 use network_run::last_regions;
 use no_memory::NoMemory;
 use region_cut::charted;
-use region_slots::Gate;
+use region_slots::Observer;
 use std::alloc::Global;
 use std::thread::Threads;
 use workerless_call::{network_in, regions_wanted};
 
 /// What is in a made network, and its totals once workers have taken it through all its steps, in regions.
-pub fn sample_text<R: Threads + Sync, G: Gate>(
+pub fn sample_text<R: Threads + Sync, W: Observer>(
     rt: &R,
     alloc: Global,
     request: Request,
     input: &[u8],
-    gate: &G,
+    observer: &W,
 ) -> Result<Vec<u8>, Refusal>
     requires in_range { IsInRange request }
     requires few_bytes { length input.now ≤ MOST_BYTES }
     ensures text { IfOk result (λ text. (sample_refused (task_of request input.now) ≡ None) × IsSampleText (task_of request input.now) text.items) }
-    ensures told { IsOk result → IsNetworkWith (network_of input.now) (λ net. HasToldSample (G.told_held gate.now) (G.told_freed gate.now) net request) }
+    ensures told { IsOk result → IsNetworkWith (network_of input.now) (λ net. HasToldSample (W.told_held observer.now) (W.told_freed observer.now) net request) }
     ensures refusal { IfErr result (IsRefusalOf (sample_refused (task_of request input.now)) ⊥) }
 {
     match network_in(alloc, input) {
-        Ok(net) => Ok(sample_totals(rt, alloc, &net, request, gate)?),
+        Ok(net) => Ok(sample_totals(rt, alloc, &net, request, observer)?),
         Err(refusal) => Err(refusal),
     }
 }
 
 // The lines of a network.
 #[tactic(auto, unfolding(crate::specs::SampleMode::sample_of))]
-fn sample_totals<R: Threads + Sync, G: Gate>(
+fn sample_totals<R: Threads + Sync, W: Observer>(
     rt: &R,
     alloc: Global,
     net: &Net,
     request: Request,
-    gate: &G,
+    observer: &W,
 ) -> Result<Vec<u8>, NoMemory>
     requires { IsInRange request }
     ensures text { IfOk result (λ text. text.items ≡ sample_of request.size request.seed net.now) }
-    ensures told { IsOk result → HasToldSample (G.told_held gate.now) (G.told_freed gate.now) net.now request }
+    ensures told { IsOk result → HasToldSample (W.told_held observer.now) (W.told_freed observer.now) net.now request }
 {
     let _steps = net.steps;
     let layout = charted(alloc, net, regions_wanted(net, request))?;
-    let regions = last_regions(rt, alloc, &layout, 0, request.workers, gate)?;
+    let regions = last_regions(rt, alloc, &layout, 0, request.workers, observer)?;
     let mut text = Vec::new(alloc);
     put_sample_line(&mut text, net, request.size, request.seed)?;
     put_last_totals(alloc, &layout, &regions, &mut text)?;

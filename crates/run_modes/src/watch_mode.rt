@@ -14,7 +14,7 @@ use delay_report::run_report;
 use network_file::Net;
 use network_run::{Watched, watched_regions};
 use no_memory::NoMemory;
-use region_slots::Gate;
+use region_slots::Observer;
 use std::alloc::Global;
 use std::thread::Threads;
 use workerless_call::{large_record, layout_asked, network_in, records_too_much};
@@ -23,17 +23,17 @@ use workerless_call::{large_record, layout_asked, network_in, records_too_much};
 const MOST_SHOWN: u64 = 4_000_000;
 
 /// The shots and the report of a network that workers take through all its steps, in regions.
-pub fn watch_text<R: Threads + Sync, G: Gate>(
+pub fn watch_text<R: Threads + Sync, W: Observer>(
     rt: &R,
     alloc: Global,
     request: Request,
     input: &[u8],
-    gate: &G,
+    observer: &W,
 ) -> Result<Vec<u8>, Refusal>
     requires in_range { IsInRange request }
     requires few_bytes { length input.now ≤ MOST_BYTES }
     ensures text { IfOk result (λ text. (watch_refused (task_of request input.now) ≡ None) × IsWatchText (task_of request input.now) text.items) }
-    ensures told { IsOk result → IsNetworkWith (network_of input.now) (λ net. HasToldRun (G.told_held gate.now) (G.told_freed gate.now) net request) }
+    ensures told { IsOk result → IsNetworkWith (network_of input.now) (λ net. HasToldRun (W.told_held observer.now) (W.told_freed observer.now) net request) }
     ensures refusal { IfErr result (IsRefusalOf (watch_refused (task_of request input.now)) ⊥) }
 {
     let net = match network_in(alloc, input) {
@@ -46,7 +46,7 @@ pub fn watch_text<R: Threads + Sync, G: Gate>(
     if shows_too_much(&net, request.shots) {
         return Err(large_shots());
     }
-    Ok(shots_and_report(rt, alloc, &net, request, gate)?)
+    Ok(shots_and_report(rt, alloc, &net, request, observer)?)
 }
 
 // Whether so many shots would show more rows than they may.
@@ -64,16 +64,16 @@ fn large_shots() -> Refusal
 }
 
 // The shots and the report, whatever they show and record.
-fn shots_and_report<R: Threads + Sync, G: Gate>(
+fn shots_and_report<R: Threads + Sync, W: Observer>(
     rt: &R,
     alloc: Global,
     net: &Net,
     request: Request,
-    gate: &G,
+    observer: &W,
 ) -> Result<Vec<u8>, NoMemory>
     requires { IsInRange request }
     ensures text { IfOk result (λ text. HasShotsAndReport net.now request text.items) }
-    ensures told { IsOk result → HasToldRun (G.told_held gate.now) (G.told_freed gate.now) net.now request }
+    ensures told { IsOk result → HasToldRun (W.told_held observer.now) (W.told_freed observer.now) net.now request }
 {
     let _steps = net.steps;
     let every = u64::from(request.every);
@@ -85,7 +85,7 @@ fn shots_and_report<R: Threads + Sync, G: Gate>(
         every,
         request.workers,
         request.shots,
-        gate,
+        observer,
     )?;
     let report = run_report(alloc, &layout, &regions, every)?;
     shots.extend_from_slice(&report)?;

@@ -7,7 +7,7 @@ use crate::networks::whole_steps;
 use flow_model::Row;
 use no_memory::NoMemory;
 use region_cut::Layout;
-use region_slots::{Field, OpenGate, Pass, Shot};
+use region_slots::{Field, NoObserver, Pass, Shot};
 use region_step::Setup;
 use snapshot::ShotRoom;
 use std::alloc::Global;
@@ -56,7 +56,7 @@ fn show_last<R: Abort>(rt: &R, field: &Field, pass: &mut Pass, room: &mut ShotRo
     requires in_time { last ≡ field.now.terms.setup.now.net.steps }
 {
     let _regions = field.regions();
-    let driven = drive(field, pass, last, 4096, 0, &OpenGate);
+    let driven = drive(field, pass, last, 4096, 0, &NoObserver);
     assert!(rt; driven.all, "all regions are at the last step");
     let shot = field.shot(pass, room, 1);
     assert_eq!(rt; shot, Shot::Taken);

@@ -8,7 +8,7 @@ use network_file::Net;
 use network_run::regions_from;
 use no_memory::NoMemory;
 use region_cut::{Cut, Layout};
-use region_slots::OpenGate;
+use region_slots::NoObserver;
 use region_step::{Note, Region, Setup, Start};
 use std::alloc::{AllocError, Global};
 use std::process::Abort;
@@ -54,7 +54,7 @@ const REST_NOTES: [Note; 6] = [
 
 // The gate at step 2, and the rest at step 1.
 fn gate_ahead(alloc: Global) -> Result<Start, AllocError> {
-    let gate = Row {
+    let observer = Row {
         n: 2_000_000,
         come: 4_000_000,
         gone: 2_000_000,
@@ -68,7 +68,7 @@ fn gate_ahead(alloc: Global) -> Result<Start, AllocError> {
     };
     Ok(Start {
         steps: vec![in alloc; 2, 1]?,
-        rows: vec![in alloc; gate, empty, empty]?,
+        rows: vec![in alloc; observer, empty, empty]?,
         earlier: vec![in alloc; 4_000_000, 0, 0]?,
     })
 }
@@ -117,7 +117,7 @@ fn last_from<R: Threads + Sync>(
     let net = layout.net();
     let last = net.steps;
     let setup = Setup::new(layout, start, every);
-    regions_from(rt, alloc, &setup, last, 2, &OpenGate)
+    regions_from(rt, alloc, &setup, last, 2, &NoObserver)
 }
 
 // Looks at the notes of the two regions, recorded so.
@@ -126,12 +126,12 @@ fn check_notes<R: Abort + Threads + Sync>(
     alloc: Global,
     net: &Net,
     every: u64,
-    gate: &[Note],
+    observer: &[Note],
     rest: &[Note],
 ) -> Result<(), NoMemory> {
     let regions = recorded_from_there(rt, alloc, net, every)?;
     assert!(rt; regions.len() == 2);
-    assert_eq!(rt; regions[0].trail(), gate, "every {every}");
+    assert_eq!(rt; regions[0].trail(), observer, "every {every}");
     assert_eq!(rt; regions[1].trail(), rest, "every {every}");
     Ok(())
 }
@@ -140,13 +140,13 @@ fn check_notes<R: Abort + Threads + Sync>(
 #[test]
 fn regions_are_noted_from_their_starts_on(rt: HostRuntime) -> Result<(), Fail> {
     let net = network(&rt, rt.alloc(), CORRIDOR)?;
-    for (every, gate, rest) in [
+    for (every, observer, rest) in [
         (1, GATE_NOTES.as_slice(), REST_NOTES.as_slice()),
         (2, GATE_NOTES.as_slice(), &REST_NOTES[2..]),
         (3, &GATE_NOTES[1..], &REST_NOTES[4..]),
         (0, &[], &[]),
     ] {
-        check_notes(&rt, rt.alloc(), &net, every, gate, rest)?;
+        check_notes(&rt, rt.alloc(), &net, every, observer, rest)?;
     }
     Ok(())
 }

@@ -4,7 +4,7 @@ ghost use Rattle.region_slots.specs.FieldView.{IsPassOf};
 
 use flow_ledger::Books;
 use region_cut::Layout;
-use region_slots::{Field, Gate, Pass, Shot};
+use region_slots::{Field, Observer, Pass, Shot};
 use snapshot::ShotRoom;
 use std::alloc::Global;
 use std::sync::atomic::{AtomicU64, Ordering};
@@ -63,14 +63,14 @@ impl Found {
 
 // Whoever has brought a region half the way waits for a while until a shot was taken on the way. No region gets past a
 // neighbour that isn't there yet, so that none is at the end before.
-impl Gate for Found {
+impl Observer for Found {
     ghost use Rattle.std.specs.Prelude.{⊤};
 
-    ghost told_held = { λ gate region step. ⊤ };
+    ghost told_held = { λ observer region step. ⊤ };
 
-    ghost told_freed = { λ gate region step. ⊤ };
+    ghost told_freed = { λ observer region step. ⊤ };
 
-    ghost told_watched = { λ gate done. ⊤ };
+    ghost told_watched = { λ observer done. ⊤ };
 
     fn held(&self, region: u32, step: u64) {}
 

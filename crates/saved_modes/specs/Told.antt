@@ -1,4 +1,4 @@
--- What the gate of a run that is saved, of one that goes on from a saved text, or of one in parts was told.
+-- What the observer of a run that is saved, of one that goes on from a saved text, or of one in parts was told.
 use Rattle.std.specs.Prelude.{ℕ, ◌+◌, ◌<◌, ◌≤◌, List, Option, Some, None, length, min}
 use Rattle.command_words.specs.declared.request.Request.{Request}
 use Rattle.network_file.specs.Network.{Network}

@@ -16,48 +16,48 @@ use command_words::Request;
 use network_file::{MOST_REGIONS, Net};
 use no_memory::NoMemory;
 use region_cut::Cut;
-use region_slots::Gate;
+use region_slots::Observer;
 use std::alloc::Global;
 use std::thread::Threads;
 use workerless_call::{network_in, regions_wanted};
 
 /// The report of a network that workers take through its steps in parts, each in another cutting.
-pub fn recut_text<R: Threads + Sync, G: Gate>(
+pub fn recut_text<R: Threads + Sync, W: Observer>(
     rt: &R,
     alloc: Global,
     request: Request,
     input: &[u8],
-    gate: &G,
+    observer: &W,
 ) -> Result<Vec<u8>, Refusal>
     requires in_range { IsInRange request }
     requires few_bytes { length input.now ≤ MOST_BYTES }
     ensures text { IfOk result (λ text. (recut_refused (task_of request input.now) ≡ None) × IsRecutText (task_of request input.now) text.items) }
-    ensures told { IsOk result → IsNetworkWith (network_of input.now) (λ net. HasToldRecut (G.told_held gate.now) (G.told_freed gate.now) net request) }
+    ensures told { IsOk result → IsNetworkWith (network_of input.now) (λ net. HasToldRecut (W.told_held observer.now) (W.told_freed observer.now) net request) }
     ensures refusal { IfErr result (IsRefusalOf (recut_refused (task_of request input.now)) ⊥) }
 {
     let net = match network_in(alloc, input) {
         Ok(net) => net,
         Err(refusal) => return Err(refusal),
     };
-    Ok(report_in_parts(rt, alloc, &net, request, gate)?)
+    Ok(report_in_parts(rt, alloc, &net, request, observer)?)
 }
 
 // The report, whatever the parts.
-fn report_in_parts<R: Threads + Sync, G: Gate>(
+fn report_in_parts<R: Threads + Sync, W: Observer>(
     rt: &R,
     alloc: Global,
     net: &Net,
     request: Request,
-    gate: &G,
+    observer: &W,
 ) -> Result<Vec<u8>, NoMemory>
     requires { IsInRange request }
     ensures text { IfOk result (λ text. text.items ≡ report_of net.now 0) }
-    ensures told { IsOk result → HasToldRecut (G.told_held gate.now) (G.told_freed gate.now) net.now request }
+    ensures told { IsOk result → HasToldRecut (W.told_held observer.now) (W.told_freed observer.now) net.now request }
 {
     let _steps = net.steps;
     let regions = regions_wanted(net, request);
     let cuts = cuts_of_parts(alloc, net, regions, request.parts)?;
-    recut_report(rt, alloc, net, cuts, request.workers, gate)
+    recut_report(rt, alloc, net, cuts, request.workers, observer)
 }
 
 // The cuttings of so many parts.

@@ -14,7 +14,7 @@ use network_file::Net;
 use network_run::regions_from;
 use no_memory::NoMemory;
 use region_cut::{Cut, Layout};
-use region_slots::Gate;
+use region_slots::Observer;
 use region_step::{Region, Setup, Start};
 use saved_run::even_start;
 use std::alloc::Global;
@@ -31,13 +31,13 @@ pub(crate) struct Part<'n> {
 /// The report of a run in as many parts as there are cuttings of the network, by so many workers. The goals divide the
 /// steps evenly, rounded down; each part takes the regions of its cutting from the last goal to its own, and one whose
 /// goal is the last one again is passed over. Where memory is refused the cuttings are gone.
-pub fn recut_report<R: Threads + Sync, G: Gate>(
+pub fn recut_report<R: Threads + Sync, W: Observer>(
     rt: &R,
     alloc: Global,
     net: &Net,
     cuts: Vec<Cut>,
     workers: u32,
-    gate: &G,
+    observer: &W,
 ) -> Result<Vec<u8>, NoMemory>
     requires some { 1 ≤ length cuts.items }
     requires few { length cuts.items ≤ 64 }
@@ -46,7 +46,7 @@ pub fn recut_report<R: Threads + Sync, G: Gate>(
 
     // That of the plain recurrences, whatever the cuttings.
     ensures text { IfOk result (λ text. text.items ≡ report_of net.now 0) }
-    ensures told { IsOk result → HasToldParts (G.told_held gate.now) (G.told_freed gate.now) net.now.steps cuts.items }
+    ensures told { IsOk result → HasToldParts (W.told_held observer.now) (W.told_freed observer.now) net.now.steps cuts.items }
 {
     let _steps = net.steps;
     let parts = cuts.len() as u32;
@@ -56,7 +56,7 @@ pub fn recut_report<R: Threads + Sync, G: Gate>(
         i += 1;
         let goal = goal_at(net, parts, i);
         if goal > step_of(&last) {
-            last = Some(next_part(rt, alloc, net, last, cut, goal, workers, gate)?);
+            last = Some(next_part(rt, alloc, net, last, cut, goal, workers, observer)?);
         }
     }
     let part = last.unwrap();
@@ -85,7 +85,7 @@ fn step_of(last: &Option<Part<'_>>) -> u64
 }
 
 // The part to a goal, in another cutting.
-fn next_part<'n, R: Threads + Sync, G: Gate>(
+fn next_part<'n, R: Threads + Sync, W: Observer>(
     rt: &R,
     alloc: Global,
     net: &'n Net,
@@ -93,7 +93,7 @@ fn next_part<'n, R: Threads + Sync, G: Gate>(
     cut: Cut,
     goal: u64,
     workers: u32,
-    gate: &G,
+    observer: &W,
 ) -> Result<Part<'n>, NoMemory>
     requires last { IsLastPart net.now last }
     requires one_each { length cut ≡ length net.now.cells }
@@ -102,11 +102,11 @@ fn next_part<'n, R: Threads + Sync, G: Gate>(
     requires workers { (1 ≤ workers) × (workers ≤ 16) }
     ensures part { IfOk result (IsPart net.now) }
     ensures goal { IfOk result (λ part. part.step ≡ goal) }
-    ensures told { IsOk result → HasToldBetween (G.told_held gate.now) (G.told_freed gate.now) (region_count cut) (step_of last.entry) goal }
+    ensures told { IsOk result → HasToldBetween (W.told_held observer.now) (W.told_freed observer.now) (region_count cut) (step_of last.entry) goal }
 {
     let layout = Layout::new(alloc, net, cut)?;
     let start = part_start(alloc, last, &layout)?;
-    let regions = part_regions(rt, alloc, &layout, start, goal, workers, gate)?;
+    let regions = part_regions(rt, alloc, &layout, start, goal, workers, observer)?;
     Ok(Part {
         step: goal,
         layout,
@@ -115,14 +115,14 @@ fn next_part<'n, R: Threads + Sync, G: Gate>(
 }
 
 // The regions of a part at its goal, from where they start.
-fn part_regions<R: Threads + Sync, G: Gate>(
+fn part_regions<R: Threads + Sync, W: Observer>(
     rt: &R,
     alloc: Global,
     layout: &Layout,
     start: Start,
     goal: u64,
     workers: u32,
-    gate: &G,
+    observer: &W,
 ) -> Result<Vec<Region>, NoMemory>
     requires fits { Fits layout.now.net layout.now.chart.cut start }
     requires lawful { AreLawful layout.now.net layout.now.chart.cut start.steps }
@@ -130,10 +130,10 @@ fn part_regions<R: Threads + Sync, G: Gate>(
     requires in_time { goal ≤ layout.now.net.steps }
     requires workers { (1 ≤ workers) × (workers ≤ 16) }
     ensures stand { IfOk result (λ regions. AllStand layout.now.net layout.now.chart start 0 (replicate (region_count layout.now.chart.cut) goal) regions.items) }
-    ensures told { IsOk result → HasToldFrom (G.told_held gate.now) (G.told_freed gate.now) (region_count layout.now.chart.cut) start.steps goal }
+    ensures told { IsOk result → HasToldFrom (W.told_held observer.now) (W.told_freed observer.now) (region_count layout.now.chart.cut) start.steps goal }
 {
     let setup = Setup::new(layout, start, 0);
-    regions_from(rt, alloc, &setup, goal, workers, gate)
+    regions_from(rt, alloc, &setup, goal, workers, observer)
 }
 
 // Where the regions of a cutting start behind the last part.

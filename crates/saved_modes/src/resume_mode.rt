@@ -20,7 +20,7 @@ use network_file::NetRefusal;
 use network_run::regions_from;
 use no_memory::NoMemory;
 use region_cut::Layout;
-use region_slots::Gate;
+use region_slots::Observer;
 use region_step::{Region, Setup, Start};
 use saved_run::{LoadFault, LoadRefusal, Saved, load};
 use std::alloc::Global;
@@ -28,16 +28,16 @@ use std::thread::Threads;
 use workerless_call::refused;
 
 /// The report of a saved run that workers take on to the last step.
-pub fn resume_text<R: Threads + Sync, G: Gate>(
+pub fn resume_text<R: Threads + Sync, W: Observer>(
     rt: &R,
     alloc: Global,
     request: Request,
     input: &[u8],
-    gate: &G,
+    observer: &W,
 ) -> Result<Vec<u8>, Refusal>
     requires in_range { IsInRange request }
     ensures text { IfOk result (λ text. (resume_refused (task_of request input.now) ≡ None) × IsResumeText (task_of request input.now) text.items) }
-    ensures told { IsOk result → HasToldResume (G.told_held gate.now) (G.told_freed gate.now) (content_of input.now) }
+    ensures told { IsOk result → HasToldResume (W.told_held observer.now) (W.told_freed observer.now) (content_of input.now) }
     ensures refusal { IfErr result (IsRefusalOf (resume_refused (task_of request input.now)) ⊥) }
 {
     let saved = match load(alloc, input) {
@@ -47,18 +47,18 @@ pub fn resume_text<R: Threads + Sync, G: Gate>(
     };
     let Saved { net, chart, start } = saved;
     let layout = Layout::of(&net, chart);
-    let text = report_on(rt, alloc, &layout, start, request.workers, gate)?;
+    let text = report_on(rt, alloc, &layout, start, request.workers, observer)?;
     Ok(text)
 }
 
 // The report of regions that go on from a start.
-fn report_on<R: Threads + Sync, G: Gate>(
+fn report_on<R: Threads + Sync, W: Observer>(
     rt: &R,
     alloc: Global,
     layout: &Layout,
     start: Start,
     workers: u32,
-    gate: &G,
+    observer: &W,
 ) -> Result<Vec<u8>, NoMemory>
     requires can_start { CanStart layout.now.net layout.now.chart.cut start }
     requires workers { (1 ≤ workers) × (workers ≤ 16) }
@@ -66,30 +66,30 @@ fn report_on<R: Threads + Sync, G: Gate>(
 
     // Of a true start it is the report of the plain recurrences.
     ensures plain { IfOk result (λ text. IsTrueStart layout.now.net layout.now.chart.cut start → text.items ≡ report_of layout.now.net 0) }
-    ensures told { IsOk result → HasToldFrom (G.told_held gate.now) (G.told_freed gate.now) (region_count layout.now.chart.cut) start.steps layout.now.net.steps }
+    ensures told { IsOk result → HasToldFrom (W.told_held observer.now) (W.told_freed observer.now) (region_count layout.now.chart.cut) start.steps layout.now.net.steps }
 {
-    let regions = last_regions_from(rt, alloc, layout, start, workers, gate)?;
+    let regions = last_regions_from(rt, alloc, layout, start, workers, observer)?;
     let text = report_from(alloc, layout, &regions)?;
     Ok(text)
 }
 
 // The regions that go on from a start, at the last step.
-fn last_regions_from<R: Threads + Sync, G: Gate>(
+fn last_regions_from<R: Threads + Sync, W: Observer>(
     rt: &R,
     alloc: Global,
     layout: &Layout,
     start: Start,
     workers: u32,
-    gate: &G,
+    observer: &W,
 ) -> Result<Vec<Region>, NoMemory>
     requires can_start { CanStart layout.now.net layout.now.chart.cut start }
     requires workers { (1 ≤ workers) × (workers ≤ 16) }
     ensures stand { IfOk result (λ regions. AllStand layout.now.net layout.now.chart start 0 (replicate (region_count layout.now.chart.cut) layout.now.net.steps) regions.items) }
-    ensures told { IsOk result → HasToldFrom (G.told_held gate.now) (G.told_freed gate.now) (region_count layout.now.chart.cut) start.steps layout.now.net.steps }
+    ensures told { IsOk result → HasToldFrom (W.told_held observer.now) (W.told_freed observer.now) (region_count layout.now.chart.cut) start.steps layout.now.net.steps }
 {
     let net = layout.net();
     let setup = Setup::new(layout, start, 0);
-    regions_from(rt, alloc, &setup, net.steps, workers, gate)
+    regions_from(rt, alloc, &setup, net.steps, workers, observer)
 }
 
 // The refusal of a text by its first fault.

@@ -13,53 +13,53 @@ use command_words::Request;
 use network_file::Net;
 use network_run::room_near;
 use no_memory::NoMemory;
-use region_slots::Gate;
+use region_slots::Observer;
 use saved_run::save_text;
 use std::alloc::Global;
 use std::thread::Threads;
 use workerless_call::{layout_asked, network_in};
 
 /// The saved text of a network whose regions workers take near a step.
-pub fn saved_text<R: Threads + Sync, G: Gate>(
+pub fn saved_text<R: Threads + Sync, W: Observer>(
     rt: &R,
     alloc: Global,
     request: Request,
     input: &[u8],
-    gate: &G,
+    observer: &W,
 ) -> Result<Vec<u8>, Refusal>
     requires in_range { IsInRange request }
     requires few_bytes { length input.now ≤ MOST_BYTES }
     ensures text { IfOk result (λ text. (save_refused (task_of request input.now) ≡ None) × IsSaveText (task_of request input.now) text.items) }
-    ensures told { IsOk result → IsNetworkWith (network_of input.now) (λ net. HasToldSave (G.told_held gate.now) (G.told_freed gate.now) net request) }
+    ensures told { IsOk result → IsNetworkWith (network_of input.now) (λ net. HasToldSave (W.told_held observer.now) (W.told_freed observer.now) net request) }
     ensures refusal { IfErr result (IsRefusalOf (save_refused (task_of request input.now)) ⊥) }
 {
     match network_in(alloc, input) {
-        Ok(net) => Ok(saved_near(rt, alloc, &net, input, request, gate)?),
+        Ok(net) => Ok(saved_near(rt, alloc, &net, input, request, observer)?),
         Err(refusal) => Err(refusal),
     }
 }
 
 // The saved text of the network of these bytes.
-fn saved_near<R: Threads + Sync, G: Gate>(
+fn saved_near<R: Threads + Sync, W: Observer>(
     rt: &R,
     alloc: Global,
     net: &Net,
     input: &[u8],
     request: Request,
-    gate: &G,
+    observer: &W,
 ) -> Result<Vec<u8>, NoMemory>
     requires in_range { IsInRange request }
     requires network { network_of input.now ≡ Ok net.now }
     requires few_bytes { length input.now ≤ MOST_BYTES }
     ensures saved { IfOk result (λ text. IsSavedRun net.now request input.now text.items) }
-    ensures told { IsOk result → HasToldSave (G.told_held gate.now) (G.told_freed gate.now) net.now request }
+    ensures told { IsOk result → HasToldSave (W.told_held observer.now) (W.told_freed observer.now) net.now request }
 {
     let _steps = net.steps;
     let until = u64::from(request.until);
     let layout = layout_asked(alloc, net, request)?;
     let _own = layout.net();
     let _regions = layout.regions();
-    let room = room_near(rt, alloc, &layout, until, request.workers, gate)?;
+    let room = room_near(rt, alloc, &layout, until, request.workers, observer)?;
     let text = save_text(alloc, &layout, &room, input)?;
     Ok(text)
 }

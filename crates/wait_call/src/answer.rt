@@ -12,18 +12,18 @@ use crate::report::report_in;
 use crate::words::workers_of;
 use call_ending::Refusal;
 use ctm_ports::Source;
-use region_slots::Gate;
+use region_slots::Observer;
 use std::alloc::Global;
 use std::sync::Wait;
 use std::thread::Threads;
 
 /// The report of the network that the source gives, run by as many workers as the words ask for, or why there is none.
-pub(crate) fn answer<R: Threads + Wait + Sync, S: Source, G: Gate>(
+pub(crate) fn answer<R: Threads + Wait + Sync, S: Source, W: Observer>(
     rt: &R,
     alloc: Global,
     words: &[String],
     source: &mut S,
-    gate: &G,
+    observer: &W,
 ) -> Result<Vec<u8>, Refusal>
     ensures text { IfOk result (λ text. (input : List ℕ) × IfSome (S.left source.old) (λ bytes. input ≡ bytes)
         × IsTextOf (answer_of words.now input) text.items) }
@@ -43,5 +43,5 @@ pub(crate) fn answer<R: Threads + Wait + Sync, S: Source, G: Gate>(
         Ok(input) => input,
         Err(refusal) => return Err(refusal),
     };
-    report_in(rt, alloc, &input, workers, gate)
+    report_in(rt, alloc, &input, workers, observer)
 }

@@ -10,23 +10,23 @@ ghost use Rattle.wait_call.specs.Words.{workers_asked};
 use crate::answer::answer;
 use call_ending::{Status, end};
 use ctm_ports::{Sink, Source};
-use region_slots::Gate;
+use region_slots::Observer;
 use std::alloc::Global;
 use std::sync::Wait;
 use std::thread::Threads;
 
 /// Takes the network that the source gives through its steps, and writes the report on `out`, or says on `err` why there is
 /// none. The words are those after the program's name: the number of workers, from 1 to 16. They run in threads of `rt`, a
-/// worker waits where it would sweep in vain, and the gate is told when they take a region and give it back. So the call
+/// worker waits where it would sweep in vain, and the observer is told when they take a region and give it back. So the call
 /// may wait; that it returns isn't proved.
-pub fn ctm_wait<R: Threads + Wait + Sync, S: Source, O: Sink, E: Sink, G: Gate>(
+pub fn ctm_wait<R: Threads + Wait + Sync, S: Source, O: Sink, E: Sink, W: Observer>(
     rt: &R,
     alloc: Global,
     words: &[String],
     source: &mut S,
     out: &mut O,
     err: &mut E,
-    gate: &G,
+    observer: &W,
 ) -> Status
     // There is an input, which is what the source has left where it tells it, and by the answer to the words and this input
     // the call ended in one of five ways: it is done, the answer is a refusal, a read of the source failed where the words
@@ -47,6 +47,6 @@ pub fn ctm_wait<R: Threads + Wait + Sync, S: Source, O: Sink, E: Sink, G: Gate>(
     ensures unread { workers_asked words.now ≡ None → source.new ≡ source.old }
     ensures bounded { LosesAtMost (S.left source.old) (S.left source.new) (most_read (workers_asked words.now)) }
 {
-    let answer = answer(rt, alloc, words, source, gate);
+    let answer = answer(rt, alloc, words, source, observer);
     end(answer, out, err)
 }

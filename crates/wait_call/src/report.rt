@@ -9,7 +9,7 @@ use delay_report::run_report;
 use network_file::Net;
 use no_memory::NoMemory;
 use region_cut::charted;
-use region_slots::Gate;
+use region_slots::Observer;
 use std::alloc::Global;
 use std::sync::Wait;
 use std::thread::Threads;
@@ -19,12 +19,12 @@ use workerless_call::network_in;
 const REGIONS: u32 = 64;
 
 /// The report of the network that an input is, run by so many workers, or why there is none.
-pub(crate) fn report_in<R: Threads + Wait + Sync, G: Gate>(
+pub(crate) fn report_in<R: Threads + Wait + Sync, W: Observer>(
     rt: &R,
     alloc: Global,
     input: &[u8],
     workers: u32,
-    gate: &G,
+    observer: &W,
 ) -> Result<Vec<u8>, Refusal>
     requires few_bytes { length input.now ≤ most_input }
     requires workers { (1 ≤ workers) × (workers ≤ 16) }
@@ -35,22 +35,22 @@ pub(crate) fn report_in<R: Threads + Wait + Sync, G: Gate>(
         Ok(net) => net,
         Err(refusal) => return Err(refusal),
     };
-    Ok(report_of_run(rt, alloc, &net, workers, gate)?)
+    Ok(report_of_run(rt, alloc, &net, workers, observer)?)
 }
 
 // The report of a network.
-fn report_of_run<R: Threads + Wait + Sync, G: Gate>(
+fn report_of_run<R: Threads + Wait + Sync, W: Observer>(
     rt: &R,
     alloc: Global,
     net: &Net,
     workers: u32,
-    gate: &G,
+    observer: &W,
 ) -> Result<Vec<u8>, NoMemory>
     requires { (1 ≤ workers) × (workers ≤ 16) }
     ensures { IfOk result (λ text. text.items ≡ report_of net.now 0) }
 {
     let _steps = net.steps;
     let layout = charted(alloc, net, REGIONS)?;
-    let regions = last_regions(rt, alloc, &layout, workers, gate)?;
+    let regions = last_regions(rt, alloc, &layout, workers, observer)?;
     run_report(alloc, &layout, &regions, 0)
 }

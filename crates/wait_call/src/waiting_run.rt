@@ -10,7 +10,7 @@ use crate::seats::{share_off, unite_all};
 use no_memory::NoMemory;
 use parked_crew::{Board, parked};
 use region_cut::Layout;
-use region_slots::{Closed, Field, Gate, Pass};
+use region_slots::{Closed, Field, Observer, Pass};
 use region_step::{Region, Setup};
 use std::alloc::Global;
 use std::sync::Wait;
@@ -18,12 +18,12 @@ use std::thread::Threads;
 
 /// The regions of a layout at the last step, recorded at none, taken there from step 0 by so many workers that wait where
 /// they would sweep in vain. All memory is taken before the first step.
-pub(crate) fn last_regions<R: Threads + Wait + Sync, G: Gate>(
+pub(crate) fn last_regions<R: Threads + Wait + Sync, W: Observer>(
     rt: &R,
     alloc: Global,
     layout: &Layout,
     workers: u32,
-    gate: &G,
+    observer: &W,
 ) -> Result<Vec<Region>, NoMemory>
     requires workers { (1 ≤ workers) × (workers ≤ 16) }
     ensures { IfOk result (λ regions. AllStand layout.now.net layout.now.chart (zero_start layout.now.net layout.now.chart.cut) 0
@@ -34,20 +34,20 @@ pub(crate) fn last_regions<R: Threads + Wait + Sync, G: Gate>(
     let setup = Setup::zero(alloc, layout, 0)?;
     let mut passes = Vec::with_capacity(alloc, workers as usize)?;
     let (field, mut pass) = Field::open(alloc, &setup, workers + 1)?;
-    take_to_last(rt, &field, &mut pass, &mut passes, workers, last, gate);
+    take_to_last(rt, &field, &mut pass, &mut passes, workers, last, observer);
     let Closed { steps: _, regions } = field.close(pass);
     Ok(regions)
 }
 
 // Takes all regions to the last step, with a seat for each worker.
-fn take_to_last<R: Threads + Wait + Sync, G: Gate>(
+fn take_to_last<R: Threads + Wait + Sync, W: Observer>(
     rt: &R,
     field: &Field,
     pass: &mut Pass,
     passes: &mut Vec<Pass>,
     workers: u32,
     last: u64,
-    gate: &G,
+    observer: &W,
 )
     requires belongs { IsPassOf field.now pass.old }
     requires seats { pass.old.knows.share ≡ workers + 1 }
@@ -62,22 +62,22 @@ fn take_to_last<R: Threads + Wait + Sync, G: Gate>(
     ensures seen { HasSeenAll (region_count field.now.terms.setup.now.chart.cut) last pass.new.knows }
 {
     share_off(field, pass, passes, workers);
-    park(rt, field, passes, last, gate);
+    park(rt, field, passes, last, observer);
     unite_all(field, pass, passes);
 }
 
 // The same by these passes alone, a worker for each.
-fn park<R: Threads + Wait + Sync, G: Gate>(
+fn park<R: Threads + Wait + Sync, W: Observer>(
     rt: &R,
     field: &Field,
     passes: &mut Vec<Pass>,
     last: u64,
-    gate: &G,
+    observer: &W,
 )
     requires seats { All (IsSeat field.now) passes.old.items }
     requires last { last ≡ field.now.terms.setup.now.net.steps }
     ensures one_each { length passes.new.items ≡ length passes.old.items }
     ensures come { All (HasCome field.now) passes.new.items }
 {
-    parked(rt, field, passes, last, &Board::new(), gate);
+    parked(rt, field, passes, last, &Board::new(), observer);
 }

@@ -1,6 +1,6 @@
 use call_ending::Status;
 use ctm_ports::{SureSink, SureSource};
-use region_slots::Gate;
+use region_slots::Observer;
 use std::alloc::{AllocError, Global};
 use std::sync::Wait;
 use std::thread::Threads;
@@ -14,13 +14,13 @@ pub(crate) struct Ended {
     pub(crate) err: SureSink,
 }
 
-// A call with these words past a gate, over ports that never fail.
-pub(crate) fn call_past<R: Threads + Wait + Sync, G: Gate>(
+// A call with these words past an observer, over ports that never fail.
+pub(crate) fn call_past<R: Threads + Wait + Sync, W: Observer>(
     rt: &R,
     alloc: Global,
     words: &[&str],
     input: &[u8],
-    gate: &G,
+    observer: &W,
 ) -> Result<Ended, AllocError> {
     let mut given = Vec::new(alloc);
     for word in words {
@@ -29,6 +29,6 @@ pub(crate) fn call_past<R: Threads + Wait + Sync, G: Gate>(
     let mut source = SureSource::new(input.to_vec(alloc)?);
     let mut out = SureSink::new(alloc);
     let mut err = SureSink::new(alloc);
-    let status = ctm_wait(rt, alloc, &given, &mut source, &mut out, &mut err, gate);
+    let status = ctm_wait(rt, alloc, &given, &mut source, &mut out, &mut err, observer);
     Ok(Ended { status, out, err })
 }

@@ -46,12 +46,12 @@ fn meet<R: Abort + Threads + Wait + Sync>(rt: &R, field: &Field, mut pass: Pass,
     requires two { pass.knows.share ≡ 2 }
     requires in_time { last ≤ field.now.terms.setup.now.net.steps }
 {
-    let gate = Meeting::new();
+    let observer = Meeting::new();
     let other = field.share(&mut pass);
-    parked(rt, field, &mut [pass, other], last, &Board::new(), &gate);
-    assert!(rt; gate.took_place(), "each waited for the other");
+    parked(rt, field, &mut [pass, other], last, &Board::new(), &observer);
+    assert!(rt; observer.took_place(), "each waited for the other");
     assert!(rt;
-        gate.is_complete(0b1111),
+        observer.is_complete(0b1111),
         "each region was held at each step"
     );
 }

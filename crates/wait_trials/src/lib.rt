@@ -1,4 +1,4 @@
-//! Trials of workers that wait, of the crew by itself and of the call, with gates at which two of them meet. There is nothing
+//! Trials of workers that wait, of the crew by itself and of the call, with observers at which two of them meet. There is nothing
 //! here but tests.
 #![tactic(auto)]
 

@@ -1,7 +1,7 @@
-use region_slots::Gate;
+use region_slots::Observer;
 use std::sync::atomic::{AtomicU64, Ordering};
 
-// A gate at which the worker that holds region 0 at step 0 and the one that holds region 2 at step 1 wait for each other for
+// An observer at which the worker that holds region 0 at step 0 and the one that holds region 2 at step 1 wait for each other for
 // a while, so that one worker alone waits in vain. It notes which of four regions was held at which of 64 steps.
 #[derive(Drop)]
 pub(crate) struct Meeting {
@@ -58,14 +58,14 @@ fn meet(own: &AtomicU64, other: &AtomicU64, met: &AtomicU64) {
     }
 }
 
-impl Gate for Meeting {
+impl Observer for Meeting {
     ghost use Rattle.std.specs.Prelude.{⊤};
 
-    ghost told_held = { λ gate region step. ⊤ };
+    ghost told_held = { λ observer region step. ⊤ };
 
-    ghost told_freed = { λ gate region step. ⊤ };
+    ghost told_freed = { λ observer region step. ⊤ };
 
-    ghost told_watched = { λ gate done. ⊤ };
+    ghost told_watched = { λ observer done. ⊤ };
 
     fn held(&self, region: u32, step: u64) {
         if region < 4 && step < 64 {

@@ -2,7 +2,7 @@ use crate::calling::call_past;
 use crate::crew::two_members;
 use crate::meeting::Meeting;
 use call_ending::Status;
-use region_slots::OpenGate;
+use region_slots::NoObserver;
 use std::test::Fail;
 
 // A gate, two roads and an exit, each a region of its own where there are four.
@@ -20,14 +20,14 @@ fn two_members_that_wait_work_at_once(rt: HostRuntime) -> Result<(), Fail> {
 
 #[test]
 fn two_workers_that_wait_work_at_once(rt: HostRuntime) -> Result<(), Fail> {
-    let gate = Meeting::new();
-    let ended = call_past(&rt, rt.alloc(), &["2"], CHAIN, &gate)?;
+    let observer = Meeting::new();
+    let ended = call_past(&rt, rt.alloc(), &["2"], CHAIN, &observer)?;
     assert_eq!(rt; ended.status, Status::Done);
     assert_eq!(rt; ended.out.bytes(), CHAIN_REPORT);
     assert!(rt; ended.err.bytes().is_empty());
-    assert!(rt; gate.took_place(), "each waited for the other");
+    assert!(rt; observer.took_place(), "each waited for the other");
     assert!(rt;
-        gate.is_complete(0b1111),
+        observer.is_complete(0b1111),
         "each region was held at each step"
     );
     Ok(())
@@ -44,7 +44,7 @@ fn words_that_are_no_number_of_workers_are_refused(rt: HostRuntime) -> Result<()
         &["run"],
         &["2", "2"],
     ] {
-        let ended = call_past(&rt, rt.alloc(), words, CHAIN, &OpenGate)?;
+        let ended = call_past(&rt, rt.alloc(), words, CHAIN, &NoObserver)?;
         assert_eq!(rt; ended.status, Status::Words);
         assert!(rt; ended.out.bytes().is_empty());
         assert_eq!(rt; ended.err.bytes(), b"ctm: words refused\n".as_slice());

@@ -4,7 +4,7 @@ use crate::one_sweep::turns;
 use crate::part::sweep_within;
 use crate::pausing::pause_where;
 use number_deques::Nest;
-use region_slots::{Field, Gate, Pauses};
+use region_slots::{Field, Observer, Pauses};
 
 /// So often in a row a helper's turns are in vain before it sweeps.
 const PATIENCE: u32 = 16;
@@ -23,30 +23,30 @@ impl Helper {
     ghost use Rattle.std.specs.Prelude.{◌≡◌, ◌<◌, ◌≤◌, IsTrue};
     ghost use Rattle.region_cut.specs.Cuttings.{region_count};
     ghost use Rattle.worker_claim.specs.Helping.{IsHelped, IsHelperOf, IsKept};
-    ghost use Rattle.worker_claim.specs.Telling.{AreTold};
+    ghost use Rattle.region_slots.specs.Moments.{AreTold};
     ghost use Rattle.worker_claim.specs.Turns.{HasWorked, turns_of};
 
     /// Makes as many turns as so many sweeps have, or fewer where all turns of a whole sweep find their region at the goal
     /// or past it: on regions whose numbers come from the deques, and in sweeps where none comes.
-    pub(crate) fn help<G: Gate>(&mut self, field: &Field, goal: u64, sweeps: u32, gate: &G)
+    pub(crate) fn help<W: Observer>(&mut self, field: &Field, goal: u64, sweeps: u32, observer: &W)
         requires helper { IsHelperOf field.now self.old }
         requires in_time { goal ≤ field.now.terms.setup.now.net.steps }
         ensures helped { IsHelped field.now goal sweeps self.old self.new }
-        ensures told { AreTold (G.told_held gate.now) (G.told_freed gate.now) self.old.member.pass.knows.log self.new.member.pass.knows.log }
+        ensures told { AreTold (W.told_held observer.now field.now.terms.setup.now) (W.told_freed observer.now field.now.terms.setup.now) self.old.member.pass.knows.log self.new.member.pass.knows.log }
     {
         let budget = u64::from(sweeps) * u64::from(field.regions());
         let mut pauses = Pauses::none();
-        self.member.driven = self.make_turns(field, goal, budget, gate, &mut pauses);
+        self.member.driven = self.make_turns(field, goal, budget, observer, &mut pauses);
     }
 
     // Makes so many turns, or fewer where all of a whole sweep find their region at the goal or past it, and lets others go
     // on at most once for each.
-    fn make_turns<G: Gate>(
+    fn make_turns<W: Observer>(
         &mut self,
         field: &Field,
         goal: u64,
         budget: u64,
-        gate: &G,
+        observer: &W,
         pauses: &mut Pauses,
     ) -> Driven
         requires helper { IsHelperOf field.now self.old }
@@ -54,7 +54,7 @@ impl Helper {
         requires none { pauses.old ≡ 0 }
         ensures kept { IsKept field.now self.old self.new }
         ensures worked { HasWorked field.now.terms self.old.member.pass.knows self.new.member.pass.knows goal budget result }
-        ensures told { AreTold (G.told_held gate.now) (G.told_freed gate.now) self.old.member.pass.knows.log self.new.member.pass.knows.log }
+        ensures told { AreTold (W.told_held observer.now field.now.terms.setup.now) (W.told_freed observer.now field.now.terms.setup.now) self.old.member.pass.knows.log self.new.member.pass.knows.log }
         ensures stops { turns_of result < budget → IsTrue result.all }
         ensures paused { pauses.new ≤ turns_of result }
     {
@@ -62,7 +62,7 @@ impl Helper {
         let mut vain: u32 = 0;
         while driven.turns() < budget && !driven.all {
             let left = budget - driven.turns();
-            let made = self.work(field, goal, left, vain, gate);
+            let made = self.work(field, goal, left, vain, observer);
             // Twice in vain.
             pause_where(pauses, vain > 0 && made.moved == 0 && !made.all);
             let waits = made.moved == 0 && made.held + made.behind > 0;
@@ -76,34 +76,34 @@ impl Helper {
     // In vain once, it steals first. Where its nest keeps a number that there was no memory for it sweeps then, since it may
     // wait for that number's regions; and in vain often it sweeps too, since it may wait for those of a number that another
     // has popped and doesn't come to.
-    fn work<G: Gate>(&mut self, field: &Field, goal: u64, left: u64, vain: u32, gate: &G) -> Driven
+    fn work<W: Observer>(&mut self, field: &Field, goal: u64, left: u64, vain: u32, observer: &W) -> Driven
         requires helper { IsHelperOf field.now self.old }
         requires in_time { goal ≤ field.now.terms.setup.now.net.steps }
         requires some { 1 ≤ left }
         ensures kept { IsKept field.now self.old self.new }
         ensures worked { HasWorked field.now.terms self.old.member.pass.knows self.new.member.pass.knows goal left result }
-        ensures told { AreTold (G.told_held gate.now) (G.told_freed gate.now) self.old.member.pass.knows.log self.new.member.pass.knows.log }
+        ensures told { AreTold (W.told_held observer.now field.now.terms.setup.now) (W.told_freed observer.now field.now.terms.setup.now) self.old.member.pass.knows.log self.new.member.pass.knows.log }
         ensures some { 1 ≤ turns_of result }
     {
         let waits = vain > 0;
         if vain >= PATIENCE || waits && self.nest.has_refused() {
-            return self.sweep(field, goal, left, gate);
+            return self.sweep(field, goal, left, observer);
         }
         match self.nest.next(waits) {
-            Some(region) => self.turns(field, region, goal, left, gate),
-            None => self.sweep(field, goal, left, gate),
+            Some(region) => self.turns(field, region, goal, left, observer),
+            None => self.sweep(field, goal, left, observer),
         }
     }
 
     // Turns on the regions that a number from the deques stands for, as far as the turns left go. The number goes back unless
     // all of them stand at the goal.
-    fn turns<G: Gate>(
+    fn turns<W: Observer>(
         &mut self,
         field: &Field,
         region: u32,
         goal: u64,
         left: u64,
-        gate: &G,
+        observer: &W,
     ) -> Driven
         requires helper { IsHelperOf field.now self.old }
         requires there { region < region_count field.now.terms.setup.now.chart.cut }
@@ -111,12 +111,12 @@ impl Helper {
         requires some { 1 ≤ left }
         ensures kept { IsKept field.now self.old self.new }
         ensures worked { HasWorked field.now.terms self.old.member.pass.knows self.new.member.pass.knows goal left result }
-        ensures told { AreTold (G.told_held gate.now) (G.told_freed gate.now) self.old.member.pass.knows.log self.new.member.pass.knows.log }
+        ensures told { AreTold (W.told_held observer.now field.now.terms.setup.now) (W.told_freed observer.now field.now.terms.setup.now) self.old.member.pass.knows.log self.new.member.pass.knows.log }
         ensures some { 1 ≤ turns_of result }
     {
         let many = self.nest.stretch().min(field.regions() - region);
         let to = region + u64::from(many).min(left) as u32;
-        let made = turns(field, &mut self.member.pass, goal, region, to, gate);
+        let made = turns(field, &mut self.member.pass, goal, region, to, observer);
         if made.ended < u64::from(many) {
             self.nest.push(region);
         }
@@ -124,17 +124,17 @@ impl Helper {
     }
 
     // A sweep, or as many turns of one as are left. The numbers that there was no memory for are pushed again.
-    fn sweep<G: Gate>(&mut self, field: &Field, goal: u64, left: u64, gate: &G) -> Driven
+    fn sweep<W: Observer>(&mut self, field: &Field, goal: u64, left: u64, observer: &W) -> Driven
         requires helper { IsHelperOf field.now self.old }
         requires in_time { goal ≤ field.now.terms.setup.now.net.steps }
         requires some { 1 ≤ left }
         ensures kept { IsKept field.now self.old self.new }
         ensures worked { HasWorked field.now.terms self.old.member.pass.knows self.new.member.pass.knows goal left result }
-        ensures told { AreTold (G.told_held gate.now) (G.told_freed gate.now) self.old.member.pass.knows.log self.new.member.pass.knows.log }
+        ensures told { AreTold (W.told_held observer.now field.now.terms.setup.now) (W.told_freed observer.now field.now.terms.setup.now) self.old.member.pass.knows.log self.new.member.pass.knows.log }
         ensures some { 1 ≤ turns_of result }
     {
         self.nest.push_refused();
         let first = self.member.first;
-        sweep_within(field, &mut self.member.pass, goal, first, left, gate)
+        sweep_within(field, &mut self.member.pass, goal, first, left, observer)
     }
 }

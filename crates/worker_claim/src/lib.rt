@@ -3,7 +3,7 @@
 //! - [`sweep`] makes one turn on each region.
 //! - [`crew_hints`] has helpers work all at once, each in a thread of its own where one can be made. They hand the numbers of
 //!   regions to each other through their nests (`number_deques`).
-//! - [`crew_watch_hints`] does so while one more pass takes a shot ([`watch`]).
+//! - [`crew_watch_hints`] does so while one more pass takes a shot.
 //! - [`finish`] brings all regions to the goal with the pass that has all seats.
 //!
 //! No call takes memory but those with helpers, and these never answer that there is none.
@@ -18,7 +18,6 @@ mod member;
 mod one_sweep;
 mod part;
 mod pausing;
-mod watching;
 
 pub use driven::Driven;
 pub use finishing::finish;
@@ -28,4 +27,3 @@ pub use helping::crew_hints;
 pub use member::Member;
 pub use one_sweep::sweep;
 pub use pausing::pause_where;
-pub use watching::watch;

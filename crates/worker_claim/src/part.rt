@@ -1,21 +1,21 @@
 ghost use Rattle.std.specs.Prelude.{◌≡◌, ◌<◌, ◌≤◌};
 ghost use Rattle.region_cut.specs.Cuttings.{region_count};
 ghost use Rattle.region_slots.specs.FieldView.{IsPassOf};
-ghost use Rattle.worker_claim.specs.Telling.{AreTold};
+ghost use Rattle.region_slots.specs.Moments.{AreTold};
 ghost use Rattle.worker_claim.specs.Turns.{HasWorked, turns_of};
 
 use crate::driven::Driven;
 use crate::one_sweep::{sweep, turns};
-use region_slots::{Field, Gate, Pass};
+use region_slots::{Field, Observer, Pass};
 
 /// A sweep, or its first turns where so many are left that it can't be whole.
-pub(crate) fn sweep_within<G: Gate>(
+pub(crate) fn sweep_within<W: Observer>(
     field: &Field,
     pass: &mut Pass,
     goal: u64,
     first: u32,
     left: u64,
-    gate: &G,
+    observer: &W,
 ) -> Driven
     requires belongs { IsPassOf field.now pass.old }
     requires there { first < region_count field.now.terms.setup.now.chart.cut }
@@ -23,23 +23,23 @@ pub(crate) fn sweep_within<G: Gate>(
     requires some { 1 ≤ left }
     ensures belongs { IsPassOf field.now pass.new × (pass.new.id ≡ pass.old.id) }
     ensures worked { HasWorked field.now.terms pass.old.knows pass.new.knows goal left result }
-    ensures told { AreTold (G.told_held gate.now) (G.told_freed gate.now) pass.old.knows.log pass.new.knows.log }
+    ensures told { AreTold (W.told_held observer.now field.now.terms.setup.now) (W.told_freed observer.now field.now.terms.setup.now) pass.old.knows.log pass.new.knows.log }
     ensures some { 1 ≤ turns_of result }
 {
     if left < u64::from(field.regions()) {
-        return part(field, pass, goal, first, left as u32, gate);
+        return part(field, pass, goal, first, left as u32, observer);
     }
-    sweep(field, pass, goal, first, gate)
+    sweep(field, pass, goal, first, observer)
 }
 
 // So many turns of a sweep, fewer than it has.
-fn part<G: Gate>(
+fn part<W: Observer>(
     field: &Field,
     pass: &mut Pass,
     goal: u64,
     first: u32,
     many: u32,
-    gate: &G,
+    observer: &W,
 ) -> Driven
     requires belongs { IsPassOf field.now pass.old }
     requires there { first < region_count field.now.terms.setup.now.chart.cut }
@@ -47,11 +47,11 @@ fn part<G: Gate>(
     requires fewer { many < region_count field.now.terms.setup.now.chart.cut }
     ensures belongs { IsPassOf field.now pass.new × (pass.new.id ≡ pass.old.id) }
     ensures worked { HasWorked field.now.terms pass.old.knows pass.new.knows goal many result }
-    ensures told { AreTold (G.told_held gate.now) (G.told_freed gate.now) pass.old.knows.log pass.new.knows.log }
+    ensures told { AreTold (W.told_held observer.now field.now.terms.setup.now) (W.told_freed observer.now field.now.terms.setup.now) pass.old.knows.log pass.new.knows.log }
     ensures many { turns_of result ≡ many }
 {
     let later = many.min(field.regions() - first);
-    let one = turns(field, pass, goal, first, first + later, gate);
-    let other = turns(field, pass, goal, 0, many - later, gate);
+    let one = turns(field, pass, goal, first, first + later, observer);
+    let other = turns(field, pass, goal, 0, many - later, observer);
     one.then(other)
 }

@@ -11,7 +11,7 @@ use network_file::{MOST_BYTES, Net, NetRefusal};
 use network_run::last_regions;
 use no_memory::NoMemory;
 use region_cut::charted;
-use region_slots::OpenGate;
+use region_slots::NoObserver;
 use std::alloc::Global;
 use std::process::ExitCode;
 use std::thread::Threads;
@@ -57,7 +57,7 @@ fn told(cause: Cause, line: &'static [u8]) -> Refusal {
 fn lines<R: Threads + Sync>(rt: &R, alloc: Global, net: &Net) -> Result<Vec<u8>, NoMemory> {
     let _steps = net.steps;
     let layout = charted(alloc, net, 16)?;
-    let regions = last_regions(rt, alloc, &layout, 0, 4, &OpenGate)?;
+    let regions = last_regions(rt, alloc, &layout, 0, 4, &NoObserver)?;
     let rows = run_rows(alloc, &layout, &regions)?;
     worst_cells(alloc, &net.cells, &rows, CELLS)
 }

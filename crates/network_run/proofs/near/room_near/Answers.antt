@@ -5,7 +5,7 @@ use Rattle.region_step.specs.Setup.{SetupValue}
 use Rattle.region_step.proofs.Steps.{zero_start-at}
 use Rattle.border_rows.specs.declared.view.Terms.{Terms}
 use Rattle.border_rows.specs.declared.view.View.{View}
-use Rattle.worker_claim.specs.Telling.{AreTold}
+use Rattle.region_slots.specs.Moments.{AreTold}
 use Rattle.network_run.specs.Run.{RunValue}
 use Rattle.network_run.specs.Telling.{HasTold, HasToldFrom}
 use Rattle.network_run.proofs.Told.{told-logged, told-zero}
@@ -25,8 +25,8 @@ returns-clause-near g c =
 
 pub returns-clause-told : goal.returns-clause-told
 returns-clause-told g c = λ done.
-    let held : ℕ → ℕ → Type 0 = g.G.Gate.told_held c.args.gate.now in
-    let freed : ℕ → ℕ → Type 0 = g.G.Gate.told_freed c.args.gate.now in
+    let held : ℕ → ℕ → Type 0 = g.W.Observer.told_held c.args.observer.now in
+    let freed : ℕ → ℕ → Type 0 = g.W.Observer.told_freed c.args.observer.now in
     let run : RunValue = c.show_near.new.self in
     let terms : Terms = run.terms in
     let same = c.show_near.ensures.terms ∙ c.in_ok-run.ensures.terms in

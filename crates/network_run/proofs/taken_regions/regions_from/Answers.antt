@@ -4,7 +4,7 @@ use Rattle.region_cut.specs.Cuttings.{region_count}
 use Rattle.region_step.specs.Standing.{AllStand}
 use Rattle.border_rows.specs.declared.view.Terms.{Terms}
 use Rattle.border_rows.specs.declared.view.View.{View}
-use Rattle.worker_claim.specs.Telling.{AreTold}
+use Rattle.region_slots.specs.Moments.{AreTold}
 use Rattle.network_run.specs.Telling.{HasToldFrom}
 use Rattle.network_run.proofs.Told.{told-logged}
 use Rattle.network_run.proofs.taken_regions.regions_from.Goals as goal
@@ -20,8 +20,8 @@ returns-clause-stand g c =
 
 pub returns-clause-told : goal.returns-clause-told
 returns-clause-told g c = λ done.
-    let held : ℕ → ℕ → Type 0 = g.G.Gate.told_held c.args.gate.now in
-    let freed : ℕ → ℕ → Type 0 = g.G.Gate.told_freed c.args.gate.now in
+    let held : ℕ → ℕ → Type 0 = g.W.Observer.told_held c.args.observer.now in
+    let freed : ℕ → ℕ → Type 0 = g.W.Observer.told_freed c.args.observer.now in
     let same = c.take_to.ensures.terms ∙ c.in_ok-run.ensures.terms in
     let first : region_count c.take_to.new.self.terms.setup.now.chart.cut ≡ region_count c.in_ok-run.run'.terms.setup.now.chart.cut = ap (λ (t : Terms). region_count t.setup.now.chart.cut) c.take_to.ensures.terms in
     let log = c.take_to.new.self.knows.log in

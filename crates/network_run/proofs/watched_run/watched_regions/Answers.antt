@@ -6,7 +6,7 @@ use Rattle.region_step.specs.Setup.{SetupValue}
 use Rattle.region_step.proofs.Steps.{zero_start-at}
 use Rattle.border_rows.specs.declared.view.Terms.{Terms}
 use Rattle.border_rows.specs.declared.view.View.{View}
-use Rattle.worker_claim.specs.Telling.{AreTold}
+use Rattle.region_slots.specs.Moments.{AreTold}
 use Rattle.network_run.specs.Telling.{HasTold}
 use Rattle.network_run.proofs.Told.{told-logged, told-zero}
 use Rattle.network_run.proofs.watched_run.watched_regions.Goals as goal
@@ -27,8 +27,8 @@ returns-clause-stand g c =
 
 pub returns-clause-told : goal.returns-clause-told
 returns-clause-told g c = λ done.
-    let held : ℕ → ℕ → Type 0 = g.G.Gate.told_held c.args.gate.now in
-    let freed : ℕ → ℕ → Type 0 = g.G.Gate.told_freed c.args.gate.now in
+    let held : ℕ → ℕ → Type 0 = g.W.Observer.told_held c.args.observer.now in
+    let freed : ℕ → ℕ → Type 0 = g.W.Observer.told_freed c.args.observer.now in
     let taken = c.in_ok-take_shots.ensures in
     let last : ℕ = c.args.layout.now.net.steps in
     let same = taken.terms refl ∙ c.in_ok-run.ensures.terms in

@@ -37,7 +37,7 @@ returns-clause-part g c =
 
 pub returns-clause-told : goal.returns-clause-told
 returns-clause-told g c = λ done.
-    let held : ℕ → ℕ → Type 0 = g.G.Gate.told_held c.args.gate.now in
-    let freed : ℕ → ℕ → Type 0 = g.G.Gate.told_freed c.args.gate.now in
+    let held : ℕ → ℕ → Type 0 = g.W.Observer.told_held c.args.observer.now in
+    let freed : ℕ → ℕ → Type 0 = g.W.Observer.told_freed c.args.observer.now in
     subst (λ cut. HasToldBetween held freed (region_count cut) (step_of c.args.last) c.args.goal) c.in_ok-layout.ensures.cut
     (told-between held freed c.in_ok-start.start c.in_ok-layout.layout.chart.cut (step_of c.args.last) c.args.goal c.in_ok-start.ensures.steps (c.in_ok-regions.ensures.told refl))

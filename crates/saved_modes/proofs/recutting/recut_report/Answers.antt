@@ -20,8 +20,8 @@ loop-cut-init g c = (
 
 pub loop-cut-preserved-then-goal-step_of : goal.loop-cut-preserved-then-goal-step_of
 loop-cut-preserved-then-goal-step_of g c =
-    let held : ℕ → ℕ → Type 0 = g.G.Gate.told_held c.args.gate.now in
-    let freed : ℕ → ℕ → Type 0 = g.G.Gate.told_freed c.args.gate.now in
+    let held : ℕ → ℕ → Type 0 = g.W.Observer.told_held c.args.observer.now in
+    let freed : ℕ → ℕ → Type 0 = g.W.Observer.told_freed c.args.observer.now in
     let inv = c.loop-cut.invariant in
     let steps = c.in-Some.ensures.steps in
     let left = left-next (into_iter_items c.loop-cut.cut-iterator) c.args.cuts.items (into_iter_items c.next.new.self) c.in-Some.cut c.loop-cut.i inv.5 steps.0 in (
@@ -36,8 +36,8 @@ loop-cut-preserved-then-goal-step_of g c =
 
 pub loop-cut-preserved : goal.loop-cut-preserved
 loop-cut-preserved g c =
-    let held : ℕ → ℕ → Type 0 = g.G.Gate.told_held c.args.gate.now in
-    let freed : ℕ → ℕ → Type 0 = g.G.Gate.told_freed c.args.gate.now in
+    let held : ℕ → ℕ → Type 0 = g.W.Observer.told_held c.args.observer.now in
+    let freed : ℕ → ℕ → Type 0 = g.W.Observer.told_freed c.args.observer.now in
     let inv = c.loop-cut.invariant in
     let steps = c.in-Some.ensures.steps in
     let left = left-next (into_iter_items c.loop-cut.cut-iterator) c.args.cuts.items (into_iter_items c.next.new.self) c.in-Some.cut c.loop-cut.i inv.5 steps.0 in (
@@ -53,8 +53,8 @@ loop-cut-preserved g c =
 
 pub returns-clause-told : goal.returns-clause-told
 returns-clause-told g c = λ done k within.
-    let held : ℕ → ℕ → Type 0 = g.G.Gate.told_held c.args.gate.now in
-    let freed : ℕ → ℕ → Type 0 = g.G.Gate.told_freed c.args.gate.now in
+    let held : ℕ → ℕ → Type 0 = g.W.Observer.told_held c.args.observer.now in
+    let freed : ℕ → ℕ → Type 0 = g.W.Observer.told_freed c.args.observer.now in
     let parts : c.len-parts.result ≡ length c.args.cuts.items = search rules in
     let all : c.loop-cut.i ≡ c.len-parts.result = search rules in
     subst (λ n. HasToldBetween held freed (region_count (list_at c.args.cuts.items k)) (goal_of c.args.net.now.steps n k) (goal_of c.args.net.now.steps n (k + 1))) parts

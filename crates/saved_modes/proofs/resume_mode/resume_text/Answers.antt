@@ -15,5 +15,5 @@ returns-clause-text g c = (
 
 pub returns-clause-told : goal.returns-clause-told
 returns-clause-told g c = λ done.
-    told-on (g.G.Gate.told_held c.args.gate.now) (g.G.Gate.told_freed c.args.gate.now) (content_of c.args.input.now) c.in-Ok.saved.net c.in-Ok.saved.chart c.in-Ok.saved.start c.in-Ok.ensures.loaded
+    told-on (g.W.Observer.told_held c.args.observer.now) (g.W.Observer.told_freed c.args.observer.now) (content_of c.args.input.now) c.in-Ok.saved.net c.in-Ok.saved.chart c.in-Ok.saved.start c.in-Ok.ensures.loaded
     (rw c.of-layout.ensures at (c.in_ok-text.ensures.told refl))

@@ -8,7 +8,7 @@ use Rattle.worker_claim.specs.Turns.{added}
 use Rattle.worker_claim.specs.declared.driven.Driven.{Driven}
 use Rattle.sweeping_crew.proofs.Rounds.{rounds-more}
 use Rattle.sweeping_crew.proofs.Sweeps.{swept-more, swept-none}
-use Rattle.worker_claim.proofs.Telling.{told-more, told-none}
+use Rattle.region_slots.proofs.Observed.{told-more, told-none}
 use Rattle.sweeping_crew.proofs.driving.drive_pausing.Goals as goal
 
 pub then-driven-requires : goal.then-driven-requires
@@ -42,7 +42,7 @@ loop-made-preserved g c =
             same = refl;
             all = c.sweep-swept.ensures.all;
           },
-      told-more (g.G.Gate.told_held c.args.gate.now) (g.G.Gate.told_freed c.args.gate.now) c.args.pass.now.knows.log c.loop-made.pass.knows.log c.sweep-swept.new.pass.knows.log
+      told-more (g.W.Observer.told_held c.args.observer.now c.args.field.now.terms.setup.now) (g.W.Observer.told_freed c.args.observer.now c.args.field.now.terms.setup.now) c.args.pass.now.knows.log c.loop-made.pass.knows.log c.sweep-swept.new.pass.knows.log
           c.loop-made.invariant.7 c.sweep-swept.ensures.told,
     )
 
@@ -56,5 +56,5 @@ loop-made-init g c = (
   omega (arith, c.requires.none),
   sym (append-nil c.args.pass.now.knows.tried),
   λ some. absurd (some refl),
-  told-none (g.G.Gate.told_held c.args.gate.now) (g.G.Gate.told_freed c.args.gate.now) c.args.pass.now.knows.log,
+  told-none (g.W.Observer.told_held c.args.observer.now c.args.field.now.terms.setup.now) (g.W.Observer.told_freed c.args.observer.now c.args.field.now.terms.setup.now) c.args.pass.now.knows.log,
 )

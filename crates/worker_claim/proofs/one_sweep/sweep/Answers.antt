@@ -5,7 +5,7 @@ use Rattle.worker_claim.specs.Turns.{HasTurned}
 use Rattle.worker_claim.proofs.Nearing.{nearer}
 use Rattle.worker_claim.proofs.Rounds.{order-round, true-unless}
 use Rattle.worker_claim.proofs.Sweeping.{added-up, round-swept}
-use Rattle.worker_claim.proofs.Telling.{told-more}
+use Rattle.region_slots.proofs.Observed.{told-more}
 use Rattle.worker_claim.proofs.one_sweep.sweep.Goals as goal
 
 pub returns-clause-swept : goal.returns-clause-swept
@@ -50,5 +50,5 @@ returns-clause-order g c =
 
 pub returns-clause-told : goal.returns-clause-told
 returns-clause-told g c =
-    told-more (g.G.Gate.told_held c.args.gate.now) (g.G.Gate.told_freed c.args.gate.now) c.args.pass.now.knows.log c.turns-later.new.pass.knows.log c.turns-earlier.new.pass.knows.log
+    told-more (g.W.Observer.told_held c.args.observer.now c.args.field.now.terms.setup.now) (g.W.Observer.told_freed c.args.observer.now c.args.field.now.terms.setup.now) c.args.pass.now.knows.log c.turns-later.new.pass.knows.log c.turns-earlier.new.pass.knows.log
     c.turns-later.ensures.told c.turns-earlier.ensures.told

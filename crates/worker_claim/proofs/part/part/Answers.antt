@@ -2,7 +2,7 @@ use Rattle.std.proofs.Common.{sym, subst, arith}
 use Rattle.worker_claim.specs.Turns.{HasWorked, added}
 use Rattle.worker_claim.specs.declared.driven.Driven.{Driven}
 use Rattle.worker_claim.proofs.Helped.{counted-then, worked-going}
-use Rattle.worker_claim.proofs.Telling.{told-more}
+use Rattle.region_slots.proofs.Observed.{told-more}
 use Rattle.worker_claim.proofs.part.part.Goals as goal
 
 pub returns-clause-worked : goal.returns-clause-worked
@@ -15,5 +15,5 @@ returns-clause-worked g c =
 
 pub returns-clause-told : goal.returns-clause-told
 returns-clause-told g c =
-    told-more (g.G.Gate.told_held c.args.gate.now) (g.G.Gate.told_freed c.args.gate.now) c.args.pass.now.knows.log c.turns-one.new.pass.knows.log c.turns-other.new.pass.knows.log
+    told-more (g.W.Observer.told_held c.args.observer.now c.args.field.now.terms.setup.now) (g.W.Observer.told_freed c.args.observer.now c.args.field.now.terms.setup.now) c.args.pass.now.knows.log c.turns-one.new.pass.knows.log c.turns-other.new.pass.knows.log
     c.turns-one.ensures.told c.turns-other.ensures.told

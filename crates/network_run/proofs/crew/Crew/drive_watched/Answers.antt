@@ -16,5 +16,5 @@ returns-else-not-is_done-clause-rounds g c =
 
 pub returns-then-not-is_done-clause-told : goal.returns-then-not-is_done-clause-told
 returns-then-not-is_done-clause-told g c =
-    members_more (g.G.Gate.told_held c.args.gate.now) (g.G.Gate.told_freed c.args.gate.now) c.args.self.now.members c.watch_round-shot.new.self.members c.drive.new.self.members
+    members_more (g.W.Observer.told_held c.args.observer.now c.args.field.now.terms.setup.now) (g.W.Observer.told_freed c.args.observer.now c.args.field.now.terms.setup.now) c.args.self.now.members c.watch_round-shot.new.self.members c.drive.new.self.members
     c.watch_round-shot.ensures.many c.watch_round-shot.ensures.told c.drive.ensures.told

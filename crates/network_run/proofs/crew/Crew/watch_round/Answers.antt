@@ -37,8 +37,8 @@ returns-clause-round g c =
 
 pub returns-clause-told : goal.returns-clause-told
 returns-clause-told g c =
-    let held : ℕ → ℕ → Type 0 = g.G.Gate.told_held c.args.gate.now in
-    let freed : ℕ → ℕ → Type 0 = g.G.Gate.told_freed c.args.gate.now in
+    let held : ℕ → ℕ → Type 0 = g.W.Observer.told_held c.args.observer.now c.args.field.now.terms.setup.now in
+    let freed : ℕ → ℕ → Type 0 = g.W.Observer.told_freed c.args.observer.now c.args.field.now.terms.setup.now in
     let old : List Helper = c.self.inside.helpers.items in
     let new : List Helper = c.crew_watch_hints.new.helpers in
     let told : AreHelpersTold held freed old new = subst (λ (hs : List Helper). AreHelpersTold held freed hs new) c.deref_mut.ensures.value c.crew_watch_hints.ensures.told in

@@ -7,7 +7,7 @@ use Rattle.region_step.proofs.Steps.{zero_start-at}
 use Rattle.snapshot.specs.Rooms.{RoomValue}
 use Rattle.snapshot.specs.Snapshots.{IsSnapshot}
 use Rattle.border_rows.specs.declared.view.Terms.{Terms}
-use Rattle.worker_claim.proofs.Telling.{told-more}
+use Rattle.region_slots.proofs.Observed.{told-more}
 use Rattle.network_run.proofs.run.Run.show_near.Goals as goal
 
 pub returns-clause-near : goal.returns-clause-near
@@ -34,7 +34,7 @@ returns-clause-terms g c = c.show_on_the_way.ensures.terms ∙ c.take_to.ensures
 
 pub returns-clause-told : goal.returns-clause-told
 returns-clause-told g c =
-    told-more (g.G.Gate.told_held c.args.gate.now) (g.G.Gate.told_freed c.args.gate.now) c.args.self.now.knows.log c.take_to.new.self.knows.log
+    told-more (g.W.Observer.told_held c.args.observer.now) (g.W.Observer.told_freed c.args.observer.now) c.args.self.now.knows.log c.take_to.new.self.knows.log
     c.show_on_the_way.new.self.knows.log c.take_to.ensures.told c.show_on_the_way.ensures.told
 
 pub returns-clause-done : goal.returns-clause-done

@@ -4,7 +4,7 @@ use Rattle.region_cut.specs.Cuttings.{region_count}
 use Rattle.region_slots.specs.Shooting.{HasShot}
 use Rattle.region_slots.specs.declared.shot.Shot.{Shot}
 use Rattle.region_slots.specs.declared.shot.Shot.TheVariants.{Busy, Taken}
-use Rattle.worker_claim.specs.Telling.{AreTold}
+use Rattle.region_slots.specs.Moments.{AreTold}
 use Rattle.network_run.specs.Run.{RunValue}
 use Rattle.network_run.specs.Telling.{AreFrom}
 use Rattle.network_run.proofs.Told.{told-taken}
@@ -57,13 +57,13 @@ returns-in_default-clause-told g c =
     let shot = c.drive_watched-shot.ensures.watched.shot in
     let from : AreFrom c.args.self.now.knows.log c.drive_watched-shot.new.self.members c.dismiss.new.pass.knows.log =
     subst (λ own. AreFrom own c.drive_watched-shot.new.self.members c.dismiss.new.pass.knows.log) (shot.unmoved.log ∙ c.enlist.ensures.knows.2 ∙ ap (λ (run : RunValue). run.knows.log) c.self.view_is) c.dismiss.ensures.log in
-    told-taken (g.G.Gate.told_held c.args.gate.now) (g.G.Gate.told_freed c.args.gate.now) c.args.self.now.knows.log c.dismiss.new.pass.knows.log c.finish.new.pass.knows.log
+    told-taken (g.W.Observer.told_held c.args.observer.now) (g.W.Observer.told_freed c.args.observer.now) c.args.self.now.knows.log c.dismiss.new.pass.knows.log c.finish.new.pass.knows.log
     c.enlist.new.self.members c.drive_watched-shot.new.self.members c.drive_watched-shot.ensures.many c.enlist.ensures.nothing c.drive_watched-shot.ensures.told from c.finish.ensures.told
 
 pub returns-in-Busy-clause-told : goal.returns-in-Busy-clause-told
 returns-in-Busy-clause-told g c =
-    let held : ℕ → ℕ → Type 0 = g.G.Gate.told_held c.args.gate.now in
-    let freed : ℕ → ℕ → Type 0 = g.G.Gate.told_freed c.args.gate.now in
+    let held : ℕ → ℕ → Type 0 = g.W.Observer.told_held c.args.observer.now in
+    let freed : ℕ → ℕ → Type 0 = g.W.Observer.told_freed c.args.observer.now in
     let shot = c.drive_watched-shot.ensures.watched.shot in
     let from : AreFrom c.args.self.now.knows.log c.drive_watched-shot.new.self.members c.dismiss.new.pass.knows.log =
     subst (λ own. AreFrom own c.drive_watched-shot.new.self.members c.dismiss.new.pass.knows.log) (shot.unmoved.log ∙ c.enlist.ensures.knows.2 ∙ ap (λ (run : RunValue). run.knows.log) c.self.view_is) c.dismiss.ensures.log in

@@ -11,7 +11,7 @@ use Rattle.snapshot.specs.Shots.{IsShotBetween, goal_of, rows_at}
 use Rattle.snapshot.specs.Snapshots.{IsSnapshot}
 use Rattle.snapshot.proofs.ShotLaws.{shot-between, shown-rows}
 use Rattle.shot_lines.proofs.ManyShots.{AreFirstShots, shots-more}
-use Rattle.worker_claim.proofs.Telling.{told-more}
+use Rattle.region_slots.proofs.Observed.{told-more}
 use Rattle.border_rows.specs.declared.view.Terms.{Terms}
 use Rattle.network_run.proofs.run.Run.take_shots.Goals as goal
 
@@ -47,5 +47,5 @@ loop-i-preserved g c =
       omega (arith, came.reach, goal),
       (λ r there. omega (arith, came.done r (omega (arith, there, count)), goal)),
       subst (AreFirstShots net cut c.args.shots (i + 1)) (sym text) (shots-more net cut c.args.shots i c.loop-i.text.items room.steps inv.4 shot),
-      told-more (g.G.Gate.told_held c.args.gate.now) (g.G.Gate.told_freed c.args.gate.now) c.args.self.now.knows.log c.loop-i.self.knows.log c.show_on_the_way.new.self.knows.log inv.5 came.told,
+      told-more (g.W.Observer.told_held c.args.observer.now) (g.W.Observer.told_freed c.args.observer.now) c.args.self.now.knows.log c.loop-i.self.knows.log c.show_on_the_way.new.self.knows.log inv.5 came.told,
     )

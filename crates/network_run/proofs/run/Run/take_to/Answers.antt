@@ -18,8 +18,8 @@ returns-clause-reach g c =
 
 pub returns-clause-told : goal.returns-clause-told
 returns-clause-told g c =
-    let held : ℕ → ℕ → Type 0 = g.G.Gate.told_held c.args.gate.now in
-    let freed : ℕ → ℕ → Type 0 = g.G.Gate.told_freed c.args.gate.now in
+    let held : ℕ → ℕ → Type 0 = g.W.Observer.told_held c.args.observer.now in
+    let freed : ℕ → ℕ → Type 0 = g.W.Observer.told_freed c.args.observer.now in
     let own : List PublishedStep = c.args.self.now.knows.log in
     let same : c.enlist.new.pass.knows.log ≡ own = c.enlist.ensures.knows.2 ∙ ap (λ (run : RunValue). run.knows.log) c.self.view_is in
     let from : AreFrom own c.drive.new.self.members c.dismiss.new.pass.knows.log =

@@ -2,6 +2,7 @@ use Rattle.std.proofs.Common.{◌≡◌, ℕ, ◌+◌, List, refl, sym, ap, subs
 use Rattle.atomic_table.specs.Table.{rest}
 use Rattle.border_rows.specs.Places.{width_at, widths_of}
 use Rattle.region_slots.specs.FieldView.{HasSeenInTime}
+use Rattle.region_slots.specs.Moments.{MomentValue}
 use Rattle.region_slots.specs.Turning.{wrote_many}
 use Rattle.border_rows.specs.Kinds.{found_at, freed, fresh, known_at, later_of, published, taken}
 use Rattle.border_rows.specs.declared.view.Hold.{Hold}
@@ -31,6 +32,19 @@ free-requires-clause-state g c =
       ap (λ m. m.1) state.1,
       state.2,
     )
+
+pub taken-requires-clause-at : goal.taken-requires-clause-at
+taken-requires-clause-at g c =
+    let mine = c.try_claim.ensures.taken c.if-not-try_claim.false in
+    let state = c.load_own_step-step.ensures.state in
+    let view : c.load_own_step-step.new.seat.me.0 ≡ found_at (taken c.args.seat.now.me.0 c.args.region) c.args.region c.load_own_step-step.result =
+    ap (λ m. m.0) state.1 ∙ ap (λ m. found_at m.0 c.args.region c.load_own_step-step.result) mine in
+    record {
+      hold = known_at (fresh c.args.region) c.load_own_step-step.result;
+      works = record { later = c.args.seat.now.me.0.holds; holds = ap (λ (v : View). v.holds) view; known = refl; early = refl };
+      region = refl;
+      step = refl;
+    }
 
 pub clears-requires-clause-at : goal.clears-requires-clause-at
 clears-requires-clause-at g c =
@@ -218,4 +232,5 @@ pub returns-in-Some-clause-told_behind : goal.returns-in-Some-clause-told_behind
 returns-in-Some-clause-told_behind g c = λ q s is.
     let short = c.clears.ensures.short c.in-Some.neighbour c.in-Some.s c.in-Some.is in
     let same = behind-same c.in-Some.neighbour c.in-Some.s q s is in
-    subst (g.G.Gate.told_held c.args.gate.now c.args.region) (sym short.1 ∙ ap (λ t. t + 1) same.1) c.held.ensures
+    subst (g.W.Observer.told_held c.args.observer.now c.args.self.now.terms.setup.now c.args.region) (sym short.1 ∙ ap (λ t. t + 1) same.1)
+    (subst (λ (m : MomentValue). g.W.Observer.told_held c.args.observer.now m.setup m.region m.step) c.taken.ensures.moment c.held.ensures)

@@ -3,7 +3,7 @@ use Rattle.number_deques.specs.Nests.{NestValue}
 use Rattle.worker_claim.specs.Turns.{HasWorked, turns_of}
 use Rattle.worker_claim.specs.declared.driven.Driven.{Driven}
 use Rattle.worker_claim.proofs.Helped.{worked-more}
-use Rattle.worker_claim.proofs.Telling.{told-more}
+use Rattle.region_slots.proofs.Observed.{told-more}
 use Rattle.worker_claim.proofs.helper.Helper.make_turns.Goals as goal
 
 pub loop-driven-preserved : goal.loop-driven-preserved
@@ -23,6 +23,6 @@ loop-driven-preserved g c =
       subst (λ (d : Driven). HasWorked c.args.field.now.terms c.args.self.now.member.pass.knows c.work-made.new.self.member.pass.knows c.args.goal budget d) (sym c.then-driven.ensures)
           (worked-more _ _ _ _ _ budget _ one made c.loop-driven.invariant.2 c.work-made.ensures.worked fits),
       subst (λ (d : Driven). c.pause_where.new.pauses ≤ turns_of d) (sym c.then-driven.ensures) (omega (arith, c.pause_where.ensures, c.loop-driven.invariant.3, c.work-made.ensures.some)),
-      told-more (g.G.Gate.told_held c.args.gate.now) (g.G.Gate.told_freed c.args.gate.now) c.args.self.now.member.pass.knows.log c.loop-driven.self.member.pass.knows.log c.work-made.new.self.member.pass.knows.log
+      told-more (g.W.Observer.told_held c.args.observer.now c.args.field.now.terms.setup.now) (g.W.Observer.told_freed c.args.observer.now c.args.field.now.terms.setup.now) c.args.self.now.member.pass.knows.log c.loop-driven.self.member.pass.knows.log c.work-made.new.self.member.pass.knows.log
           c.loop-driven.invariant.4 c.work-made.ensures.told,
     )

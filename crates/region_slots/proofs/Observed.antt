@@ -6,10 +6,10 @@ use Rattle.border_rows.specs.Kinds.{found_taken}
 use Rattle.border_rows.specs.declared.view.PublishedStep.{PublishedStep}
 use Rattle.border_rows.specs.declared.view.Terms.{Terms}
 use Rattle.border_rows.specs.declared.view.View.{View}
+use Rattle.region_slots.specs.Moments.{AreTold}
 use Rattle.region_slots.specs.Turning.{IsBehind, IsMoved, took_at}
 use Rattle.region_slots.specs.declared.turn.Turn.{Turn}
 use Rattle.region_slots.specs.declared.turn.Turn.TheVariants.{Behind, Ended, Held, Moved}
-use Rattle.worker_claim.specs.Telling.{AreTold}
 
 -- nothing new
 pub told-none : (held freed : ℕ → ℕ → Type 0) (log : List PublishedStep) → AreTold held freed log log

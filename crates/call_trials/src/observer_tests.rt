@@ -1,5 +1,5 @@
 use crate::calling::{CORRIDOR, CORRIDOR_REPORT, call_gives};
-use crate::gates::{Glance, Meeting, Notes};
+use crate::observers::{Glance, Meeting, Notes};
 use std::alloc::Global;
 use std::process::Abort;
 use std::sync::atomic::Ordering;
@@ -46,11 +46,11 @@ fn check_meeting<R: Abort + Threads + Sync>(
     input: &[&str],
     texts: &[&str],
 ) {
-    let gate = Meeting::new();
-    call_gives(rt, alloc, words, input, &gate, texts, false);
-    assert_eq!(rt; gate.met(), 2, "{words}: each waited for the other");
+    let observer = Meeting::new();
+    call_gives(rt, alloc, words, input, &observer, texts, false);
+    assert_eq!(rt; observer.met(), 2, "{words}: each waited for the other");
     assert_eq!(rt;
-        gate.notes.steps(),
+        observer.notes.steps(),
         [ALL_FOUR; 4],
         "{words}: each was held at each step"
     );
@@ -86,12 +86,12 @@ fn two_workers_work_at_once(rt: HostRuntime) {
 
 #[test]
 fn a_shot_is_taken_while_a_worker_is_on_its_way(rt: HostRuntime) {
-    let gate = Glance::new();
+    let observer = Glance::new();
     let words = "watch --shots 1 --regions 4 --workers 1";
     let texts = [CHAIN_SHOT, CHAIN_REPORT];
-    call_gives(&rt, rt.alloc(), words, &[CHAIN], &gate, &texts, true);
+    call_gives(&rt, rt.alloc(), words, &[CHAIN], &observer, &texts, true);
     assert_eq!(rt;
-        gate.seen.load(Ordering::SeqCst),
+        observer.seen.load(Ordering::SeqCst),
         2,
         "each waited for the other"
     );
@@ -99,12 +99,12 @@ fn a_shot_is_taken_while_a_worker_is_on_its_way(rt: HostRuntime) {
 
 #[test]
 fn a_run_is_saved_while_a_worker_is_on_its_way(rt: HostRuntime) {
-    let gate = Glance::new();
+    let observer = Glance::new();
     let words = "save --until 0 --regions 4 --workers 1";
     let texts = [CHAIN_AHEAD, CHAIN];
-    call_gives(&rt, rt.alloc(), words, &[CHAIN], &gate, &texts, true);
+    call_gives(&rt, rt.alloc(), words, &[CHAIN], &observer, &texts, true);
     assert_eq!(rt;
-        gate.seen.load(Ordering::SeqCst),
+        observer.seen.load(Ordering::SeqCst),
         2,
         "each waited for the other"
     );
@@ -112,36 +112,36 @@ fn a_run_is_saved_while_a_worker_is_on_its_way(rt: HostRuntime) {
 
 #[test]
 fn regions_go_on_from_their_own_steps(rt: HostRuntime) {
-    let gate = Notes::new();
+    let observer = Notes::new();
     let saved = [CHAIN_AHEAD, CHAIN];
     call_gives(
         &rt,
         rt.alloc(),
         "resume --workers 2",
         &saved,
-        &gate,
+        &observer,
         &[CHAIN_REPORT],
         true,
     );
     let held = [0b1110, ALL_FOUR, ALL_FOUR, ALL_FOUR];
-    assert_eq!(rt; gate.steps(), held, "the gate was held from step 1 on");
+    assert_eq!(rt; observer.steps(), held, "the observer was held from step 1 on");
 }
 
 #[test]
 fn each_part_of_a_run_is_in_regions_of_its_own(rt: HostRuntime) {
-    let gate = Notes::new();
+    let observer = Notes::new();
     let words = "recut --parts 2 --regions 2";
     call_gives(
         &rt,
         rt.alloc(),
         words,
         &[CORRIDOR],
-        &gate,
+        &observer,
         &[CORRIDOR_REPORT],
         true,
     );
     assert_eq!(rt;
-        gate.steps(),
+        observer.steps(),
         [0b111, 0b111, 0b110, 0],
         "two regions up to step 1, and three from there on"
     );

@@ -1,7 +1,7 @@
-use region_slots::Gate;
+use region_slots::Observer;
 use std::sync::atomic::{AtomicU64, Ordering};
 
-// A gate that notes which of four regions was held at which of 64 steps.
+// An observer that notes which of four regions was held at which of 64 steps.
 #[derive(Drop)]
 pub(crate) struct Notes {
     // For each region a bit for each step, set by whoever holds it.
@@ -32,14 +32,14 @@ impl Notes {
     }
 }
 
-impl Gate for Notes {
+impl Observer for Notes {
     ghost use Rattle.std.specs.Prelude.{⊤};
 
-    ghost told_held = { λ gate region step. ⊤ };
+    ghost told_held = { λ observer region step. ⊤ };
 
-    ghost told_freed = { λ gate region step. ⊤ };
+    ghost told_freed = { λ observer region step. ⊤ };
 
-    ghost told_watched = { λ gate done. ⊤ };
+    ghost told_watched = { λ observer done. ⊤ };
 
     fn held(&self, region: u32, step: u64) {
         if region < 4 && step < 64 {
@@ -53,7 +53,7 @@ impl Gate for Notes {
     fn watched(&self, done: bool) {}
 }
 
-// A gate at which the worker that holds region 0 at step 0 and the one that holds region 2 at step 1 wait for each other, so
+// An observer at which the worker that holds region 0 at step 0 and the one that holds region 2 at step 1 wait for each other, so
 // that one worker alone waits in vain. It notes which region was held at which step.
 #[derive(Drop)]
 pub(crate) struct Meeting {
@@ -100,14 +100,14 @@ fn is_set_in_time(flag: &AtomicU64) -> bool {
     false
 }
 
-impl Gate for Meeting {
+impl Observer for Meeting {
     ghost use Rattle.std.specs.Prelude.{⊤};
 
-    ghost told_held = { λ gate region step. ⊤ };
+    ghost told_held = { λ observer region step. ⊤ };
 
-    ghost told_freed = { λ gate region step. ⊤ };
+    ghost told_freed = { λ observer region step. ⊤ };
 
-    ghost told_watched = { λ gate done. ⊤ };
+    ghost told_watched = { λ observer done. ⊤ };
 
     fn held(&self, region: u32, step: u64) {
         self.notes.held(region, step);
@@ -123,7 +123,7 @@ impl Gate for Meeting {
     fn watched(&self, done: bool) {}
 }
 
-// A gate at which the watcher waits until region 0 was taken to step 1, and the worker who took it until the watcher has
+// An observer at which the watcher waits until region 0 was taken to step 1, and the worker who took it until the watcher has
 // shot, so that one thread alone waits in vain.
 #[derive(Drop)]
 pub(crate) struct Glance {
@@ -149,14 +149,14 @@ impl Glance {
     }
 }
 
-impl Gate for Glance {
+impl Observer for Glance {
     ghost use Rattle.std.specs.Prelude.{⊤};
 
-    ghost told_held = { λ gate region step. ⊤ };
+    ghost told_held = { λ observer region step. ⊤ };
 
-    ghost told_freed = { λ gate region step. ⊤ };
+    ghost told_freed = { λ observer region step. ⊤ };
 
-    ghost told_watched = { λ gate done. ⊤ };
+    ghost told_watched = { λ observer done. ⊤ };
 
     fn held(&self, region: u32, step: u64) {}
 
