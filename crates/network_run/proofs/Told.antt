@@ -7,16 +7,18 @@ use Rattle.std.proofs.lemmas.List.{get_or-map, length-map}
 use Rattle.std.proofs.lemmas.List.Sums.{sum_by-cons}
 use Rattle.std.proofs.lemmas.List.Elements.{Contains-append_cases, Contains-append_left, Contains-append_right}
 use Rattle.std.proofs.Math.Bool.{and-false}
+use Rattle.region_cut.specs.Cuttings.{region_count}
 use Rattle.region_step.specs.Start.{StartLists}
 use Rattle.border_rows.specs.Views.{times_in}
 use Rattle.border_rows.specs.declared.view.PublishedStep.{PublishedStep}
 use Rattle.region_slots.specs.Closing.{AreLogged}
-use Rattle.worker_claim.specs.Telling.{AreHelpersTold, AreMembersTold, AreTold}
+use Rattle.region_slots.specs.Moments.{AreTold, CutRun}
+use Rattle.worker_claim.specs.Telling.{AreHelpersTold, AreMembersTold}
 use Rattle.worker_claim.specs.declared.helper.Helper.{Helper}
 use Rattle.worker_claim.specs.declared.member.Member.{Member}
 use Rattle.region_slots.proofs.Observed.{told-more, told-none}
 use Rattle.network_run.specs.Run.{HasLogged}
-use Rattle.network_run.specs.Telling.{AreFrom, HasTold, HasToldFrom}
+use Rattle.network_run.specs.Telling.{AreFrom, HasTold, Telling}
 use Rattle.network_run.proofs.Crewing.{members_of}
 
 -- members that have made no turn
@@ -97,15 +99,11 @@ logged-ended start count steps log goal logged reach = λ r s within started bel
     times-Contains log r (s + 1) (omega (arith, once))
 
 -- what was told of such a log
-pub told-logged : (held freed : ℕ → ℕ → Type 0) (count : ℕ) (starts : List ℕ) (goal : ℕ) (log : List PublishedStep) → HasLogged count starts goal log →
-    AreTold held freed [] log → HasToldFrom held freed count starts goal
-told-logged held freed count starts goal log logged told = λ r s within started below.
+pub told-logged : (held freed : Telling) (run : CutRun) (goal : ℕ) (log : List PublishedStep) → HasLogged (region_count run.cut) run.start.steps goal log →
+    AreTold (held run) (freed run) [] log → HasTold held freed run goal
+told-logged held freed run goal log logged told = λ r s within started below.
     let before : s + 1 - 1 ≡ s = omega arith in
     elim (told (record { region = r; step = s + 1 }) (logged r s within started below)) [
       | inl was ↦ absurd (omega (arith, was.1))
-      | inr both ↦ (subst (held r) before both.0, both.1)
+      | inr both ↦ (subst (held run r) before both.0, both.1)
     ]
-
--- where each region starts at step 0
-pub told-zero : (held freed : ℕ → ℕ → Type 0) (count : ℕ) (starts : List ℕ) (goal : ℕ) → ((r : ℕ) → slice_index starts r ≡ 0) → HasToldFrom held freed count starts goal → HasTold held freed count goal
-told-zero held freed count starts goal zero told = λ r s within below. told r s within (omega (arith, zero r)) below

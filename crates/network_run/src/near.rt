@@ -5,9 +5,9 @@ ghost use Rattle.snapshot.specs.Rooms.{IsRoomFor};
 ghost use Rattle.snapshot.specs.Shots.{AreStepsBetween};
 ghost use Rattle.snapshot.specs.Snapshots.{IsSnapshot};
 ghost use Rattle.worker_claim.specs.Driving.{AllReach};
-ghost use Rattle.region_slots.specs.Moments.{AreTold};
+ghost use Rattle.region_slots.specs.Moments.{AreTold, cut_run};
 ghost use Rattle.network_run.specs.Near.{near_end};
-ghost use Rattle.network_run.specs.Telling.{HasTold, zero_setup};
+ghost use Rattle.network_run.specs.Telling.{HasTold, zero_run};
 
 use crate::run::Run;
 use no_memory::NoMemory;
@@ -36,7 +36,7 @@ pub fn room_near<R: Threads + Sync, W: Observer>(
     ensures room { IfOk result (IsRoomFor layout.now.chart) }
     ensures snapshot { IfOk result (IsSnapshot layout.now.net layout.now.chart.cut (zero_start layout.now.net layout.now.chart.cut)) }
     ensures near { IfOk result (λ room. AreStepsBetween layout.now.net layout.now.chart.cut (min until layout.now.net.steps) (near_end layout.now.net until) room.steps) }
-    ensures told { IsOk result → HasTold (W.told_held observer.now) (W.told_freed observer.now) (zero_setup layout.now.net layout.now.chart.cut 0) (min until layout.now.net.steps) }
+    ensures told { IsOk result → HasTold (W.told_held observer.now) (W.told_freed observer.now) (zero_run layout.now.net layout.now.chart.cut 0) (min until layout.now.net.steps) }
 {
     let net = layout.net();
     let setup = Setup::zero(alloc, layout, 0)?;
@@ -63,7 +63,7 @@ impl<'a> Run<'a> {
         requires reach { self.old.knows.reach ≡ 0 }
         requires in_time { from ≤ layout.now.net.steps }
         ensures terms { self.new.terms ≡ self.old.terms }
-        ensures told { AreTold (W.told_held observer.now self.old.terms.setup.now) (W.told_freed observer.now self.old.terms.setup.now) self.old.knows.log self.new.knows.log }
+        ensures told { AreTold (W.told_held observer.now (cut_run self.old.terms.setup.now)) (W.told_freed observer.now (cut_run self.old.terms.setup.now)) self.old.knows.log self.new.knows.log }
         ensures done { AllReach (region_count self.old.terms.setup.now.chart.cut) from self.new.knows }
         ensures room { IsRoomFor self.old.terms.setup.now.chart room.new }
         ensures snapshot { IsSnapshot layout.now.net self.old.terms.setup.now.chart.cut (zero_start layout.now.net self.old.terms.setup.now.chart.cut) room.new }

@@ -14,10 +14,11 @@ const SWEEPS: u32 = 4096;
 const TRIES: u32 = 64;
 
 impl Crew {
-    ghost use Rattle.std.specs.Prelude.{◌≡◌, ◌⊎◌, ◌+◌, ◌-◌, ◌*◌, ◌^◌, ◌≤◌, ℕ, IsTrue, false, length, min};
+    ghost use Rattle.std.specs.Prelude.{◌≡◌, ◌⊎◌, ◌+◌, ◌-◌, ◌*◌, ◌^◌, ◌≤◌, ℕ, IsTrue, false, length, min, true};
     ghost use Rattle.region_cut.specs.Cuttings.{region_count};
     ghost use Rattle.snapshot.specs.Rooms.{IsRoomFor};
     ghost use Rattle.region_slots.specs.FieldView.{IsPassOf};
+    ghost use Rattle.region_slots.specs.Moments.{cut_run};
     ghost use Rattle.worker_claim.specs.Telling.{AreMembersTold};
     ghost use Rattle.worker_claim.specs.Watching.{IsWatched};
     ghost use Rattle.network_run.specs.Enlisted.{AreEnlisted, IsOver, is_some_done};
@@ -39,7 +40,7 @@ impl Crew {
         ensures same { (self.new.workers ≡ self.old.workers) × (self.new.regions ≡ self.old.regions) }
         ensures many { length self.new.members ≡ length self.old.members }
         ensures enlisted { AreEnlisted field.now goal self.new.members }
-        ensures told { AreMembersTold (W.told_held observer.now field.now.terms.setup.now) (W.told_freed observer.now field.now.terms.setup.now) self.old.members self.new.members }
+        ensures told { AreMembersTold (W.told_held observer.now (cut_run field.now.terms.setup.now)) (W.told_freed observer.now (cut_run field.now.terms.setup.now)) self.old.members self.new.members }
         ensures rounds { AreRounds field.now result 1 self.old.members self.new.members }
         ensures few { result ≤ region_count field.now.terms.setup.now.chart.cut * goal }
         ensures over { IsOver self.new.members ⊎ (result ≡ min (region_count field.now.terms.setup.now.chart.cut * goal) (2 ^ 64 - 1)) }
@@ -69,7 +70,7 @@ impl Crew {
         ensures many { length self.new.members ≡ length self.old.members }
         ensures enlisted { AreEnlisted field.now goal self.new.members }
         ensures round { AreRounds field.now 1 1 self.old.members self.new.members }
-        ensures told { AreMembersTold (W.told_held observer.now field.now.terms.setup.now) (W.told_freed observer.now field.now.terms.setup.now) self.old.members self.new.members }
+        ensures told { AreMembersTold (W.told_held observer.now (cut_run field.now.terms.setup.now)) (W.told_freed observer.now (cut_run field.now.terms.setup.now)) self.old.members self.new.members }
         ensures moves { moves_of self.new.members ≡ moves_of self.old.members + last_moves self.new.members }
     {
         crew_hints(rt, field, &mut self.helpers, goal, SWEEPS, observer);
@@ -94,7 +95,8 @@ impl Crew {
         ensures watched { IsWatched field.now watcher_tries watcher.old watcher.new room.old room.new result }
         ensures many { length self.new.members ≡ length self.old.members }
         ensures enlisted { AreEnlisted field.now goal self.new.members }
-        ensures told { AreMembersTold (W.told_held observer.now field.now.terms.setup.now) (W.told_freed observer.now field.now.terms.setup.now) self.old.members self.new.members }
+        ensures told { AreMembersTold (W.told_held observer.now (cut_run field.now.terms.setup.now)) (W.told_freed observer.now (cut_run field.now.terms.setup.now)) self.old.members self.new.members }
+        ensures told_shot { W.told_watched observer.now (cut_run field.now.terms.setup.now) watcher.old.knows.seen false × W.told_watched observer.now (cut_run field.now.terms.setup.now) watcher.new.knows.seen true }
         ensures rounds { (rounds : ℕ) × AreRounds field.now rounds 2 self.old.members self.new.members }
     {
         let shot = self.watch_round(rt, field, watcher, room, goal, observer);
@@ -124,7 +126,8 @@ impl Crew {
         ensures watched { IsWatched field.now watcher_tries watcher.old watcher.new room.old room.new result }
         ensures many { length self.new.members ≡ length self.old.members }
         ensures enlisted { AreEnlisted field.now goal self.new.members }
-        ensures told { AreMembersTold (W.told_held observer.now field.now.terms.setup.now) (W.told_freed observer.now field.now.terms.setup.now) self.old.members self.new.members }
+        ensures told { AreMembersTold (W.told_held observer.now (cut_run field.now.terms.setup.now)) (W.told_freed observer.now (cut_run field.now.terms.setup.now)) self.old.members self.new.members }
+        ensures told_shot { W.told_watched observer.now (cut_run field.now.terms.setup.now) watcher.old.knows.seen false × W.told_watched observer.now (cut_run field.now.terms.setup.now) watcher.new.knows.seen true }
         ensures round { AreRounds field.now 1 1 self.old.members self.new.members }
     {
         crew_watch_hints(

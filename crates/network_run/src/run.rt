@@ -39,7 +39,7 @@ impl<'a> Run<'a> {
     ghost use Rattle.snapshot.specs.Snapshots.{IsSnapshot};
     ghost use Rattle.region_slots.specs.Opening.{first_view};
     ghost use Rattle.worker_claim.specs.Driving.{AllReach};
-    ghost use Rattle.region_slots.specs.Moments.{AreTold};
+    ghost use Rattle.region_slots.specs.Moments.{AreTold, cut_run};
     ghost use Rattle.network_run.specs.Run.{IsLoggedWhereTheyCame, StandWhereTheyCame};
 
     /// A run of the regions of a setup by so many workers.
@@ -63,7 +63,7 @@ impl<'a> Run<'a> {
         requires reach { self.old.knows.reach ≤ goal }
         ensures terms { self.new.terms ≡ self.old.terms }
         ensures reach { self.new.knows.reach ≤ goal }
-        ensures told { AreTold (W.told_held observer.now self.old.terms.setup.now) (W.told_freed observer.now self.old.terms.setup.now) self.old.knows.log self.new.knows.log }
+        ensures told { AreTold (W.told_held observer.now (cut_run self.old.terms.setup.now)) (W.told_freed observer.now (cut_run self.old.terms.setup.now)) self.old.knows.log self.new.knows.log }
         ensures done { AllReach (region_count self.old.terms.setup.now.chart.cut) goal self.new.knows }
     {
         self.crew.enlist(&self.field, &mut self.pass);
@@ -87,12 +87,12 @@ impl<'a> Run<'a> {
         ensures terms { self.new.terms ≡ self.old.terms }
         ensures room { IsRoomFor self.old.terms.setup.now.chart room.new }
         ensures reach { self.new.knows.reach ≤ goal }
-        ensures told { AreTold (W.told_held observer.now self.old.terms.setup.now) (W.told_freed observer.now self.old.terms.setup.now) self.old.knows.log self.new.knows.log }
+        ensures told { AreTold (W.told_held observer.now (cut_run self.old.terms.setup.now)) (W.told_freed observer.now (cut_run self.old.terms.setup.now)) self.old.knows.log self.new.knows.log }
         ensures done { AllReach (region_count self.old.terms.setup.now.chart.cut) goal self.new.knows }
         ensures snapshot { IsSnapshot self.old.terms.setup.now.net self.old.terms.setup.now.chart.cut self.old.terms.setup.now.start room.new }
-        ensures told_before { (before : List ℕ) × W.told_watched observer.now self.old.terms.setup.now before false
+        ensures told_before { (before : List ℕ) × W.told_watched observer.now (cut_run self.old.terms.setup.now) before false
             × ((r : ℕ) → r < region_count self.old.terms.setup.now.chart.cut → (slice_index self.old.knows.seen r ≤ slice_index before r) × (slice_index before r ≤ slice_index room.new.steps r)) }
-        ensures told_after { W.told_watched observer.now self.old.terms.setup.now room.new.steps true }
+        ensures told_after { W.told_watched observer.now (cut_run self.old.terms.setup.now) room.new.steps true }
         ensures between { (r : ℕ) → r < region_count self.old.terms.setup.now.chart.cut → (slice_index self.old.knows.seen r ≤ slice_index room.new.steps r)
             × (slice_index room.new.steps r ≤ max (slice_index self.old.terms.setup.now.start.steps r) goal) }
     {

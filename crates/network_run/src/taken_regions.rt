@@ -2,7 +2,8 @@ ghost use Rattle.std.specs.Prelude.{◌≡◌, ◌<◌, ◌≤◌, ℕ, IfOk, Is
 ghost use Rattle.region_cut.specs.Cuttings.{region_count};
 ghost use Rattle.region_step.specs.Standing.{AllStand};
 ghost use Rattle.region_step.specs.Start.{zero_start};
-ghost use Rattle.network_run.specs.Telling.{HasTold, zero_setup};
+ghost use Rattle.region_slots.specs.Moments.{cut_run};
+ghost use Rattle.network_run.specs.Telling.{HasTold, zero_run};
 
 use crate::run::Run;
 use no_memory::NoMemory;
@@ -26,7 +27,7 @@ pub fn last_regions<R: Threads + Sync, W: Observer>(
     requires workers { (1 ≤ workers) × (workers ≤ 16) }
     ensures stand { IfOk result (λ regions. AllStand layout.now.net layout.now.chart (zero_start layout.now.net layout.now.chart.cut) every
         (replicate (region_count layout.now.chart.cut) layout.now.net.steps) regions.items) }
-    ensures told { IsOk result → HasTold (W.told_held observer.now) (W.told_freed observer.now) (zero_setup layout.now.net layout.now.chart.cut every) layout.now.net.steps }
+    ensures told { IsOk result → HasTold (W.told_held observer.now) (W.told_freed observer.now) (zero_run layout.now.net layout.now.chart.cut every) layout.now.net.steps }
 {
     let net = layout.net();
     let setup = Setup::zero(alloc, layout, every)?;
@@ -48,7 +49,7 @@ pub fn regions_from<R: Threads + Sync, W: Observer>(
     requires workers { (1 ≤ workers) × (workers ≤ 16) }
     ensures stand { IfOk result (λ regions. AllStand setup.now.net setup.now.chart setup.now.start setup.now.every
         (replicate (region_count setup.now.chart.cut) goal) regions.items) }
-    ensures told { IsOk result → HasTold (W.told_held observer.now) (W.told_freed observer.now) setup.now goal }
+    ensures told { IsOk result → HasTold (W.told_held observer.now) (W.told_freed observer.now) (cut_run setup.now) goal }
 {
     let mut run = Run::open(alloc, setup, workers)?;
     run.take_to(rt, goal, observer);

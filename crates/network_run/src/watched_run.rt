@@ -6,8 +6,8 @@ ghost use Rattle.snapshot.specs.Rooms.{IsRoomFor};
 ghost use Rattle.snapshot.specs.Shots.{goal_of};
 ghost use Rattle.shot_lines.specs.Shots.{AreShots};
 ghost use Rattle.worker_claim.specs.Driving.{AllReach};
-ghost use Rattle.region_slots.specs.Moments.{AreTold};
-ghost use Rattle.network_run.specs.Telling.{HasTold, HasToldShots, zero_setup};
+ghost use Rattle.region_slots.specs.Moments.{AreTold, cut_run};
+ghost use Rattle.network_run.specs.Telling.{HasTold, HasToldShots, zero_run};
 
 use crate::run::Run;
 use network_file::Net;
@@ -46,8 +46,8 @@ pub fn watched_regions<R: Threads + Sync, W: Observer>(
     ensures shots { IfOk result (λ watched. AreShots layout.now.net layout.now.chart.cut shots watched.shots.items) }
     ensures stand { IfOk result (λ watched. AllStand layout.now.net layout.now.chart (zero_start layout.now.net layout.now.chart.cut) every
         (replicate (region_count layout.now.chart.cut) layout.now.net.steps) watched.regions.items) }
-    ensures told { IsOk result → HasTold (W.told_held observer.now) (W.told_freed observer.now) (zero_setup layout.now.net layout.now.chart.cut every) layout.now.net.steps }
-    ensures told_shots { IsOk result → HasToldShots (W.told_watched observer.now) (zero_setup layout.now.net layout.now.chart.cut every) shots }
+    ensures told { IsOk result → HasTold (W.told_held observer.now) (W.told_freed observer.now) (zero_run layout.now.net layout.now.chart.cut every) layout.now.net.steps }
+    ensures told_shots { IsOk result → HasToldShots (W.told_watched observer.now) (zero_run layout.now.net layout.now.chart.cut every) shots }
 {
     let setup = Setup::zero(alloc, layout, every)?;
     let mut room = ShotRoom::new(alloc, layout)?;
@@ -79,7 +79,7 @@ impl<'a> Run<'a> {
         requires nothing { text.old.items ≡ [] }
         ensures terms { IsOk result → self.new.terms ≡ self.old.terms }
         ensures reach { IsOk result → self.new.knows.reach ≤ layout.now.net.steps }
-        ensures told { IsOk result → AreTold (W.told_held observer.now self.old.terms.setup.now) (W.told_freed observer.now self.old.terms.setup.now) self.old.knows.log self.new.knows.log }
+        ensures told { IsOk result → AreTold (W.told_held observer.now (cut_run self.old.terms.setup.now)) (W.told_freed observer.now (cut_run self.old.terms.setup.now)) self.old.knows.log self.new.knows.log }
         ensures told_shots { IsOk result → HasToldShots (W.told_watched observer.now) self.old.terms.setup.now shots }
         ensures last { IsOk result → AllReach (region_count layout.now.chart.cut) layout.now.net.steps self.new.knows }
         ensures shots { IsOk result → AreShots layout.now.net layout.now.chart.cut shots text.new.items }

@@ -1,18 +1,31 @@
 -- What an observer is told of, and what it was told of the steps that were published.
 use Rattle.std.specs.Prelude.{◌⊎◌, ℕ, ◌-◌, List, Bool}
 use Rattle.std.specs.List.{Contains}
+use Rattle.network_file.specs.Network.{Network}
 use Rattle.region_step.specs.Setup.{SetupValue}
+use Rattle.region_step.specs.Start.{StartLists}
 use Rattle.border_rows.specs.declared.view.PublishedStep.{PublishedStep}
 
--- a region of a field, which was opened with this setup, standing at a step
+-- a run of a network in a cutting: where its regions start, and every how many steps they are recorded
+pub record CutRun : Type 0 where
+  pub net : Network
+  pub cut : List ℕ
+  pub start : StartLists
+  pub every : ℕ
+
+-- the run that a field is opened for
+abbrev pub cut_run : SetupValue → CutRun
+cut_run setup = record { net = setup.net; cut = setup.chart.cut; start = setup.start; every = setup.every }
+
+-- a region of a run that stands at a step
 pub record MomentValue : Type 0 where
-  pub setup : SetupValue
+  pub run : CutRun
   pub region : ℕ
   pub step : ℕ
 
--- the steps of all regions of a field, as a watcher has seen them who is about to take a snapshot, or is done with it
+-- the steps of all regions of a run, as a watcher has seen them who is about to take a snapshot, or is done with it
 pub record SightValue : Type 0 where
-  pub setup : SetupValue
+  pub run : CutRun
   pub seen : List ℕ
   pub done : Bool
 

@@ -15,11 +15,11 @@ pub struct Moment<'f, 'a> {
 impl<'f, 'a> Model for Moment<'f, 'a> {
     ghost use Rattle.std.specs.Prelude.{◌<◌, ◌≤◌, slice_index};
     ghost use Rattle.region_cut.specs.Cuttings.{region_count};
-    ghost use Rattle.region_slots.specs.Moments.{MomentValue};
+    ghost use Rattle.region_slots.specs.Moments.{MomentValue, cut_run};
 
     ghost Value = { MomentValue };
 
-    ghost view = { λ moment. record { setup = moment.field.now.terms.setup.now; region = moment.region; step = moment.step } };
+    ghost view = { λ moment. record { run = cut_run moment.field.now.terms.setup.now; region = moment.region; step = moment.step } };
 
     ghost invariant = { λ moment. (moment.region < region_count moment.field.now.terms.setup.now.chart.cut)
         × (slice_index moment.field.now.terms.setup.now.start.steps moment.region ≤ moment.step)
@@ -30,6 +30,7 @@ impl<'f, 'a> Moment<'f, 'a> {
     ghost use Rattle.std.specs.Prelude.{◌≡◌, ◌<◌, ◌≤◌, List, ◌∷◌, slice_index};
     ghost use Rattle.region_cut.specs.Cuttings.{region_count};
     ghost use Rattle.border_rows.specs.declared.view.PublishedStep.{PublishedStep};
+    ghost use Rattle.region_slots.specs.Moments.{cut_run};
     ghost use Rattle.region_slots.specs.Turning.{IsAt};
 
     // A seat works at the region, at this step.
@@ -43,7 +44,7 @@ impl<'f, 'a> Moment<'f, 'a> {
         requires started { slice_index field.now.terms.setup.now.start.steps region ≤ step }
         requires in_time { step ≤ field.now.terms.setup.now.net.steps }
         requires at { IsAt seat.now.me.0 region step }
-        ensures moment { result ≡ record { setup = field.now.terms.setup.now; region = region; step = step } }
+        ensures moment { result ≡ record { run = cut_run field.now.terms.setup.now; region = region; step = step } }
     {
         Moment {
             field,
@@ -63,7 +64,7 @@ impl<'f, 'a> Moment<'f, 'a> {
         requires started { slice_index field.now.terms.setup.now.start.steps region ≤ step }
         requires in_time { step ≤ field.now.terms.setup.now.net.steps }
         requires last { (earlier : List PublishedStep) × (seat.now.me.0.log ≡ record { region = region; step = step } ∷ earlier) }
-        ensures moment { result ≡ record { setup = field.now.terms.setup.now; region = region; step = step } }
+        ensures moment { result ≡ record { run = cut_run field.now.terms.setup.now; region = region; step = step } }
     {
         Moment {
             field,
@@ -75,7 +76,7 @@ impl<'f, 'a> Moment<'f, 'a> {
     /// The number of the region.
     pub fn region(&self) -> u32
         ensures region { result ≡ self.now.region }
-        ensures there { result < region_count self.now.setup.chart.cut }
+        ensures there { result < region_count self.now.run.cut }
     {
         self.region
     }
@@ -83,8 +84,8 @@ impl<'f, 'a> Moment<'f, 'a> {
     /// The step at which it stands: that at which it was taken, or the one after where it is freed.
     pub fn step(&self) -> u64
         ensures step { result ≡ self.now.step }
-        ensures started { slice_index self.now.setup.start.steps self.now.region ≤ result }
-        ensures in_time { result ≤ self.now.setup.net.steps }
+        ensures started { slice_index self.now.run.start.steps self.now.region ≤ result }
+        ensures in_time { result ≤ self.now.run.net.steps }
     {
         self.step
     }
@@ -99,21 +100,22 @@ pub struct Sight<'f, 'a> {
 }
 
 impl<'f, 'a> Model for Sight<'f, 'a> {
-    ghost use Rattle.region_slots.specs.Moments.{SightValue};
+    ghost use Rattle.region_slots.specs.Moments.{SightValue, cut_run};
 
     ghost Value = { SightValue };
 
-    ghost view = { λ sight. record { setup = sight.field.now.terms.setup.now; seen = sight.pass.now.knows.seen; done = sight.done } };
+    ghost view = { λ sight. record { run = cut_run sight.field.now.terms.setup.now; seen = sight.pass.now.knows.seen; done = sight.done } };
 }
 
 impl<'f, 'a> Sight<'f, 'a> {
     ghost use Rattle.std.specs.Prelude.{◌≡◌};
     ghost use Rattle.region_slots.specs.FieldView.{IsPassOf};
+    ghost use Rattle.region_slots.specs.Moments.{cut_run};
 
     // The pass is that of the watcher.
     pub(crate) fn of(field: &'f Field<'a>, pass: &'f Pass, done: bool) -> Sight<'f, 'a>
         requires belongs { IsPassOf field.now pass.now }
-        ensures sight { result ≡ record { setup = field.now.terms.setup.now; seen = pass.now.knows.seen; done = done } }
+        ensures sight { result ≡ record { run = cut_run field.now.terms.setup.now; seen = pass.now.knows.seen; done = done } }
     {
         Sight { field, pass, done }
     }

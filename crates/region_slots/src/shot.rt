@@ -20,6 +20,7 @@ impl<'a> Field<'a> {
     ghost use Rattle.region_cut.specs.Cuttings.{region_count};
     ghost use Rattle.snapshot.specs.Rooms.{IsRoomFor};
     ghost use Rattle.region_slots.specs.FieldView.{HasCounts, HasSeenInTime, IsIdle, IsPassOf, IsSeatOf};
+    ghost use Rattle.region_slots.specs.Moments.{cut_run};
     ghost use Rattle.region_slots.specs.Shooting.{IsShotOf};
 
     /// Shows all regions in a room, each at the step at which it stands: takes them in order of number, each with so many
@@ -47,7 +48,7 @@ impl<'a> Field<'a> {
         requires tries { 1 ≤ tries }
         ensures belongs { IsPassOf self.now pass.new × (pass.new.id ≡ pass.old.id) }
         ensures shot { IsShotOf self.now.terms tries pass.old.knows pass.new.knows room.old room.new result }
-        ensures told { W.told_watched observer.now self.now.terms.setup.now pass.old.knows.seen false × W.told_watched observer.now self.now.terms.setup.now pass.new.knows.seen true }
+        ensures told { W.told_watched observer.now (cut_run self.now.terms.setup.now) pass.old.knows.seen false × W.told_watched observer.now (cut_run self.now.terms.setup.now) pass.new.knows.seen true }
     {
         observer.watched(&Sight::of(self, pass, false));
         let shot = self.shot(pass, room, tries);

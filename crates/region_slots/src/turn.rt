@@ -23,6 +23,7 @@ impl<'a> Field<'a> {
     ghost use Rattle.region_cut.specs.Cuttings.{region_count};
     ghost use Rattle.border_rows.specs.Kinds.{found_taken};
     ghost use Rattle.region_slots.specs.FieldView.{HasSeenInTime, IsIdle, IsPassOf, IsSeatOf};
+    ghost use Rattle.region_slots.specs.Moments.{cut_run};
     ghost use Rattle.region_slots.specs.Turning.{IsBehind, IsMoved, IsWithin, took_at};
     ghost use Rattle.region_slots.specs.declared.turn.Turn.TheVariants.{Behind, Ended, Held, Moved};
 
@@ -40,8 +41,8 @@ impl<'a> Field<'a> {
         ensures ended { (s : ℕ) → result ≡ Ended s → (goal ≤ s) × (pass.new.knows ≡ took_at pass.old.knows region s) × (slice_index pass.new.knows.seen region ≡ s) × (slice_index pass.old.knows.seen region ≤ s) }
         ensures behind { (q s : ℕ) → result ≡ Behind q s → IsBehind self.now.terms pass.old.knows pass.new.knows goal region q s }
         ensures moved { (s : ℕ) → result ≡ Moved s → IsMoved self.now.terms pass.old.knows pass.new.knows goal region s }
-        ensures told_behind { (q s : ℕ) → result ≡ Behind q s → W.told_held observer.now self.now.terms.setup.now region (s + 1) }
-        ensures told_moved { (s : ℕ) → result ≡ Moved (s + 1) → W.told_held observer.now self.now.terms.setup.now region s × W.told_freed observer.now self.now.terms.setup.now region (s + 1) }
+        ensures told_behind { (q s : ℕ) → result ≡ Behind q s → W.told_held observer.now (cut_run self.now.terms.setup.now) region (s + 1) }
+        ensures told_moved { (s : ℕ) → result ≡ Moved (s + 1) → W.told_held observer.now (cut_run self.now.terms.setup.now) region s × W.told_freed observer.now (cut_run self.now.terms.setup.now) region (s + 1) }
     {
         self.tries(&mut pass.seat, region, goal, observer)
     }
@@ -67,8 +68,8 @@ impl<'a> Field<'a> {
         ensures ended { (s : ℕ) → result ≡ Ended s → (goal ≤ s) × (seat.new.me.0 ≡ took_at seat.old.me.0 region s) × (slice_index seat.new.me.0.seen region ≡ s) × (slice_index seat.old.me.0.seen region ≤ s) }
         ensures behind { (q s : ℕ) → result ≡ Behind q s → IsBehind self.now.terms seat.old.me.0 seat.new.me.0 goal region q s }
         ensures moved { (s : ℕ) → result ≡ Moved s → IsMoved self.now.terms seat.old.me.0 seat.new.me.0 goal region s }
-        ensures told_behind { (q s : ℕ) → result ≡ Behind q s → W.told_held observer.now self.now.terms.setup.now region (s + 1) }
-        ensures told_moved { (s : ℕ) → result ≡ Moved (s + 1) → W.told_held observer.now self.now.terms.setup.now region s × W.told_freed observer.now self.now.terms.setup.now region (s + 1) }
+        ensures told_behind { (q s : ℕ) → result ≡ Behind q s → W.told_held observer.now (cut_run self.now.terms.setup.now) region (s + 1) }
+        ensures told_moved { (s : ℕ) → result ≡ Moved (s + 1) → W.told_held observer.now (cut_run self.now.terms.setup.now) region s × W.told_freed observer.now (cut_run self.now.terms.setup.now) region (s + 1) }
     {
         if !self.try_claim(seat, region) {
             return Turn::Held;

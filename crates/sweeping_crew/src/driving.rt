@@ -1,7 +1,7 @@
 ghost use Rattle.std.specs.Prelude.{◌≡◌, ◌<◌, ◌≤◌};
 ghost use Rattle.region_cut.specs.Cuttings.{region_count};
 ghost use Rattle.region_slots.specs.FieldView.{IsPassOf};
-ghost use Rattle.region_slots.specs.Moments.{AreTold};
+ghost use Rattle.region_slots.specs.Moments.{AreTold, cut_run};
 ghost use Rattle.sweeping_crew.specs.Driving.{HasDriven};
 
 use region_slots::{Field, Observer, Pass, Pauses};
@@ -22,7 +22,7 @@ pub fn drive<W: Observer>(
     requires in_time { goal ≤ field.now.terms.setup.now.net.steps }
     ensures belongs { IsPassOf field.now pass.new × (pass.new.id ≡ pass.old.id) }
     ensures driven { HasDriven (region_count field.now.terms.setup.now.chart.cut) goal sweeps first pass.old.knows pass.new.knows result }
-    ensures told { AreTold (W.told_held observer.now field.now.terms.setup.now) (W.told_freed observer.now field.now.terms.setup.now) pass.old.knows.log pass.new.knows.log }
+    ensures told { AreTold (W.told_held observer.now (cut_run field.now.terms.setup.now)) (W.told_freed observer.now (cut_run field.now.terms.setup.now)) pass.old.knows.log pass.new.knows.log }
 {
     let mut pauses = Pauses::none();
     drive_pausing(field, pass, goal, sweeps, first, observer, &mut pauses)
@@ -44,7 +44,7 @@ fn drive_pausing<W: Observer>(
     requires none { pauses.old ≡ 0 }
     ensures belongs { IsPassOf field.now pass.new × (pass.new.id ≡ pass.old.id) }
     ensures driven { HasDriven (region_count field.now.terms.setup.now.chart.cut) goal sweeps first pass.old.knows pass.new.knows result }
-    ensures told { AreTold (W.told_held observer.now field.now.terms.setup.now) (W.told_freed observer.now field.now.terms.setup.now) pass.old.knows.log pass.new.knows.log }
+    ensures told { AreTold (W.told_held observer.now (cut_run field.now.terms.setup.now)) (W.told_freed observer.now (cut_run field.now.terms.setup.now)) pass.old.knows.log pass.new.knows.log }
     ensures paused { pauses.new ≤ sweeps }
 {
     let _regions = field.regions();

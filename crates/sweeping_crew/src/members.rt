@@ -1,6 +1,6 @@
 ghost use Rattle.std.specs.Prelude.{◌≡◌, ◌≤◌};
 ghost use Rattle.worker_claim.specs.Members.{IsMemberOf};
-ghost use Rattle.region_slots.specs.Moments.{AreTold};
+ghost use Rattle.region_slots.specs.Moments.{AreTold, cut_run};
 ghost use Rattle.worker_claim.specs.Telling.{AreMembersTold};
 ghost use Rattle.sweeping_crew.specs.Members.{AreDriven, AreMembersOf, IsDriven};
 
@@ -21,12 +21,12 @@ pub fn crew<R: Threads + Sync, W: Observer>(
     requires members { AreMembersOf field.now members.old }
     requires in_time { goal ≤ field.now.terms.setup.now.net.steps }
     ensures driven { AreDriven field.now goal sweeps members.old members.new }
-    ensures told { AreMembersTold (W.told_held observer.now field.now.terms.setup.now) (W.told_freed observer.now field.now.terms.setup.now) members.old members.new }
+    ensures told { AreMembersTold (W.told_held observer.now (cut_run field.now.terms.setup.now)) (W.told_freed observer.now (cut_run field.now.terms.setup.now)) members.old members.new }
 {
     let threads = members.len().max(1);
     let work = move |_k: usize, member: &mut Member|
         requires { IsMemberOf field.now member.old × (goal ≤ field.now.terms.setup.now.net.steps) }
-        ensures { IsDriven field.entry.now goal sweeps member.old member.new × AreTold (W.told_held observer.entry.now field.entry.now.terms.setup.now) (W.told_freed observer.entry.now field.entry.now.terms.setup.now) member.old.pass.knows.log member.new.pass.knows.log }
+        ensures { IsDriven field.entry.now goal sweeps member.old member.new × AreTold (W.told_held observer.entry.now (cut_run field.entry.now.terms.setup.now)) (W.told_freed observer.entry.now (cut_run field.entry.now.terms.setup.now)) member.old.pass.knows.log member.new.pass.knows.log }
     { drive_member(field, member, goal, sweeps, observer) };
     for_each_mut(rt, members, threads, &work);
 }
@@ -36,7 +36,7 @@ fn drive_member<W: Observer>(field: &Field, member: &mut Member, goal: u64, swee
     requires member { IsMemberOf field.now member.old }
     requires in_time { goal ≤ field.now.terms.setup.now.net.steps }
     ensures driven { IsDriven field.now goal sweeps member.old member.new }
-    ensures told { AreTold (W.told_held observer.now field.now.terms.setup.now) (W.told_freed observer.now field.now.terms.setup.now) member.old.pass.knows.log member.new.pass.knows.log }
+    ensures told { AreTold (W.told_held observer.now (cut_run field.now.terms.setup.now)) (W.told_freed observer.now (cut_run field.now.terms.setup.now)) member.old.pass.knows.log member.new.pass.knows.log }
 {
     let first = member.first;
     member.driven = drive(field, &mut member.pass, goal, sweeps, first, observer);

@@ -2,6 +2,7 @@ ghost use Rattle.std.specs.Prelude.{◌≡◌, ◌≤◌, false, true};
 ghost use Rattle.std.specs.Thread.{IsSync};
 ghost use Rattle.region_slots.specs.FieldView.{IsPassOf};
 ghost use Rattle.snapshot.specs.Rooms.{IsRoomFor};
+ghost use Rattle.region_slots.specs.Moments.{cut_run};
 ghost use Rattle.worker_claim.specs.Telling.{AreMembersTold};
 ghost use Rattle.worker_claim.specs.Watching.{IsWatched};
 ghost use Rattle.sweeping_crew.specs.Members.{AreDriven, AreMembersOf};
@@ -32,20 +33,20 @@ pub fn crew_watch<R: Threads + Sync, W: Observer>(
     requires in_time { goal ≤ field.now.terms.setup.now.net.steps }
     ensures watched { IsWatched field.now tries watcher.old watcher.new room.old room.new result }
     ensures driven { AreDriven field.now goal sweeps members.old members.new }
-    ensures told { AreMembersTold (W.told_held observer.now field.now.terms.setup.now) (W.told_freed observer.now field.now.terms.setup.now) members.old members.new }
-    ensures told_shot { W.told_watched observer.now field.now.terms.setup.now watcher.old.knows.seen false × W.told_watched observer.now field.now.terms.setup.now watcher.new.knows.seen true }
+    ensures told { AreMembersTold (W.told_held observer.now (cut_run field.now.terms.setup.now)) (W.told_freed observer.now (cut_run field.now.terms.setup.now)) members.old members.new }
+    ensures told_shot { W.told_watched observer.now (cut_run field.now.terms.setup.now) watcher.old.knows.seen false × W.told_watched observer.now (cut_run field.now.terms.setup.now) watcher.new.knows.seen true }
 {
     let mut shooting = || -> Shot
         requires { IsPassOf field.now watcher.now × IsRoomFor field.now.terms.setup.now.chart room.now × (1 ≤ tries) }
         ensures { IsWatched field.entry.now tries watcher.entry.now watcher.exit.now room.entry.now room.exit.now result
-            × W.told_watched observer.entry.now field.entry.now.terms.setup.now watcher.entry.now.knows.seen false × W.told_watched observer.entry.now field.entry.now.terms.setup.now watcher.exit.now.knows.seen true }
+            × W.told_watched observer.entry.now (cut_run field.entry.now.terms.setup.now) watcher.entry.now.knows.seen false × W.told_watched observer.entry.now (cut_run field.entry.now.terms.setup.now) watcher.exit.now.knows.seen true }
     {
         let (field, tries, observer) = (field, tries, observer);
         field.watch(watcher, room, tries, observer)
     };
     let mut driving = ||
         requires { IsSync R.row × AreMembersOf field.now members.now × (goal ≤ field.now.terms.setup.now.net.steps) }
-        ensures { AreDriven field.entry.now goal sweeps members.entry.now members.exit.now × AreMembersTold (W.told_held observer.entry.now field.entry.now.terms.setup.now) (W.told_freed observer.entry.now field.entry.now.terms.setup.now) members.entry.now members.exit.now }
+        ensures { AreDriven field.entry.now goal sweeps members.entry.now members.exit.now × AreMembersTold (W.told_held observer.entry.now (cut_run field.entry.now.terms.setup.now)) (W.told_freed observer.entry.now (cut_run field.entry.now.terms.setup.now)) members.entry.now members.exit.now }
     {
         let (rt, field, goal, sweeps, observer) = (rt, field, goal, sweeps, observer);
         crew(rt, field, members, goal, sweeps, observer)

@@ -2,6 +2,7 @@ ghost use Rattle.std.specs.Prelude.{◌≡◌, ◌≤◌, false, true};
 ghost use Rattle.std.specs.Thread.{IsSync};
 ghost use Rattle.region_slots.specs.FieldView.{IsPassOf};
 ghost use Rattle.snapshot.specs.Rooms.{IsRoomFor};
+ghost use Rattle.region_slots.specs.Moments.{cut_run};
 ghost use Rattle.worker_claim.specs.Helping.{AreHelped, AreHelpersOf};
 ghost use Rattle.worker_claim.specs.Telling.{AreHelpersTold};
 ghost use Rattle.worker_claim.specs.Watching.{IsWatched};
@@ -32,20 +33,20 @@ pub fn crew_watch_hints<R: Threads + Sync, W: Observer>(
     requires in_time { goal ≤ field.now.terms.setup.now.net.steps }
     ensures watched { IsWatched field.now tries watcher.old watcher.new room.old room.new result }
     ensures helped { AreHelped field.now goal sweeps helpers.old helpers.new }
-    ensures told { AreHelpersTold (W.told_held observer.now field.now.terms.setup.now) (W.told_freed observer.now field.now.terms.setup.now) helpers.old helpers.new }
-    ensures told_shot { W.told_watched observer.now field.now.terms.setup.now watcher.old.knows.seen false × W.told_watched observer.now field.now.terms.setup.now watcher.new.knows.seen true }
+    ensures told { AreHelpersTold (W.told_held observer.now (cut_run field.now.terms.setup.now)) (W.told_freed observer.now (cut_run field.now.terms.setup.now)) helpers.old helpers.new }
+    ensures told_shot { W.told_watched observer.now (cut_run field.now.terms.setup.now) watcher.old.knows.seen false × W.told_watched observer.now (cut_run field.now.terms.setup.now) watcher.new.knows.seen true }
 {
     let mut shooting = || -> Shot
         requires { IsPassOf field.now watcher.now × IsRoomFor field.now.terms.setup.now.chart room.now × (1 ≤ tries) }
         ensures { IsWatched field.entry.now tries watcher.entry.now watcher.exit.now room.entry.now room.exit.now result
-            × W.told_watched observer.entry.now field.entry.now.terms.setup.now watcher.entry.now.knows.seen false × W.told_watched observer.entry.now field.entry.now.terms.setup.now watcher.exit.now.knows.seen true }
+            × W.told_watched observer.entry.now (cut_run field.entry.now.terms.setup.now) watcher.entry.now.knows.seen false × W.told_watched observer.entry.now (cut_run field.entry.now.terms.setup.now) watcher.exit.now.knows.seen true }
     {
         let (field, tries, observer) = (field, tries, observer);
         field.watch(watcher, room, tries, observer)
     };
     let mut helping = ||
         requires { IsSync R.row × AreHelpersOf field.now helpers.now × (goal ≤ field.now.terms.setup.now.net.steps) }
-        ensures { AreHelped field.entry.now goal sweeps helpers.entry.now helpers.exit.now × AreHelpersTold (W.told_held observer.entry.now field.entry.now.terms.setup.now) (W.told_freed observer.entry.now field.entry.now.terms.setup.now) helpers.entry.now helpers.exit.now }
+        ensures { AreHelped field.entry.now goal sweeps helpers.entry.now helpers.exit.now × AreHelpersTold (W.told_held observer.entry.now (cut_run field.entry.now.terms.setup.now)) (W.told_freed observer.entry.now (cut_run field.entry.now.terms.setup.now)) helpers.entry.now helpers.exit.now }
     {
         let (rt, field, goal, sweeps, observer) = (rt, field, goal, sweeps, observer);
         crew_hints(rt, field, helpers, goal, sweeps, observer)

@@ -23,7 +23,7 @@ impl Helper {
     ghost use Rattle.std.specs.Prelude.{◌≡◌, ◌<◌, ◌≤◌, IsTrue};
     ghost use Rattle.region_cut.specs.Cuttings.{region_count};
     ghost use Rattle.worker_claim.specs.Helping.{IsHelped, IsHelperOf, IsKept};
-    ghost use Rattle.region_slots.specs.Moments.{AreTold};
+    ghost use Rattle.region_slots.specs.Moments.{AreTold, cut_run};
     ghost use Rattle.worker_claim.specs.Turns.{HasWorked, turns_of};
 
     /// Makes as many turns as so many sweeps have, or fewer where all turns of a whole sweep find their region at the goal
@@ -32,7 +32,7 @@ impl Helper {
         requires helper { IsHelperOf field.now self.old }
         requires in_time { goal ≤ field.now.terms.setup.now.net.steps }
         ensures helped { IsHelped field.now goal sweeps self.old self.new }
-        ensures told { AreTold (W.told_held observer.now field.now.terms.setup.now) (W.told_freed observer.now field.now.terms.setup.now) self.old.member.pass.knows.log self.new.member.pass.knows.log }
+        ensures told { AreTold (W.told_held observer.now (cut_run field.now.terms.setup.now)) (W.told_freed observer.now (cut_run field.now.terms.setup.now)) self.old.member.pass.knows.log self.new.member.pass.knows.log }
     {
         let budget = u64::from(sweeps) * u64::from(field.regions());
         let mut pauses = Pauses::none();
@@ -54,7 +54,7 @@ impl Helper {
         requires none { pauses.old ≡ 0 }
         ensures kept { IsKept field.now self.old self.new }
         ensures worked { HasWorked field.now.terms self.old.member.pass.knows self.new.member.pass.knows goal budget result }
-        ensures told { AreTold (W.told_held observer.now field.now.terms.setup.now) (W.told_freed observer.now field.now.terms.setup.now) self.old.member.pass.knows.log self.new.member.pass.knows.log }
+        ensures told { AreTold (W.told_held observer.now (cut_run field.now.terms.setup.now)) (W.told_freed observer.now (cut_run field.now.terms.setup.now)) self.old.member.pass.knows.log self.new.member.pass.knows.log }
         ensures stops { turns_of result < budget → IsTrue result.all }
         ensures paused { pauses.new ≤ turns_of result }
     {
@@ -82,7 +82,7 @@ impl Helper {
         requires some { 1 ≤ left }
         ensures kept { IsKept field.now self.old self.new }
         ensures worked { HasWorked field.now.terms self.old.member.pass.knows self.new.member.pass.knows goal left result }
-        ensures told { AreTold (W.told_held observer.now field.now.terms.setup.now) (W.told_freed observer.now field.now.terms.setup.now) self.old.member.pass.knows.log self.new.member.pass.knows.log }
+        ensures told { AreTold (W.told_held observer.now (cut_run field.now.terms.setup.now)) (W.told_freed observer.now (cut_run field.now.terms.setup.now)) self.old.member.pass.knows.log self.new.member.pass.knows.log }
         ensures some { 1 ≤ turns_of result }
     {
         let waits = vain > 0;
@@ -111,7 +111,7 @@ impl Helper {
         requires some { 1 ≤ left }
         ensures kept { IsKept field.now self.old self.new }
         ensures worked { HasWorked field.now.terms self.old.member.pass.knows self.new.member.pass.knows goal left result }
-        ensures told { AreTold (W.told_held observer.now field.now.terms.setup.now) (W.told_freed observer.now field.now.terms.setup.now) self.old.member.pass.knows.log self.new.member.pass.knows.log }
+        ensures told { AreTold (W.told_held observer.now (cut_run field.now.terms.setup.now)) (W.told_freed observer.now (cut_run field.now.terms.setup.now)) self.old.member.pass.knows.log self.new.member.pass.knows.log }
         ensures some { 1 ≤ turns_of result }
     {
         let many = self.nest.stretch().min(field.regions() - region);
@@ -130,7 +130,7 @@ impl Helper {
         requires some { 1 ≤ left }
         ensures kept { IsKept field.now self.old self.new }
         ensures worked { HasWorked field.now.terms self.old.member.pass.knows self.new.member.pass.knows goal left result }
-        ensures told { AreTold (W.told_held observer.now field.now.terms.setup.now) (W.told_freed observer.now field.now.terms.setup.now) self.old.member.pass.knows.log self.new.member.pass.knows.log }
+        ensures told { AreTold (W.told_held observer.now (cut_run field.now.terms.setup.now)) (W.told_freed observer.now (cut_run field.now.terms.setup.now)) self.old.member.pass.knows.log self.new.member.pass.knows.log }
         ensures some { 1 ≤ turns_of result }
     {
         self.nest.push_refused();

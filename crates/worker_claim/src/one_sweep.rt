@@ -3,7 +3,7 @@ ghost use Rattle.std.specs.List.{range_with_len};
 ghost use Rattle.region_cut.specs.Cuttings.{region_count};
 ghost use Rattle.region_slots.specs.FieldView.{IsPassOf};
 ghost use Rattle.worker_claim.specs.Driving.{HasSwept, round_from, steps_left};
-ghost use Rattle.region_slots.specs.Moments.{AreTold};
+ghost use Rattle.region_slots.specs.Moments.{AreTold, cut_run};
 ghost use Rattle.worker_claim.specs.Turns.{HasTurned, IsCounted};
 
 use crate::driven::Driven;
@@ -19,7 +19,7 @@ pub fn sweep<W: Observer>(field: &Field, pass: &mut Pass, goal: u64, first: u32,
     ensures counted { IsCounted field.now.terms pass.old.knows pass.new.knows goal result }
     ensures order { pass.new.knows.tried ≡ pass.old.knows.tried ++ round_from (region_count field.now.terms.setup.now.chart.cut) first }
     ensures all { IsTrue result.all ↔ (result.ended ≡ region_count field.now.terms.setup.now.chart.cut) }
-    ensures told { AreTold (W.told_held observer.now field.now.terms.setup.now) (W.told_freed observer.now field.now.terms.setup.now) pass.old.knows.log pass.new.knows.log }
+    ensures told { AreTold (W.told_held observer.now (cut_run field.now.terms.setup.now)) (W.told_freed observer.now (cut_run field.now.terms.setup.now)) pass.old.knows.log pass.new.knows.log }
     ensures nearer { pass.old.knows.share ≡ field.now.terms.seats → result.all ≡ false →
         steps_left (region_count field.now.terms.setup.now.chart.cut) goal pass.new.knows < steps_left (region_count field.now.terms.setup.now.chart.cut) goal pass.old.knows }
 {
@@ -52,7 +52,7 @@ pub(crate) fn turns<W: Observer>(
     ensures belongs { IsPassOf field.now pass.new × (pass.new.id ≡ pass.old.id) }
     ensures turned { HasTurned field.now.terms pass.old.knows pass.new.knows from to goal result }
     ensures order { pass.new.knows.tried ≡ pass.old.knows.tried ++ range_with_len from (to - from) }
-    ensures told { AreTold (W.told_held observer.now field.now.terms.setup.now) (W.told_freed observer.now field.now.terms.setup.now) pass.old.knows.log pass.new.knows.log }
+    ensures told { AreTold (W.told_held observer.now (cut_run field.now.terms.setup.now)) (W.told_freed observer.now (cut_run field.now.terms.setup.now)) pass.old.knows.log pass.new.knows.log }
     ensures going { result.all ≡ false }
 {
     let mut driven = Driven::none();

@@ -1,7 +1,7 @@
 ghost use Rattle.std.specs.Prelude.{◌≡◌, ◌<◌, ◌≤◌};
 ghost use Rattle.region_cut.specs.Cuttings.{region_count};
 ghost use Rattle.region_slots.specs.FieldView.{IsPassOf};
-ghost use Rattle.region_slots.specs.Moments.{AreTold};
+ghost use Rattle.region_slots.specs.Moments.{AreTold, cut_run};
 ghost use Rattle.worker_claim.specs.Turns.{HasWorked, turns_of};
 
 use crate::driven::Driven;
@@ -23,7 +23,7 @@ pub(crate) fn sweep_within<W: Observer>(
     requires some { 1 ≤ left }
     ensures belongs { IsPassOf field.now pass.new × (pass.new.id ≡ pass.old.id) }
     ensures worked { HasWorked field.now.terms pass.old.knows pass.new.knows goal left result }
-    ensures told { AreTold (W.told_held observer.now field.now.terms.setup.now) (W.told_freed observer.now field.now.terms.setup.now) pass.old.knows.log pass.new.knows.log }
+    ensures told { AreTold (W.told_held observer.now (cut_run field.now.terms.setup.now)) (W.told_freed observer.now (cut_run field.now.terms.setup.now)) pass.old.knows.log pass.new.knows.log }
     ensures some { 1 ≤ turns_of result }
 {
     if left < u64::from(field.regions()) {
@@ -47,7 +47,7 @@ fn part<W: Observer>(
     requires fewer { many < region_count field.now.terms.setup.now.chart.cut }
     ensures belongs { IsPassOf field.now pass.new × (pass.new.id ≡ pass.old.id) }
     ensures worked { HasWorked field.now.terms pass.old.knows pass.new.knows goal many result }
-    ensures told { AreTold (W.told_held observer.now field.now.terms.setup.now) (W.told_freed observer.now field.now.terms.setup.now) pass.old.knows.log pass.new.knows.log }
+    ensures told { AreTold (W.told_held observer.now (cut_run field.now.terms.setup.now)) (W.told_freed observer.now (cut_run field.now.terms.setup.now)) pass.old.knows.log pass.new.knows.log }
     ensures many { turns_of result ≡ many }
 {
     let later = many.min(field.regions() - first);

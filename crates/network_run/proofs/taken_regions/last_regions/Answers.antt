@@ -1,10 +1,7 @@
-use Rattle.std.specs.Prelude.{slice_index}
-use Rattle.std.proofs.Common.{◌≡◌, ℕ, ap, ◌∙◌}
-use Rattle.region_cut.specs.Cuttings.{region_count}
+use Rattle.std.proofs.Common.{◌≡◌, ap, subst, ◌∙◌}
 use Rattle.region_step.specs.Setup.{SetupValue}
-use Rattle.region_step.proofs.Steps.{zero_start-at}
-use Rattle.network_run.specs.Telling.{HasTold}
-use Rattle.network_run.proofs.Told.{told-zero}
+use Rattle.region_slots.specs.Moments.{cut_run}
+use Rattle.network_run.specs.Telling.{HasTold, Telling, zero_run}
 use Rattle.network_run.proofs.taken_regions.last_regions.Goals as goal
 
 pub returns-clause-stand : goal.returns-clause-stand
@@ -14,11 +11,8 @@ returns-clause-stand g c =
 
 pub returns-clause-told : goal.returns-clause-told
 returns-clause-told g c = λ done.
-    let held : ℕ → ℕ → Type 0 = g.W.Observer.told_held c.args.observer.now in
-    let freed : ℕ → ℕ → Type 0 = g.W.Observer.told_freed c.args.observer.now in
-    let setup : SetupValue = c.in_ok-setup.setup in
+    let held : Telling = g.W.Observer.told_held c.args.observer.now in
+    let freed : Telling = g.W.Observer.told_freed c.args.observer.now in
     let last : c.net.inside.steps ≡ c.args.layout.now.net.steps = ap (λ net. net.steps) (c.net.view_is ∙ c.net-net.ensures.network) in
-    let told : HasTold held freed (region_count setup.chart.cut) c.net.inside.steps =
-    told-zero held freed (region_count setup.chart.cut) setup.start.steps c.net.inside.steps
-    (λ r. ap (λ (setup : SetupValue). slice_index setup.start.steps r) c.in_ok-setup.ensures.setup ∙ zero_start-at c.args.layout.now.net c.args.layout.now.chart.cut r) (c.regions_from.ensures.told done) in
-    rw (ap (λ (setup : SetupValue). region_count setup.chart.cut) c.in_ok-setup.ensures.setup, last) at told
+    subst (λ n. HasTold held freed (zero_run c.args.layout.now.net c.args.layout.now.chart.cut c.args.every) n) last
+    (subst (λ (setup : SetupValue). HasTold held freed (cut_run setup) c.net.inside.steps) c.in_ok-setup.ensures.setup (c.regions_from.ensures.told done))

@@ -1,14 +1,14 @@
 use Rattle.std.specs.Prelude.{replicate, slice_index}
-use Rattle.std.proofs.Common.{◌≡◌, ℕ, [], refl, ap, subst, ◌∙◌, arith}
+use Rattle.std.proofs.Common.{◌≡◌, ℕ, [], refl, ap, subst, sym, ◌∙◌, arith}
 use Rattle.region_cut.specs.Cuttings.{region_count}
 use Rattle.region_step.specs.Standing.{AllStand}
 use Rattle.region_step.specs.Setup.{SetupValue}
 use Rattle.region_step.proofs.Steps.{zero_start-at}
 use Rattle.border_rows.specs.declared.view.Terms.{Terms}
 use Rattle.border_rows.specs.declared.view.View.{View}
-use Rattle.region_slots.specs.Moments.{AreTold}
-use Rattle.network_run.specs.Telling.{HasTold}
-use Rattle.network_run.proofs.Told.{told-logged, told-zero}
+use Rattle.region_slots.specs.Moments.{AreTold, cut_run}
+use Rattle.network_run.specs.Telling.{HasTold, HasToldShots, Telling}
+use Rattle.network_run.proofs.Told.{told-logged}
 use Rattle.network_run.proofs.watched_run.watched_regions.Goals as goal
 
 pub returns-clause-stand : goal.returns-clause-stand
@@ -27,19 +27,23 @@ returns-clause-stand g c =
 
 pub returns-clause-told : goal.returns-clause-told
 returns-clause-told g c = λ done.
-    let held : ℕ → ℕ → Type 0 = g.W.Observer.told_held c.args.observer.now in
-    let freed : ℕ → ℕ → Type 0 = g.W.Observer.told_freed c.args.observer.now in
+    let held : Telling = g.W.Observer.told_held c.args.observer.now in
+    let freed : Telling = g.W.Observer.told_freed c.args.observer.now in
     let taken = c.in_ok-take_shots.ensures in
     let last : ℕ = c.args.layout.now.net.steps in
-    let same = taken.terms refl ∙ c.in_ok-run.ensures.terms in
-    let setup = c.in_ok-setup.ensures.setup in
-    let count : region_count c.take_shots.new.self.terms.setup.now.chart.cut ≡ region_count c.args.layout.now.chart.cut =
-    ap (λ (t : Terms). region_count t.setup.now.chart.cut) same ∙ ap (λ (s : SetupValue). region_count s.chart.cut) setup in
-    let zero : (r : ℕ) → slice_index c.take_shots.new.self.terms.setup.now.start.steps r ≡ 0 =
-    λ r. ap (λ (t : Terms). slice_index t.setup.now.start.steps r) same ∙ ap (λ (s : SetupValue). slice_index s.start.steps r) setup ∙ zero_start-at c.args.layout.now.net c.args.layout.now.chart.cut r in
+    let terms : Terms = c.take_shots.new.self.terms in
     let log = c.take_shots.new.self.knows.log in
-    let told : AreTold held freed [] log = subst (λ own. AreTold held freed own log) (ap (λ (v : View). v.log) c.in_ok-run.ensures.knows) (taken.told refl) in
-    subst (λ n. HasTold held freed n last) count
-    (told-zero held freed (region_count c.take_shots.new.self.terms.setup.now.chart.cut) c.take_shots.new.self.terms.setup.now.start.steps last zero
-    (told-logged held freed (region_count c.take_shots.new.self.terms.setup.now.chart.cut) c.take_shots.new.self.terms.setup.now.start.steps last log
-    (c.close.ensures.logged last (λ r there. taken.last refl r (omega (arith, there, count)))) told))
+    let same = taken.terms refl ∙ c.in_ok-run.ensures.terms in
+    let count : region_count terms.setup.now.chart.cut ≡ region_count c.args.layout.now.chart.cut =
+    ap (λ (t : Terms). region_count t.setup.now.chart.cut) same ∙ ap (λ (s : SetupValue). region_count s.chart.cut) c.in_ok-setup.ensures.setup in
+    let told : AreTold (held (cut_run terms.setup.now)) (freed (cut_run terms.setup.now)) [] log =
+    subst (λ own. AreTold (held (cut_run terms.setup.now)) (freed (cut_run terms.setup.now)) own log) (ap (λ (v : View). v.log) c.in_ok-run.ensures.knows)
+    (subst (λ (t : Terms). AreTold (held (cut_run t.setup.now)) (freed (cut_run t.setup.now)) c.in_ok-run.run'.knows.log log) (sym (taken.terms refl)) (taken.told refl)) in
+    subst (λ (setup : SetupValue). HasTold held freed (cut_run setup) last) c.in_ok-setup.ensures.setup
+    (subst (λ (t : Terms). HasTold held freed (cut_run t.setup.now) last) same
+    (told-logged held freed (cut_run terms.setup.now) last log (c.close.ensures.logged last (λ r there. taken.last refl r (omega (arith, there, count)))) told))
+
+pub returns-clause-told_shots : goal.returns-clause-told_shots
+returns-clause-told_shots g c = λ done.
+    subst (λ (setup : SetupValue). HasToldShots (g.W.Observer.told_watched c.args.observer.now) (cut_run setup) c.args.shots) c.in_ok-setup.ensures.setup
+    (subst (λ (t : Terms). HasToldShots (g.W.Observer.told_watched c.args.observer.now) (cut_run t.setup.now) c.args.shots) c.in_ok-run.ensures.terms (c.in_ok-take_shots.ensures.told_shots refl))

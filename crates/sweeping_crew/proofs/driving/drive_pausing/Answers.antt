@@ -2,6 +2,7 @@ use Rattle.std.proofs.Common.{◌+◌, refl, sym, subst, ◌∙◌, arith}
 use Rattle.std.proofs.lemmas.List.{append-nil}
 use Rattle.std.proofs.lemmas.Nat.{row_fits}
 use Rattle.region_cut.specs.Cuttings.{region_count}
+use Rattle.region_slots.specs.Moments.{cut_run}
 use Rattle.worker_claim.specs.Driving.{HasSwept}
 use Rattle.sweeping_crew.specs.Driving.{IsLast}
 use Rattle.worker_claim.specs.Turns.{added}
@@ -42,7 +43,7 @@ loop-made-preserved g c =
             same = refl;
             all = c.sweep-swept.ensures.all;
           },
-      told-more (g.W.Observer.told_held c.args.observer.now c.args.field.now.terms.setup.now) (g.W.Observer.told_freed c.args.observer.now c.args.field.now.terms.setup.now) c.args.pass.now.knows.log c.loop-made.pass.knows.log c.sweep-swept.new.pass.knows.log
+      told-more (g.W.Observer.told_held c.args.observer.now (cut_run c.args.field.now.terms.setup.now)) (g.W.Observer.told_freed c.args.observer.now (cut_run c.args.field.now.terms.setup.now)) c.args.pass.now.knows.log c.loop-made.pass.knows.log c.sweep-swept.new.pass.knows.log
           c.loop-made.invariant.7 c.sweep-swept.ensures.told,
     )
 
@@ -56,5 +57,5 @@ loop-made-init g c = (
   omega (arith, c.requires.none),
   sym (append-nil c.args.pass.now.knows.tried),
   λ some. absurd (some refl),
-  told-none (g.W.Observer.told_held c.args.observer.now c.args.field.now.terms.setup.now) (g.W.Observer.told_freed c.args.observer.now c.args.field.now.terms.setup.now) c.args.pass.now.knows.log,
+  told-none (g.W.Observer.told_held c.args.observer.now (cut_run c.args.field.now.terms.setup.now)) (g.W.Observer.told_freed c.args.observer.now (cut_run c.args.field.now.terms.setup.now)) c.args.pass.now.knows.log,
 )

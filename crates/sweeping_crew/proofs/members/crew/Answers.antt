@@ -1,14 +1,14 @@
 use Rattle.std.specs.Prelude.{slice_index_or}
 use Rattle.std.proofs.Common.{ℕ, subst, rules}
-use Rattle.region_slots.specs.Moments.{AreTold}
+use Rattle.region_slots.specs.Moments.{AreTold, cut_run}
 use Rattle.sweeping_crew.specs.Members.{IsDriven}
 use Rattle.worker_claim.specs.declared.member.Member.{Member}
 use Rattle.sweeping_crew.proofs.members.crew.Goals as goal
 
 pub returns : goal.returns
 returns g c =
-    let held : ℕ → ℕ → Type 0 = g.W.Observer.told_held c.args.observer.now c.args.field.now.terms.setup.now in
-    let freed : ℕ → ℕ → Type 0 = g.W.Observer.told_freed c.args.observer.now c.args.field.now.terms.setup.now in record {
+    let held : ℕ → ℕ → Type 0 = g.W.Observer.told_held c.args.observer.now (cut_run c.args.field.now.terms.setup.now) in
+    let freed : ℕ → ℕ → Type 0 = g.W.Observer.told_freed c.args.observer.now (cut_run c.args.field.now.terms.setup.now) in record {
       driven = record {
         one_each = search rules;
         each = λ k d within.

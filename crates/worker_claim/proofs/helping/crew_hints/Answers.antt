@@ -1,14 +1,14 @@
 use Rattle.std.specs.Prelude.{slice_index_or}
 use Rattle.std.proofs.Common.{ℕ, subst, rules}
 use Rattle.worker_claim.specs.Helping.{IsHelped}
-use Rattle.region_slots.specs.Moments.{AreTold}
+use Rattle.region_slots.specs.Moments.{AreTold, cut_run}
 use Rattle.worker_claim.specs.declared.helper.Helper.{Helper}
 use Rattle.worker_claim.proofs.helping.crew_hints.Goals as goal
 
 pub returns : goal.returns
 returns g c =
-    let held : ℕ → ℕ → Type 0 = g.W.Observer.told_held c.args.observer.now c.args.field.now.terms.setup.now in
-    let freed : ℕ → ℕ → Type 0 = g.W.Observer.told_freed c.args.observer.now c.args.field.now.terms.setup.now in record {
+    let held : ℕ → ℕ → Type 0 = g.W.Observer.told_held c.args.observer.now (cut_run c.args.field.now.terms.setup.now) in
+    let freed : ℕ → ℕ → Type 0 = g.W.Observer.told_freed c.args.observer.now (cut_run c.args.field.now.terms.setup.now) in record {
       helped = record {
         one_each = search rules;
         each = λ k d within.

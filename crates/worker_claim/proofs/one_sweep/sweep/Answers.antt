@@ -1,6 +1,7 @@
 use Rattle.std.proofs.Common.{subst, ◌∙◌, arith}
 use Rattle.region_cut.specs.Cuttings.{region_count}
 use Rattle.border_rows.specs.declared.view.Terms.{Terms}
+use Rattle.region_slots.specs.Moments.{cut_run}
 use Rattle.worker_claim.specs.Turns.{HasTurned}
 use Rattle.worker_claim.proofs.Nearing.{nearer}
 use Rattle.worker_claim.proofs.Rounds.{order-round, true-unless}
@@ -50,5 +51,5 @@ returns-clause-order g c =
 
 pub returns-clause-told : goal.returns-clause-told
 returns-clause-told g c =
-    told-more (g.W.Observer.told_held c.args.observer.now c.args.field.now.terms.setup.now) (g.W.Observer.told_freed c.args.observer.now c.args.field.now.terms.setup.now) c.args.pass.now.knows.log c.turns-later.new.pass.knows.log c.turns-earlier.new.pass.knows.log
+    told-more (g.W.Observer.told_held c.args.observer.now (cut_run c.args.field.now.terms.setup.now)) (g.W.Observer.told_freed c.args.observer.now (cut_run c.args.field.now.terms.setup.now)) c.args.pass.now.knows.log c.turns-later.new.pass.knows.log c.turns-earlier.new.pass.knows.log
     c.turns-later.ensures.told c.turns-earlier.ensures.told

@@ -1,6 +1,7 @@
 use Rattle.std.proofs.Common.{◌+◌, ℕ, refl, ap, sym, subst, ◌∙◌, arith}
 use Rattle.border_rows.specs.declared.view.Terms.{Terms}
 use Rattle.border_rows.specs.declared.view.View.{View}
+use Rattle.region_slots.specs.Moments.{cut_run}
 use Rattle.worker_claim.specs.Turns.{HasTurned, counted, none}
 use Rattle.worker_claim.specs.declared.driven.Driven.{Driven}
 use Rattle.worker_claim.proofs.Rounds.{order-more, order-none}
@@ -14,8 +15,8 @@ loop-region-preserved g c =
     let old : View = c.loop-region.pass.knows in
     let new : View = c.turn-turn.new.pass.knows in
     let came = c.turn-turn.ensures in
-    let held : ℕ → ℕ → Type 0 = g.W.Observer.told_held c.args.observer.now c.args.field.now.terms.setup.now in
-    let freed : ℕ → ℕ → Type 0 = g.W.Observer.told_freed c.args.observer.now c.args.field.now.terms.setup.now in
+    let held : ℕ → ℕ → Type 0 = g.W.Observer.told_held c.args.observer.now (cut_run c.args.field.now.terms.setup.now) in
+    let freed : ℕ → ℕ → Type 0 = g.W.Observer.told_freed c.args.observer.now (cut_run c.args.field.now.terms.setup.now) in
     let one : HasTurned terms old new c.loop-region.region (c.loop-region.region + 1) c.args.goal (counted none c.turn-turn.result) =
     turned-one terms old new c.args.goal c.loop-region.region c.turn-turn.result (omega (arith, c.loop-region-test.true, c.requires.there)) c.loop-region.invariant.0.counts came.keeps came.held came.never_whole came.ended came.behind came.moved in (
       came.belongs.0,
@@ -37,5 +38,5 @@ loop-region-init g c = (
       (turned-none c.args.field.now.terms c.args.pass.now.knows c.args.from c.args.goal),
   ap (λ (d : Driven). d.all) c.none-driven.ensures,
   order-none c.args.pass.now.knows.tried c.args.from,
-  told-none (g.W.Observer.told_held c.args.observer.now c.args.field.now.terms.setup.now) (g.W.Observer.told_freed c.args.observer.now c.args.field.now.terms.setup.now) c.args.pass.now.knows.log,
+  told-none (g.W.Observer.told_held c.args.observer.now (cut_run c.args.field.now.terms.setup.now)) (g.W.Observer.told_freed c.args.observer.now (cut_run c.args.field.now.terms.setup.now)) c.args.pass.now.knows.log,
 )

@@ -1,4 +1,5 @@
 use Rattle.std.proofs.Common.{sym, subst, arith}
+use Rattle.region_slots.specs.Moments.{cut_run}
 use Rattle.worker_claim.specs.Turns.{HasWorked, added}
 use Rattle.worker_claim.specs.declared.driven.Driven.{Driven}
 use Rattle.worker_claim.proofs.Helped.{counted-then, worked-going}
@@ -15,5 +16,5 @@ returns-clause-worked g c =
 
 pub returns-clause-told : goal.returns-clause-told
 returns-clause-told g c =
-    told-more (g.W.Observer.told_held c.args.observer.now c.args.field.now.terms.setup.now) (g.W.Observer.told_freed c.args.observer.now c.args.field.now.terms.setup.now) c.args.pass.now.knows.log c.turns-one.new.pass.knows.log c.turns-other.new.pass.knows.log
+    told-more (g.W.Observer.told_held c.args.observer.now (cut_run c.args.field.now.terms.setup.now)) (g.W.Observer.told_freed c.args.observer.now (cut_run c.args.field.now.terms.setup.now)) c.args.pass.now.knows.log c.turns-one.new.pass.knows.log c.turns-other.new.pass.knows.log
     c.turns-one.ensures.told c.turns-other.ensures.told

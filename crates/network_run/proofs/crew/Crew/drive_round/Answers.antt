@@ -1,5 +1,6 @@
 use Rattle.std.proofs.Common.{◌≡◌, ℕ, List, length, sym, ap, subst, ◌∙◌}
 use Rattle.std.proofs.lemmas.List.{with_items_is}
+use Rattle.region_slots.specs.Moments.{cut_run}
 use Rattle.worker_claim.specs.Helping.{AreHelped, AreHelpersOf}
 use Rattle.worker_claim.specs.Telling.{AreHelpersTold}
 use Rattle.worker_claim.specs.declared.helper.Helper.{Helper}
@@ -46,8 +47,8 @@ returns-clause-moves g c =
 
 pub returns-clause-told : goal.returns-clause-told
 returns-clause-told g c =
-    let held : ℕ → ℕ → Type 0 = g.W.Observer.told_held c.args.observer.now c.args.field.now.terms.setup.now in
-    let freed : ℕ → ℕ → Type 0 = g.W.Observer.told_freed c.args.observer.now c.args.field.now.terms.setup.now in
+    let held : ℕ → ℕ → Type 0 = g.W.Observer.told_held c.args.observer.now (cut_run c.args.field.now.terms.setup.now) in
+    let freed : ℕ → ℕ → Type 0 = g.W.Observer.told_freed c.args.observer.now (cut_run c.args.field.now.terms.setup.now) in
     let old : List Helper = c.self.inside.helpers.items in
     let new : List Helper = c.crew_hints.new.helpers in
     let told : AreHelpersTold held freed old new = subst (λ (hs : List Helper). AreHelpersTold held freed hs new) c.deref_mut.ensures.value c.crew_hints.ensures.told in

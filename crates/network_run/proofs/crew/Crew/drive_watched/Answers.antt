@@ -1,4 +1,5 @@
 use Rattle.std.proofs.Common.{◌+◌, arith}
+use Rattle.region_slots.specs.Moments.{cut_run}
 use Rattle.network_run.proofs.RoundCounts.{rounds-moved, rounds-then}
 use Rattle.network_run.proofs.Told.{members_more}
 use Rattle.network_run.proofs.crew.Crew.drive_watched.Goals as goal
@@ -16,5 +17,5 @@ returns-else-not-is_done-clause-rounds g c =
 
 pub returns-then-not-is_done-clause-told : goal.returns-then-not-is_done-clause-told
 returns-then-not-is_done-clause-told g c =
-    members_more (g.W.Observer.told_held c.args.observer.now c.args.field.now.terms.setup.now) (g.W.Observer.told_freed c.args.observer.now c.args.field.now.terms.setup.now) c.args.self.now.members c.watch_round-shot.new.self.members c.drive.new.self.members
+    members_more (g.W.Observer.told_held c.args.observer.now (cut_run c.args.field.now.terms.setup.now)) (g.W.Observer.told_freed c.args.observer.now (cut_run c.args.field.now.terms.setup.now)) c.args.self.now.members c.watch_round-shot.new.self.members c.drive.new.self.members
     c.watch_round-shot.ensures.many c.watch_round-shot.ensures.told c.drive.ensures.told

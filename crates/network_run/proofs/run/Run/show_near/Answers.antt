@@ -1,5 +1,5 @@
 use Rattle.std.specs.Prelude.{slice_index}
-use Rattle.std.proofs.Common.{◌≡◌, ℕ, List, ap, ◌∙◌, arith}
+use Rattle.std.proofs.Common.{◌≡◌, ℕ, List, ap, subst, ◌∙◌, arith}
 use Rattle.network_file.specs.Network.{Network}
 use Rattle.region_cut.specs.Cuttings.{region_count}
 use Rattle.region_step.specs.Start.{zero_start}
@@ -7,6 +7,7 @@ use Rattle.region_step.proofs.Steps.{zero_start-at}
 use Rattle.snapshot.specs.Rooms.{RoomValue}
 use Rattle.snapshot.specs.Snapshots.{IsSnapshot}
 use Rattle.border_rows.specs.declared.view.Terms.{Terms}
+use Rattle.region_slots.specs.Moments.{AreTold, cut_run}
 use Rattle.region_slots.proofs.Observed.{told-more}
 use Rattle.network_run.proofs.run.Run.show_near.Goals as goal
 
@@ -34,8 +35,11 @@ returns-clause-terms g c = c.show_on_the_way.ensures.terms ∙ c.take_to.ensures
 
 pub returns-clause-told : goal.returns-clause-told
 returns-clause-told g c =
-    told-more (g.W.Observer.told_held c.args.observer.now) (g.W.Observer.told_freed c.args.observer.now) c.args.self.now.knows.log c.take_to.new.self.knows.log
-    c.show_on_the_way.new.self.knows.log c.take_to.ensures.told c.show_on_the_way.ensures.told
+    let held : ℕ → ℕ → Type 0 = g.W.Observer.told_held c.args.observer.now (cut_run c.args.self.now.terms.setup.now) in
+    let freed : ℕ → ℕ → Type 0 = g.W.Observer.told_freed c.args.observer.now (cut_run c.args.self.now.terms.setup.now) in
+    told-more held freed c.args.self.now.knows.log c.take_to.new.self.knows.log c.show_on_the_way.new.self.knows.log c.take_to.ensures.told
+    (subst (λ (t : Terms). AreTold (g.W.Observer.told_held c.args.observer.now (cut_run t.setup.now)) (g.W.Observer.told_freed c.args.observer.now (cut_run t.setup.now)) c.take_to.new.self.knows.log c.show_on_the_way.new.self.knows.log)
+    c.take_to.ensures.terms c.show_on_the_way.ensures.told)
 
 pub returns-clause-done : goal.returns-clause-done
 returns-clause-done g c = λ r there.

@@ -1,5 +1,6 @@
-use Rattle.std.specs.Prelude.{slice_index}
-use Rattle.std.proofs.Common.{◌≡◌, ◌+◌, ◌++◌, ℕ, List, ap, subst, sym, ◌∙◌, arith}
+use Rattle.std.specs.Prelude.{false, slice_index, true}
+use Rattle.std.proofs.Common.{◌≡◌, ◌+◌, ◌++◌, ◌<◌, ◌≤◌, ℕ, inl, inr, List, ap, subst, sym, ◌∙◌, arith}
+use Rattle.std.proofs.lemmas.Bool.{cases_lt}
 use Rattle.network_file.specs.Network.{IsNetwork, Network}
 use Rattle.flow_model.specs.declared.row.Row.{Row}
 use Rattle.region_cut.specs.Cuttings.{region_count}
@@ -13,7 +14,13 @@ use Rattle.snapshot.proofs.ShotLaws.{shot-between, shown-rows}
 use Rattle.shot_lines.proofs.ManyShots.{AreFirstShots, shots-more}
 use Rattle.region_slots.proofs.Observed.{told-more}
 use Rattle.border_rows.specs.declared.view.Terms.{Terms}
+use Rattle.region_slots.specs.Moments.{AreTold, cut_run}
+use Rattle.network_run.specs.Telling.{HasToldShot}
 use Rattle.network_run.proofs.run.Run.take_shots.Goals as goal
+
+-- the shot that is taken now
+this : (k i : ℕ) → i ≤ k → k < i + 1 → k ≡ i
+this k i late below = omega (arith, late, below)
 
 pub loop-i-preserved : goal.loop-i-preserved
 loop-i-preserved g c =
@@ -47,5 +54,19 @@ loop-i-preserved g c =
       omega (arith, came.reach, goal),
       (λ r there. omega (arith, came.done r (omega (arith, there, count)), goal)),
       subst (AreFirstShots net cut c.args.shots (i + 1)) (sym text) (shots-more net cut c.args.shots i c.loop-i.text.items room.steps inv.4 shot),
-      told-more (g.W.Observer.told_held c.args.observer.now) (g.W.Observer.told_freed c.args.observer.now) c.args.self.now.knows.log c.loop-i.self.knows.log c.show_on_the_way.new.self.knows.log inv.5 came.told,
+      told-more (g.W.Observer.told_held c.args.observer.now (cut_run terms.setup.now)) (g.W.Observer.told_freed c.args.observer.now (cut_run terms.setup.now)) c.args.self.now.knows.log c.loop-i.self.knows.log c.show_on_the_way.new.self.knows.log inv.5
+      (subst (λ (t : Terms). AreTold (g.W.Observer.told_held c.args.observer.now (cut_run t.setup.now)) (g.W.Observer.told_freed c.args.observer.now (cut_run t.setup.now)) c.loop-i.self.knows.log c.show_on_the_way.new.self.knows.log) same came.told),
+      (λ k below. elim (cases_lt k i) [
+        | inl earlier ↦ inv.6 k earlier
+        | inr late ↦ subst (λ n. HasToldShot (g.W.Observer.told_watched c.args.observer.now) (cut_run terms.setup.now) (goal_of net.steps c.args.shots n) (goal_of net.steps c.args.shots (n + 1))) (sym (this k i late below)) (record {
+          before = came.told_before.0;
+          steps = room.steps;
+          told_before = subst (λ (t : Terms). g.W.Observer.told_watched c.args.observer.now (cut_run t.setup.now) came.told_before.0 false) same came.told_before.1;
+          told_after = subst (λ (t : Terms). g.W.Observer.told_watched c.args.observer.now (cut_run t.setup.now) room.steps true) same came.told_after;
+          between = λ r there.
+              let here : r < region_count c.loop-i.self.terms.setup.now.chart.cut = omega (arith, there, ap (λ (t : Terms). region_count t.setup.now.chart.cut) same) in
+              let known = came.told_before.2 r here in
+              (omega (arith, inv.3 r (omega (arith, here, count)), known.0), known.1, omega (arith, (came.between r here).1, zero r, goal));
+        })
+      ]),
     )

@@ -1,5 +1,6 @@
 use Rattle.std.proofs.Common.{◌≡◌, ◌≤◌, ℕ, List, ap, subst, ◌∙◌, arith}
 use Rattle.border_rows.specs.declared.view.PublishedStep.{PublishedStep}
+use Rattle.region_slots.specs.Moments.{AreTold, cut_run}
 use Rattle.network_run.specs.Run.{RunValue}
 use Rattle.network_run.specs.Telling.{AreFrom}
 use Rattle.network_run.proofs.Told.{told-taken}
@@ -18,11 +19,12 @@ returns-clause-reach g c =
 
 pub returns-clause-told : goal.returns-clause-told
 returns-clause-told g c =
-    let held : ℕ → ℕ → Type 0 = g.W.Observer.told_held c.args.observer.now in
-    let freed : ℕ → ℕ → Type 0 = g.W.Observer.told_freed c.args.observer.now in
+    let held : ℕ → ℕ → Type 0 = g.W.Observer.told_held c.args.observer.now (cut_run c.self.inside.field.terms.setup.now) in
+    let freed : ℕ → ℕ → Type 0 = g.W.Observer.told_freed c.args.observer.now (cut_run c.self.inside.field.terms.setup.now) in
     let own : List PublishedStep = c.args.self.now.knows.log in
     let same : c.enlist.new.pass.knows.log ≡ own = c.enlist.ensures.knows.2 ∙ ap (λ (run : RunValue). run.knows.log) c.self.view_is in
     let from : AreFrom own c.drive.new.self.members c.dismiss.new.pass.knows.log =
     subst (λ (log : List PublishedStep). AreFrom log c.drive.new.self.members c.dismiss.new.pass.knows.log) same c.dismiss.ensures.log in
-    told-taken held freed own c.dismiss.new.pass.knows.log c.finish.new.pass.knows.log c.enlist.new.self.members c.drive.new.self.members c.drive.ensures.many
-    c.enlist.ensures.nothing c.drive.ensures.told from c.finish.ensures.told
+    subst (λ (run : RunValue). AreTold (g.W.Observer.told_held c.args.observer.now (cut_run run.terms.setup.now)) (g.W.Observer.told_freed c.args.observer.now (cut_run run.terms.setup.now)) own c.finish.new.pass.knows.log) c.self.view_is
+    (told-taken held freed own c.dismiss.new.pass.knows.log c.finish.new.pass.knows.log c.enlist.new.self.members c.drive.new.self.members c.drive.ensures.many
+    c.enlist.ensures.nothing c.drive.ensures.told from c.finish.ensures.told)

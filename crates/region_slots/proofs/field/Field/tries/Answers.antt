@@ -2,7 +2,7 @@ use Rattle.std.proofs.Common.{◌≡◌, ℕ, ◌+◌, List, refl, sym, ap, subs
 use Rattle.atomic_table.specs.Table.{rest}
 use Rattle.border_rows.specs.Places.{width_at, widths_of}
 use Rattle.region_slots.specs.FieldView.{HasSeenInTime}
-use Rattle.region_slots.specs.Moments.{MomentValue}
+use Rattle.region_slots.specs.Moments.{MomentValue, cut_run}
 use Rattle.region_slots.specs.Turning.{wrote_many}
 use Rattle.border_rows.specs.Kinds.{found_at, freed, fresh, known_at, later_of, published, taken}
 use Rattle.border_rows.specs.declared.view.Hold.{Hold}
@@ -232,5 +232,5 @@ pub returns-in-Some-clause-told_behind : goal.returns-in-Some-clause-told_behind
 returns-in-Some-clause-told_behind g c = λ q s is.
     let short = c.clears.ensures.short c.in-Some.neighbour c.in-Some.s c.in-Some.is in
     let same = behind-same c.in-Some.neighbour c.in-Some.s q s is in
-    subst (g.W.Observer.told_held c.args.observer.now c.args.self.now.terms.setup.now c.args.region) (sym short.1 ∙ ap (λ t. t + 1) same.1)
-    (subst (λ (m : MomentValue). g.W.Observer.told_held c.args.observer.now m.setup m.region m.step) c.taken.ensures.moment c.held.ensures)
+    subst (g.W.Observer.told_held c.args.observer.now (cut_run c.args.self.now.terms.setup.now) c.args.region) (sym short.1 ∙ ap (λ t. t + 1) same.1)
+    (subst (λ (m : MomentValue). g.W.Observer.told_held c.args.observer.now m.run m.region m.step) c.taken.ensures.moment c.held.ensures)

@@ -1,4 +1,5 @@
 use Rattle.std.proofs.Common.{◌+◌, ◌-◌, ◌≤◌, ℕ, sym, subst, ap, ◌∙◌, arith}
+use Rattle.region_slots.specs.Moments.{cut_run}
 use Rattle.number_deques.specs.Nests.{NestValue}
 use Rattle.worker_claim.specs.Turns.{HasWorked, turns_of}
 use Rattle.worker_claim.specs.declared.driven.Driven.{Driven}
@@ -23,6 +24,6 @@ loop-driven-preserved g c =
       subst (λ (d : Driven). HasWorked c.args.field.now.terms c.args.self.now.member.pass.knows c.work-made.new.self.member.pass.knows c.args.goal budget d) (sym c.then-driven.ensures)
           (worked-more _ _ _ _ _ budget _ one made c.loop-driven.invariant.2 c.work-made.ensures.worked fits),
       subst (λ (d : Driven). c.pause_where.new.pauses ≤ turns_of d) (sym c.then-driven.ensures) (omega (arith, c.pause_where.ensures, c.loop-driven.invariant.3, c.work-made.ensures.some)),
-      told-more (g.W.Observer.told_held c.args.observer.now c.args.field.now.terms.setup.now) (g.W.Observer.told_freed c.args.observer.now c.args.field.now.terms.setup.now) c.args.self.now.member.pass.knows.log c.loop-driven.self.member.pass.knows.log c.work-made.new.self.member.pass.knows.log
+      told-more (g.W.Observer.told_held c.args.observer.now (cut_run c.args.field.now.terms.setup.now)) (g.W.Observer.told_freed c.args.observer.now (cut_run c.args.field.now.terms.setup.now)) c.args.self.now.member.pass.knows.log c.loop-driven.self.member.pass.knows.log c.work-made.new.self.member.pass.knows.log
           c.loop-driven.invariant.4 c.work-made.ensures.told,
     )
