@@ -15,6 +15,7 @@ use Rattle.workerless_call.specs.Input.{IsInput, IsInputOf, Reads, large_input, 
 use Rattle.workerless_call.specs.Task.{Task, task_of}
 use Rattle.workerless_call.specs.Words.{IsOfWords, requested, words_refused}
 use Rattle.workerless_call.proofs.Inputs.{allowed, some_input_of}
+use Rattle.network_run.specs.Telling.{Telling, TellingOfShots}
 
 pub answer_of-words : (words : List (String Global)) (input : List ℕ) → requested words ≡ None → answer_of words input ≡ Err words_refused
 unfolding answer_of
@@ -65,14 +66,14 @@ refused_input words request left told Rose asked given =
     (given.0, rw asked given.1, rw (answer_of-request words given.0 request asked) (rw asked told_so))
 
 -- a text of the mode is one of the answer
-pub answered_text : {A : Type 0} (held freed : ℕ → ℕ → Type 0) (items : A → List ℕ) (words : List (String Global)) (request : Request) (left : Option (List ℕ)) (input : List ℕ) →
+pub answered_text : {A : Type 0} (held freed : Telling) (watched : TellingOfShots) (items : A → List ℕ) (words : List (String Global)) (request : Request) (left : Option (List ℕ)) (input : List ℕ) →
     requested words ≡ Some request → IsInput request left input → length input ≤ most_input request.mode → (result : Result A Refusal) →
     IfOk result (λ text. (why_by request.mode (task_of request input) ≡ None) × IsTextBy request.mode (task_of request input) (items text)) →
-    (IsOk result → IsToldBy held freed request.mode (task_of request input)) →
-    IfOk result (λ text. (input : List ℕ) × IsInputOf (requested words) left input × IsAnswered held freed (answer_of words input) (items text))
-answered_text held freed items words request left input asked is fits (Ok text) given told =
+    (IsOk result → IsToldBy held freed watched request.mode (task_of request input)) →
+    IfOk result (λ text. (input : List ℕ) × IsInputOf (requested words) left input × IsAnswered held freed watched (answer_of words input) (items text))
+answered_text held freed watched items words request left input asked is fits (Ok text) given told =
     (input, rw asked is, rw (answer_of-request words input request asked ∙ answer_to-fits request input fits) (rw given.0 (given.1, told refl)))
-answered_text held freed items words request left input asked is fits (Err refusal) given told = tt
+answered_text held freed watched items words request left input asked is fits (Err refusal) given told = tt
 
 -- a refusal of the mode is one of the answer
 pub answered_refusal : {A : Type 0} (words : List (String Global)) (request : Request) (left : Option (List ℕ)) (input : List ℕ) (ReadFailed : Type 0) →

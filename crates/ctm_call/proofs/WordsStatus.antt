@@ -27,6 +27,7 @@ use Rattle.workerless_call.specs.Recording.{large_record, recorded_values, why_u
 use Rattle.workerless_call.specs.Task.{Task, task_of}
 use Rattle.run_modes.specs.WatchMode.{first_why, large_shots, shown_rows, why_unshown}
 use Rattle.workerless_call.specs.Words.{requested}
+use Rattle.network_run.specs.Telling.{Telling, TellingOfShots}
 use Rattle.ctm_call.proofs.AnswerFacts.{answer_of-request, answer_of-words}
 
 -- a reason with another status
@@ -107,9 +108,9 @@ other-to : (request : Request) (input : List ℕ) → IfSome (why_in (answer_to 
 other-to request input =
     other-unless (nat_lt (most_input request.mode) (length input)) (why_by request.mode (task_of request input)) (task_of request input) (other-by request.mode (task_of request input))
 
-not-asked : (held freed : ℕ → ℕ → Type 0) (words : List (String Global)) (input : List ℕ) (IsRead ReadFailed : Type 0) (told : Status) (out err : SinkUse) (request : Request) →
-    requested words ≡ Some request → HasEnded (IsAnswered held freed (answer_of words input)) (why_in (answer_of words input)) IsRead ReadFailed told out err → told ≡ status.Words → ⊥
-not-asked held freed words input IsRead ReadFailed told out err request asked ended is = elim ended [
+not-asked : (held freed : Telling) (watched : TellingOfShots) (words : List (String Global)) (input : List ℕ) (IsRead ReadFailed : Type 0) (told : Status) (out err : SinkUse) (request : Request) →
+    requested words ≡ Some request → HasEnded (IsAnswered held freed watched (answer_of words input)) (why_in (answer_of words input)) IsRead ReadFailed told out err → told ≡ status.Words → ⊥
+not-asked held freed watched words input IsRead ReadFailed told out err request asked ended is = elim ended [
   | inl done ↦ other status.Done (λ e. omega (arith, e)) (sym done.ends ∙ is)
   | inr more ↦ elim more [
     | inl refused ↦
@@ -125,24 +126,24 @@ not-asked held freed words input IsRead ReadFailed told out err request asked en
   ]
 ]
 
-words-by : (held freed : ℕ → ℕ → Type 0) (words : List (String Global)) (input : List ℕ) (IsRead ReadFailed : Type 0) (told : Status) (out err : SinkUse) (asked : Option Request) →
-    requested words ≡ asked → HasEnded (IsAnswered held freed (answer_of words input)) (why_in (answer_of words input)) IsRead ReadFailed told out err → told ≡ status.Words → requested words ≡ None
-words-by held freed words input IsRead ReadFailed told out err None asked ended is = asked
-words-by held freed words input IsRead ReadFailed told out err (Some request) asked ended is = absurd (not-asked held freed words input IsRead ReadFailed told out err request asked ended is)
+words-by : (held freed : Telling) (watched : TellingOfShots) (words : List (String Global)) (input : List ℕ) (IsRead ReadFailed : Type 0) (told : Status) (out err : SinkUse) (asked : Option Request) →
+    requested words ≡ asked → HasEnded (IsAnswered held freed watched (answer_of words input)) (why_in (answer_of words input)) IsRead ReadFailed told out err → told ≡ status.Words → requested words ≡ None
+words-by held freed watched words input IsRead ReadFailed told out err None asked ended is = asked
+words-by held freed watched words input IsRead ReadFailed told out err (Some request) asked ended is = absurd (not-asked held freed watched words input IsRead ReadFailed told out err request asked ended is)
 
 -- a call that ends so has words that are refused
-pub words-refused : (held freed : ℕ → ℕ → Type 0) (words : List (String Global)) (input : List ℕ) (IsRead ReadFailed : Type 0) (told : Status) (out err : SinkUse) →
-    HasEnded (IsAnswered held freed (answer_of words input)) (why_in (answer_of words input)) IsRead ReadFailed told out err → told ≡ status.Words → requested words ≡ None
-words-refused held freed words input IsRead ReadFailed told out err = words-by held freed words input IsRead ReadFailed told out err (requested words) refl
+pub words-refused : (held freed : Telling) (watched : TellingOfShots) (words : List (String Global)) (input : List ℕ) (IsRead ReadFailed : Type 0) (told : Status) (out err : SinkUse) →
+    HasEnded (IsAnswered held freed watched (answer_of words input)) (why_in (answer_of words input)) IsRead ReadFailed told out err → told ≡ status.Words → requested words ≡ None
+words-refused held freed watched words input IsRead ReadFailed told out err = words-by held freed watched words input IsRead ReadFailed told out err (requested words) refl
 
 -- and with such words it ends so, unless memory was refused
-pub refused-words : (held freed : ℕ → ℕ → Type 0) (words : List (String Global)) (input : List ℕ) (IsRead Rose : Type 0) (told : Status) (out err : SinkUse) → requested words ≡ None →
-    HasEnded (IsAnswered held freed (answer_of words input)) (why_in (answer_of words input)) IsRead (Reads (requested words) × Rose) told out err →
+pub refused-words : (held freed : Telling) (watched : TellingOfShots) (words : List (String Global)) (input : List ℕ) (IsRead Rose : Type 0) (told : Status) (out err : SinkUse) → requested words ≡ None →
+    HasEnded (IsAnswered held freed watched (answer_of words input)) (why_in (answer_of words input)) IsRead (Reads (requested words) × Rose) told out err →
     (told ≡ status.Words) ⊎ (told ≡ status.NoMemory)
-refused-words held freed words input IsRead Rose told out err none ended =
+refused-words held freed watched words input IsRead Rose told out err none ended =
     let answered = answer_of-words words input none in
     elim ended [
-      | inl done ↦ absurd (subst (λ answer. IsAnswered held freed answer done.text) answered done.is_text)
+      | inl done ↦ absurd (subst (λ answer. IsAnswered held freed watched answer done.text) answered done.is_text)
       | inr more ↦ elim more [
         | inl refused ↦
             let why = subst (λ answer. why_in answer ≡ Some refused.why) answered refused.answer in
@@ -150,7 +151,7 @@ refused-words held freed words input IsRead Rose told out err none ended =
         | inr more ↦ elim more [
           | inl fault ↦ absurd (subst Reads none fault.failed.0)
           | inr more ↦ elim more [
-            | inl fault ↦ absurd (subst (λ answer. IsAnswered held freed answer fault.cut_off.text) answered fault.cut_off.is_text)
+            | inl fault ↦ absurd (subst (λ answer. IsAnswered held freed watched answer fault.cut_off.text) answered fault.cut_off.is_text)
             | inr memory ↦ inr memory.ends
           ]
         ]

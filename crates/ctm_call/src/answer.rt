@@ -28,7 +28,7 @@ pub(crate) fn answer<R: Threads + Sync, S: Source, W: Observer>(
     observer: &W,
 ) -> Result<Vec<u8>, Refusal>
     ensures text { IfOk result (λ text. (input : List ℕ) × IsInputOf (requested words.now) (S.left source.old) input
-        × IsAnswered (W.told_held observer.now) (W.told_freed observer.now) (answer_of words.now input) text.items) }
+        × IsAnswered (W.told_held observer.now) (W.told_freed observer.now) (W.told_watched observer.now) (answer_of words.now input) text.items) }
     ensures refusal { IfErr result (λ refusal. (input : List ℕ) × IsInputOf (requested words.now) (S.left source.old) input
         × IsRefusalOf (why_in (answer_of words.now input)) (Reads (requested words.now) × Rose (S.faults source.old) (S.faults source.new)) refusal) }
     ensures unread { IsUnread (requested words.now) → source.new ≡ source.old }
@@ -57,7 +57,7 @@ fn text_of<R: Threads + Sync, W: Observer>(
     requires in_range { IsInRange request }
     requires few_bytes { length input.now ≤ most_input request.mode }
     ensures text { IfOk result (λ text. (why_by request.mode (task_of request input.now) ≡ None) × IsTextBy request.mode (task_of request input.now) text.items) }
-    ensures told { IsOk result → IsToldBy (W.told_held observer.now) (W.told_freed observer.now) request.mode (task_of request input.now) }
+    ensures told { IsOk result → IsToldBy (W.told_held observer.now) (W.told_freed observer.now) (W.told_watched observer.now) request.mode (task_of request input.now) }
     ensures refusal { IfErr result (IsRefusalOf (why_by request.mode (task_of request input.now)) ⊥) }
 {
     match request.mode {

@@ -32,7 +32,7 @@ pub fn ctm<R: Threads + Sync, S: Source, O: Sink, E: Sink, W: Observer>(
     // failed where the mode reads it, a write of the text failed, or memory was refused. Where a mode that takes regions through
     // steps has its text, the observer was told of each of its regions at each step that it takes it through.
     ensures ended { (input : List ℕ) × IsInputOf (requested words.now) (S.left source.old) input
-        × HasEnded (IsAnswered (W.told_held observer.now) (W.told_freed observer.now) (answer_of words.now input)) (why_in (answer_of words.now input))
+        × HasEnded (IsAnswered (W.told_held observer.now) (W.told_freed observer.now) (W.told_watched observer.now) (answer_of words.now input)) (why_in (answer_of words.now input))
         (IsReadWhole (requested words.now) (S.left source.new))
         (Reads (requested words.now) × Rose (S.faults source.old) (S.faults source.new))
         result

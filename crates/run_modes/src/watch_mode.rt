@@ -6,7 +6,7 @@ ghost use Rattle.workerless_call.specs.Task.{task_of};
 ghost use Rattle.run_modes.specs.WatchMode.{HasShotsAndReport, IsWatchText, large_shots, shown_rows, watch_refused};
 ghost use Rattle.network_file.specs.Reading.{network_of};
 ghost use Rattle.workerless_call.specs.NetworkInput.{IsNetworkWith};
-ghost use Rattle.run_modes.specs.Told.{HasToldRun};
+ghost use Rattle.run_modes.specs.Told.{HasToldWatch};
 
 use call_ending::{Cause, Line, Refusal};
 use command_words::Request;
@@ -33,7 +33,7 @@ pub fn watch_text<R: Threads + Sync, W: Observer>(
     requires in_range { IsInRange request }
     requires few_bytes { length input.now ≤ MOST_BYTES }
     ensures text { IfOk result (λ text. (watch_refused (task_of request input.now) ≡ None) × IsWatchText (task_of request input.now) text.items) }
-    ensures told { IsOk result → IsNetworkWith (network_of input.now) (λ net. HasToldRun (W.told_held observer.now) (W.told_freed observer.now) net request) }
+    ensures told { IsOk result → IsNetworkWith (network_of input.now) (λ net. HasToldWatch (W.told_held observer.now) (W.told_freed observer.now) (W.told_watched observer.now) net request) }
     ensures refusal { IfErr result (IsRefusalOf (watch_refused (task_of request input.now)) ⊥) }
 {
     let net = match network_in(alloc, input) {
@@ -73,7 +73,7 @@ fn shots_and_report<R: Threads + Sync, W: Observer>(
 ) -> Result<Vec<u8>, NoMemory>
     requires { IsInRange request }
     ensures text { IfOk result (λ text. HasShotsAndReport net.now request text.items) }
-    ensures told { IsOk result → HasToldRun (W.told_held observer.now) (W.told_freed observer.now) net.now request }
+    ensures told { IsOk result → HasToldWatch (W.told_held observer.now) (W.told_freed observer.now) (W.told_watched observer.now) net.now request }
 {
     let _steps = net.steps;
     let every = u64::from(request.every);

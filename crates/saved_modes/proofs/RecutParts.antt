@@ -14,9 +14,9 @@ use Rattle.region_step.specs.Standing.{AllStand}
 use Rattle.region_step.specs.Start.{StartLists}
 use Rattle.snapshot.specs.Shots.{goal_of}
 use Rattle.delay_report.specs.Ended.{AreAtTheEnd}
-use Rattle.network_run.specs.Telling.{HasToldFrom}
+use Rattle.network_run.specs.Telling.{Telling}
 use Rattle.saved_modes.specs.Recutting.{IsLastPart, IsPart, part_cutting, part_cuttings, step_of}
-use Rattle.saved_modes.specs.Told.{HasToldBetween}
+use Rattle.saved_modes.specs.Told.{HasToldPart}
 use Rattle.saved_modes.specs.declared.recutting.Part.{Part}
 
 -- the regions of a part that ends at the last step stand there
@@ -51,12 +51,6 @@ cuttings-one_each cells regions parts k d within =
 pub others-one_each : (cells : ℕ) (cuts : List (List ℕ)) (cut : List ℕ) (others : List (List ℕ)) → cuts ≡ cut ∷ others → AreOneEach cells cuts → AreOneEach cells others
 others-one_each cells cuts cut others is all = λ k d within. subst (AreOneEach cells) is all (suc k) d (omega (arith, within))
 
--- regions that all start at one step were told of from there on
-pub told-between : (held freed : ℕ → ℕ → Type 0) (start : StartLists) (cut : List ℕ) (from goal : ℕ) → start.steps ≡ replicate (region_count cut) from →
-    HasToldFrom held freed (region_count cut) start.steps goal → HasToldBetween held freed (region_count cut) from goal
-told-between held freed start cut from goal steps told = λ r s within later below.
-    told r s within (omega (arith, ap (λ list. slice_index list r) steps, get_or-replicate (region_count cut) r from 0 within, later)) below
-
 -- the first goal is step 0, and no goal lies before the last one
 pub goal-first : (steps parts : ℕ) → goal_of steps parts 0 ≡ 0
 goal-first steps parts = let none : 0 * steps ≡ 0 = omega arith in omega (arith, none, div-le_self (0 * steps) parts)
@@ -67,16 +61,19 @@ goals-rise steps parts i some =
     le-div (i * steps / parts) ((i + 1) * steps) parts (omega (arith, some)) (omega (arith, more, div-mul-le_self (i * steps) parts))
 
 -- what was told of the parts before part i
-abbrev pub HasToldFirst : (held freed : ℕ → ℕ → Type 0) → (steps parts : ℕ) → (cuts : List (List ℕ)) → (i : ℕ) → Type 0
-HasToldFirst held freed steps parts cuts i = (k : ℕ) → k < i → HasToldBetween held freed (region_count (list_at cuts k)) (goal_of steps parts k) (goal_of steps parts (k + 1))
+abbrev pub HasToldFirst : (held freed : Telling) → Network → (parts : ℕ) → (cuts : List (List ℕ)) → (i : ℕ) → Type 0
+HasToldFirst held freed net parts cuts i =
+    (k : ℕ) → k < i → goal_of net.steps parts k < goal_of net.steps parts (k + 1) → HasToldPart held freed net (list_at cuts k) (goal_of net.steps parts k) (goal_of net.steps parts (k + 1))
 
 -- and of one part more
-pub told-next : (held freed : ℕ → ℕ → Type 0) (steps parts : ℕ) (cuts : List (List ℕ)) (i : ℕ) (cut : List ℕ) (from goal : ℕ) → list_at cuts i ≡ cut → from ≡ goal_of steps parts i →
-    goal ≡ goal_of steps parts (i + 1) → HasToldFirst held freed steps parts cuts i → HasToldBetween held freed (region_count cut) from goal → HasToldFirst held freed steps parts cuts (i + 1)
-told-next held freed steps parts cuts i cut from goal own begins ends before told = λ k within.
+pub told-next : (held freed : Telling) (net : Network) (parts : ℕ) (cuts : List (List ℕ)) (i : ℕ) (cut : List ℕ) (from goal : ℕ) → list_at cuts i ≡ cut → from ≡ goal_of net.steps parts i →
+    goal ≡ goal_of net.steps parts (i + 1) → HasToldFirst held freed net parts cuts i → (from < goal → HasToldPart held freed net cut from goal) → HasToldFirst held freed net parts cuts (i + 1)
+told-next held freed net parts cuts i cut from goal own begins ends before told = λ k within later.
     elim (cases_eq k i) [
-      | inl last ↦ rw (last, own, ← begins, ← ends) told
-      | inr other ↦ before k (omega (arith, within, other))
+      | inl last ↦
+          let here : goal_of net.steps parts i < goal_of net.steps parts (i + 1) = subst (λ n. goal_of net.steps parts n < goal_of net.steps parts (n + 1)) last later in
+          rw (last, own, ← begins, ← ends) (told (omega (arith, begins, ends, here)))
+      | inr other ↦ before k (omega (arith, within, other)) later
     ]
 
 -- the cuttings behind the first

@@ -2,7 +2,6 @@
 use Rattle.std.proofs.Common.{◌≡◌, ℕ, List, Option, Some, None, refl, ap, subst, sym, ◌∙◌}
 use Rattle.network_file.specs.Network.{Network}
 use Rattle.region_cut.specs.Chart.{ChartLists, chart_of}
-use Rattle.region_cut.specs.Cuttings.{region_count}
 use Rattle.region_step.specs.Start.{IsTrueStart, StartLists}
 use Rattle.saved_run.specs.Content.{Content}
 use Rattle.saved_run.specs.Loading.{CanStart, IsLoaded, cutting_in, start_in}
@@ -10,7 +9,7 @@ use Rattle.saved_run.proofs.Starting.{decide_start}
 use Rattle.delay_report.specs.FromStart.{report_from}
 use Rattle.delay_report.specs.Report.{report_of}
 use Rattle.workerless_call.specs.NetworkInput.{why_of_network}
-use Rattle.network_run.specs.Telling.{HasToldFrom}
+use Rattle.network_run.specs.Telling.{HasTold, Telling}
 use Rattle.saved_modes.specs.Told.{HasToldResume}
 use Rattle.saved_modes.specs.ResumeMode.{IsGoneOnFrom, why_by_content, why_by_cutting, why_unstarted}
 
@@ -46,12 +45,12 @@ gone-on (Some content) net chart start text loaded is plain = record {
 }
 
 -- and what was told of its run
-pub told-on : (held freed : ℕ → ℕ → Type 0) (found : Option Content) (net : Network) (chart : ChartLists) (start : StartLists) → IsLoaded found net chart start →
-    HasToldFrom held freed (region_count chart.cut) start.steps net.steps → HasToldResume held freed found
+pub told-on : (held freed : Telling) (found : Option Content) (net : Network) (chart : ChartLists) (start : StartLists) → IsLoaded found net chart start →
+    HasTold held freed (record { net = net; cut = chart.cut; start = start; every = 0 }) net.steps → HasToldResume held freed found
 told-on held freed None net chart start loaded told = absurd loaded
 told-on held freed (Some content) net chart start loaded told = record {
   net = net;
   cut = chart.cut;
   cut_so = loaded.cut_so;
-  told = subst (λ (s : StartLists). HasToldFrom held freed (region_count chart.cut) s.steps net.steps) loaded.begins told;
+  told = subst (λ (s : StartLists). HasTold held freed (record { net = net; cut = chart.cut; start = s; every = 0 }) net.steps) loaded.begins told;
 }

@@ -5,9 +5,9 @@ ghost use Rattle.region_step.specs.Standing.{AllStand};
 ghost use Rattle.region_step.specs.Start.{Fits, IsTrueStart};
 ghost use Rattle.snapshot.specs.Shots.{goal_of};
 ghost use Rattle.delay_report.specs.Report.{report_of};
-ghost use Rattle.network_run.specs.Telling.{HasToldFrom};
+ghost use Rattle.network_run.specs.Telling.{HasTold};
 ghost use Rattle.saved_modes.specs.Recutting.{IsLastPart, IsPart, step_of};
-ghost use Rattle.saved_modes.specs.Told.{HasToldBetween, HasToldParts};
+ghost use Rattle.saved_modes.specs.Told.{HasToldPart, HasToldParts};
 
 use delay_report::report_from;
 use network_file::Net;
@@ -46,7 +46,7 @@ pub fn recut_report<R: Threads + Sync, W: Observer>(
 
     // That of the plain recurrences, whatever the cuttings.
     ensures text { IfOk result (λ text. text.items ≡ report_of net.now 0) }
-    ensures told { IsOk result → HasToldParts (W.told_held observer.now) (W.told_freed observer.now) net.now.steps cuts.items }
+    ensures told { IsOk result → HasToldParts (W.told_held observer.now) (W.told_freed observer.now) net.now cuts.items }
 {
     let _steps = net.steps;
     let parts = cuts.len() as u32;
@@ -102,7 +102,7 @@ fn next_part<'n, R: Threads + Sync, W: Observer>(
     requires workers { (1 ≤ workers) × (workers ≤ 16) }
     ensures part { IfOk result (IsPart net.now) }
     ensures goal { IfOk result (λ part. part.step ≡ goal) }
-    ensures told { IsOk result → HasToldBetween (W.told_held observer.now) (W.told_freed observer.now) (region_count cut) (step_of last.entry) goal }
+    ensures told { IsOk result → HasToldPart (W.told_held observer.now) (W.told_freed observer.now) net.now cut (step_of last.entry) goal }
 {
     let layout = Layout::new(alloc, net, cut)?;
     let start = part_start(alloc, last, &layout)?;
@@ -130,7 +130,7 @@ fn part_regions<R: Threads + Sync, W: Observer>(
     requires in_time { goal ≤ layout.now.net.steps }
     requires workers { (1 ≤ workers) × (workers ≤ 16) }
     ensures stand { IfOk result (λ regions. AllStand layout.now.net layout.now.chart start 0 (replicate (region_count layout.now.chart.cut) goal) regions.items) }
-    ensures told { IsOk result → HasToldFrom (W.told_held observer.now) (W.told_freed observer.now) (region_count layout.now.chart.cut) start.steps goal }
+    ensures told { IsOk result → HasTold (W.told_held observer.now) (W.told_freed observer.now) (record { net = layout.now.net; cut = layout.now.chart.cut; start = start; every = 0 }) goal }
 {
     let setup = Setup::new(layout, start, 0);
     regions_from(rt, alloc, &setup, goal, workers, observer)

@@ -9,7 +9,7 @@ ghost use Rattle.delay_report.specs.FromStart.{report_from};
 ghost use Rattle.delay_report.specs.Report.{report_of};
 ghost use Rattle.call_ending.specs.Refusing.{IsRefusalOf};
 ghost use Rattle.saved_modes.specs.ResumeMode.{IsResumeText, resume_refused, saved_refused, why_of_fault};
-ghost use Rattle.network_run.specs.Telling.{HasToldFrom};
+ghost use Rattle.network_run.specs.Telling.{HasTold};
 ghost use Rattle.saved_modes.specs.Told.{HasToldResume};
 ghost use Rattle.workerless_call.specs.Task.{task_of};
 
@@ -66,7 +66,7 @@ fn report_on<R: Threads + Sync, W: Observer>(
 
     // Of a true start it is the report of the plain recurrences.
     ensures plain { IfOk result (λ text. IsTrueStart layout.now.net layout.now.chart.cut start → text.items ≡ report_of layout.now.net 0) }
-    ensures told { IsOk result → HasToldFrom (W.told_held observer.now) (W.told_freed observer.now) (region_count layout.now.chart.cut) start.steps layout.now.net.steps }
+    ensures told { IsOk result → HasTold (W.told_held observer.now) (W.told_freed observer.now) (record { net = layout.now.net; cut = layout.now.chart.cut; start = start; every = 0 }) layout.now.net.steps }
 {
     let regions = last_regions_from(rt, alloc, layout, start, workers, observer)?;
     let text = report_from(alloc, layout, &regions)?;
@@ -85,7 +85,7 @@ fn last_regions_from<R: Threads + Sync, W: Observer>(
     requires can_start { CanStart layout.now.net layout.now.chart.cut start }
     requires workers { (1 ≤ workers) × (workers ≤ 16) }
     ensures stand { IfOk result (λ regions. AllStand layout.now.net layout.now.chart start 0 (replicate (region_count layout.now.chart.cut) layout.now.net.steps) regions.items) }
-    ensures told { IsOk result → HasToldFrom (W.told_held observer.now) (W.told_freed observer.now) (region_count layout.now.chart.cut) start.steps layout.now.net.steps }
+    ensures told { IsOk result → HasTold (W.told_held observer.now) (W.told_freed observer.now) (record { net = layout.now.net; cut = layout.now.chart.cut; start = start; every = 0 }) layout.now.net.steps }
 {
     let net = layout.net();
     let setup = Setup::new(layout, start, 0);

@@ -18,4 +18,9 @@ returns-clause-text g c =
     }
 
 pub returns-clause-told : goal.returns-clause-told
-returns-clause-told g c = λ done. record { cut = c.in_ok-layout.layout.chart.cut; cutting = c.in_ok-layout.ensures.cutting; told = rw c.in_ok-layout.ensures.network at (c.in_ok-shots.ensures.told refl) }
+returns-clause-told g c = λ done. record {
+  cut = c.in_ok-layout.layout.chart.cut;
+  cutting = c.in_ok-layout.ensures.cutting;
+  told = rw (c.in_ok-layout.ensures.network, c.from-every.ensures) at (c.in_ok-shots.ensures.told refl);
+  shots = rw (c.in_ok-layout.ensures.network, c.from-every.ensures) at (c.in_ok-shots.ensures.told_shots refl);
+}

@@ -1,9 +1,10 @@
-use Rattle.std.proofs.Common.{ℕ, ap, arith, refl, subst, sym}
-use Rattle.region_cut.specs.Cuttings.{region_count}
-use Rattle.saved_modes.specs.Told.{HasToldBetween}
+use Rattle.std.proofs.Common.{ℕ, List, ap, arith, refl, subst, sym}
+use Rattle.network_file.specs.Network.{Network}
+use Rattle.network_run.specs.Telling.{Telling}
+use Rattle.saved_modes.specs.Told.{HasToldPart}
 use Rattle.saved_modes.specs.Recutting.{IsLastPart, IsPart, step_of}
 use Rattle.saved_modes.specs.declared.recutting.Part.{Part}
-use Rattle.saved_modes.proofs.RecutParts.{start-below, told-between}
+use Rattle.saved_modes.proofs.RecutParts.{start-below}
 use Rattle.saved_modes.proofs.recutting.next_part.Goals as goal
 
 pub part_start-requires : goal.part_start-requires
@@ -37,7 +38,15 @@ returns-clause-part g c =
 
 pub returns-clause-told : goal.returns-clause-told
 returns-clause-told g c = λ done.
-    let held : ℕ → ℕ → Type 0 = g.W.Observer.told_held c.args.observer.now in
-    let freed : ℕ → ℕ → Type 0 = g.W.Observer.told_freed c.args.observer.now in
-    subst (λ cut. HasToldBetween held freed (region_count cut) (step_of c.args.last) c.args.goal) c.in_ok-layout.ensures.cut
-    (told-between held freed c.in_ok-start.start c.in_ok-layout.layout.chart.cut (step_of c.args.last) c.args.goal c.in_ok-start.ensures.steps (c.in_ok-regions.ensures.told refl))
+    let held : Telling = g.W.Observer.told_held c.args.observer.now in
+    let freed : Telling = g.W.Observer.told_freed c.args.observer.now in
+    let net : Network = c.in_ok-layout.layout.net in
+    let cut : List ℕ = c.in_ok-layout.layout.chart.cut in
+    let told : HasToldPart held freed net cut (step_of c.args.last) c.args.goal = record {
+      start = c.in_ok-start.start;
+      steps = c.in_ok-start.ensures.steps;
+      true_start = c.in_ok-start.ensures.true_start;
+      told = c.in_ok-regions.ensures.told refl;
+    } in
+    subst (λ net. HasToldPart held freed net c.args.cut (step_of c.args.last) c.args.goal) c.in_ok-layout.ensures.network
+    (subst (λ cut. HasToldPart held freed net cut (step_of c.args.last) c.args.goal) c.in_ok-layout.ensures.cut told)

@@ -1,9 +1,10 @@
 use Rattle.std.specs.Vec.Iter.{into_iter_items}
-use Rattle.std.proofs.Common.{◌≡◌, ℕ, ◌+◌, length, arith, refl, rules, subst, sym, ◌∙◌}
+use Rattle.std.proofs.Common.{◌≡◌, ℕ, ◌+◌, ◌<◌, length, arith, refl, rules, subst, sym, ◌∙◌}
+use Rattle.network_file.specs.Network.{Network}
 use Rattle.region_cut.specs.Chart.{list_at}
-use Rattle.region_cut.specs.Cuttings.{region_count}
 use Rattle.snapshot.specs.Shots.{goal_of}
-use Rattle.saved_modes.specs.Told.{HasToldBetween}
+use Rattle.network_run.specs.Telling.{Telling}
+use Rattle.saved_modes.specs.Told.{HasToldPart}
 use Rattle.saved_modes.proofs.RecutParts.{goal-first, goals-rise, left-next, others-one_each, told-next}
 use Rattle.saved_modes.proofs.recutting.recut_report.Goals as goal
 
@@ -20,8 +21,8 @@ loop-cut-init g c = (
 
 pub loop-cut-preserved-then-goal-step_of : goal.loop-cut-preserved-then-goal-step_of
 loop-cut-preserved-then-goal-step_of g c =
-    let held : ℕ → ℕ → Type 0 = g.W.Observer.told_held c.args.observer.now in
-    let freed : ℕ → ℕ → Type 0 = g.W.Observer.told_freed c.args.observer.now in
+    let held : Telling = g.W.Observer.told_held c.args.observer.now in
+    let freed : Telling = g.W.Observer.told_freed c.args.observer.now in
     let inv = c.loop-cut.invariant in
     let steps = c.in-Some.ensures.steps in
     let left = left-next (into_iter_items c.loop-cut.cut-iterator) c.args.cuts.items (into_iter_items c.next.new.self) c.in-Some.cut c.loop-cut.i inv.5 steps.0 in (
@@ -31,13 +32,14 @@ loop-cut-preserved-then-goal-step_of g c =
       λ all. omega (arith, c.in_ok-next_part.ensures.goal, c.goal_at-goal.ensures.last all),
       c.in_ok-next_part.ensures.goal ∙ c.goal_at-goal.ensures.goal,
       left.1,
-      told-next held freed c.args.net.now.steps c.len-parts.result c.args.cuts.items c.loop-cut.i c.in-Some.cut _ c.goal_at-goal.result left.0 inv.4 c.goal_at-goal.ensures.goal inv.6 (c.in_ok-next_part.ensures.told refl),
+      told-next held freed c.args.net.now c.len-parts.result c.args.cuts.items c.loop-cut.i c.in-Some.cut _ c.goal_at-goal.result left.0 inv.4 c.goal_at-goal.ensures.goal inv.6
+          (λ later. c.in_ok-next_part.ensures.told refl),
     )
 
 pub loop-cut-preserved : goal.loop-cut-preserved
 loop-cut-preserved g c =
-    let held : ℕ → ℕ → Type 0 = g.W.Observer.told_held c.args.observer.now in
-    let freed : ℕ → ℕ → Type 0 = g.W.Observer.told_freed c.args.observer.now in
+    let held : Telling = g.W.Observer.told_held c.args.observer.now in
+    let freed : Telling = g.W.Observer.told_freed c.args.observer.now in
     let inv = c.loop-cut.invariant in
     let steps = c.in-Some.ensures.steps in
     let left = left-next (into_iter_items c.loop-cut.cut-iterator) c.args.cuts.items (into_iter_items c.next.new.self) c.in-Some.cut c.loop-cut.i inv.5 steps.0 in (
@@ -47,15 +49,16 @@ loop-cut-preserved g c =
       λ all. omega (arith, c.if-goal-step_of.false, c.step_of.ensures, c.goal_at-goal.ensures.last all),
       omega (arith, inv.4, c.if-goal-step_of.false, c.step_of.ensures, c.goal_at-goal.ensures.goal, goals-rise c.args.net.now.steps c.len-parts.result c.loop-cut.i (omega (arith, c.requires.some))),
       left.1,
-      told-next held freed c.args.net.now.steps c.len-parts.result c.args.cuts.items c.loop-cut.i c.in-Some.cut _ c.goal_at-goal.result left.0 inv.4 c.goal_at-goal.ensures.goal inv.6
-          (λ r s within later below. absurd (omega (arith, later, below, c.if-goal-step_of.false, c.step_of.ensures))),
+      told-next held freed c.args.net.now c.len-parts.result c.args.cuts.items c.loop-cut.i c.in-Some.cut _ c.goal_at-goal.result left.0 inv.4 c.goal_at-goal.ensures.goal inv.6
+          (λ later. absurd (omega (arith, later, c.if-goal-step_of.false, c.step_of.ensures))),
     )
 
 pub returns-clause-told : goal.returns-clause-told
-returns-clause-told g c = λ done k within.
-    let held : ℕ → ℕ → Type 0 = g.W.Observer.told_held c.args.observer.now in
-    let freed : ℕ → ℕ → Type 0 = g.W.Observer.told_freed c.args.observer.now in
+returns-clause-told g c = λ done k within later.
+    let held : Telling = g.W.Observer.told_held c.args.observer.now in
+    let freed : Telling = g.W.Observer.told_freed c.args.observer.now in
     let parts : c.len-parts.result ≡ length c.args.cuts.items = search rules in
     let all : c.loop-cut.i ≡ c.len-parts.result = search rules in
-    subst (λ n. HasToldBetween held freed (region_count (list_at c.args.cuts.items k)) (goal_of c.args.net.now.steps n k) (goal_of c.args.net.now.steps n (k + 1))) parts
-    (c.loop-cut.invariant.6 k (omega (arith, within, parts, all)))
+    let net : Network = c.args.net.now in
+    subst (λ n. HasToldPart held freed net (list_at c.args.cuts.items k) (goal_of net.steps n k) (goal_of net.steps n (k + 1))) parts
+    (c.loop-cut.invariant.6 k (omega (arith, within, parts, all)) (subst (λ n. goal_of net.steps n k < goal_of net.steps n (k + 1)) (sym parts) later))

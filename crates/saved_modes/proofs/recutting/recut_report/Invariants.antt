@@ -13,4 +13,4 @@ invariant-loop-cut g l =
     (l.i + into_iter_len l.cut-iterator ≡ l.parts) × All (λ cut. length cut ≡ length l.net.cells) (into_iter_items l.cut-iterator) × IsLastPart l.net l.last ×
     (l.i ≡ l.parts → l.net.steps ≤ step_of l.last) ×
     (step_of l.last ≡ goal_of l.net.steps l.parts l.i) × ((j : ℕ) → list_at (into_iter_items l.cut-iterator) j ≡ list_at l.fn.cuts.items (l.i + j)) ×
-    HasToldFirst (g.W.Observer.told_held l.observer) (g.W.Observer.told_freed l.observer) l.net.steps l.parts l.fn.cuts.items l.i
+    HasToldFirst (g.W.Observer.told_held l.observer) (g.W.Observer.told_freed l.observer) l.net l.parts l.fn.cuts.items l.i

@@ -2,12 +2,11 @@ use Rattle.std.proofs.Common.{ℕ, List, length, min, arith, ap, refl, subst, �
 use Rattle.network_file.specs.Network.{IsNetwork, Network}
 use Rattle.network_file.proofs.NetworkFacts.{few_cells}
 use Rattle.network_file.specs.Cutting.{IsCutting}
-use Rattle.region_cut.specs.Cuttings.{region_count}
 use Rattle.region_step.specs.Start.{zero_start}
 use Rattle.region_step.proofs.StartLaws.{zero_start-fits, zero_start-lawful, zero_start-true}
 use Rattle.saved_run.specs.Laws.{IsTrueShot}
 use Rattle.saved_run.specs.SavedText.{saved_text}
-use Rattle.network_run.specs.Telling.{HasTold}
+use Rattle.network_run.specs.Telling.{HasTold, Telling, zero_run}
 use Rattle.saved_modes.specs.SaveMode.{IsSavedNear}
 use Rattle.saved_modes.proofs.Saved.{shown-run}
 use Rattle.saved_modes.proofs.save_mode.saved_near.Goals as goal
@@ -43,11 +42,11 @@ returns-clause-saved g c =
 
 pub returns-clause-told : goal.returns-clause-told
 returns-clause-told g c = λ done.
-    let held : ℕ → ℕ → Type 0 = g.W.Observer.told_held c.args.observer.now in
-    let freed : ℕ → ℕ → Type 0 = g.W.Observer.told_freed c.args.observer.now in
+    let held : Telling = g.W.Observer.told_held c.args.observer.now in
+    let freed : Telling = g.W.Observer.told_freed c.args.observer.now in
     let used : List ℕ = c.in_ok-layout.layout.chart.cut in
     record {
       cut = used;
       cutting = c.in_ok-layout.ensures.cutting;
-      told = subst (λ until. HasTold held freed (region_count used) (min until c.args.net.now.steps)) c.from-until.ensures (rw c.in_ok-layout.ensures.network at (c.in_ok-room.ensures.told refl));
+      told = subst (λ until. HasTold held freed (zero_run c.args.net.now used 0) (min until c.args.net.now.steps)) c.from-until.ensures (rw c.in_ok-layout.ensures.network at (c.in_ok-room.ensures.told refl));
     }
