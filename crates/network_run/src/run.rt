@@ -58,7 +58,12 @@ impl<'a> Run<'a> {
     }
 
     /// Takes all regions to a goal.
-    pub(crate) fn take_to<R: Threads + Sync, W: Observer>(&mut self, rt: &R, goal: u64, observer: &W)
+    pub(crate) fn take_to<R: Threads + Sync, W: Observer>(
+        &mut self,
+        rt: &R,
+        goal: u64,
+        observer: &W,
+    )
         requires in_time { goal ≤ self.old.terms.setup.now.net.steps }
         requires reach { self.old.knows.reach ≤ goal }
         ensures terms { self.new.terms ≡ self.old.terms }

@@ -32,7 +32,13 @@ pub fn crew<R: Threads + Sync, W: Observer>(
 }
 
 // Drives with a member's pass.
-fn drive_member<W: Observer>(field: &Field, member: &mut Member, goal: u64, sweeps: u32, observer: &W)
+fn drive_member<W: Observer>(
+    field: &Field,
+    member: &mut Member,
+    goal: u64,
+    sweeps: u32,
+    observer: &W,
+)
     requires member { IsMemberOf field.now member.old }
     requires in_time { goal ≤ field.now.terms.setup.now.net.steps }
     ensures driven { IsDriven field.now goal sweeps member.old member.new }

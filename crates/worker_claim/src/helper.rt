@@ -76,7 +76,14 @@ impl Helper {
     // In vain once, it steals first. Where its nest keeps a number that there was no memory for it sweeps then, since it may
     // wait for that number's regions; and in vain often it sweeps too, since it may wait for those of a number that another
     // has popped and doesn't come to.
-    fn work<W: Observer>(&mut self, field: &Field, goal: u64, left: u64, vain: u32, observer: &W) -> Driven
+    fn work<W: Observer>(
+        &mut self,
+        field: &Field,
+        goal: u64,
+        left: u64,
+        vain: u32,
+        observer: &W,
+    ) -> Driven
         requires helper { IsHelperOf field.now self.old }
         requires in_time { goal ≤ field.now.terms.setup.now.net.steps }
         requires some { 1 ≤ left }

@@ -10,7 +10,13 @@ use crate::driven::Driven;
 use region_slots::{Field, Observer, Pass};
 
 /// One turn on each region, in order of number from `first` on and round.
-pub fn sweep<W: Observer>(field: &Field, pass: &mut Pass, goal: u64, first: u32, observer: &W) -> Driven
+pub fn sweep<W: Observer>(
+    field: &Field,
+    pass: &mut Pass,
+    goal: u64,
+    first: u32,
+    observer: &W,
+) -> Driven
     requires belongs { IsPassOf field.now pass.old }
     requires there { first < region_count field.now.terms.setup.now.chart.cut }
     requires in_time { goal ≤ field.now.terms.setup.now.net.steps }

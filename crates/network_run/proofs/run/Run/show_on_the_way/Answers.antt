@@ -87,10 +87,10 @@ returns-in_default-clause-told_before g c =
       c.enlist.new.pass.knows.seen,
       subst (λ (run : RunValue). g.W.Observer.told_watched c.args.observer.now (cut_run run.terms.setup.now) c.enlist.new.pass.knows.seen false) c.self.view_is c.drive_watched-shot.ensures.told_shot.0,
       (λ r there.
-      let here : r < region_count c.self.inside.field.terms.setup.now.chart.cut = omega (arith, there, ap (λ (run : RunValue). region_count run.terms.setup.now.chart.cut) c.self.view_is) in (
-        omega (arith, ap (λ l. slice_index l r) c.enlist.ensures.knows.0, ap (λ (run : RunValue). slice_index run.knows.seen r) c.self.view_is),
-        taken.later r here,
-      )),
+          let here : r < region_count c.self.inside.field.terms.setup.now.chart.cut = omega (arith, there, ap (λ (run : RunValue). region_count run.terms.setup.now.chart.cut) c.self.view_is) in (
+            omega (arith, ap (λ l. slice_index l r) c.enlist.ensures.knows.0, ap (λ (run : RunValue). slice_index run.knows.seen r) c.self.view_is),
+            taken.later r here,
+          )),
     )
 
 pub returns-in_default-clause-told_after : goal.returns-in_default-clause-told_after
@@ -110,10 +110,10 @@ returns-in-Busy-clause-told_before g c =
       c.finish.new.pass.knows.seen,
       subst (λ (run : RunValue). g.W.Observer.told_watched c.args.observer.now (cut_run run.terms.setup.now) c.finish.new.pass.knows.seen false) c.self.view_is c.watch.ensures.told.0,
       (λ r there.
-      let here : r < region_count c.self.inside.field.terms.setup.now.chart.cut = omega (arith, there, ap (λ (run : RunValue). region_count run.terms.setup.now.chart.cut) c.self.view_is) in (
-        omega (arith, ap (λ l. slice_index l r) c.enlist.ensures.knows.0, ap (λ (run : RunValue). slice_index run.knows.seen r) c.self.view_is, shot.unmoved.seen.later r, c.dismiss.ensures.later r, c.finish.ensures.keeps.seen.later r),
-        taken.later r here,
-      )),
+          let here : r < region_count c.self.inside.field.terms.setup.now.chart.cut = omega (arith, there, ap (λ (run : RunValue). region_count run.terms.setup.now.chart.cut) c.self.view_is) in (
+            omega (arith, ap (λ l. slice_index l r) c.enlist.ensures.knows.0, ap (λ (run : RunValue). slice_index run.knows.seen r) c.self.view_is, shot.unmoved.seen.later r, c.dismiss.ensures.later r, c.finish.ensures.keeps.seen.later r),
+            taken.later r here,
+          )),
     )
 
 pub returns-in-Busy-clause-told_after : goal.returns-in-Busy-clause-told_after

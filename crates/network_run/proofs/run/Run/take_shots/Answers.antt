@@ -55,7 +55,7 @@ loop-i-preserved g c =
       (λ r there. omega (arith, came.done r (omega (arith, there, count)), goal)),
       subst (AreFirstShots net cut c.args.shots (i + 1)) (sym text) (shots-more net cut c.args.shots i c.loop-i.text.items room.steps inv.4 shot),
       told-more (g.W.Observer.told_held c.args.observer.now (cut_run terms.setup.now)) (g.W.Observer.told_freed c.args.observer.now (cut_run terms.setup.now)) c.args.self.now.knows.log c.loop-i.self.knows.log c.show_on_the_way.new.self.knows.log inv.5
-      (subst (λ (t : Terms). AreTold (g.W.Observer.told_held c.args.observer.now (cut_run t.setup.now)) (g.W.Observer.told_freed c.args.observer.now (cut_run t.setup.now)) c.loop-i.self.knows.log c.show_on_the_way.new.self.knows.log) same came.told),
+          (subst (λ (t : Terms). AreTold (g.W.Observer.told_held c.args.observer.now (cut_run t.setup.now)) (g.W.Observer.told_freed c.args.observer.now (cut_run t.setup.now)) c.loop-i.self.knows.log c.show_on_the_way.new.self.knows.log) same came.told),
       (λ k below. elim (cases_lt k i) [
         | inl earlier ↦ inv.6 k earlier
         | inr late ↦ subst (λ n. HasToldShot (g.W.Observer.told_watched c.args.observer.now) (cut_run terms.setup.now) (goal_of net.steps c.args.shots n) (goal_of net.steps c.args.shots (n + 1))) (sym (this k i late below)) (record {
