@@ -6,6 +6,7 @@ use std::marker::Model;
 
 /// A region of a field that stands at a step in the hands of whoever takes it on. Only the field makes moments, when they
 /// come, so that nobody can tell of one that was not.
+#[derive(Drop)]
 pub struct Moment<'f, 'a> {
     field: &'f Field<'a>,
     region: u32,
@@ -93,6 +94,7 @@ impl<'f, 'a> Moment<'f, 'a> {
 
 /// The regions of a field as a watcher knows them who is about to take a snapshot, or is done with it. Only the field makes
 /// them, right before and right after the shot.
+#[derive(Drop)]
 pub struct Sight<'f, 'a> {
     field: &'f Field<'a>,
     pass: &'f Pass,

@@ -50,9 +50,9 @@ impl<'a> Field<'a> {
         ensures shot { IsShotOf self.now.terms tries pass.old.knows pass.new.knows room.old room.new result }
         ensures told { W.told_watched observer.now (cut_run self.now.terms.setup.now) pass.old.knows.seen false × W.told_watched observer.now (cut_run self.now.terms.setup.now) pass.new.knows.seen true }
     {
-        observer.watched(&Sight::of(self, pass, false));
+        observer.watched(&Sight::of(&*self, pass, false));
         let shot = self.shot(pass, room, tries);
-        observer.watched(&Sight::of(self, pass, true));
+        observer.watched(&Sight::of(&*self, pass, true));
         shot
     }
 

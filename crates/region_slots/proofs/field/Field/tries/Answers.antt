@@ -234,3 +234,7 @@ returns-in-Some-clause-told_behind g c = λ q s is.
     let same = behind-same c.in-Some.neighbour c.in-Some.s q s is in
     subst (g.W.Observer.told_held c.args.observer.now (cut_run c.args.self.now.terms.setup.now) c.args.region) (sym short.1 ∙ ap (λ t. t + 1) same.1)
     (subst (λ (m : MomentValue). g.W.Observer.told_held c.args.observer.now m.run m.region m.step) c.taken.ensures.moment c.held.ensures)
+
+-- what was published last
+pub published-requires-clause-last : goal.published-requires-clause-last
+published-requires-clause-last g c = (c.clears.new.seat.me.0.log, ap (λ m. m.0.log) c.rises.ensures.risen)
