@@ -80,7 +80,7 @@ impl<'a> Run<'a> {
         ensures terms { IsOk result → self.new.terms ≡ self.old.terms }
         ensures reach { IsOk result → self.new.knows.reach ≤ layout.now.net.steps }
         ensures told { IsOk result → AreTold (W.told_held observer.now (cut_run self.old.terms.setup.now)) (W.told_freed observer.now (cut_run self.old.terms.setup.now)) self.old.knows.log self.new.knows.log }
-        ensures told_shots { IsOk result → HasToldShots (W.told_watched observer.now) self.old.terms.setup.now shots }
+        ensures told_shots { IsOk result → HasToldShots (W.told_watched observer.now) (cut_run self.old.terms.setup.now) shots }
         ensures last { IsOk result → AllReach (region_count layout.now.chart.cut) layout.now.net.steps self.new.knows }
         ensures shots { IsOk result → AreShots layout.now.net layout.now.chart.cut shots text.new.items }
     {
