@@ -36,7 +36,8 @@ pub(crate) fn report_in<R: Threads + Wait + Sync, W: Observer>(
         Ok(net) => net,
         Err(refusal) => return Err(refusal),
     };
-    Ok(report_of_run(rt, alloc, &net, workers, observer)?)
+    let text = report_of_run(rt, alloc, &net, workers, observer)?;
+    Ok(text)
 }
 
 // The report of a network.
