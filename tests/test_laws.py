@@ -1,5 +1,7 @@
 """The laws of delay and queues of docs/MODEL.md in the records of the lane drop, with the numbers that stand there."""
 
+from bisect import bisect_right
+from itertools import pairwise
 from pathlib import Path
 
 import pytest
@@ -62,6 +64,26 @@ def test_the_wait_in_a_cell_is_the_area_between_its_curves(name, lane_drop):
     strips = [came - went for came, went in zip(lane_drop.arrivals(name), lane_drop.gone[name][1:])]
     assert min(strips) >= 0
     assert sum(strips) == lane_drop.wait[name]
+
+
+def steps_waited(came, gone, part):
+    """The steps that a part has waited by the last one of the curves: one that is still there goes at the next or later."""
+    return max(0, bisect_right(gone, part) - bisect_right(came, part) - 1)
+
+
+@pytest.mark.parametrize("last", [400, 806, 808, 1260])
+def test_the_wait_in_a_cell_is_what_its_parts_have_waited(last, lane_drop):
+    came, gone = lane_drop.arrivals("m20")[: last + 1], lane_drop.gone["m20"][: last + 1]
+    # Parts between two of these numbers come and go together.
+    groups = pairwise(sorted({0, *came, *gone}))
+    waited = sum((end - part) * steps_waited(came, gone, part) for part, end in groups)
+    assert waited == sum(lane_drop.held["m20"][:last]) - gone[last]
+
+
+@pytest.mark.parametrize(("last", "waited"), [(803, 0), (806, 2), (808, 3), (1_440, 3)])
+def test_a_part_waits_for_all_its_steps_but_one(last, waited, lane_drop):
+    came, gone = lane_drop.arrivals("m20")[: last + 1], lane_drop.gone["m20"][: last + 1]
+    assert steps_waited(came, gone, vehicles(8_000) - 1) == waited
 
 
 def test_a_part_leaves_after_those_before_it(lane_drop):

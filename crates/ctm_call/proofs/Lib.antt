@@ -1,3 +1,4 @@
 pub mod AnswerFacts
 pub mod Called
+pub mod SavedThenResumed
 pub mod WordsStatus

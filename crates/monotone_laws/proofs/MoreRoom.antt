@@ -40,7 +40,7 @@ eased-by-rooms net room more =
       one_each = length-map net.cells wider;
       cells = λ i a b here there.
           subst (IsRoomier a) (same_cell (wider a) b (sym (slice_get-map wider net.cells i ∙ ap (option_map wider) here) ∙ there))
-          (record { kind = refl; num = refl; den = refl; first = refl; room = more a });
+          (record { kind = refl; first = refl; room = more a; ratio = omega arith });
       capacity = λ i t has before. omega arith;
       green = λ i t has before is. is;
     }

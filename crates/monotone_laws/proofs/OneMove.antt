@@ -1,6 +1,6 @@
 -- One move by a link, as plain numbers: by u at most what has gone out of a cell in one network passes what has in the other.
 use Rattle.std.proofs.Common.{◌≡◌, inl, inr, ℕ, Bool, true, false, min, ◌+◌, ◌-◌, ◌*◌, ◌/◌, ◌≤◌, ap, arith, refl}
-use Rattle.std.proofs.Math.Nat.{div-mul-le_self, mul-le-mul_left, mul-le-mul_right}
+use Rattle.std.proofs.Math.Nat.{div-mul-le_self, le_of_mul-le-mul_right, mul-le-mul_left, mul-le-mul_right}
 use Rattle.std.proofs.lemmas.Bool.{cases_lt}
 use Rattle.std.proofs.lemmas.Nat.{le-div}
 use Rattle.ordinary_link.specs.Sending.{sending_flow}
@@ -33,6 +33,19 @@ pub space_on : (a b x y g h : ℕ) → 1 ≤ b → a ≤ b → x + g ≤ y + h �
 space_on a b x y g h some ratio space less =
     let more : a * x / b ≤ a * y / b + (h - g) = floors a b x y (h - g) some ratio (omega arith) in
     omega arith
+
+-- at no lower a ratio of as much empty space no less can be received
+pub ratio_on : (a b c d y : ℕ) → 1 ≤ b → 1 ≤ d → a * d ≤ c * b → a * y / b ≤ c * y / d
+ratio_on a b c d y some too ratio =
+    let q : ℕ = a * y / b in
+    let first : q * b ≤ a * y = div-mul-le_self (a * y) b in
+    let second : q * b * d ≤ a * y * d = mul-le-mul_right d first in
+    let third : a * d * y ≤ c * b * y = mul-le-mul_right y ratio in
+    let whole : q * d * b ≤ c * y * b = grind (arith, second, third, swap q b d, swap a y d, swap c b y) in
+    le-div q (c * y) d too (le_of_mul-le-mul_right {k = b} whole some)
+  where
+    swap : (m n k : ℕ) → m * n * k ≡ m * k * n
+    swap m n k = grind arith
 
 -- what a cell sends, and what it has sent, where the one that it sends to can receive r
 pub sends_on : (g h n m q p r s u : ℕ) (green shown : Bool) → g ≤ h + u → n + g ≤ m + h + u → q ≤ p → (green ≡ true → shown ≡ true) →

@@ -19,7 +19,7 @@ use Rattle.monotone_laws.specs.Eased.{IsEased, IsRoomier}
 use Rattle.monotone_laws.specs.Links.{HasLinksAlone}
 use Rattle.monotone_laws.proofs.Linked.{IsLinked, linked-down, linked-up}
 use Rattle.monotone_laws.proofs.Curves.{carried, come, come-linked, gone, gone-linked, held, held-gone}
-use Rattle.monotone_laws.proofs.OneMove.{sends_on, space_on}
+use Rattle.monotone_laws.proofs.OneMove.{ratio_on, sends_on, space_on}
 
 -- two networks of links alone, of which the second is eased
 pub record AreEased (one two : Network) : Type 0 where
@@ -76,14 +76,17 @@ sends one two t i r s u both before has stays gone_i come_i receives =
     (green_at one.plan i t) (green_at two.plan i t) gone_i all (both.eased.capacity i t has before) (both.eased.green i t has before) receives
 
 -- what a cell of this kind receives
-receives_on : (kind : Kind) (a b : Cell) (g h m n q p u : ℕ) → IsSoundCell a → IsRoomier a b → q ≤ p → g ≤ h + u →
+receives_on : (kind : Kind) (a b : Cell) (g h m n q p u : ℕ) → IsSoundCell a → IsSoundCell b → IsRoomier a b → q ≤ p → g ≤ h + u →
     (is_road kind ≡ true → a.room - m + g ≤ b.room - n + (h + u)) →
     g + receiving_flow m q (room_by kind a) ≤ h + receiving_flow n p (room_by kind b) + u
-receives_on Road a b g h m n q p u sound roomier capacity gone_i space =
-    let more = space_on a.num a.den (a.room - m) (b.room - n) g (h + u) (omega (arith, sound.positive, sound.ratio)) sound.ratio (space refl) gone_i in
-    rw (roomier.num, roomier.den) (omega (arith, more))
-receives_on Gate a b g h m n q p u sound roomier capacity gone_i space = omega arith
-receives_on Exit a b g h m n q p u sound roomier capacity gone_i space = omega arith
+receives_on Road a b g h m n q p u sound sound_too roomier capacity gone_i space =
+    let some : 1 ≤ a.den = omega (arith, sound.positive, sound.ratio) in
+    let too : 1 ≤ b.den = omega (arith, sound_too.positive, sound_too.ratio) in
+    let more = space_on a.num a.den (a.room - m) (b.room - n) g (h + u) some sound.ratio (space refl) gone_i in
+    let wider = ratio_on a.num a.den b.num b.den (b.room - n) some too roomier.ratio in
+    omega (arith, more, wider)
+receives_on Gate a b g h m n q p u sound sound_too roomier capacity gone_i space = omega arith
+receives_on Exit a b g h m n q p u sound sound_too roomier capacity gone_i space = omega arith
 
 -- the empty space of the road downstream, and what has come into it
 space : (one two : Network) (t i j u : ℕ) → AreEased one two → IsLinked one i j → t ≤ one.steps → is_road_at one.cells j ≡ true →
@@ -115,6 +118,7 @@ receives one two t i j u both linked before gone_i gone_j =
     let a : Cell = cells.0 in
     let b : Cell = cells.1 in
     let sound : IsSoundCell a = All-at IsSoundCell one.cells j a cells.2 both.first.sound.sound_cells in
+    let sound_too : IsSoundCell b = All-at IsSoundCell two.cells j b cells.3 both.second.sound.sound_cells in
     let room : is_road a.kind ≡ true → a.room - held one t j + gone one t i ≤ b.room - held two t j + (gone two t i + u) = λ road.
     let road_here : is_road_at one.cells j ≡ true = rw cells.2 road in
     let road_there : is_road_at two.cells j ≡ true = rw cells.3 (rw cells.4.kind road) in
@@ -122,7 +126,7 @@ receives one two t i j u both linked before gone_i gone_j =
     rw (cells.2, cells.3) at (space one two t i j u both linked (omega arith) road_here road_there more gone_j) in
     rw (cells.2, cells.3, cells.4.kind) (
     receives_on a.kind a b (gone one t i) (gone two t i) (held one t j) (held two t j) (capacity_at one.plan j t) (capacity_at two.plan j t) u
-    sound cells.4 (both.eased.capacity j t has before) gone_i room
+    sound sound_too cells.4 (both.eased.capacity j t has before) gone_i room
     )
 
 -- the step: by u at most what has gone out of the cell passes what has in the eased network

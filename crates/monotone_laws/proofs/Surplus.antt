@@ -14,7 +14,7 @@ use Rattle.monotone_laws.proofs.Curves.{come, come-linked, gone}
 use Rattle.monotone_laws.proofs.OneStep.{AreEased, linked-too, one-step, same-gate}
 use Rattle.monotone_laws.proofs.RunningMost.{le-most_by, most_by, most_by-next, most_by-rising, most_by-same}
 
--- two networks of links alone, of the same rooms, capacities and greens
+-- two networks of links alone, of the same rooms, ratios, capacities and greens
 pub record AreBusier (one two : Network) : Type 0 where
   pub first : IsNetwork one
   pub second : IsNetwork two

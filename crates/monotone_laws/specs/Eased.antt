@@ -1,20 +1,19 @@
 -- When a network lets through no less than another.
-use Rattle.std.specs.Prelude.{◌≡◌, ℕ, ◌<◌, ◌≤◌, length, slice_get, Some, true}
+use Rattle.std.specs.Prelude.{◌≡◌, ℕ, ◌*◌, ◌<◌, ◌≤◌, length, slice_get, Some, true}
 use Rattle.signal_plan.specs.Capacity.{capacity_at}
 use Rattle.signal_plan.specs.Green.{green_at}
 use Rattle.network_file.specs.Network.{Network}
 use Rattle.network_file.specs.declared.cell.Cell.{Cell}
 
--- the second cell has no less room, and else they are the same but for their names
+-- the second cell has no less room and no lower ratio A/B, and else they are the same but for their names
 pub record IsRoomier (one two : Cell) : Type 0 where
   pub kind : two.kind ≡ one.kind
-  pub num : two.num ≡ one.num
-  pub den : two.den ≡ one.den
   pub first : two.first ≡ one.first
   pub room : one.room ≤ two.room
+  pub ratio : one.num * two.den ≤ two.num * one.den
 
--- the second network has the same links, no fewer steps, rooms and capacities no less, and green wherever the first has it;
--- nothing is said of the demands
+-- the second network has the same links, no fewer steps, rooms, ratios and capacities no less, and green wherever the first
+-- has it; nothing is said of the demands
 pub record IsEased (one two : Network) : Type 0 where
   pub steps : one.steps ≤ two.steps
   pub connectors : two.connectors ≡ one.connectors
@@ -23,7 +22,7 @@ pub record IsEased (one two : Network) : Type 0 where
   pub capacity : (i t : ℕ) → i < length one.cells → t < one.steps → capacity_at one.plan i t ≤ capacity_at two.plan i t
   pub green : (i t : ℕ) → i < length one.cells → t < one.steps → green_at one.plan i t ≡ true → green_at two.plan i t ≡ true
 
--- each is eased against the other, so that steps, rooms, capacities and greens are the same
+-- each is eased against the other, so that steps, rooms, ratios, capacities and greens are the same
 pub record AreAlike (one two : Network) : Type 0 where
   pub there : IsEased one two
   pub back : IsEased two one

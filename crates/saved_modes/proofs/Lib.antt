@@ -1,4 +1,5 @@
 pub mod RecutParts
 pub mod Resumed
+pub mod ResumedAs
 pub mod Resuming
 pub mod Saved

@@ -13,7 +13,8 @@ use Rattle.network_run.specs.Telling.{HasTold, Telling}
 use Rattle.saved_modes.specs.Told.{HasToldResume}
 use Rattle.saved_modes.specs.ResumeMode.{IsGoneOnFrom, why_by_content, why_by_cutting, why_unstarted}
 
-can-start : {P : Type 0} (test : Dec P) → P → why_unstarted test ≡ None
+-- nothing stands against a start that can be made
+pub can-start : {P : Type 0} (test : Dec P) → P → why_unstarted test ≡ None
 can-start (yes can) holds = refl
 can-start (no cannot) holds = absurd (cannot holds)
 

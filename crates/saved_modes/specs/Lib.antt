@@ -1,5 +1,6 @@
 pub mod RecutMode
 pub mod Recutting
 pub mod ResumeMode
+pub mod ResumedAs
 pub mod SaveMode
 pub mod Told

@@ -13,10 +13,12 @@ use Rattle.saved_run.specs.Reading.{content_of}
 use Rattle.saved_run.specs.SavedText.{saved_text}
 use Rattle.saved_run.specs.declared.row_line.RowLine.{RowLine}
 use Rattle.network_run.specs.Near.{near_end}
+use Rattle.delay_report.specs.Report.{report_of}
 use Rattle.call_ending.specs.Refusing.{Why}
 use Rattle.workerless_call.specs.NetworkInput.{IsNetworkWith, why_of_network}
 use Rattle.workerless_call.specs.Task.{Task}
 use Rattle.workerless_call.specs.UsedCutting.{IsCuttingOf}
+use Rattle.saved_modes.specs.ResumedAs.{IsResumedAs}
 
 abbrev pub save_refused : Task → Option Why
 save_refused task = why_of_network (network_of task.input) (λ net. None)
@@ -53,6 +55,8 @@ pub record IsSavedRun (net : Network) (request : Request) (input : List ℕ) (te
   pub cut : List ℕ
   pub cutting : IsCuttingOf net request cut
   pub near : IsSavedNear net cut request.until input text
+  -- `resume` ends it with the report of the plain recurrences, which `run` writes where nothing is recorded
+  pub resumed : IsResumedAs (report_of net 0) text
 
 abbrev pub IsSaveText : Task → List ℕ → Type 0
 IsSaveText task text = IsNetworkWith (network_of task.input) (λ net. IsSavedRun net task.request task.input text)

@@ -3,6 +3,7 @@ pub mod Fronts
 pub mod Heads
 pub mod Turns
 pub mod Texts
+pub mod Lengths
 pub mod Cuttings
 pub mod Shown
 pub mod Starts

@@ -1,5 +1,6 @@
 pub mod Content
 pub mod SavedText
+pub mod SavedLength
 pub mod Numbers
 pub mod Fronts
 pub mod Reading

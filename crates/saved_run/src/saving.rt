@@ -7,6 +7,7 @@ ghost use Rattle.saved_run.specs.Futures.{IsMoment};
 ghost use Rattle.saved_run.specs.Laws.{BeginsTrue, IsTrueShot};
 ghost use Rattle.saved_run.specs.Loading.{start_in};
 ghost use Rattle.saved_run.specs.Reading.{content_of};
+ghost use Rattle.saved_run.specs.SavedLength.{most_saved};
 ghost use Rattle.saved_run.specs.SavedText.{saved_text};
 ghost use Rattle.saved_run.specs.Shown.{content_shown};
 
@@ -29,6 +30,9 @@ pub fn save_text(
     requires network { length network.now ≤ MOST_BYTES }
     ensures text { IfOk result (λ text. text.items ≡ saved_text (content_shown layout.now.chart.cut room.now network.now)) }
 
+    // It is no longer than 39,390,544 bytes.
+    ensures short { IfOk result (λ text. length text.items ≤ most_saved) }
+
     // It is read as the same content.
     ensures reads { IfOk result (λ text. content_of text.items ≡ Some (content_shown layout.now.chart.cut room.now network.now)) }
 
@@ -40,6 +44,8 @@ pub fn save_text(
     ensures moment { IfOk result (λ _. (net : Network) → IsTrueShot network.now net layout.now.chart.cut (zero_start net layout.now.chart.cut) room.now →
         IsMoment net layout.now.chart.cut (start_in (content_shown layout.now.chart.cut room.now network.now))) }
 {
+    let net = layout.net();
+    let _steps = net.steps;
     let mut text = Vec::new(alloc);
     put_counted_line(&mut text, b"saved,1", u64::from(layout.regions()))?;
     put_step_lines(&mut text, room.steps())?;

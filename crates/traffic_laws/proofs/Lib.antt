@@ -2,3 +2,4 @@ pub mod Areas
 pub mod Bottlenecks
 pub mod CellSteps
 pub mod Travels
+pub mod Waits

@@ -3,3 +3,4 @@ pub mod Bottleneck
 pub mod Curves
 pub mod TimeSpent
 pub mod Times
+pub mod Waits

@@ -23,7 +23,7 @@ abbrev pub TakesAStep : (first : ℕ) → (come gone : List ℕ) → Travel → 
 TakesAStep first come gone travel =
     (net : Network) (i : ℕ) → AreCurvesOf net i first come gone → IsEarlierBy 1 travel.enters travel.leaves
 
--- no part overtakes one before it
+-- no part overtakes one before it; so it is by any curves, since the parts are numbered so
 abbrev pub KeepsOrder : (first : ℕ) → (come gone : List ℕ) → (k : ℕ) → Travel → Type 0
 KeepsOrder first come gone k travel =
     (before : ℕ) → before ≤ k →

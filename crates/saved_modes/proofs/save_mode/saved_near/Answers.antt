@@ -8,6 +8,7 @@ use Rattle.saved_run.specs.Laws.{IsTrueShot}
 use Rattle.saved_run.specs.SavedText.{saved_text}
 use Rattle.network_run.specs.Telling.{HasTold, Telling, zero_run}
 use Rattle.saved_modes.specs.SaveMode.{IsSavedNear}
+use Rattle.saved_modes.proofs.ResumedAs.{begins-resumed_as}
 use Rattle.saved_modes.proofs.Saved.{shown-run}
 use Rattle.saved_modes.proofs.save_mode.saved_near.Goals as goal
 
@@ -38,6 +39,7 @@ returns-clause-saved g c =
       cut = used;
       cutting = c.in_ok-layout.ensures.cutting;
       near = subst (λ until. IsSavedNear net c.in_ok-layout.layout.chart.cut until c.args.input.now c.in_ok-text.text.items) c.from-until.ensures near;
+      resumed = begins-resumed_as net used c.in_ok-text.text.items sound near.begins c.in_ok-text.ensures.short;
     }
 
 pub returns-clause-told : goal.returns-clause-told
