@@ -3,7 +3,7 @@ ghost use Rattle.std.specs.Prelude.{◌≤◌};
 use call_ending::Status;
 use ctm_call::ctm;
 use ctm_ports::{MemSink, MemSource, SureSink, SureSource};
-use region_slots::{Observer, NoObserver};
+use region_slots::{NoObserver, Observer};
 use std::alloc::{AllocError, Global};
 use std::panic::Expect;
 use std::process::Abort;
@@ -139,6 +139,14 @@ fn call_over<R: Threads + Sync>(
     mut out: MemSink,
     mut err: MemSink,
 ) -> Ended<MemSink> {
-    let status = ctm(rt, alloc, words, &mut source, &mut out, &mut err, &NoObserver);
+    let status = ctm(
+        rt,
+        alloc,
+        words,
+        &mut source,
+        &mut out,
+        &mut err,
+        &NoObserver,
+    );
     Ended { status, out, err }
 }

@@ -27,8 +27,19 @@ const CHAIN_ENDED: &str =
 row,1,2000000,8000000,6000000,0,2000000; row,2,2000000,6000000,4000000,0,2000000; \
 row,3,4000000,4000000,0,0,2000000; net";
 
+// The corridor, whose file gives it one region.
+const IN_ONE_REGION: &str =
+    "ctm,2; steps,3; gate,in,2,0; road,a,6,2,1,2,0; exit,out,2; link,in,a; link,a,out; \
+demand,in,0,1,4; region,in,0; region,a,0; region,out,0";
+
+// A made network of three cells and 42 steps.
+const SAMPLE: &str = "sample,1,0,3,2,42; total,0.000000,58.068940,58.068940,262.344330";
+
 // The steps 0 to 3 as bits.
 const ALL_FOUR: u64 = 0b1111;
+
+// The steps 0 to 41.
+const STEPS_TO_41: u64 = (1 << 42) - 1;
 
 // The gate of the chain is a step ahead of the rest.
 const CHAIN_SHOT: &str =
@@ -110,39 +121,77 @@ fn a_run_is_saved_while_a_worker_is_on_its_way(rt: HostRuntime) {
     );
 }
 
+// Looks whether the text of a call is the lines of these texts, and at which steps each region was held.
+fn check_held<R: Abort + Threads + Sync>(
+    rt: &R,
+    alloc: Global,
+    words: &str,
+    input: &[&str],
+    texts: &[&str],
+    held: [u64; 4],
+) {
+    let observer = Notes::new();
+    call_gives(rt, alloc, words, input, &observer, texts, true);
+    assert_eq!(rt; observer.steps(), held, "{words}");
+}
+
+#[test]
+fn a_run_is_in_as_many_regions_as_were_asked_for(rt: HostRuntime) {
+    let words = "run --regions 2";
+    let held = [ALL_FOUR, ALL_FOUR, 0, 0];
+    check_held(&rt, rt.alloc(), words, &[CHAIN], &[CHAIN_REPORT], held);
+}
+
+#[test]
+fn a_sample_is_in_as_many_regions_as_were_asked_for(rt: HostRuntime) {
+    let words = "sample --size 1 --seed 0 --regions 3";
+    let held = [STEPS_TO_41, STEPS_TO_41, STEPS_TO_41, 0];
+    check_held(&rt, rt.alloc(), words, &[], &[SAMPLE], held);
+}
+
+// The gate from step 1, and the rest from step 0.
 #[test]
 fn regions_go_on_from_their_own_steps(rt: HostRuntime) {
-    let observer = Notes::new();
+    let held = [0b1110, ALL_FOUR, ALL_FOUR, ALL_FOUR];
     let saved = [CHAIN_AHEAD, CHAIN];
-    call_gives(
+    check_held(
         &rt,
         rt.alloc(),
         "resume --workers 2",
         &saved,
-        &observer,
         &[CHAIN_REPORT],
-        true,
+        held,
     );
-    let held = [0b1110, ALL_FOUR, ALL_FOUR, ALL_FOUR];
-    assert_eq!(rt; observer.steps(), held, "the observer was held from step 1 on");
 }
 
+// Two regions up to step 1, and three from there on.
 #[test]
 fn each_part_of_a_run_is_in_regions_of_its_own(rt: HostRuntime) {
-    let observer = Notes::new();
     let words = "recut --parts 2 --regions 2";
-    call_gives(
+    let held = [0b111, 0b111, 0b110, 0];
+    check_held(
         &rt,
         rt.alloc(),
         words,
         &[CORRIDOR],
-        &observer,
         &[CORRIDOR_REPORT],
-        true,
+        held,
     );
-    assert_eq!(rt;
-        observer.steps(),
-        [0b111, 0b111, 0b110, 0],
-        "two regions up to step 1, and three from there on"
-    );
+}
+
+#[test]
+fn a_file_s_regions_are_those_of_a_run_and_not_those_of_its_parts(rt: HostRuntime) {
+    for (words, held) in [
+        ("run --regions 3", [0b111, 0, 0, 0]),
+        ("recut --parts 2 --regions 2", [0b111, 0b111, 0b110, 0]),
+    ] {
+        check_held(
+            &rt,
+            rt.alloc(),
+            words,
+            &[IN_ONE_REGION],
+            &[CORRIDOR_REPORT],
+            held,
+        );
+    }
 }

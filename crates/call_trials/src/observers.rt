@@ -1,4 +1,4 @@
-use region_slots::Observer;
+use region_slots::{Moment, Observer, Sight};
 use std::sync::atomic::{AtomicU64, Ordering};
 
 // An observer that notes which of four regions was held at which of 64 steps.
@@ -35,22 +35,23 @@ impl Notes {
 impl Observer for Notes {
     ghost use Rattle.std.specs.Prelude.{⊤};
 
-    ghost told_held = { λ observer region step. ⊤ };
+    ghost told_held = { λ observer run region step. ⊤ };
 
-    ghost told_freed = { λ observer region step. ⊤ };
+    ghost told_freed = { λ observer run region step. ⊤ };
 
-    ghost told_watched = { λ observer done. ⊤ };
+    ghost told_watched = { λ observer run seen done. ⊤ };
 
-    fn held(&self, region: u32, step: u64) {
+    fn held(&self, moment: &Moment) {
+        let (region, step) = (moment.region(), moment.step());
         if region < 4 && step < 64 {
             let noted = &self.noted[region as usize];
             noted.store(noted.load(Ordering::SeqCst) | 1 << step, Ordering::SeqCst);
         }
     }
 
-    fn freed(&self, region: u32, step: u64) {}
+    fn freed(&self, moment: &Moment) {}
 
-    fn watched(&self, done: bool) {}
+    fn watched(&self, sight: &Sight) {}
 }
 
 // An observer at which the worker that holds region 0 at step 0 and the one that holds region 2 at step 1 wait for each other, so
@@ -103,24 +104,24 @@ fn is_set_in_time(flag: &AtomicU64) -> bool {
 impl Observer for Meeting {
     ghost use Rattle.std.specs.Prelude.{⊤};
 
-    ghost told_held = { λ observer region step. ⊤ };
+    ghost told_held = { λ observer run region step. ⊤ };
 
-    ghost told_freed = { λ observer region step. ⊤ };
+    ghost told_freed = { λ observer run region step. ⊤ };
 
-    ghost told_watched = { λ observer done. ⊤ };
+    ghost told_watched = { λ observer run seen done. ⊤ };
 
-    fn held(&self, region: u32, step: u64) {
-        self.notes.held(region, step);
-        match (region, step) {
+    fn held(&self, moment: &Moment) {
+        self.notes.held(moment);
+        match (moment.region(), moment.step()) {
             (0, 0) => meet(&self.first, &self.second, &self.first_met),
             (2, 1) => meet(&self.second, &self.first, &self.second_met),
             _ => {}
         }
     }
 
-    fn freed(&self, region: u32, step: u64) {}
+    fn freed(&self, moment: &Moment) {}
 
-    fn watched(&self, done: bool) {}
+    fn watched(&self, sight: &Sight) {}
 }
 
 // An observer at which the watcher waits until region 0 was taken to step 1, and the worker who took it until the watcher has
@@ -152,23 +153,23 @@ impl Glance {
 impl Observer for Glance {
     ghost use Rattle.std.specs.Prelude.{⊤};
 
-    ghost told_held = { λ observer region step. ⊤ };
+    ghost told_held = { λ observer run region step. ⊤ };
 
-    ghost told_freed = { λ observer region step. ⊤ };
+    ghost told_freed = { λ observer run region step. ⊤ };
 
-    ghost told_watched = { λ observer done. ⊤ };
+    ghost told_watched = { λ observer run seen done. ⊤ };
 
-    fn held(&self, region: u32, step: u64) {}
+    fn held(&self, moment: &Moment) {}
 
-    fn freed(&self, region: u32, step: u64) {
-        if region == 0 && step == 1 {
+    fn freed(&self, moment: &Moment) {
+        if moment.region() == 0 && moment.step() == 1 {
             self.moved.store(1, Ordering::SeqCst);
             self.wait_for(&self.shown);
         }
     }
 
-    fn watched(&self, done: bool) {
-        if done {
+    fn watched(&self, sight: &Sight) {
+        if sight.done() {
             self.shown.store(1, Ordering::SeqCst);
         } else {
             self.wait_for(&self.moved);

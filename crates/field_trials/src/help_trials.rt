@@ -72,7 +72,14 @@ pub(crate) fn a_helper_alone<R: Abort + Threads + Sync>(
     let (_other, own) = two_nests(alloc, (way.other, way.own), 4).expect(rt, "memory");
     let mut helper = helper_at(&field, pass, own, way.first);
     let helpers = slice::from_mut(&mut helper);
-    crew_hints(rt, &field, helpers, way.goal.min(last), way.sweeps, &observer);
+    crew_hints(
+        rt,
+        &field,
+        helpers,
+        way.goal.min(last),
+        way.sweeps,
+        &observer,
+    );
     let want = counts(way.moved, way.behind, way.ended, way.all);
     assert_eq!(rt; helper.member.driven, want);
     assert_eq!(rt; observer.all_worked(), way.worked);

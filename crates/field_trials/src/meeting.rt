@@ -1,5 +1,5 @@
 use crate::pause::wait_for;
-use region_slots::Observer;
+use region_slots::{Moment, Observer, Sight};
 use std::sync::atomic::{AtomicU64, Ordering};
 
 // Whether one of two that wait for each other has come, and whether it has met the other, however often it comes.
@@ -58,14 +58,14 @@ impl Meeting {
 impl Observer for Meeting {
     ghost use Rattle.std.specs.Prelude.{⊤};
 
-    ghost told_held = { λ observer region step. ⊤ };
+    ghost told_held = { λ observer run region step. ⊤ };
 
-    ghost told_freed = { λ observer region step. ⊤ };
+    ghost told_freed = { λ observer run region step. ⊤ };
 
-    ghost told_watched = { λ observer done. ⊤ };
+    ghost told_watched = { λ observer run seen done. ⊤ };
 
-    fn held(&self, region: u32, step: u64) {
-        let (own, other) = match (region, step) {
+    fn held(&self, moment: &Moment) {
+        let (own, other) = match (moment.region(), moment.step()) {
             (0, 0) => (&self.first, &self.second),
             (2, 1) => (&self.second, &self.first),
             _ => return,
@@ -74,7 +74,7 @@ impl Observer for Meeting {
         own.waits_for(other);
     }
 
-    fn freed(&self, region: u32, step: u64) {}
+    fn freed(&self, moment: &Moment) {}
 
-    fn watched(&self, done: bool) {}
+    fn watched(&self, sight: &Sight) {}
 }

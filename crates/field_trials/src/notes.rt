@@ -1,4 +1,4 @@
-use region_slots::Observer;
+use region_slots::{Moment, Observer, Sight};
 use std::sync::atomic::{AtomicU64, Ordering};
 
 // An observer that notes what it is told, as the digits of two numbers: one digit for each region at which a turn began to work,
@@ -38,22 +38,25 @@ fn note(number: &AtomicU64, digit: u64) {
 }
 
 impl Observer for Notes {
-    ghost use Rattle.std.specs.Prelude.{⊤};
+    ghost use Rattle.std.specs.Prelude.{⊤, ◌<◌, ◌≤◌};
+    ghost use Rattle.region_cut.specs.Cuttings.{region_count};
 
-    ghost told_held = { λ observer region step. ⊤ };
+    // The region is one of the run.
+    ghost told_held = { λ observer run region step. region < region_count run.cut };
 
-    ghost told_freed = { λ observer region step. ⊤ };
+    // And the step is one of its network.
+    ghost told_freed = { λ observer run region step. (region < region_count run.cut) × (step ≤ run.net.steps) };
 
-    ghost told_watched = { λ observer done. ⊤ };
+    ghost told_watched = { λ observer run seen done. ⊤ };
 
-    fn held(&self, region: u32, step: u64) {
-        note(&self.worked, u64::from(region) + 1);
+    fn held(&self, moment: &Moment) {
+        note(&self.worked, u64::from(moment.region()) + 1);
     }
 
-    fn freed(&self, region: u32, step: u64) {
-        note(&self.freed, u64::from(region) + 1);
-        note(&self.freed, step);
+    fn freed(&self, moment: &Moment) {
+        note(&self.freed, u64::from(moment.region()) + 1);
+        note(&self.freed, moment.step());
     }
 
-    fn watched(&self, done: bool) {}
+    fn watched(&self, sight: &Sight) {}
 }

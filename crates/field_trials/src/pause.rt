@@ -1,5 +1,5 @@
 use crate::notes::Notes;
-use region_slots::Observer;
+use region_slots::{Moment, Observer, Sight};
 use std::sync::atomic::{AtomicU64, Ordering};
 
 // An observer at which a turn that holds a region waits for a while until another turn or a shot was tried. It notes what it is
@@ -46,23 +46,23 @@ pub(crate) fn wait_for(flag: &AtomicU64) -> bool {
 impl Observer for Pause {
     ghost use Rattle.std.specs.Prelude.{⊤};
 
-    ghost told_held = { λ observer region step. ⊤ };
+    ghost told_held = { λ observer run region step. ⊤ };
 
-    ghost told_freed = { λ observer region step. ⊤ };
+    ghost told_freed = { λ observer run region step. ⊤ };
 
-    ghost told_watched = { λ observer done. ⊤ };
+    ghost told_watched = { λ observer run seen done. ⊤ };
 
-    fn held(&self, region: u32, step: u64) {
-        self.notes.held(region, step);
-        if region == self.region {
+    fn held(&self, moment: &Moment) {
+        self.notes.held(moment);
+        if moment.region() == self.region {
             self.held.store(1, Ordering::SeqCst);
             wait_for(&self.tried);
         }
     }
 
-    fn freed(&self, region: u32, step: u64) {
-        self.notes.freed(region, step);
+    fn freed(&self, moment: &Moment) {
+        self.notes.freed(moment);
     }
 
-    fn watched(&self, done: bool) {}
+    fn watched(&self, sight: &Sight) {}
 }

@@ -3,7 +3,7 @@ ghost use Rattle.region_slots.specs.FieldView.{IsPassOf};
 
 use crate::meanwhile::turn_during_a_turn;
 use crate::notes::Notes;
-use region_slots::{Closed, Field, Observer, NoObserver, Pass, Turn};
+use region_slots::{Closed, Field, NoObserver, Observer, Pass, Turn};
 use std::process::Abort;
 use std::thread::Threads;
 

@@ -1,5 +1,6 @@
 ghost use Rattle.std.specs.Prelude.{◌≡◌, ◌≤◌};
 ghost use Rattle.region_slots.specs.FieldView.{IsPassOf};
+ghost use Rattle.region_slots.specs.Moments.{AreTold, cut_run};
 ghost use Rattle.parked_crew.specs.Parking.{IsBrought};
 
 use crate::board::Board;
@@ -20,7 +21,8 @@ pub(crate) fn work<R: Wait, W: Observer>(
 )
     requires belongs { IsPassOf field.now pass.old }
     requires in_time { goal ≤ field.now.terms.setup.now.net.steps }
-    ensures { IsBrought field.now goal pass.old pass.new }
+    ensures brought { IsBrought field.now goal pass.old pass.new }
+    ensures told { AreTold (W.told_held observer.now (cut_run field.now.terms.setup.now)) (W.told_freed observer.now (cut_run field.now.terms.setup.now)) pass.old.knows.log pass.new.knows.log }
 {
     for _ in rt.forever() {
         let count = board.count(rt);

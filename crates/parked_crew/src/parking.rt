@@ -1,6 +1,8 @@
 ghost use Rattle.std.specs.Prelude.{◌≡◌, ◌≤◌};
 ghost use Rattle.region_slots.specs.FieldView.{IsPassOf};
+ghost use Rattle.region_slots.specs.Moments.{AreTold, cut_run};
 ghost use Rattle.parked_crew.specs.Parking.{AreBrought, ArePassesOf, IsBrought};
+ghost use Rattle.parked_crew.specs.Telling.{ArePassesTold};
 
 use crate::board::Board;
 use crate::member::work;
@@ -22,11 +24,12 @@ pub fn parked<R: Threads + Wait + Sync, W: Observer>(
     requires passes { ArePassesOf field.now passes.old }
     requires in_time { goal ≤ field.now.terms.setup.now.net.steps }
     ensures brought { AreBrought field.now goal passes.old passes.new }
+    ensures told { ArePassesTold (W.told_held observer.now (cut_run field.now.terms.setup.now)) (W.told_freed observer.now (cut_run field.now.terms.setup.now)) passes.old passes.new }
 {
     let threads = passes.len().max(1);
     let member = move |_k: usize, pass: &mut Pass|
         requires { IsPassOf field.now pass.old × (goal ≤ field.now.terms.setup.now.net.steps) }
-        ensures { IsBrought field.entry.now goal pass.old pass.new }
+        ensures { IsBrought field.entry.now goal pass.old pass.new × AreTold (W.told_held observer.entry.now (cut_run field.entry.now.terms.setup.now)) (W.told_freed observer.entry.now (cut_run field.entry.now.terms.setup.now)) pass.old.knows.log pass.new.knows.log }
     { work(rt, field, pass, goal, board, observer) };
     for_each_mut(rt, passes, threads, &member);
 }

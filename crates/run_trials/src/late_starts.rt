@@ -2,7 +2,7 @@ ghost use Rattle.std.specs.Prelude.{◌≡◌, length};
 ghost use Rattle.region_cut.specs.LawfulSteps.{AreLawful};
 ghost use Rattle.region_step.specs.Start.{Fits};
 
-use crate::networks::network;
+use crate::networks::{CORRIDOR, network};
 use flow_model::Row;
 use network_file::Net;
 use network_run::regions_from;
@@ -15,11 +15,6 @@ use std::process::Abort;
 use std::test::Fail;
 use std::thread::Threads;
 use step_words::is_lawful;
-
-// A gate, a road and an exit.
-const CORRIDOR: &str =
-    "ctm,1; steps,3; gate,in,2,0; road,a,6,2,1,2,0; exit,out,2; link,in,a; link,a,out; \
-demand,in,0,1,4";
 
 // Of the gate, its notes at the steps 2 and 3.
 const GATE_NOTES: [Note; 2] = [
@@ -54,7 +49,7 @@ const REST_NOTES: [Note; 6] = [
 
 // The gate at step 2, and the rest at step 1.
 fn gate_ahead(alloc: Global) -> Result<Start, AllocError> {
-    let observer = Row {
+    let gate = Row {
         n: 2_000_000,
         come: 4_000_000,
         gone: 2_000_000,
@@ -68,7 +63,7 @@ fn gate_ahead(alloc: Global) -> Result<Start, AllocError> {
     };
     Ok(Start {
         steps: vec![in alloc; 2, 1]?,
-        rows: vec![in alloc; observer, empty, empty]?,
+        rows: vec![in alloc; gate, empty, empty]?,
         earlier: vec![in alloc; 4_000_000, 0, 0]?,
     })
 }
@@ -126,12 +121,12 @@ fn check_notes<R: Abort + Threads + Sync>(
     alloc: Global,
     net: &Net,
     every: u64,
-    observer: &[Note],
+    gate: &[Note],
     rest: &[Note],
 ) -> Result<(), NoMemory> {
     let regions = recorded_from_there(rt, alloc, net, every)?;
     assert!(rt; regions.len() == 2);
-    assert_eq!(rt; regions[0].trail(), observer, "every {every}");
+    assert_eq!(rt; regions[0].trail(), gate, "every {every}");
     assert_eq!(rt; regions[1].trail(), rest, "every {every}");
     Ok(())
 }
@@ -140,13 +135,13 @@ fn check_notes<R: Abort + Threads + Sync>(
 #[test]
 fn regions_are_noted_from_their_starts_on(rt: HostRuntime) -> Result<(), Fail> {
     let net = network(&rt, rt.alloc(), CORRIDOR)?;
-    for (every, observer, rest) in [
+    for (every, gate, rest) in [
         (1, GATE_NOTES.as_slice(), REST_NOTES.as_slice()),
         (2, GATE_NOTES.as_slice(), &REST_NOTES[2..]),
         (3, &GATE_NOTES[1..], &REST_NOTES[4..]),
         (0, &[], &[]),
     ] {
-        check_notes(&rt, rt.alloc(), &net, every, observer, rest)?;
+        check_notes(&rt, rt.alloc(), &net, every, gate, rest)?;
     }
     Ok(())
 }

@@ -4,7 +4,7 @@ ghost use Rattle.region_slots.specs.FieldView.{IsPassOf};
 
 use flow_ledger::Books;
 use region_cut::Layout;
-use region_slots::{Field, Observer, Pass, Shot};
+use region_slots::{Field, Moment, Observer, Pass, Shot, Sight};
 use snapshot::ShotRoom;
 use std::alloc::Global;
 use std::sync::atomic::{AtomicU64, Ordering};
@@ -66,16 +66,16 @@ impl Found {
 impl Observer for Found {
     ghost use Rattle.std.specs.Prelude.{⊤};
 
-    ghost told_held = { λ observer region step. ⊤ };
+    ghost told_held = { λ observer run region step. ⊤ };
 
-    ghost told_freed = { λ observer region step. ⊤ };
+    ghost told_freed = { λ observer run region step. ⊤ };
 
-    ghost told_watched = { λ observer done. ⊤ };
+    ghost told_watched = { λ observer run seen done. ⊤ };
 
-    fn held(&self, region: u32, step: u64) {}
+    fn held(&self, moment: &Moment) {}
 
-    fn freed(&self, region: u32, step: u64) {
-        if step == LAST / 2 {
+    fn freed(&self, moment: &Moment) {
+        if moment.step() == LAST / 2 {
             for _ in 0..1_000_000_000 {
                 if self.midway() > 0 {
                     return;
@@ -84,7 +84,7 @@ impl Observer for Found {
         }
     }
 
-    fn watched(&self, done: bool) {}
+    fn watched(&self, sight: &Sight) {}
 }
 
 // Has four passes call the field at once: two take turns, one looks, and one shoots.

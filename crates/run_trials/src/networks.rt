@@ -7,6 +7,11 @@ use std::alloc::Global;
 use std::process::Abort;
 use std::test::Fail;
 
+// A gate, a road and an exit.
+pub(crate) const CORRIDOR: &str =
+    "ctm,1; steps,3; gate,in,2,0; road,a,6,2,1,2,0; exit,out,2; link,in,a; link,a,out; \
+demand,in,0,1,4";
+
 // The network of a text, in which `; ` stands for a line end.
 pub(crate) fn network<R: Abort>(rt: &R, alloc: Global, text: &str) -> Result<Net, Fail> {
     let file = text.replace(alloc, "; ", "\n")?;

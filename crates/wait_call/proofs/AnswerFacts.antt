@@ -10,7 +10,9 @@ use Rattle.workerless_call.specs.Input.{large_input}
 use Rattle.workerless_call.specs.NetworkInput.{why_of_network}
 use Rattle.workerless_call.specs.Words.{words_refused}
 use Rattle.workerless_call.proofs.Inputs.{allowed, some_input}
-use Rattle.wait_call.specs.Answer.{IsTextOf, answer_by, answer_of, answer_of_file, answer_to, most_input, why_in}
+use Rattle.network_run.specs.Telling.{Telling}
+use Rattle.wait_call.specs.Answer.{answer_by, answer_of, answer_of_file, answer_to, most_input, why_in}
+use Rattle.wait_call.specs.Telling.{IsAnswered}
 use Rattle.wait_call.specs.Words.{workers_asked}
 
 pub answer_to-too_large : (input : List ℕ) → most_input < length input → answer_to input ≡ Err large_input
@@ -63,11 +65,11 @@ refused_input words workers left Rose told accepts given = (
 )
 
 -- the report of an input is one that the words ask for
-pub answered_text : {A : Type 0} (items : A → List ℕ) (words : List (String Global)) (workers : ℕ) (left : Option (List ℕ)) (input : List ℕ) → workers_asked words ≡ Some workers →
-    IfSome left (λ bytes. input ≡ bytes) → (result : Result A Refusal) → IfOk result (λ text. IsTextOf (answer_to input) (items text)) →
-    IfOk result (λ text. (input : List ℕ) × IfSome left (λ bytes. input ≡ bytes) × IsTextOf (answer_of words input) (items text))
-answered_text items words workers left input accepts is (Ok text) given = (input, is, subst (λ answer. IsTextOf answer (items text)) (sym (answer_of-workers words input workers accepts)) given)
-answered_text items words workers left input accepts is (Err told) given = tt
+pub answered_text : {A : Type 0} (held freed : Telling) (items : A → List ℕ) (words : List (String Global)) (workers : ℕ) (left : Option (List ℕ)) (input : List ℕ) → workers_asked words ≡ Some workers →
+    IfSome left (λ bytes. input ≡ bytes) → (result : Result A Refusal) → IfOk result (λ text. IsAnswered held freed (answer_to input) (items text)) →
+    IfOk result (λ text. (input : List ℕ) × IfSome left (λ bytes. input ≡ bytes) × IsAnswered held freed (answer_of words input) (items text))
+answered_text held freed items words workers left input accepts is (Ok text) given = (input, is, subst (λ answer. IsAnswered held freed answer (items text)) (sym (answer_of-workers words input workers accepts)) given)
+answered_text held freed items words workers left input accepts is (Err told) given = tt
 
 -- and so is a refusal
 pub answered_refusal : {A : Type 0} (words : List (String Global)) (workers : ℕ) (left : Option (List ℕ)) (input : List ℕ) (ReadFailed : Type 0) → workers_asked words ≡ Some workers →

@@ -11,19 +11,21 @@ use Rattle.call_ending.specs.declared.status.Status.{Status}
 use Rattle.call_ending.specs.declared.status.Status.TheVariants as status
 use Rattle.call_ending.proofs.Ended.{ended-unwritten, ended-written}
 use Rattle.workerless_call.specs.Input.{large_input}
-use Rattle.wait_call.specs.Answer.{IsTextOf, answer_by, answer_of, answer_of_file, most_input, why_in}
+use Rattle.network_run.specs.Telling.{Telling}
+use Rattle.wait_call.specs.Answer.{answer_by, answer_of, answer_of_file, most_input, why_in}
+use Rattle.wait_call.specs.Telling.{IsAnswered}
 
-pub called : {A : Type 0} (words : List (String Global)) (left : Option (List ℕ)) (IsRead ReadFailed : Type 0) (told : Status) (out err : SinkUse)
+pub called : {A : Type 0} (held freed : Telling) (words : List (String Global)) (left : Option (List ℕ)) (IsRead ReadFailed : Type 0) (told : Status) (out err : SinkUse)
     (items : A → List ℕ) (answer : Result A Refusal) →
-    IfOk answer (λ text. (input : List ℕ) × IfSome left (λ bytes. input ≡ bytes) × IsTextOf (answer_of words input) (items text)) →
+    IfOk answer (λ text. (input : List ℕ) × IfSome left (λ bytes. input ≡ bytes) × IsAnswered held freed (answer_of words input) (items text)) →
     IfErr answer (λ refusal. (input : List ℕ) × IfSome left (λ bytes. input ≡ bytes) × IsRefusalOf (why_in (answer_of words input)) ReadFailed refusal) →
     OnOk answer IsRead →
     IfOk answer (λ text. HasWritten (items text) told out err) →
     IfErr answer (λ refusal. IsUnwritten (status_of refusal) (line_of refusal) told out err) →
-    (input : List ℕ) × IfSome left (λ bytes. input ≡ bytes) × HasEnded (IsTextOf (answer_of words input)) (why_in (answer_of words input)) IsRead ReadFailed told out err
-called words left IsRead ReadFailed told out err items (Ok text) given refused read written unwritten =
+    (input : List ℕ) × IfSome left (λ bytes. input ≡ bytes) × HasEnded (IsAnswered held freed (answer_of words input)) (why_in (answer_of words input)) IsRead ReadFailed told out err
+called held freed words left IsRead ReadFailed told out err items (Ok text) given refused read written unwritten =
     (given.0, given.1, ended-written _ _ IsRead ReadFailed told out err (items text) given.2 read written)
-called words left IsRead ReadFailed told out err items (Err refusal) given refused read written unwritten =
+called held freed words left IsRead ReadFailed told out err items (Err refusal) given refused read written unwritten =
     (refused.0, refused.1, ended-unwritten _ _ IsRead ReadFailed told out err refusal refused.2 unwritten)
 
 -- where the words are refused it ends so
@@ -49,9 +51,9 @@ other-by None input why answered is = refl
 other-by (Some workers) input why answered is =
     absurd (subst (λ (some : Option Why). IfSome some (λ w. w.status ≡ status.Words → ⊥)) answered (other-unless (nat_lt most_input (length input)) (network_of input)) is)
 
-pub words-told : (asked : Option ℕ) (input : List ℕ) (IsRead ReadFailed : Type 0) (told : Status) (out err : SinkUse) →
-    HasEnded (IsTextOf (answer_by asked input)) (why_in (answer_by asked input)) IsRead ReadFailed told out err → told ≡ status.Words → asked ≡ None
-words-told asked input IsRead ReadFailed told out err ended is = elim ended [
+pub words-told : (held freed : Telling) (asked : Option ℕ) (input : List ℕ) (IsRead ReadFailed : Type 0) (told : Status) (out err : SinkUse) →
+    HasEnded (IsAnswered held freed (answer_by asked input)) (why_in (answer_by asked input)) IsRead ReadFailed told out err → told ≡ status.Words → asked ≡ None
+words-told held freed asked input IsRead ReadFailed told out err ended is = elim ended [
   | inl done ↦ absurd (other status.Done (λ e. omega (arith, e)) (sym done.ends ∙ is))
   | inr more ↦ elim more [
     | inl refused ↦ other-by asked input refused.why refused.answer (sym refused.ends ∙ is)

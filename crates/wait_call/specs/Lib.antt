@@ -1,3 +1,4 @@
 pub mod Answer
 pub mod Seats
+pub mod Telling
 pub mod Words

@@ -4,7 +4,8 @@ ghost use Rattle.ctm_ports.specs.Count.{Rose};
 ghost use Rattle.ctm_ports.specs.ReadEnd.{LosesAtMost};
 ghost use Rattle.call_ending.specs.Refusing.{IsRefusalOf, status_of};
 ghost use Rattle.call_ending.specs.declared.status.Status.TheVariants as status;
-ghost use Rattle.wait_call.specs.Answer.{IsTextOf, answer_of, most_read, why_in};
+ghost use Rattle.wait_call.specs.Answer.{answer_of, most_read, why_in};
+ghost use Rattle.wait_call.specs.Telling.{IsAnswered};
 ghost use Rattle.wait_call.specs.Words.{workers_asked};
 
 use crate::input::input_of;
@@ -26,7 +27,7 @@ pub(crate) fn answer<R: Threads + Wait + Sync, S: Source, W: Observer>(
     observer: &W,
 ) -> Result<Vec<u8>, Refusal>
     ensures text { IfOk result (λ text. (input : List ℕ) × IfSome (S.left source.old) (λ bytes. input ≡ bytes)
-        × IsTextOf (answer_of words.now input) text.items) }
+        × IsAnswered (W.told_held observer.now) (W.told_freed observer.now) (answer_of words.now input) text.items) }
     ensures refusal { IfErr result (λ refusal. (input : List ℕ) × IfSome (S.left source.old) (λ bytes. input ≡ bytes)
         × IsRefusalOf (why_in (answer_of words.now input)) ((workers_asked words.now ≢ None) × Rose (S.faults source.old) (S.faults source.new)) refusal) }
     ensures words { IfErr result (λ refusal. workers_asked words.now ≡ None → status_of refusal ≡ status.Words) }

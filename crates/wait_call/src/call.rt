@@ -4,7 +4,8 @@ ghost use Rattle.ctm_ports.specs.Count.{Rose};
 ghost use Rattle.ctm_ports.specs.ReadEnd.{LosesAtMost};
 ghost use Rattle.call_ending.specs.Ending.{HasEnded, sink_use};
 ghost use Rattle.call_ending.specs.declared.status.Status.TheVariants as status;
-ghost use Rattle.wait_call.specs.Answer.{IsTextOf, answer_of, most_read, why_in};
+ghost use Rattle.wait_call.specs.Answer.{answer_of, most_read, why_in};
+ghost use Rattle.wait_call.specs.Telling.{IsAnswered};
 ghost use Rattle.wait_call.specs.Words.{workers_asked};
 
 use crate::answer::answer;
@@ -30,9 +31,10 @@ pub fn ctm_wait<R: Threads + Wait + Sync, S: Source, O: Sink, E: Sink, W: Observ
 ) -> Status
     // There is an input, which is what the source has left where it tells it, and by the answer to the words and this input
     // the call ended in one of five ways: it is done, the answer is a refusal, a read of the source failed where the words
-    // ask for a run, a write of the report failed, or memory was refused.
+    // ask for a run, a write of the report failed, or memory was refused. Where there is a report the observer was told of each
+    // step of the network, in the file's cutting or in the even one into 64 regions or as many as there are cells.
     ensures ended { (input : List ℕ) × IfSome (S.left source.old) (λ bytes. input ≡ bytes)
-        × HasEnded (IsTextOf (answer_of words.now input)) (why_in (answer_of words.now input))
+        × HasEnded (IsAnswered (W.told_held observer.now) (W.told_freed observer.now) (answer_of words.now input)) (why_in (answer_of words.now input))
         (IsAtEnd (S.left source.new))
         ((workers_asked words.now ≢ None) × Rose (S.faults source.old) (S.faults source.new))
         result

@@ -1,7 +1,8 @@
-ghost use Rattle.std.specs.Prelude.{◌≡◌, ◌≤◌, IfErr, IfOk, length};
+ghost use Rattle.std.specs.Prelude.{◌≡◌, ◌≤◌, IfErr, IfOk, IsOk, length};
 ghost use Rattle.delay_report.specs.Report.{report_of};
 ghost use Rattle.call_ending.specs.Refusing.{IsRefusalOf};
-ghost use Rattle.wait_call.specs.Answer.{IsTextOf, answer_to, most_input, why_in};
+ghost use Rattle.wait_call.specs.Answer.{answer_to, most_input, why_in};
+ghost use Rattle.wait_call.specs.Telling.{HasToldRun, IsAnswered};
 
 use crate::waiting_run::last_regions;
 use call_ending::Refusal;
@@ -28,14 +29,15 @@ pub(crate) fn report_in<R: Threads + Wait + Sync, W: Observer>(
 ) -> Result<Vec<u8>, Refusal>
     requires few_bytes { length input.now ≤ most_input }
     requires workers { (1 ≤ workers) × (workers ≤ 16) }
-    ensures text { IfOk result (λ text. IsTextOf (answer_to input.now) text.items) }
+    ensures text { IfOk result (λ text. IsAnswered (W.told_held observer.now) (W.told_freed observer.now) (answer_to input.now) text.items) }
     ensures refusal { IfErr result (IsRefusalOf (why_in (answer_to input.now)) ⊥) }
 {
     let net = match network_in(alloc, input) {
         Ok(net) => net,
         Err(refusal) => return Err(refusal),
     };
-    Ok(report_of_run(rt, alloc, &net, workers, observer)?)
+    let text = report_of_run(rt, alloc, &net, workers, observer)?;
+    Ok(text)
 }
 
 // The report of a network.
@@ -47,7 +49,8 @@ fn report_of_run<R: Threads + Wait + Sync, W: Observer>(
     observer: &W,
 ) -> Result<Vec<u8>, NoMemory>
     requires { (1 ≤ workers) × (workers ≤ 16) }
-    ensures { IfOk result (λ text. text.items ≡ report_of net.now 0) }
+    ensures text { IfOk result (λ text. text.items ≡ report_of net.now 0) }
+    ensures told { IsOk result → HasToldRun (W.told_held observer.now) (W.told_freed observer.now) net.now }
 {
     let _steps = net.steps;
     let layout = charted(alloc, net, REGIONS)?;

@@ -1,9 +1,12 @@
-ghost use Rattle.std.specs.Prelude.{◌≡◌, ◌+◌, ◌≤◌, IfOk, All, [], length, replicate, vec_capacity};
+ghost use Rattle.std.specs.Prelude.{◌≡◌, ◌+◌, ◌≤◌, IfOk, IsOk, All, [], length, replicate, vec_capacity};
 ghost use Rattle.region_cut.specs.Cuttings.{region_count};
 ghost use Rattle.region_step.specs.Standing.{AllStand};
 ghost use Rattle.region_step.specs.Start.{zero_start};
 ghost use Rattle.region_slots.specs.FieldView.{IsPassOf};
+ghost use Rattle.region_slots.specs.Moments.{AreTold, cut_run};
+ghost use Rattle.network_run.specs.Telling.{HasTold, zero_run};
 ghost use Rattle.parked_crew.specs.Parking.{HasSeenAll};
+ghost use Rattle.parked_crew.specs.Telling.{ArePassesTold};
 ghost use Rattle.wait_call.specs.Seats.{HasCome, IsSeat};
 
 use crate::seats::{share_off, unite_all};
@@ -17,7 +20,7 @@ use std::sync::Wait;
 use std::thread::Threads;
 
 /// The regions of a layout at the last step, recorded at none, taken there from step 0 by so many workers that wait where
-/// they would sweep in vain. All memory is taken before the first step.
+/// they would sweep in vain. The observer is told of each of their steps. All memory is taken before the first step.
 pub(crate) fn last_regions<R: Threads + Wait + Sync, W: Observer>(
     rt: &R,
     alloc: Global,
@@ -26,8 +29,9 @@ pub(crate) fn last_regions<R: Threads + Wait + Sync, W: Observer>(
     observer: &W,
 ) -> Result<Vec<Region>, NoMemory>
     requires workers { (1 ≤ workers) × (workers ≤ 16) }
-    ensures { IfOk result (λ regions. AllStand layout.now.net layout.now.chart (zero_start layout.now.net layout.now.chart.cut) 0
+    ensures stand { IfOk result (λ regions. AllStand layout.now.net layout.now.chart (zero_start layout.now.net layout.now.chart.cut) 0
         (replicate (region_count layout.now.chart.cut) layout.now.net.steps) regions.items) }
+    ensures told { IsOk result → HasTold (W.told_held observer.now) (W.told_freed observer.now) (zero_run layout.now.net layout.now.chart.cut 0) layout.now.net.steps }
 {
     let net = layout.net();
     let last = net.steps;
@@ -60,6 +64,7 @@ fn take_to_last<R: Threads + Wait + Sync, W: Observer>(
     ensures share { pass.new.knows.share ≡ pass.old.knows.share }
     ensures reach { pass.new.knows.reach ≤ last }
     ensures seen { HasSeenAll (region_count field.now.terms.setup.now.chart.cut) last pass.new.knows }
+    ensures told { AreTold (W.told_held observer.now (cut_run field.now.terms.setup.now)) (W.told_freed observer.now (cut_run field.now.terms.setup.now)) pass.old.knows.log pass.new.knows.log }
 {
     share_off(field, pass, passes, workers);
     park(rt, field, passes, last, observer);
@@ -78,6 +83,7 @@ fn park<R: Threads + Wait + Sync, W: Observer>(
     requires last { last ≡ field.now.terms.setup.now.net.steps }
     ensures one_each { length passes.new.items ≡ length passes.old.items }
     ensures come { All (HasCome field.now) passes.new.items }
+    ensures told { ArePassesTold (W.told_held observer.now (cut_run field.now.terms.setup.now)) (W.told_freed observer.now (cut_run field.now.terms.setup.now)) passes.old.items passes.new.items }
 {
     parked(rt, field, passes, last, &Board::new(), observer);
 }

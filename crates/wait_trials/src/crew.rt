@@ -48,7 +48,14 @@ fn meet<R: Abort + Threads + Wait + Sync>(rt: &R, field: &Field, mut pass: Pass,
 {
     let observer = Meeting::new();
     let other = field.share(&mut pass);
-    parked(rt, field, &mut [pass, other], last, &Board::new(), &observer);
+    parked(
+        rt,
+        field,
+        &mut [pass, other],
+        last,
+        &Board::new(),
+        &observer,
+    );
     assert!(rt; observer.took_place(), "each waited for the other");
     assert!(rt;
         observer.is_complete(0b1111),

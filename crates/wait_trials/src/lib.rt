@@ -1,4 +1,5 @@
-//! Trials of workers that wait, of the crew by itself and of the call, with observers at which two of them meet. There is nothing
+//! Trials of workers that wait, of the crew by itself and of the call, with observers at which two of
+//! them meet, and one that notes the regions. There is nothing
 //! here but tests.
 #![tactic(auto)]
 
@@ -8,5 +9,7 @@ mod calling;
 mod crew;
 #[cfg(test)]
 mod meeting;
+#[cfg(test)]
+mod regions;
 #[cfg(test)]
 mod tests;

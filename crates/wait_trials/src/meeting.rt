@@ -1,4 +1,4 @@
-use region_slots::Observer;
+use region_slots::{Moment, Observer, Sight};
 use std::sync::atomic::{AtomicU64, Ordering};
 
 // An observer at which the worker that holds region 0 at step 0 and the one that holds region 2 at step 1 wait for each other for
@@ -61,13 +61,14 @@ fn meet(own: &AtomicU64, other: &AtomicU64, met: &AtomicU64) {
 impl Observer for Meeting {
     ghost use Rattle.std.specs.Prelude.{⊤};
 
-    ghost told_held = { λ observer region step. ⊤ };
+    ghost told_held = { λ observer run region step. ⊤ };
 
-    ghost told_freed = { λ observer region step. ⊤ };
+    ghost told_freed = { λ observer run region step. ⊤ };
 
-    ghost told_watched = { λ observer done. ⊤ };
+    ghost told_watched = { λ observer run seen done. ⊤ };
 
-    fn held(&self, region: u32, step: u64) {
+    fn held(&self, moment: &Moment) {
+        let (region, step) = (moment.region(), moment.step());
         if region < 4 && step < 64 {
             let noted = &self.noted[region as usize];
             noted.store(noted.load(Ordering::SeqCst) | 1 << step, Ordering::SeqCst);
@@ -79,7 +80,7 @@ impl Observer for Meeting {
         }
     }
 
-    fn freed(&self, region: u32, step: u64) {}
+    fn freed(&self, moment: &Moment) {}
 
-    fn watched(&self, done: bool) {}
+    fn watched(&self, sight: &Sight) {}
 }

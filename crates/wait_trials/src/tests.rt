@@ -1,9 +1,14 @@
 use crate::calling::call_past;
 use crate::crew::two_members;
 use crate::meeting::Meeting;
+use crate::regions::Regions;
 use call_ending::Status;
 use region_slots::NoObserver;
+use std::alloc::{AllocError, Global};
+use std::process::Abort;
+use std::sync::Wait;
 use std::test::Fail;
+use std::thread::Threads;
 
 // A gate, two roads and an exit, each a region of its own where there are four.
 const CHAIN: &[u8] =
@@ -49,5 +54,47 @@ fn words_that_are_no_number_of_workers_are_refused(rt: HostRuntime) -> Result<()
         assert!(rt; ended.out.bytes().is_empty());
         assert_eq!(rt; ended.err.bytes(), b"ctm: words refused\n".as_slice());
     }
+    Ok(())
+}
+
+// The chain, whose file gives it two regions.
+const CHAIN_IN_TWO: &[u8] =
+    b"ctm,2\nsteps,4\ngate,g,2,8\nroad,a,6,2,1,1,0\nroad,b,6,2,1,1,0\nexit,x,2\nlink,g,a\nlink,a,b\nlink,b,x\n\
+region,g,0\nregion,a,0\nregion,b,1\nregion,x,1\n";
+
+// So many exits.
+fn exits(alloc: Global, many: u32) -> Result<Vec<u8>, AllocError> {
+    let mut text = b"ctm,1\nsteps,1\n".to_vec(alloc)?;
+    for number in 0..many {
+        let line = format!(in alloc; "exit,e{number},1\n")?;
+        text.extend_from_slice(line.as_bytes())?;
+    }
+    Ok(text)
+}
+
+// Looks which regions are held in a call.
+fn check_regions<R: Abort + Threads + Wait + Sync>(
+    rt: &R,
+    alloc: Global,
+    input: &[u8],
+    noted: u64,
+) -> Result<(), AllocError> {
+    let observer = Regions::none();
+    let ended = call_past(rt, alloc, &["2"], input, &observer)?;
+    assert_eq!(rt; ended.status, Status::Done);
+    assert_eq!(rt; observer.noted(), Some(noted));
+    Ok(())
+}
+
+#[test]
+fn a_run_is_in_the_regions_of_its_file(rt: HostRuntime) -> Result<(), Fail> {
+    check_regions(&rt, rt.alloc(), CHAIN_IN_TWO, 0b11)?;
+    Ok(())
+}
+
+#[test]
+fn a_run_of_more_cells_than_64_is_in_64_regions(rt: HostRuntime) -> Result<(), Fail> {
+    let input = exits(rt.alloc(), 65)?;
+    check_regions(&rt, rt.alloc(), &input, u64::MAX)?;
     Ok(())
 }

@@ -10,7 +10,7 @@ returns-in-Err-input_of-clause-refusal g c =
 
 pub returns-clause-text : goal.returns-clause-text
 returns-clause-text g c =
-    answered_text (λ text. text.items) c.args.words.now c.in-Ok.workers (g.S.Source.left c.args.source.now) c.deref.result.now c.in-Ok.ensures.accepted (rw c.deref.ensures.value c.in-Ok-input_of.ensures.input.0) c.report_in.result
+    answered_text (g.W.Observer.told_held c.args.observer.now) (g.W.Observer.told_freed c.args.observer.now) (λ text. text.items) c.args.words.now c.in-Ok.workers (g.S.Source.left c.args.source.now) c.deref.result.now c.in-Ok.ensures.accepted (rw c.deref.ensures.value c.in-Ok-input_of.ensures.input.0) c.report_in.result
     c.report_in.ensures.text
 
 pub returns-clause-refusal : goal.returns-clause-refusal

@@ -12,6 +12,7 @@ loop-passes-preserved c =
     let shared = c.share.ensures in
     let other : PassValue = c.share.result in
     let inv = c.loop-passes.invariant in
+    let silent : PassValue → Type 0 = λ pass. pass.knows.log ≡ [] in
     let one : IsSeat field other = record {
       belongs = shared.also;
       share = ap (λ v. v.share) shared.off;
@@ -25,4 +26,6 @@ loop-passes-preserved c =
       omega (arith, more, c.loop-passes-test.true),
       omega (arith, inv.4, c.push_reserved.ensures.capacity),
       subst (All (IsSeat field)) (sym c.push_reserved.ensures.items) (All-one_more (IsSeat field) c.loop-passes.passes.items other inv.5 one),
+      ap (λ v. v.log) shared.keeps ∙ inv.6,
+      subst (All silent) (sym c.push_reserved.ensures.items) (All-one_more silent c.loop-passes.passes.items other inv.7 (ap (λ v. v.log) shared.off)),
     )
