@@ -153,6 +153,13 @@ def test_the_limits_of_the_manual_are_those_of_the_crates(text, known):
     assert text.format(f"{known:,}") in MANUAL.partition(".SH EXIT STATUS")[2]
 
 
+def test_the_most_plans_are_those_of_the_crate_wherever_they_are_told():
+    most = constant("plan_choice/src/pieces.rt", "MOST_PLANS")
+    assert f"the network with each of 1 to {most} plans," in TABLE.modes["choose"].says
+    assert f"behind it 1 to {most} *plans*, each" in FORMAT
+    assert f"behind it 1 to {most} plans, each" in MANUAL
+
+
 @pytest.mark.parametrize("text, known", [
     ("the input has more than {} bytes, or with", constant("network_file/src/limits.rt", "MOST_BYTES")),
     ("or with `resume` more than {} |", constant("workerless_call/src/input.rt", "MOST_SAVED_BYTES")),

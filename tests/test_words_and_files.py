@@ -128,15 +128,14 @@ SAMPLES = [
 
 
 @pytest.mark.parametrize("words, text", [case[1:] for case in SAMPLES], ids=[case[0] for case in SAMPLES])
-def test_made_networks(words, text, run, directory):
-    """A read of the directory would be a read fault."""
-    hold((0, text, b""), run(words, stdin=directory))
+def test_made_networks(words, text, run, unread):
+    hold((0, text, b""), run(words, stdin=unread))
 
 
-def test_a_made_network_of_which_neither_size_nor_seed_is_given(run, directory):
-    text = run(["sample", "--size", "100", "--seed", "1"], stdin=directory)[1]
+def test_a_made_network_of_which_neither_size_nor_seed_is_given(run, unread):
+    text = run(["sample", "--size", "100", "--seed", "1"], stdin=unread)[1]
     assert text.startswith(lines("sample,100,1,127,101,240"))
-    hold((0, text, b""), run(["sample"], stdin=directory))
+    hold((0, text, b""), run(["sample"], stdin=unread))
 
 
 def test_every_option_of_watch(run):
