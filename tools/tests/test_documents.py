@@ -152,6 +152,19 @@ def stand_in_order(lines, text):
     return all(line in rest for line in lines if line != "..." and not line.startswith("#"))
 
 
+def stand_together(lines, text):
+    """Whether the lines before, between and behind `...` stand in a text in their order, each right behind the one before it but
+    for blank lines.
+    """
+    rest = "\n".join(["", *filter(None, text.splitlines()), ""])
+    for part in filter(str.strip, re.split(r"^\.\.\.$", "\n".join(lines), flags=re.MULTILINE)):
+        part = part.strip("\n")
+        if f"\n{part}\n" not in rest:
+            return False
+        rest = "\n" + rest.partition(f"\n{part}\n")[2]
+    return True
+
+
 def texts_shown(top, program, before, calls):
     """What an excerpt may be of: what each call writes, or all, with the numbers of steps that stand before it, or a file."""
     steps = re.findall(r"`steps,(\d+)`", before) or [None]
@@ -195,8 +208,8 @@ def test_the_tutorial_shows_what_its_commands_print(top, recording_program):
 def test_the_example_of_the_first_page_is_the_file_and_its_report(top, recording_program):
     page = read("README.md").split("## An example")[1].split("\n## ")[0]
     file, report = (lines for _, lines in blocks(page))
-    assert stand_in_order(file, read("examples/bottleneck.csv"))
-    assert stand_in_order(report, ended(top, recording_program, "bash", "-c", "./ctm run < examples/bottleneck.csv")[1])
+    assert stand_together(file, read("examples/bottleneck.csv"))
+    assert stand_together(report, ended(top, recording_program, "bash", "-c", "./ctm run < examples/bottleneck.csv")[1])
     assert f"in {len(read('examples/bottleneck.toml').splitlines())} lines" in read("README.md")
 
 
