@@ -33,7 +33,7 @@ class EachTest:
     """A plugin of pytest that tells coverage which test runs, and notes how long it takes and whether it passes."""
 
     def __init__(self, cover):
-        self.cover, self.tests, self.failed, self.begun = cover, {}, set(), 0.0
+        self.cover, self.tests, self.others, self.begun = cover, {}, set(), 0.0
 
     def pytest_runtest_logstart(self, nodeid, location):
         os.environ[RUNNING] = nodeid
@@ -41,11 +41,11 @@ class EachTest:
         self.begun = time.monotonic()
 
     def pytest_runtest_logreport(self, report):
-        if report.failed:
-            self.failed.add(report.nodeid)
+        if not report.passed:
+            self.others.add(report.nodeid)
 
     def pytest_runtest_logfinish(self, nodeid, location):
-        self.tests[nodeid] = {"seconds": time.monotonic() - self.begun, "passes": nodeid not in self.failed}
+        self.tests[nodeid] = {"seconds": time.monotonic() - self.begun, "passes": nodeid not in self.others}
         self.cover.switch_context("")
 
 
