@@ -225,6 +225,21 @@ def test_the_must_fail_edits_and_the_tests_of_the_map_are_those_that_stand():
     assert f"The {sum(words[0] == 'edit' for words in counts)} edits" in page
 
 
+def test_the_times_of_the_map_add_up():
+    page = read("docs/inside/MAP.md").split("## Check times")[1].split("\n## ")[0]
+    rows = re.findall(r"^\| `(\w+)` \| \w+ \| (\d+) \| (\w+) \| \w+ \|$", page, re.MULTILINE)
+    proofs = {crate: int(seconds) for crate, seconds, _ in rows}
+    tests = sum(int(seconds) for _, _, seconds in rows if seconds != "none")
+    assert f"some {sum(proofs.values()) / 60:.0f} processor-minutes of proofs and {tests / 60:.0f} of tests" in page
+    edits, each, minutes = map(int, re.search(r"The (\d+) edits take some (\d+) s each, in all some (\d+) minutes", page).groups())
+    assert round(edits * each / 60) == minutes
+    named, seconds = re.search(r"The longest chain decides the time: (.*), ([\d,]+) s\.", page).groups()
+    chain = re.findall(r"`(\w+)`", named)
+    assert f"{sum(proofs[crate] for crate in chain):,}" == seconds
+    uses = {line.split()[0].rstrip(":"): line.partition(":")[2].split() for line in read("crates.txt").splitlines() if ":" in line}
+    assert all(lower in uses[upper] for lower, upper in zip(chain, chain[1:]))
+
+
 def anchors(page):
     """What a link to a heading of a page may name."""
     return {re.sub(r"[^\w\- ]", "", heading.lower()).replace(" ", "-")
