@@ -6,6 +6,7 @@ import pytest
 from conftest import hold
 from every_option import EVERY_OPTION
 from format_tables import rows_of
+from plain_model import records_of
 from plain_model import report as plain_report
 from worked import (CITY, CORRIDOR, QUEUE_CHOICE, QUEUE_PLANS, RAMPS, RAMPS_TOTALS, RECORDED, REPORT, SAVED, SAVED_LAST,
                     TURN, TWO_ROADS, lines)
@@ -104,6 +105,21 @@ CASES = [
 @pytest.mark.parametrize("words, given, text", [case[1:] for case in CASES], ids=[case[0] for case in CASES])
 def test_words_and_files(words, given, text, run):
     hold((0, text, b""), run(words, input=given))
+
+
+COUNTED = {"cells": ("road", "gate", "exit"), "connectors": ("link", "merge", "diverge"), "signals": ("signal",),
+           "limits": ("limit",), "demands": ("demand",), "turns": ("turn",)}
+
+
+@pytest.mark.parametrize("row", rows_of("Format | Line"))
+def test_the_counts_are_those_that_the_page_names(row, run):
+    form, line = row.strip("| ").split(" | ")
+    network = {"1": CORRIDOR, "2": CITY}[form]
+    begin, *names = line.strip("`").split(",")
+    header, (_, steps), *records = records_of(network)
+    counts = [steps if name == "T" else sum(record[0] in COUNTED[name] for record in records) for name in names]
+    assert header == ["ctm", form]
+    hold((0, lines(",".join(map(str, [begin, *counts]))), b""), run(["check"], input=network))
 
 
 # The name of each case, its words and the text that is wanted. The totals of the larger ones are what models from
