@@ -33,6 +33,7 @@ class Mutant(NamedTuple):
     file: str
     function: str
     line: int
+    lines: range  # of the statement around it
     old: str
     new: str
     text: str
@@ -56,7 +57,7 @@ def mutant(place, other):
     _put(place, other)
     new, text = _shown(around if around is not place.node else other), ast.unparse(tree)
     _put(place, place.node)
-    return Mutant(place.file, place.function, place.node.lineno, old, new, text)
+    return Mutant(place.file, place.function, place.node.lineno, _lines(place), old, new, text)
 
 
 def _within(file, node, above, function):
@@ -170,6 +171,13 @@ def _put(place, node):
         setattr(holder, place.field, node)
     else:
         getattr(holder, place.field)[place.index] = node
+
+
+def _lines(place):
+    """The lines of the statement around a place; of one with a body those before it."""
+    around = [node for node in (*place.above, place.node) if isinstance(node, ast.stmt)][-1]
+    body = getattr(around, "body", None)
+    return range(around.lineno, max(around.lineno, body[0].lineno - 1 if body else around.end_lineno) + 1)
 
 
 def _context(place):

@@ -1,7 +1,8 @@
-"""Which tests of the tools reach which functions: each test is run by itself, and each function that it calls is noted.
+"""Which tests of the tools reach which lines of them: the tests of each file are run once, and coverage notes the lines of each.
 
-A test reaches what it calls in its own process and in those that it starts. What a file does when it is imported is reached by
-the tests whose file imports it, and by those that call a function of it or of a file that imports it.
+A test reaches what runs in its own process and in those that it starts. What tests of a file share is worked out in the first
+of them that asks for it, so the others of the file may reach it too. What a file does when it is imported is reached by the
+tests whose file imports it, and by those that reach lines of it or of a file that imports it.
 """
 import ast
 import functools
@@ -12,72 +13,52 @@ import os
 import signal
 import sys
 import time
+from collections import defaultdict
 from typing import NamedTuple
 
-NOTES = "CTM_REACH"  # the variable that names the file to which a process adds what it calls
-IMPORTED = "<module>"
+RUNNING = "CTM_TEST"  # the variable that names the test to the processes that it starts
 FIRST = 20  # so many tests are run first
 NO_TESTS = 5  # the status of pytest where there are none, as where their names have the folder in them
+COVERAGE = """[run]
+source = {tools}/ctmtools
+data_file = {data}
+parallel = true
+concurrency = thread, multiprocessing
+context = ${{{running}}}
+"""
+IN_OTHER_PROCESSES = "import coverage\ncoverage.process_startup()\n"
 
 
-class Tracer:
-    """Notes each function of ctmtools that this process calls, once."""
+class EachTest:
+    """A plugin of pytest that tells coverage which test runs, and notes how long it takes and whether it passes."""
 
-    def __init__(self, notes):
-        self.notes = os.open(notes, os.O_WRONLY | os.O_CREAT | os.O_APPEND)
-        self.seen = set()
+    def __init__(self, cover):
+        self.cover, self.tests, self.others, self.begun = cover, {}, set(), 0.0
 
-    def __call__(self, frame, event, argument):
-        code = frame.f_code
-        if code not in self.seen:
-            self.seen.add(code)
-            _, package, file = code.co_filename.rpartition("/ctmtools/")
-            if package:
-                os.write(self.notes, f"{file}\t{code.co_qualname}\n".encode())
+    def pytest_runtest_logstart(self, nodeid, location):
+        os.environ[RUNNING] = nodeid
+        self.cover.switch_context(nodeid)
+        self.begun = time.monotonic()
 
+    def pytest_runtest_logreport(self, report):
+        if not report.passed:
+            self.others.add(report.nodeid)
 
-def trace():
-    """Has this process, its threads and those that it starts noted, where NOTES says so."""
-    import threading
-
-    if os.environ.get(NOTES):
-        tracer = Tracer(os.environ[NOTES])
-        sys.settrace(tracer)
-        threading.settrace(tracer)
-
-
-class EachByItself:
-    """A plugin of pytest that runs each test in a process of its own, with what it calls and how long it takes."""
-
-    def __init__(self, folder):
-        self.folder, self.tests = folder, {}
-
-    def pytest_runtest_protocol(self, item, nextitem):
-        from _pytest.runner import runtestprotocol
-
-        notes = self.folder / f"calls-{os.getpid()}-{len(self.tests)}"
-        begun = time.monotonic()
-        child = os.fork()
-        if not child:
-            failed = True
-            try:
-                os.environ[NOTES] = str(notes)
-                trace()
-                failed = any(report.failed for report in runtestprotocol(item, log=False, nextitem=None))
-            finally:
-                os._exit(failed)
-        status = os.waitpid(child, 0)[1]
-        calls = sorted(set(notes.read_text().splitlines())) if notes.exists() else []
-        self.tests[item.nodeid] = {"seconds": time.monotonic() - begun, "passes": status == 0, "calls": calls}
-        return True
+    def pytest_runtest_logfinish(self, nodeid, location):
+        self.tests[nodeid] = {"seconds": time.monotonic() - self.begun, "passes": nodeid not in self.others}
+        self.cover.switch_context("")
 
 
 class Chosen:
-    """A plugin of pytest that runs some tests alone, in their order, and ends the process where one takes far longer than before."""
+    """A plugin of pytest that runs some tests alone, and ends the process where one takes far longer than before.
+
+    The tests of a file stay together, so that what they share is made once.
+    """
 
     def __init__(self, seconds):
         self.seconds = seconds
-        self.places = {name: place for place, name in enumerate(seconds)}
+        files = list(dict.fromkeys(name.split("::")[0] for name in seconds))
+        self.places = {name: (files.index(name.split("::")[0]), place) for place, name in enumerate(seconds)}
 
     def pytest_collection_modifyitems(self, items):
         items[:] = sorted((item for item in items if item.nodeid in self.places), key=lambda item: self.places[item.nodeid])
@@ -100,7 +81,7 @@ def pytest_ends(tools, words, plugin):
     """The status of pytest in this process."""
     import pytest
 
-    own = ["-q", "-x", "-p", "no:cacheprovider", f"--basetemp={tools.parent / 'pytest'}"]
+    own = ["-q", "-p", "no:cacheprovider", f"--basetemp={tools.parent / 'pytest'}"]
     return int(pytest.main([*own, *words], plugins=[plugin]))
 
 
@@ -113,23 +94,42 @@ def fails(tools, seconds):
         end = max(FIRST, 5 * begin)
         chosen = {name: seconds[name] for name in names[begin:end]}
         files = dict.fromkeys(name.split("::")[0] for name in chosen)
-        if pytest_ends(tools, files, Chosen(chosen)) not in (0, NO_TESTS):
+        if pytest_ends(tools, ["-x", *files], Chosen(chosen)) not in (0, NO_TESTS):
             return True
         begin = end
     return False
 
 
-def measure(tools, test_file, target):
-    """Runs the tests of a file one by one, and writes to the target what each reaches; for a process of its own."""
-    os.environ["PYTHONPATH"] = str(tools)
+def measure(tools, test_file, kept):
+    """Runs the tests of a file, and keeps what each reaches and how long it takes; for a process of its own."""
+    from coverage import Coverage
+
+    config, data = tools.parent / "coverage.ini", tools.parent / "coverage" / "data"
+    data.parent.mkdir(exist_ok=True)
+    config.write_text(COVERAGE.format(tools=tools, data=data, running=RUNNING))
     # Each Python that a test starts looks for this file.
-    (tools / "sitecustomize.py").write_text(f"import sys\nsys.path.append({os.path.dirname(__file__)!r})\n"
-                                            "import reaching\nreaching.trace()\n")
+    (tools / "sitecustomize.py").write_text(IN_OTHER_PROCESSES)
     in_folder(tools, tools.parent / "said")
-    plugin = EachByItself(tools.parent)
+    cover = Coverage(config_file=str(config))
+    os.environ.update(PYTHONPATH=str(tools), COVERAGE_PROCESS_START=str(config))
+    cover.start()
+    plugin = EachTest(cover)
     status = pytest_ends(tools, [f"tests/{test_file}"], plugin)
-    target.write_text(json.dumps(plugin.tests))
+    cover.stop()
+    cover.save()
+    whole = Coverage(config_file=str(config))
+    whole.combine([str(data.parent)])
+    kept.write_text(json.dumps({"tests": plugin.tests, "lines": lines_of(whole.get_data(), list(plugin.tests))}))
+    whole.erase()
     return status
+
+
+def lines_of(data, names):
+    """For each line of each file that coverage noted the tests that reach it, by their places among these names."""
+    places = {name: place for place, name in enumerate(names)}
+    return {path.rpartition("/ctmtools/")[2]: {line: [places[name] for name in found if name in places]
+                                               for line, found in data.contexts_by_lineno(path).items()}
+            for path in data.measured_files()}
 
 
 def key_of(tools, test_file):
@@ -140,40 +140,53 @@ def key_of(tools, test_file):
 
 
 class Test(NamedTuple):
-    """A test that passes: its seconds, the functions that it calls, each with its file, and what its own file imports."""
+    """A test that passes: its file, its seconds, and what its file imports."""
 
+    file: str
     seconds: float
-    calls: set[tuple[str, ...]]
     imports: set[str]
 
 
 class Reach:
-    """What the tests of each file reach, as `measure` found it."""
+    """What the tests of each file reach, as `measure` kept it."""
 
-    def __init__(self, tools, measured):
+    def __init__(self, tools, kept):
         self.importers = importers(tools / "ctmtools")
-        self.tests = {}
-        for test_file, found in measured.items():
-            own = imported(tools / "tests" / test_file, tools)
-            for name, test in found.items():
-                if test["passes"]:
-                    self.tests[name] = Test(test["seconds"], {tuple(call.split("\t")) for call in test["calls"]}, own)
+        self.tests, self.lines = {}, defaultdict(lambda: defaultdict(list))
+        for test_file, path in kept.items():
+            self._add(test_file, json.loads(path.read_text()), imported(tools / "tests" / test_file, tools))
 
-    def of(self, file, function, limit):
-        """The tests that reach a function, or what a file does when it is imported, with their seconds.
+    def _add(self, test_file, told, imports):
+        names = list(told["tests"])
+        for name, test in told["tests"].items():
+            if test["passes"]:
+                self.tests[name] = Test(test_file, test["seconds"], imports)
+        for file, lines in told["lines"].items():
+            for line, places in lines.items():
+                self.lines[file][int(line)] += [names[place] for place in places]
 
-        Those come first whose own file imports the changed one, and then the quickest, as many as take so many seconds in all.
+    def of(self, mutant, limit):
+        """The tests that reach the lines of a change, with their seconds, and behind them the others of their files.
+
+        Of both those come first whose own file imports the changed one, and then the quickest, as many as take so many seconds
+        in all. Where none reaches the lines it is those whose file imports the changed one.
         """
-        found = sorted((file not in test.imports, test.seconds, name) for name, test in self.tests.items()
-                       if self._reaches(test, file, function))
-        within = sum(total <= limit for total in itertools.accumulate(seconds for _, seconds, _ in found))
-        return {name: seconds for _, seconds, name in found[:max(1, within)]}
+        reached = self._reached(mutant)
+        files = {self.tests[name].file for name in reached or self._importing(mutant.file)}
+        found = sorted((name not in reached, mutant.file not in test.imports, test.seconds, name)
+                       for name, test in self.tests.items() if test.file in files)
+        within = sum(total <= limit for total in itertools.accumulate(seconds for _, _, seconds, _ in found))
+        return {name: seconds for _, _, seconds, name in found[:max(1, within)]}
 
-    def _reaches(self, test, file, function):
-        if function:
-            return (file, function) in test.calls
-        others = self.importers.get(file, ())
-        return file in test.imports or any(called == file or called in others and name != IMPORTED for called, name in test.calls)
+    def _reached(self, mutant):
+        if mutant.function:
+            return {name for line in mutant.lines for name in self.lines[mutant.file][line]} & self.tests.keys()
+        near = [mutant.file, *self.importers.get(mutant.file, ())]
+        found = {name for file in near for names in self.lines[file].values() for name in names} & self.tests.keys()
+        return found | self._importing(mutant.file)
+
+    def _importing(self, file):
+        return {name for name, test in self.tests.items() if file in test.imports}
 
 
 def importers(package):

@@ -8,6 +8,7 @@ from pathlib import Path
 
 import pytest
 from launched import Repository
+from worked import CORRIDOR
 
 TOP = Path(__file__).resolve().parents[1]
 BUILT = TOP / "crates/ctm_program/out/ctm_program"
@@ -62,6 +63,18 @@ def directory():
     opened = os.open(TOP, os.O_RDONLY)
     yield opened
     os.close(opened)
+
+
+@pytest.fixture
+def unread(tmp_path):
+    """A network as a stream. Fails a test in which any of it is read."""
+    path = tmp_path / "unread.csv"
+    path.write_bytes(CORRIDOR)
+    opened = os.open(path, os.O_RDONLY)
+    yield opened
+    read = os.lseek(opened, 0, os.SEEK_CUR)
+    os.close(opened)
+    assert read == 0, f"{read} bytes were read"
 
 
 def hold(wanted, got):

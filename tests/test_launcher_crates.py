@@ -128,7 +128,11 @@ def test_the_codes_of_faults_are_those_of_the_crates():
     names = arms(function("record_fields/src/code.rt", "name"))
     assert {name.strip('"') for name in names.values()} == set(known)
     saved = re.findall(r"ctm: saved: code (\d+) (\w+)", source("saved_modes/src/resume_mode.rt"))
-    assert [(row[0], row[1].strip("`")) for row in map(cells, rows_of("Code | Name | Where")) if row[1]] == saved
+    of_saved = [cells(row) for row in rows_of("Code | Name | Where")]
+    assert [(row[0], row[1].strip("`")) for row in of_saved if row[1]] == saved
+    assert [row[0] for row in of_saved] == [str(code) for code in range(1, len(of_saved) + 1)]
+    network = next(cells(row)[0] for row in rows_of("Status | Name | When | Line on standard error") if "| Network |" in row)
+    assert [row[2].rpartition(", ")[2] for row in of_saved if not row[1]] == [f"with status {network}"]
 
 
 def test_the_kinds_of_records_have_as_many_fields_as_in_the_crate():
@@ -153,6 +157,21 @@ def test_the_limits_of_the_manual_are_those_of_the_crates(text, known):
     assert text.format(f"{known:,}") in MANUAL.partition(".SH EXIT STATUS")[2]
 
 
+def test_the_formats_have_their_first_record_and_the_begin_of_their_counts():
+    heads, *rows = [cells(row) for row in FORMAT.partition("\n## The formats\n")[2].split("\n\n")[1].splitlines() if "---" not in row]
+    told = {name: formats for name, *formats in rows}
+    assert heads == ["", "Format 1", "Format 2"]
+    assert told["First record"] == ["`ctm,1`", "`ctm,2`"]
+    assert told["The line of counts begins with"] == ["`network,`", "`network2,`"]
+
+
+def test_the_most_plans_are_those_of_the_crate_wherever_they_are_told():
+    most = constant("plan_choice/src/pieces.rt", "MOST_PLANS")
+    assert f"the network with each of 1 to {most} plans," in TABLE.modes["choose"].says
+    assert f"behind it 1 to {most} *plans*, each" in FORMAT
+    assert f"behind it 1 to {most} plans, each" in MANUAL
+
+
 @pytest.mark.parametrize("text, known", [
     ("the input has more than {} bytes, or with", constant("network_file/src/limits.rt", "MOST_BYTES")),
     ("or with `resume` more than {} |", constant("workerless_call/src/input.rt", "MOST_SAVED_BYTES")),
@@ -172,6 +191,11 @@ def test_the_limits_of_the_manual_are_those_of_the_crates(text, known):
     ("followed by `.` and 1 to {} ASCII digits", constant("fixed_flow/src/spelling.rt", "MOST_DECIMALS")),
     ("| name | 1 to {} bytes,", constant("record_fields/src/name.rt", "LONGEST")),
     ("A *number* is 1 to {} ASCII digits", constant("saved_run/src/number.rt", "MOST_DIGITS")),
+    ("and `come` at most `s` times {} vehicles |", constant("network_file/src/limits.rt", "MOST_CAPACITY") // 1_000_000),
+    ("still to come are together at most {} vehicles,", constant("fixed_flow/src/amount.rt", "MOST_PARTS") // 1_000_000),
+    ("| an exit | `n` is at most `s` times {} vehicles,", constant("network_file/src/limits.rt", "MOST_CAPACITY") // 1_000_000),
+    ("| each cell | `gone` is at most `s` times {} vehicles,", constant("network_file/src/limits.rt", "MOST_CAPACITY") // 1_000_000),
+    ("and `wait` at most `s` times {} |", constant("fixed_flow/src/amount.rt", "MOST_PARTS") // 1_000_000),
 ], ids=lambda it: it if isinstance(it, str) else "")
 def test_the_limits_of_the_page_are_those_of_the_crates(text, known):
     assert text.format(known if ":d" in text else f"{known:,}") in FORMAT
@@ -191,3 +215,8 @@ def test_the_limits_of_the_page_are_those_of_the_crates(text, known):
 ], ids=lambda it: it if isinstance(it, str) else "")
 def test_the_limits_of_the_model_are_those_of_the_crates(text, known):
     assert text.format(f"{known:,}") in MODEL.partition("\n## Limits\n")[2]
+
+
+def test_the_bounds_of_a_row_in_the_model_are_of_the_limits_of_the_crates():
+    for letter, most in ("C", constant("network_file/src/limits.rt", "MOST_CAPACITY")), ("M", constant("fixed_flow/src/amount.rt", "MOST_PARTS")):
+        assert f"`{letter}` be {most // 1_000_000:,} vehicles (10^{len(str(most)) - 1} parts)" in MODEL and most == 10 ** (len(str(most)) - 1)

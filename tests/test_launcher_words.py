@@ -28,6 +28,10 @@ def rows_of(heading, page=FORMAT):
     return [[cell.strip() for cell in re.split(r"(?<!\\)\|", line.strip("|"))] for line in lines]
 
 
+def numbers_of(text):
+    return re.findall(r"\d+", text)
+
+
 REFUSED = [shlex.split(example)[1:] for row in rows_of("Words") for example in re.findall(r"`(ctm[^`]*)`", row[1])]
 
 
@@ -52,6 +56,9 @@ def test_the_page_has_the_modes_options_and_ranges_of_the_table():
     assert numbers == RANGES
     assert words == {option.word: option.words for option in TABLE.options.values()}
     assert {name: row[2].strip("`") for name, row in told.items()} == DEFAULTS
+    assert {name: numbers_of(row[3]) for name, row in told.items()} == \
+        {option.word: numbers_of(option.says) for option in TABLE.options.values()}
+    assert numbers_of(TABLE.modes["convert"].says) == numbers_of(next(row[3] for row in rows_of("Mode") if row[0] == "`convert`"))
 
 
 def test_help_has_the_modes_options_and_ranges_of_the_table(without_rt):

@@ -2,15 +2,18 @@
 
 from bisect import bisect_right
 from itertools import pairwise
+import re
 from pathlib import Path
 
 import pytest
+from format_tables import MODEL
 from plain_model import parts_of
 
+LAWS = MODEL.split("\n## Laws of delay and queues\n")[1].split("\n## ")[0]
 LANE_DROP = (Path(__file__).parent.parent / "examples" / "bottleneck.csv").read_bytes()
 ROADS = [f"m{k:02}" for k in range(1, 31)]
 INSIDE = ["on", *ROADS]
-CLOSED = b"limit,m21,900,1260,6\n"  # a lane of two, from 08:30 to 09:30
+CLOSED = b"limit,m21,%d,1260,6\n"  # a lane of two, till 09:30
 
 
 class Records:
@@ -52,11 +55,20 @@ def vehicles(amount):
     return amount * 1_000_000
 
 
+def told(sentence):
+    """The numbers that the page has in a sentence, where this one has {}."""
+    found = re.findall(r"([\d,]*\d(?:\.\d)?)".join(map(re.escape, sentence.split("{}"))), LAWS)
+    assert len(found) == 1, sentence
+    return [float(number) if "." in number else int(number.replace(",", "")) for number in found[0]]
+
+
 def test_delay_is_an_area(lane_drop):
-    spent = sum(sum(lane_drop.held[name][:-1]) for name in INSIDE)
-    passed = sum(lane_drop.gone[name][-1] for name in INSIDE)
-    assert (spent, passed) == (vehicles(565_950), vehicles(31 * 12_900))
-    assert lane_drop.delay == spent - passed == vehicles(166_050)
+    through, spent, roads, passed, delay = told("{} vehicles spend {} vehicle-steps inside, and pass a gate and {} roads, "
+                                                "which is {}. What is left is the delay, {}.")
+    assert [lane_drop.gone[name][-1] for name in INSIDE] == [vehicles(through)] * (1 + roads)
+    assert passed == through * (1 + roads)
+    assert vehicles(spent) == sum(sum(lane_drop.held[name][:-1]) for name in INSIDE)
+    assert vehicles(delay) == lane_drop.delay == vehicles(spent - passed)
 
 
 @pytest.mark.parametrize("name", ["m08", "m20", "m21"])
@@ -87,23 +99,36 @@ def test_a_part_waits_for_all_its_steps_but_one(last, waited, lane_drop):
 
 
 def test_a_part_leaves_after_those_before_it(lane_drop):
-    part = vehicles(8_000) - 1
+    vehicle, *steps, held, leave = told("The last part of the {}th vehicle comes to m20 by step {} and goes by step {}: the cell "
+                                        "then holds {} vehicles, but for rounding, of which {} leave in a step.")
+    part = vehicles(vehicle) - 1
     came = next(step for step, parts in enumerate(lane_drop.arrivals("m20")) if parts > part)
     went = next(step for step, parts in enumerate(lane_drop.gone["m20"]) if parts > part)
-    assert (came, went) == (804, 808)
+    assert [came, went] == steps
+    for step in range(came, went):
+        assert lane_drop.held["m20"][step] == pytest.approx(vehicles(held), abs=10)
+        assert lane_drop.gone["m20"][step + 1] - lane_drop.gone["m20"][step] == vehicles(leave)
 
 
 def test_a_bottleneck_passes_its_capacity(lane_drop):
     held, gone = lane_drop.held["m21"], lane_drop.gone["m21"]
-    assert [step for step, parts in enumerate(held) if parts >= vehicles(12)] == list(range(382, 967))
-    assert gone[967] - gone[382] == vehicles(12 * 585) == vehicles(7_020)
-    assert max(after - before for before, after in zip(gone, gone[1:])) == vehicles(12)
+    capacity, first, last, steps, out, quarter, *flows, rest, least = told(
+        "m21, holds its capacity of {} at each step from {} to {}. So in these {} steps {} vehicles go out of it: all that come from "
+        "07:00 until the queue has gone, `{}·({} + {} + {}) + {}·{}`.")
+    assert [step for step, parts in enumerate(held) if parts >= vehicles(capacity)] == list(range(first, last + 1))
+    assert (last + 1 - first, capacity * steps, quarter * sum(flows) + rest * least) == (steps, out, out)
+    assert gone[last + 1] - gone[first] == vehicles(out)
+    assert max(after - before for before, after in zip(gone, gone[1:])) == vehicles(capacity)
 
 
 def test_what_comes_later_changes_nothing_before(lane_drop, recorded):
-    closed = recorded(LANE_DROP + CLOSED)
+    begin, both, before, first, rate, steps = told("closed from step {} on, have both let {} vehicles out of m21 by then: "
+                                                   "{} by step {}, and {} in each of {} steps.")
+    closed = recorded(LANE_DROP + CLOSED % begin)
     for name in [*INSIDE, "off"]:
-        assert closed.held[name][:901] == lane_drop.held[name][:901]
-        assert closed.gone[name][:901] == lane_drop.gone[name][:901]
-    assert closed.gone["m21"][900] == vehicles(9_096)
+        assert closed.held[name][:begin + 1] == lane_drop.held[name][:begin + 1]
+        assert closed.gone[name][:begin + 1] == lane_drop.gone[name][:begin + 1]
+    gone = closed.gone["m21"]
+    assert (gone[begin], gone[first]) == (vehicles(both), vehicles(before))
+    assert [after - before for before, after in zip(gone[first:], gone[first + 1:begin + 1])] == [vehicles(rate)] * steps
     assert closed.delay > lane_drop.delay

@@ -2,8 +2,10 @@
 
 import re
 from fractions import Fraction
+from math import prod
 
 import pytest
+from conftest import TOP
 from format_tables import MODEL, rows_of
 from worked import CORRIDOR, TURN, lines
 
@@ -102,3 +104,49 @@ def test_the_working_of_a_diverge_is_by_the_rule_of_the_page(row):
     k = min(most)
     assert row.strip("| ").split(" | ")[2:] == [
         f"min({', '.join(map(str, most))}) = {k}", f"{k * (one + other)}", f"{k * one}, {k * other}"]
+
+
+def test_a_road_receives_the_same_at_each_occupancy_that_the_page_names(recorded):
+    room, slow, fast, flow, least, most, received = re.search(
+        r"with `N = (\d+)`, `A/B = (\d+)/(\d+)` and a flow of (\d+), each occupancy from ([\d.]+) to ([\d.]+) receives ([\d.]+);",
+        MODEL).groups()
+    part = Fraction(1, 1_000_000)
+    alike = [Fraction(least) + k * part for k in range(int((Fraction(most) - Fraction(least)) / part) + 1)]
+    tried = [alike[0] - part, *alike, alike[-1] + part]
+    report = recorded(lines("; ".join(["ctm,1; steps,1", *(
+        f"gate,g{k},99,99; road,r{k},{room},99,{slow},{fast},{float(held):.6f}; link,g{k},r{k}" for k, held in enumerate(tried))])))
+    amounts = [Course(report, f"r{k}").figure("comes", 0) for k in range(len(tried))]
+    assert set(amounts[1:-1]) == {Fraction(received)} == {Fraction(flow)}
+    assert amounts[0] > amounts[1] and amounts[-1] < amounts[-2]
+
+
+@pytest.mark.parametrize("gate, road, told", [
+    (2, 1, "`inside` is {inside}, the flight of the first link is {flight}, and `entered` is {entered}."),
+    (1, 2, "`inside` is {inside} and that flight is {flight}."),
+], ids=["the gate ahead", "the road ahead"])
+def test_the_books_of_a_gate_and_a_road_at_other_steps(gate, road, told, recorded):
+    report = recorded(CORRIDOR)
+    first, second = Course(report, "in"), Course(report, "a")
+    flight = first.gone[gate] - (second.held[road] + second.gone[road])
+    figures = {"inside": first.held[gate] + second.held[road], "flight": flight, "entered": first.held[gate] + first.gone[gate]}
+    assert told.format(**figures) in MODEL.split("\n## Flights and books\n")[1].split("\n## ")[0]
+
+
+def test_a_wider_ramp_adds_to_the_delay(recorded):
+    numbers = map(int, re.search(
+        r"A gate from which (\d+) vehicles can go in a step holds (\d+)\. A second one, a ramp, from which (\d+) can go holds (\d+)\. "
+        r"Both lead, by the priorities (\d+) to (\d+), into a road that is full \(`N = (\d+)`, `Q = (\d+)`, `A/B = (\d+)/(\d+)`\)\. "
+        r"After (\d+) steps the delay is (\d+)\. If (\d+) can go from the ramp, the delay is (\d+) ", MODEL).groups())
+    gate, waits, ramp, stand, first, second, room, capacity, slow, fast, steps, delay, wider, more = numbers
+    assert wider > ramp and more > delay
+    for out, told in (ramp, delay), (wider, more):
+        report = recorded(lines(f"ctm,1; steps,{steps}; gate,g,{gate},{waits}; gate,r,{out},{stand}; merge,g,r,m,{first},{second}; "
+                                f"road,m,{room},{capacity},{slow},{fast},{room}; exit,x,{capacity}; link,m,x"))
+        assert Fraction(fields_of(report)[-1][-1]) == told
+
+
+def test_the_amounts_of_the_lane_drop_are_worked_out_of_an_engineer_s_words():
+    workings = re.findall(r"`([NQ]) = (\S+(?: × \S+)+) = (\d+)`", MODEL)
+    assert [prod(map(Fraction, working.split(" × "))) for _, working, _ in workings] == [int(told) for _, _, told in workings]
+    amounts = {name: told for name, _, told in workings}
+    assert f"\nroad,m01,{amounts['N']},{amounts['Q']},1,5,0\n" in (TOP / "examples/bottleneck.csv").read_text()

@@ -164,16 +164,15 @@ CASES = [
 
 
 @pytest.mark.parametrize("words", [case[1] for case in CASES], ids=[case[0] for case in CASES])
-def test_refused_words(words, run, directory):
-    """A read of the directory would be a read fault."""
-    hold((2, b"", WORDS), run(words, stdin=directory))
+def test_refused_words(words, run, unread):
+    hold((2, b"", WORDS), run(words, stdin=unread))
 
 
 @pytest.mark.parametrize("past", [["drive"], ["--", "--every"], ["--workers", "2"]], ids=" ".join)
 @pytest.mark.parametrize("mode", EVERY_OPTION)
-def test_a_word_past_every_option_is_refused(mode, past, run, directory):
+def test_a_word_past_every_option_is_refused(mode, past, run, unread):
     """An option twice, where the mode has it, or else one that it hasn't."""
-    hold((2, b"", WORDS), run([*EVERY_OPTION[mode], *past], stdin=directory))
+    hold((2, b"", WORDS), run([*EVERY_OPTION[mode], *past], stdin=unread))
 
 
 EXAMPLES = rows_of("Words | So")
@@ -186,5 +185,5 @@ def test_each_row_of_the_table_of_refused_words_is_read():
 
 
 @pytest.mark.parametrize("example", EXAMPLE_WORDS)
-def test_the_example_of_refused_words(example, run, directory):
-    hold((2, b"", WORDS), run(shlex.split(example)[1:], stdin=directory))
+def test_the_example_of_refused_words(example, run, unread):
+    hold((2, b"", WORDS), run(shlex.split(example)[1:], stdin=unread))

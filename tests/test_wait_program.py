@@ -54,8 +54,8 @@ def test_each_spelling_of_a_number_of_workers(word, wait):
 
 @pytest.mark.parametrize("words", [[], [""], ["0"], ["17"], ["-1"], ["+2"], ["2.0"], [" 2"], ["0000000002"], ["run"], ["2", "2"],
                                    ["--workers", "2"], ["--help"], [b"\xff"]])
-def test_other_words_are_refused_and_nothing_is_read(words, wait, directory):
-    hold((2, b"", WORDS), wait(words, stdin=directory))
+def test_other_words_are_refused_and_nothing_is_read(words, wait, unread):
+    hold((2, b"", WORDS), wait(words, stdin=unread))
 
 
 @pytest.mark.parametrize("given, told", [

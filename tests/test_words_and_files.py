@@ -6,6 +6,7 @@ import pytest
 from conftest import hold
 from every_option import EVERY_OPTION
 from format_tables import rows_of
+from plain_model import records_of
 from plain_model import report as plain_report
 from worked import (CITY, CORRIDOR, QUEUE_CHOICE, QUEUE_PLANS, RAMPS, RAMPS_TOTALS, RECORDED, REPORT, SAVED, SAVED_LAST,
                     TURN, TWO_ROADS, lines)
@@ -106,6 +107,21 @@ def test_words_and_files(words, given, text, run):
     hold((0, text, b""), run(words, input=given))
 
 
+COUNTED = {"cells": ("road", "gate", "exit"), "connectors": ("link", "merge", "diverge"), "signals": ("signal",),
+           "limits": ("limit",), "demands": ("demand",), "turns": ("turn",)}
+
+
+@pytest.mark.parametrize("row", rows_of("Format | Line"))
+def test_the_counts_are_those_that_the_page_names(row, run):
+    form, line = row.strip("| ").split(" | ")
+    network = {"1": CORRIDOR, "2": CITY}[form]
+    begin, *names = line.strip("`").split(",")
+    header, (_, steps), *records = records_of(network)
+    counts = [steps if name == "T" else sum(record[0] in COUNTED[name] for record in records) for name in names]
+    assert header == ["ctm", form]
+    hold((0, lines(",".join(map(str, [begin, *counts]))), b""), run(["check"], input=network))
+
+
 # The name of each case, its words and the text that is wanted. The totals of the larger ones are what models from
 # docs/FORMAT.md and docs/MODEL.md alone came to.
 SAMPLES = [
@@ -128,15 +144,14 @@ SAMPLES = [
 
 
 @pytest.mark.parametrize("words, text", [case[1:] for case in SAMPLES], ids=[case[0] for case in SAMPLES])
-def test_made_networks(words, text, run, directory):
-    """A read of the directory would be a read fault."""
-    hold((0, text, b""), run(words, stdin=directory))
+def test_made_networks(words, text, run, unread):
+    hold((0, text, b""), run(words, stdin=unread))
 
 
-def test_a_made_network_of_which_neither_size_nor_seed_is_given(run, directory):
-    text = run(["sample", "--size", "100", "--seed", "1"], stdin=directory)[1]
+def test_a_made_network_of_which_neither_size_nor_seed_is_given(run, unread):
+    text = run(["sample", "--size", "100", "--seed", "1"], stdin=unread)[1]
     assert text.startswith(lines("sample,100,1,127,101,240"))
-    hold((0, text, b""), run(["sample"], stdin=directory))
+    hold((0, text, b""), run(["sample"], stdin=unread))
 
 
 def test_every_option_of_watch(run):

@@ -18,6 +18,7 @@ from ctmtools.study.reading import read_study, read_values
 
 from .grids import grid_study
 from .trips import TWO_PAIRS, TWO_WAYS, eight_ways
+from .validation_tables import PAGE, figures_of
 
 
 def assigned(folder, text, gap=0.01, rounds=50):
@@ -47,7 +48,9 @@ def test_all_take_the_short_way_until_its_queue_costs_as_much(two_ways):
     taken = choice.parts[short] * vehicles
     # 3,000 vehicles/h come, 2,000 pass: 5 min of queue after 10 min, two intervals of 5 min; then 2,000 of 3,000 go on so.
     assert taken[:2] == pytest.approx([250, 250]) and taken[2] < 200
+    assert figures_of("two ways") == [["07:10"], ["07:10"]]
     assert taken[2:].sum() == pytest.approx(2000 * 50 / 60, rel=0.03)
+    assert f"Then {taken[2:].sum():,.0f} of 2,500 drivers do in place of 1,667" in PAGE
     times = made.times[0][:, 3:9] * 10 / 60
     assert times == pytest.approx(made.times[0][1 - short, 0] * 10 / 60, abs=0.35)
 
@@ -55,7 +58,10 @@ def test_all_take_the_short_way_until_its_queue_costs_as_much(two_ways):
 def test_the_delay_of_two_ways_is_the_one_on_paper(two_ways):
     made, rounds = two_ways
     # Waiting: 0 to 166.7 in 10 min, so for 50 min, and back to 0 in 5 min: 9,583 vehicle-minutes.
-    assert rounds[-1].delay == pytest.approx((166.67 * 5 + 166.67 * 50 + 166.67 * 2.5) / 60, rel=0.02)
+    paper = (166.67 * 5 + 166.67 * 50 + 166.67 * 2.5) / 60
+    assert rounds[-1].delay == pytest.approx(paper, rel=0.02)
+    assert figures_of("delay") == [[f"{paper:.1f}"], [f"{rounds[-1].delay:.1f}"]]
+    assert f"a relative gap below 0.002, which {len(rounds)} rounds reach" in PAGE
     assert rounds[-1].settled(0.002)
     assert made.report.total.left == pytest.approx(3000, abs=1)
 

@@ -360,6 +360,16 @@ def test_dates_that_may_be_of_two_months_have_no_weekdays(tmp_path):
     assert read_detectors(tmp_path / "d.csv", dates=["friday"], date_order="month-first").time.dt.month.tolist() == [4, 4]
 
 
+def test_dates_with_points_begin_with_their_day(tmp_path):
+    (tmp_path / "d.csv").write_text(HEAD + "".join(f"a,0{day}.12.2019 06:0{i},1\n" for day in (3, 4) for i in (0, 5)))
+    assert read_detectors(tmp_path / "d.csv", dates=["wednesday"]).time.dt.day.tolist() == [4, 4]
+
+
+def test_dates_of_pems_begin_with_their_month(formats):
+    chosen = read_detectors(formats["pems"][0], station="101", dates=["wednesday"])
+    assert set(zip(chosen.time.dt.month, chosen.time.dt.day)) == {(12, 4)}
+
+
 def test_the_command(tool, formats, tmp_path):
     path = formats["counts"][0][0]
     status, out, err = tool("detectors", path, "--station", "102", "--dates", "2019-12-04", "-o", "kept.csv")

@@ -1,11 +1,14 @@
 """A bridge that is closed: who has a way already and keeps it, and who goes round. examples/README.md has the paper."""
 
+import re
+
 import pytest
 
 from ctmtools import assign, read_report
 from ctmtools.assignment.ways_file import read_ways
 
 from .examples import EXAMPLES
+from .validation_tables import figures_of
 
 OPEN, CLOSED = EXAMPLES / "bypass.toml", EXAMPLES / "bypass-closed.toml"
 
@@ -39,12 +42,15 @@ def test_only_who_sets_out_later_chooses_anew(opened):
 
 
 def test_several_shares_are_one_table(tool, opened, tmp_path):
-    status, out, err = tool("assign", CLOSED, "--from", opened, "--informed", "0,1", "-o", "table.csv", "-j", "2",
+    status, out, err = tool("assign", CLOSED, "--from", opened, "--informed", "0,0.3,1", "-o", "table.csv", "-j", "2",
                             "--gap", "0.0001")
     assert status == 0, err
     rows = (tmp_path / "table.csv").read_text().splitlines()
-    assert rows[0].startswith("informed,rounds,gap,delay_vehicle_hours") and len(rows) == 3
-    assert [float(row.split(",")[3]) for row in rows[1:]] == pytest.approx([1796, 3.5], rel=0.01, abs=1.5)
+    assert rows[0].startswith("informed,rounds,gap,delay_vehicle_hours") and len(rows) == 4
+    delays = [float(row.split(",")[3]) for row in rows[1:]]
+    assert figures_of("a closed bridge") == [["1,796", "1,167.8", "3.6"], [f"{delay:,.1f}" for delay in delays]]
+    table = (EXAMPLES / "README.md").read_text().split("\n| Informed | Delay | Time of all drivers |\n")[1].split("\n\n")[0]
+    assert re.findall(r"^\| [^|]* \| ([\d,.]+)", table, re.MULTILINE) == [f"{delay:,.2f}" for delay in delays]
 
 
 def test_compare_tells_by_pair_who_lost(tool, opened):

@@ -152,6 +152,19 @@ def stand_in_order(lines, text):
     return all(line in rest for line in lines if line != "..." and not line.startswith("#"))
 
 
+def stand_together(lines, text):
+    """Whether the lines before, between and behind `...` stand in a text in their order, each right behind the one before it but
+    for blank lines.
+    """
+    rest = "\n".join(["", *filter(None, text.splitlines()), ""])
+    for part in filter(str.strip, re.split(r"^\.\.\.$", "\n".join(lines), flags=re.MULTILINE)):
+        part = part.strip("\n")
+        if f"\n{part}\n" not in rest:
+            return False
+        rest = "\n" + rest.partition(f"\n{part}\n")[2]
+    return True
+
+
 def texts_shown(top, program, before, calls):
     """What an excerpt may be of: what each call writes, or all, with the numbers of steps that stand before it, or a file."""
     steps = re.findall(r"`steps,(\d+)`", before) or [None]
@@ -195,8 +208,8 @@ def test_the_tutorial_shows_what_its_commands_print(top, recording_program):
 def test_the_example_of_the_first_page_is_the_file_and_its_report(top, recording_program):
     page = read("README.md").split("## An example")[1].split("\n## ")[0]
     file, report = (lines for _, lines in blocks(page))
-    assert stand_in_order(file, read("examples/bottleneck.csv"))
-    assert stand_in_order(report, ended(top, recording_program, "bash", "-c", "./ctm run < examples/bottleneck.csv")[1])
+    assert stand_together(file, read("examples/bottleneck.csv"))
+    assert stand_together(report, ended(top, recording_program, "bash", "-c", "./ctm run < examples/bottleneck.csv")[1])
     assert f"in {len(read('examples/bottleneck.toml').splitlines())} lines" in read("README.md")
 
 
@@ -210,6 +223,21 @@ def test_the_must_fail_edits_and_the_tests_of_the_map_are_those_that_stand():
         assert edits == (str(stand) if stand else "none"), crate
         assert (tests == "none") == (["test", crate] not in [words[:2] for words in counts]), crate
     assert f"The {sum(words[0] == 'edit' for words in counts)} edits" in page
+
+
+def test_the_times_of_the_map_add_up():
+    page = read("docs/inside/MAP.md").split("## Check times")[1].split("\n## ")[0]
+    rows = re.findall(r"^\| `(\w+)` \| \w+ \| (\d+) \| (\w+) \| \w+ \|$", page, re.MULTILINE)
+    proofs = {crate: int(seconds) for crate, seconds, _ in rows}
+    tests = sum(int(seconds) for _, _, seconds in rows if seconds != "none")
+    assert f"some {sum(proofs.values()) / 60:.0f} processor-minutes of proofs and {tests / 60:.0f} of tests" in page
+    edits, each, minutes = map(int, re.search(r"The (\d+) edits take some (\d+) s each, in all some (\d+) minutes", page).groups())
+    assert round(edits * each / 60) == minutes
+    named, seconds = re.search(r"The longest chain decides the time: (.*), ([\d,]+) s\.", page).groups()
+    chain = re.findall(r"`(\w+)`", named)
+    assert f"{sum(proofs[crate] for crate in chain):,}" == seconds
+    uses = {line.split()[0].rstrip(":"): line.partition(":")[2].split() for line in read("crates.txt").splitlines() if ":" in line}
+    assert all(lower in uses[upper] for lower, upper in zip(chain, chain[1:]))
 
 
 def anchors(page):

@@ -260,6 +260,7 @@ def test_a_map_of_a_light():
     report = at_a_light(0, 3, 7)
     report.cells.wait["g"] = 4
     axes = network_map.draw(report).axes[0]
+    assert axes.collections[1].get_clim()[0] == 0  # the lightest colour is that of no delay
     assert axes.collections[1].get_array().tolist() == [6] and axes.get_title(loc="left") == "light: 10.0 vehicle-steps of delay, schematic"
     texts = [text.get_text() for text in axes.texts if text.get_text()]
     assert "g\n4.0 veh.-steps" in texts

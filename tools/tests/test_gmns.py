@@ -181,6 +181,41 @@ def test_degrees_are_kept_as_degrees(tool, folder, config, length, told):
     assert any("has no crs; the coordinates are taken as longitude and latitude" in note for note in found.notes) == told
 
 
+@pytest.mark.parametrize("units, kilometre", [
+    (["km", "kilometer", "kilometers", "kilometre", "kilometres"], 1), (["m", "meter", "meters", "metre", "metres"], 0.001),
+    (["mi", "mile", "miles"], 1.609344), (["ft", "foot", "feet"], 0.0003048)], ids=lambda it: it[0] if isinstance(it, list) else "")
+def test_each_spelling_of_a_unit_of_length(folder, units, kilometre):
+    """The international foot is 0.3048 m, and a mile is 5,280 of them."""
+    for unit in units:
+        (folder / "config.csv").write_text(f"long_length\n{unit}\n")
+        assert read_folder(folder).streets["a"].length == pytest.approx(kilometre, rel=1e-12)
+
+
+@pytest.mark.parametrize("units, kilometre", [(["kph", "km/h", "kmh", ""], 1), (["mph"], 1.609344), (["m/s"], 3.6)],
+                         ids=lambda it: it[0] if isinstance(it, list) else "")
+def test_each_spelling_of_a_unit_of_speed(folder, units, kilometre):
+    for unit in units:
+        (folder / "config.csv").write_text(f"long_length,speed\nmi,{unit}\n")
+        assert read_folder(folder).streets["a"].speed == pytest.approx(45 * kilometre, rel=1e-12)
+
+
+# The nodes are 1,609 m apart. Links of half that to twenty times that fit, and such of 300 to 4,000 times are of another unit.
+@pytest.mark.parametrize("length, kept", [("0.804", False), ("0.805", True), ("32.17", True), ("32.19", False), ("482.6", False),
+                                          ("6437", False)])
+def test_how_long_links_may_be_for_the_coordinates_to_be_kept(folder, length, kept):
+    (folder / "config.csv").write_text("speed\nmph\n")
+    (folder / "link.csv").write_text(lengths(TABLES["link"], length, length))
+    assert read_folder(folder).streets["a"].points == ([(0, 0), (1.609, 0)] if kept else [])
+
+
+@pytest.mark.parametrize("length", ["482.8", "6435"])
+def test_links_of_so_many_times_the_way_are_refused(folder, length):
+    (folder / "config.csv").write_text("speed\nmph\n")
+    (folder / "link.csv").write_text(lengths(TABLES["link"], length, length))
+    with pytest.raises(Problem, match="has no long_length, and in km the links are"):
+        read_folder(folder)
+
+
 def test_coordinates_are_written_with_all_their_digits(tool, folder):
     (folder / "config.csv").write_text("crs,long_length,speed\nEPSG:4326,km,km/h\n")
     (folder / "node.csv").write_text(DEGREES.replace("13.40", "13.4012345"))

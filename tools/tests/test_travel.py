@@ -58,6 +58,11 @@ def test_who_has_not_arrived_by_the_end_has_no_time():
     assert frame["mean"][0] == 1 and numpy.isnan(frame["mean"][1]) and frame.attrs["units"]["mean"] == "steps"
 
 
+def test_spans_of_a_single_step():
+    frame = travel_times(at_a_light(0, 3), ["a"], every=1)
+    assert frame.entered[frame.vehicles > 0].tolist() == [1, 4]  # whose middles come at 1.5 and 4.5
+
+
 def test_the_delay_of_a_lane_drop_is_that_of_its_travel_times(report):
     read = report("bottleneck")
     found = trips(read, chain_of(read, road="m"))

@@ -87,6 +87,13 @@ def test_steps_as_hours_and_clock_times():
     assert Units().hours(720) == 720 and Units().clock(90) == "step 90" and Units().delay_unit == "vehicle-steps"
 
 
+def test_the_times_of_a_day_are_written_without_a_date_and_those_of_two_with_one():
+    known = Units(step=3600, start=0)
+    assert known.stamps([0, 23]) == ["00:00:00", "23:00:00"]
+    assert known.stamps([0, 24]) == ["1900-01-01 00:00:00", "1900-01-02 00:00:00"]
+    assert Units().stamps([0, 24]) == ["0", "24"]
+
+
 @pytest.mark.parametrize("text, parts", [
     ("0", 0), ("2.5", 2_500_000), ("0.000001", 1), ("999999999999.999999", 10**18 - 1), ("1000000000000", None), ("0.0000001", None),
     ("1.", None), (".5", None), ("-1", None)])

@@ -10,8 +10,9 @@ from ctmtools.report.queues import queues_in
 from . import test_validation
 from .examples import TOOLS
 from .test_validation import clocks, hours, run
+from .validation_tables import PAGE, rows_under
 
-PAGE, FIRST_PAGE = ((TOOLS.parent / name).read_text() for name in ("docs/VALIDATION.md", "README.md"))
+FIRST_PAGE = (TOOLS.parent / "README.md").read_text()
 
 
 def rows_of(heading):
@@ -59,6 +60,32 @@ def test_the_table_of_cases():
     told = [(re.sub(r"\[|\].*|: .*", "", case), figure) for case, figure in rows[1:]]
     here = list(cases())
     assert told[:len(here)] == here and [case for case, _ in told[len(here):]] == ELSEWHERE
+
+
+def amounts(text):
+    """The numbers of a text, and its clock times."""
+    return {told if ":" in told else float(told.replace(",", "")) for told in re.findall(r"\d(?:[\d,:]*\d)?(?:\.\d+)?", text)}
+
+
+def working(page, anchor):
+    """What stands under the heading to which a link leads, and under those of the examples to which that leads."""
+    parts = re.split(r"^#+ (.*)$", ((TOOLS.parent / "docs" / page).read_text() if page else PAGE), flags=re.MULTILINE)
+    found = next(text for heading, text in zip(parts[1::2], parts[2::2])
+                 if re.sub(r"[^\w\- ]", "", heading.lower()).replace(" ", "-") == anchor)
+    links = [] if page else re.findall(r"\((\.\./examples/README\.md)#([^)]*)\)", found)
+    return found + "".join(working(*link) for link in links)
+
+
+def test_the_figures_by_theory_are_those_of_the_workings():
+    link = None
+    for case, theory, _ in rows_under("Case | By theory | By the program"):
+        link = re.search(r"\(([^)#]*)#([^)]*)\)", case) or link
+        told = amounts(theory)
+        if case.startswith("[full off-ramp]"):
+            on_the_road, on_the_ramp = sorted(told, reverse=True)
+            told = {on_the_road / 4 + on_the_ramp}  # those bound for the town, whom the working tells: a quarter of the road's
+        if not case.startswith("[two ways]"):  # test_assign.py has its time of day, and the working how long after the begin that is
+            assert told <= amounts(working(*link.groups())), case
 
 
 def test_the_first_page_tells_what_staggered_hours_save():

@@ -1,15 +1,18 @@
 """Who gives way: the keys of a study, the limits that runs settle at, and the cases of docs/VALIDATION.md on paper."""
 
 from fractions import Fraction
+from math import exp
 
 import pytest
 
 from ctmtools import Problem, read_study
 from ctmtools.program import ask
+from ctmtools.report.queues import queues_in
 from ctmtools.running import run, settled_by_runs
 from ctmtools.yielding.conflicts import flow_of
 
 from .examples import EXAMPLES
+from .validation_tables import figures_of, number, rows_under
 
 LANE = """step = 2
 start = "07:00"
@@ -77,8 +80,15 @@ def flow(report, cell, begin, end):
     return flow_of(report, cell, [begin * 30, end * 30])[0]
 
 
-@pytest.mark.parametrize("main, capacity", [(300, 744.3), (600, 504.6), (900, 340.0), (1200, 227.7)])
-def test_a_side_street_passes_what_its_formula_lets_and_queues_from_there_on(tmp_path, recording_program, main, capacity):
+SIDE_STREETS = rows_under("Priority, vehicles/h | Passes by the formula | By the program | The queue begins | Waiting at 08:00 on paper | "
+                          "By the program")
+
+
+@pytest.mark.parametrize("priority, formula, passes, begins, paper, waits", SIDE_STREETS)
+def test_a_side_street_passes_what_its_formula_lets_and_queues_from_there_on(tmp_path, recording_program, priority, formula, passes, begins,
+                                                                             paper, waits):
+    main, capacity = int(number(priority)), number(formula)
+    assert formula == f"{main * exp(-6.2 * main / 3600) / (1 - exp(-3.3 * main / 3600)):.1f}"
     low, high = round(capacity * 0.96), round(capacity * 1.04)
     found, report = settle(tmp_path, SIDE.format(main=main, low=low, high=high))
     assert found.is_settled and found.runs <= 3
@@ -87,11 +97,14 @@ def test_a_side_street_passes_what_its_formula_lets_and_queues_from_there_on(tmp
     assert flow(report, last, 10, 30) == pytest.approx(low, rel=0.005)
     assert flow(report, last, 40, 60) == pytest.approx(capacity, rel=0.005)
     side = report.units.roads["side"]
-    waits = report.occupancy[side].sum(axis=1)
-    assert waits[900] == pytest.approx(low * 36 / 3600, rel=0.01)
+    held = report.occupancy[side].sum(axis=1)
+    assert held[900] == pytest.approx(low * 36 / 3600, rel=0.01)
     # From 07:30:36 on what comes beyond the capacity waits: 4 % of it for 29.4 minutes.
-    queued = waits[1800] - high * 36 / 3600
-    assert queued == pytest.approx((high - capacity) * 29.4 / 60, rel=0.06, abs=0.3)
+    queued = held[1800] - high * 36 / 3600
+    assert paper == f"{(high - capacity) * 29.4 / 60:.1f}"
+    assert queued == pytest.approx(number(paper), rel=0.06, abs=0.3)
+    assert f"{queued + report.occupancy.village[1800]:.1f}" == waits
+    assert (f"{flow(report, last, 40, 60):.1f}", report.units.clock(queues_in(report)[0].start, True)) == (passes, begins)
 
 
 def test_the_network_that_is_settled_at_is_run_again_byte_for_byte(tmp_path, tool, recording_program):
@@ -118,10 +131,13 @@ def roundabout(demand):
 
 def test_four_arms_of_a_roundabout_alike_pass_what_they_do_by_hand(tmp_path, recording_program):
     # e = 1,380·exp(-0.00102·e) has the root 685.7, so of 800 vehicles/h that many come in at each arm.
+    [root], [told] = figures_of("roundabout of four arms alike")
+    assert root == f"{1380 * exp(-0.00102 * number(root)):.1f}" == "685.7"
     found, report = settle(tmp_path, roundabout(800))
     assert found.is_settled
     passed = [flow(report, report.units.roads[f"arm{i}"][-1], 20, 60) for i in range(4)]
     assert passed == pytest.approx([685.7] * 4, rel=0.01)
+    assert f"{passed[0]:.1f}" == told
     assert max(passed) - min(passed) < 0.01
 
 
@@ -141,7 +157,10 @@ def test_a_permitted_left_turn_passes_what_it_does_by_hand(tmp_path, recording_p
     # The queue towards it is gone after 8.57 s of its green; in the other 21.43 s pass 1,000.3 vehicles/h, and 2 at its end.
     found, report = settle(tmp_path, CROSSING.format(more=PERMITTED.replace("SNEAKERS", str(sneakers))))
     assert found.is_settled
-    assert flow(report, "s-y1", 20, 60) == pytest.approx(capacity, rel=0.01)
+    passes = flow(report, "s-y1", 20, 60)
+    assert passes == pytest.approx(capacity, rel=0.01)
+    if sneakers:
+        assert figures_of("permitted left turn") == [[str(capacity)], [f"{passes:.1f}"]]
 
 
 @pytest.mark.parametrize("sneakers", ["0", "2"])
