@@ -248,6 +248,7 @@ def test_debian_s_package_has_both_books_for_a_browser(unpacked):
         assert all((page.parent / link).resolve().is_relative_to(site) and (page.parent / link).exists()
                    for link in links if link not in elsewhere), page
         assert not re.search(r'src="(?:\w+:)?//', page.read_text()), f"{page} fetches something"
+    assert '<code class="word">--regions</code>' in (site / "docs/FORMAT.html").read_text(), "an option may be broken at its dashes"
     index = re.search(r"^Index: /usr/(\S+)$", (share / "doc-base/ctm").read_text(), re.MULTILINE)[1]
     assert (share.parent / index).is_file()
 
