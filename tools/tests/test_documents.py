@@ -256,6 +256,14 @@ def test_what_is_made_of_the_sources_is_made_of_these(page):
     subprocess.run([sys.executable, "-B", TOP / "packaging/documents.py", "--check", page], check=True)
 
 
+def test_a_word_stands_once_in_both_glossaries():
+    """Whatever stands behind it in brackets, or as its letter."""
+    told = [re.sub(r",? \(?`.*", "", word) for page in ("docs/WORDS.md", "docs/inside/WORDS.md")
+            for word in re.findall(r"^\| ([^|]+?) \|", read(page), re.MULTILINE) if word != "Word"]
+    assert len(told) > 100
+    assert not {word for word in told if told.count(word) > 1}
+
+
 def test_a_decision_is_told_in_80_words():
     told = [line for line in read("docs/inside/DECISIONS.md").splitlines() if line.startswith("**")]
     assert len(told) > 30
