@@ -10,9 +10,9 @@ from word_table import read_table
 
 TOP = Path(__file__).resolve().parents[1]
 PROGRAMS = ("ctm_program", "ctm_wait")
-# All that packages are made of, as git takes its names. Other files may come and go.
-PACKAGED = ("crates", "crates.txt", "launcher", "packaging", "tools/ctmtools", "tools/pyproject.toml", "tools/find-python",
-            "tools/README.md", "tools/docs", "docs", "examples", "README.md", "CHANGELOG.md", "LICENSE-*")
+# All that packages are made of, as git takes its names, with what their pages link to. Other files may come and go.
+PACKAGED = ("crates", "crates.txt", "launcher", "packaging", "tools", "docs", "examples", "bench", "README.md", "CHANGELOG.md",
+            "CONTRIBUTING.md", "LICENSE-*")
 UNKNOWN = "unknown"
 
 

@@ -1,4 +1,4 @@
-"""The package for Debian: the programs, the tools, manual pages, completions, documents and examples."""
+"""The package for Debian: the programs, the tools, manual pages, completions, documents also for a browser, and examples."""
 
 import os
 import tomllib
@@ -22,6 +22,7 @@ def make_deb(built: Built, work: Path) -> Path:
     lay_programs(usr, built)
     lay_tools(usr, PYTHON, DEBIAN / "ctm-tools")
     lay_documents(usr)
+    lay_site(usr)
     lay_as_debian_has_it(usr, built)
     lay_control(root, built, work)
     for path in [root, *root.rglob("*")]:
@@ -30,6 +31,12 @@ def make_deb(built: Built, work: Path) -> Path:
     call("dpkg-deb", "--root-owner-group", "--uniform-compression", "-Zxz", "--threads-max=1", "--build", root, made,
          seconds=built.seconds)
     return made
+
+
+def lay_site(usr: Path) -> None:
+    """Both books for a browser, as docs/site makes them, and what has Debian's readers of documents find them."""
+    call(TOP / "docs/site", usr / "share/doc/ctm/html")
+    copy(DEBIAN / "doc-base", usr / "share/doc-base/ctm")
 
 
 def lay_as_debian_has_it(usr: Path, built: Built) -> None:

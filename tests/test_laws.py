@@ -1,8 +1,8 @@
 """The laws of delay and queues of docs/MODEL.md in the records of the lane drop, with the numbers that stand there."""
 
+import re
 from bisect import bisect_right
 from itertools import pairwise
-import re
 from pathlib import Path
 
 import pytest

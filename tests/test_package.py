@@ -230,8 +230,27 @@ def test_all_documents_and_examples_are_in_the_packages(kind, unpacked):
     else:
         wanted |= {*tracked("LICENSE-*")}
     own = {"BUILD", "copyright", "changelog.gz"} if kind == "deb" else set()
-    assert {str(path.relative_to(documents)) for path in documents.rglob("*") if path.is_file()} - own == wanted
+    found = [path.relative_to(documents) for path in documents.rglob("*") if path.is_file()]
+    assert {str(path) for path in found if path.parts[0] != "html"} - own == wanted
     assert [path for path in wanted if (documents / path).read_bytes() != (TOP / path).read_bytes()] == []
+
+
+def test_debian_s_package_has_both_books_for_a_browser(unpacked):
+    """A page for each document, whose links lead to files beside it, and an index that Debian's doc-base names."""
+    share = unpacked["deb"].prefix / "share"
+    site = (share / "doc/ctm/html").resolve()
+    documents = tracked("*.md")
+    assert {str(path.relative_to(site)) for path in site.rglob("*.html")} == {
+        re.sub(r"(README)?\.md$", lambda end: "index.html" if end[1] else ".html", path) for path in documents}
+    for page in site.rglob("*.html"):
+        links = re.findall(r'(?:href|src)="([^"#]+)', page.read_text())
+        elsewhere = [link for link in links if re.match(r"\w+:|//", link)]
+        assert all((page.parent / link).resolve().is_relative_to(site) and (page.parent / link).exists()
+                   for link in links if link not in elsewhere), page
+        assert not re.search(r'src="(?:\w+:)?//', page.read_text()), f"{page} fetches something"
+    assert '<code class="word">--regions</code>' in (site / "docs/FORMAT.html").read_text(), "an option may be broken at its dashes"
+    index = re.search(r"^Index: /usr/(\S+)$", (share / "doc-base/ctm").read_text(), re.MULTILINE)[1]
+    assert (share.parent / index).is_file()
 
 
 @pytest.mark.parametrize("kind, folder", [("deb", "lib/python3/dist-packages"), ("wheel", "lib/python3.*/site-packages")])

@@ -1,5 +1,6 @@
 """The two books: which pages they have, and in which order."""
 
+from itertools import groupby
 from pathlib import Path
 
 from gathering import contents, pages
@@ -8,13 +9,22 @@ BOOKS = {"For who uses it": Path("docs/README.md"), "For who carries it on": Pat
 
 
 def navigation() -> list[dict]:
-    """The books with their pages, in the order of their pages of contents; a page stands in one book alone."""
+    """The books with their pages, in the order and the parts of their pages of contents; a page stands in one book alone."""
     listed: list[dict] = [{"ctm": "README.md"}]
     known = {Path("README.md"), *BOOKS.values()}
     for book, first in BOOKS.items():
-        inside = [(title, path) for title, path in contents(first) if path not in known and (
-            path.parts[:2] != ("docs", "inside") or first.parent == path.parent)]
-        known |= {path for _, path in inside}
-        listed.append({book: [{"Contents": str(first)}, *({title: str(path)} for title, path in dict(inside).items())]})
+        inside = {path: (part, title) for part, title, path in contents(first) if path not in known and (
+            path.parts[:2] != ("docs", "inside") or first.parent == path.parent)}
+        known |= inside.keys()
+        listed.append({book: [{"Contents": str(first)}, *in_parts(inside)]})
     rest = [path for path in pages() if path not in known]
     return [*listed, {"More": [{path.stem: str(path)} for path in rest]}] if rest else listed
+
+
+def in_parts(inside: dict[Path, tuple[str, str]]) -> list[dict]:
+    """The pages of a book, those of each part together; pages without a part stand by themselves."""
+    found: list[dict] = []
+    for part, those in groupby(inside.items(), lambda item: item[1][0]):
+        named = [{title: str(path)} for path, (_, title) in those]
+        found += [{part: named}] if part else named
+    return found

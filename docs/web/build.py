@@ -25,7 +25,7 @@ def build(site: Path) -> list[str]:
         mkdocs.commands.build.build(mkdocs.config.load_config(
             str(Path(work, "mkdocs.yml")), docs_dir=str(Path(work, "pages")), site_dir=str(site), use_directory_urls=False,
             theme={"name": None, "custom_dir": str(TOP / "docs/web/theme")}, plugins=[], nav=navigation(),
-            markdown_extensions=["tables", "fenced_code", "sane_lists", {"toc": {"slugify": slug}}]))
+            markdown_extensions=["tables", "fenced_code", "sane_lists", "code_words:CodeWordsExtension", {"toc": {"slugify": slug}}]))
     (site / "sitemap.xml.gz").unlink(missing_ok=True)
     (site / "sitemap.xml").unlink(missing_ok=True)
     read = read_site(site)

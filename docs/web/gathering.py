@@ -30,12 +30,14 @@ def gather(folder: Path) -> None:
             shutil.copyfile(path, _laid(folder / path.relative_to(TOP)))
 
 
-def contents(page: Path) -> Iterator[tuple[str, Path]]:
-    """The pages to which a page of contents leads, in its order, each with its name there."""
-    for title, link in re.findall(r"\[([^\]]+)\]\(([^)#\s]+)\)", (TOP / page).read_text()):
+def contents(page: Path) -> Iterator[tuple[str, str, Path]]:
+    """The pages to which a page of contents leads, in its order, each with its part of that page and its name there."""
+    part = ""
+    for heading, title, link in re.findall(r"^## (.*)$|\[([^\]]+)\]\(([^)#\s]+)\)", (TOP / page).read_text(), re.MULTILINE):
+        part = heading or part
         path = _target(page, link)
-        if path in pages():
-            yield title.removesuffix(".md"), path
+        if link and path in pages():
+            yield part, title.removesuffix(".md"), path
 
 
 def _with_links(text: str, page: Path, folder: Path) -> str:

@@ -284,6 +284,36 @@ def test_what_is_made_of_the_sources_is_made_of_these(page):
     subprocess.run([sys.executable, "-B", TOP / "packaging/documents.py", "--check", page], check=True)
 
 
+def clauses_of_functions():
+    """The names of the clauses of each function, by its file and name."""
+    found = {}
+    for line in read("contracts.txt").splitlines():
+        path, function, told = re.match(r"(\S+) (.+?): (.*)$", line).groups()
+        clause = re.match(r"ensures (\w+) \{", told)
+        found.setdefault((path, function), set()).update(clause.groups() if clause else ())
+    return found
+
+
+def test_the_clauses_that_a_claim_names_are_those_of_its_function():
+    known, named = clauses_of_functions(), 0
+    link = r"\[`([^`]+)`\]\(\.\./\.\./crates/([^)]+)\)((?:(?:: |, )`\w+`(?: \([^)]*\))?)*)"
+    for function, path, behind in re.findall(link, read("docs/inside/PROVED.md")):
+        assert (path, function) in known, (path, function)
+        if behind.startswith(": "):
+            clauses = re.findall(r"`(\w+)`", re.sub(r" \([^)]*\)", "", behind))
+            assert set(clauses) <= known[path, function], (function, clauses)
+            named += len(clauses)
+    assert named > 150
+
+
+def test_a_word_stands_once_in_both_glossaries():
+    """Whatever stands behind it in brackets, or as its letter."""
+    told = [re.sub(r",? \(?`.*", "", word) for page in ("docs/WORDS.md", "docs/inside/WORDS.md")
+            for word in re.findall(r"^\| ([^|]+?) \|", read(page), re.MULTILINE) if word != "Word"]
+    assert len(told) > 100
+    assert not {word for word in told if told.count(word) > 1}
+
+
 def test_a_decision_is_told_in_80_words():
     told = [line for line in read("docs/inside/DECISIONS.md").splitlines() if line.startswith("**")]
     assert len(told) > 30

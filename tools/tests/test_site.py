@@ -41,14 +41,24 @@ def test_a_source_is_shown_as_text(gathered):
     assert "](crates/ctm_call/src/call.rt.txt)" in (gathered / "README.md").read_text()
 
 
+def in_order(inside):
+    """The pages of a part of the navigation, with those of the parts in it."""
+    return [inside] if isinstance(inside, str) else [path for item in inside for part in item.values() for path in in_order(part)]
+
+
 def test_each_page_stands_once_and_in_the_book_that_names_it():
     books = {title: inside for book in navigation() for title, inside in book.items()}
-    listed = [path for inside in books.values() for page in ([{"": inside}] if isinstance(inside, str) else inside)
-              for path in page.values()]
-    assert sorted(listed) == sorted(map(str, pages()))
+    assert sorted(in_order(navigation())) == sorted(map(str, pages()))
     assert list(books)[:3] == ["ctm", *BOOKS]
-    assert {path for page in books["For who carries it on"] for path in page.values()} >= {
+    assert set(in_order(books["For who carries it on"])) >= {
         str(path) for path in pages() if path.parts[:2] == ("docs", "inside")}
+
+
+def test_a_book_has_the_parts_of_its_page_of_contents():
+    users, _ = (next(iter(book.values())) for book in navigation()[1:3])
+    parts = [part for item in users for part, inside in item.items() if not isinstance(inside, str)]
+    assert parts == re.findall(r"^## (.*)$", (TOP / "docs/README.md").read_text(), re.MULTILINE)
+    assert in_order(users)[:2] == ["docs/README.md", "docs/INSTALL.md"]
 
 
 def test_nothing_is_fetched_from_elsewhere():
