@@ -4,12 +4,13 @@ from types import SimpleNamespace
 
 import pytest
 
-from ctmtools import Problem, assign
+from ctmtools import Problem, assign, read_report
 from ctmtools.assignment.messages import settled_lines
 from ctmtools.assignment.ways_file import read_ways
+from ctmtools.study.reading import read_values
 
 from .test_assign import assigned
-from .trips import TWO_PAIRS, TWO_WAYS
+from .trips import HEAD, TWO_PAIRS, TWO_WAYS
 
 HOUR = '[["07:00", "08:00", 3000]]'
 CLOSED = '[[closures]]\nroad = "short"\nfrom = 5\nto = 6\nlanes = 2\nstart = "07:20"\nend = "07:50"\n'
@@ -72,6 +73,39 @@ def test_another_delay_of_the_written_study_is_told_with_its_cause(yields, actua
     study = SimpleNamespace(yields=yields, actuated=actuated)
     told = "".join(settled_lines(study, SimpleNamespace(delay=10.0), SimpleNamespace(delay_vehicle_hours=float(delay))))
     assert told.strip().startswith(wanted) and bool(told) == bool(wanted)
+
+
+# Two streets that come together, at a junction out of which one way leads.
+TOGETHER = HEAD.format(title="Together", end="07:20") + """
+[roads]
+p = { length = 1, lanes = 1 }
+q = { length = 1, lanes = 1 }
+b = { length = 1, lanes = 2 }
+[gates]
+g = { into = "p" }
+h = { into = "q" }
+[exits.x]
+from = "b"
+[[junctions]]
+from = ["p", "q"]
+into = ["b"]
+[[trips]]
+from = "g"
+to = "x"
+demand = [["07:00", "07:10", 600]]
+[[trips]]
+from = "h"
+to = "x"
+demand = [["07:00", "07:10", 300]]
+"""
+
+
+def test_a_junction_at_which_nobody_parts_keeps_its_one_way(tool, tmp_path, recording_program):
+    (tmp_path / "s.toml").write_text(TOGETHER)
+    status, _, err = tool("assign", "s.toml")
+    assert status == 0, err
+    assert read_values("s.assigned.toml")["junctions"][0]["shares"] == [[1], [1]]
+    assert read_report("s.assigned.report").total.left == pytest.approx(150, abs=0.01)  # 100 and 50
 
 
 @pytest.fixture(scope="module")
