@@ -69,7 +69,7 @@ def assigned_frame(source: str | Path, output: str | Path | None, earlier: str |
     assignment = begun(task)
     *_, last = assignment.rounds(gap, iterations)
     if output is not None:
-        written(assignment, values, Places(Path(output)))
+        last = written(assignment, last, values, Places(Path(output))).last
     frame = pandas.DataFrame(assignment.rows()).rename(columns={"source": "from", "into": "to"})
     frame.attrs.update(measures(assignment, last))
     return frame

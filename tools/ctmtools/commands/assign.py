@@ -76,10 +76,10 @@ def command(source: str, earlier: str | None, informed: str | None, after: str |
     for line in told_of_study(assignment.shared.built):
         click.echo(line)
     rounds = _rounds(assignment, gap, iterations)
-    report, ways, passing = written(assignment, values, places)
-    drawn(rounds, ways, report, assignment.departures.width, places)
-    _tell(assignment, rounds, gap, ways, passing)
-    for line in settled_lines(assignment.study, rounds[-1], report):
+    made = written(assignment, rounds[-1], values, places)
+    drawn(rounds, made.rows, made.report, assignment.departures.width, places)
+    _tell(assignment, [*rounds[:-1], made.last], gap, made.rows, made.passing)
+    for line in settled_lines(assignment.study, rounds[-1], made.last):
         click.echo(line)
     click.echo(f"\n{places.study}, {places.report}, {places.ways}, {', '.join(map(str, places.pictures))}")
 
