@@ -73,6 +73,17 @@ def test_the_quickest_way_changes_with_the_time_of_setting_out(tmp_path):
     assert choice.parts[short].tolist() == [1] * 3 + [0] * 5 + [1] * 4
 
 
+def test_who_is_in_a_closed_stretch_or_comes_to_it_waits_until_it_opens(tmp_path):
+    made = begun(tmp_path, TWO_WAYS + CLOSED)
+    way = next(way for way in made.choices[0].ways if "short01" in made.legs.cells(way))
+    moments = begins = numpy.array([[91.0, 92, 95, 96, 275, 276]])
+    for leg in way:
+        moments = made.passing.through(numpy.array([leg]), moments)
+    # Closed from step 120 to 300. Who set out at step 91 has left the four closed cells then, who set out from 92 to 95 is in them, and
+    # the next is before them: these wait for 180 steps. The step of 299 takes in nobody, and that of 300 who comes to it then.
+    assert (moments - begins)[0] == pytest.approx([60, 240, 240, 240, 61, 60])
+
+
 def test_the_time_of_an_interval_is_the_mean_over_those_who_set_out():
     # Who sets out at its bounds takes 10, 11 and 14 steps; one vehicle takes 10.5 on the average and three take 12.5.
     courses = SimpleNamespace(departures=one_pair([1, 3]), pairs=numpy.array([0]), arrived=numpy.array([[10.0, 12.0, 16.0]]))
@@ -125,6 +136,45 @@ def test_three_ways_out_are_parted_one_by_one():
     assert list(pairs_of(parts)) == [[(1, 1), (1, 2), (1, 1000)], [(3, 2), (1, 1), (1, 1)]]
 
 
+def row(clock, way, vehicles):
+    return WayRow("home", "work", clock, 1, vehicles, 10.0, ("a", way, "b"))
+
+
+def test_drivers_keep_the_ways_of_the_earlier_assignment_interval_by_interval(tmp_path):
+    made = begun(tmp_path, TWO_WAYS)
+    rows = [row(clock, way, part) for clock in CLOCKS for way, part in
+            (("short", 30 if clock == "07:00:00" else 10), ("long", 10 if clock == "07:00:00" else 30))]
+    divert(made, rows, 0.4, after=60)
+    (choice,) = made.choices
+    short = next(place for place, way in enumerate(choice.ways) if "short01" in made.legs.cells(way))
+    assert choice.parts[short] == pytest.approx([0.75] + [0.25] * 11)
+    # Step 60 is 07:10, and who sets out then is the first who may choose.
+    assert choice.informed.tolist() == [0, 0] + [0.4] * 10
+
+
+def test_the_share_of_a_route_is_that_of_the_middle_of_an_interval(tmp_path):
+    routes = "".join(f'[[routes]]\nfrom = "home"\nto = "work"\nroads = ["{road}"]\nshare = {share}\n' for road, share in
+                     (("short", '[["07:00", "07:32", 1], ["07:32", "09:00", 3]]'), ("long", 1)))
+    (choice,) = begun(tmp_path, TWO_WAYS + routes).choices
+    assert choice.parts[0] == pytest.approx([0.5] * 6 + [0.75] * 6)
+
+
+def test_a_way_that_nobody_takes_makes_room_for_another():
+    choice = choice_of([1, 0])
+    choice.kept[:, 0] = [1, 0]
+    choice.most = 2
+    assert choice.put((7,)) and choice.ways == [(0,), (7,)] and choice.parts[:, 0].tolist() == [1, 0]
+    choice.chosen[:, 0] = [0.5, 0.5]
+    assert not choice.put((8,)) and choice.put((7,)) and choice.ways == [(0,), (7,)]
+
+
+def test_drivers_keep_to_the_routes_that_are_given(tmp_path, recording_program):
+    made, _ = assigned(tmp_path, TWO_WAYS.replace("3000]]", "1800]]") + '[[routes]]\nfrom = "home"\nto = "work"\nroads = ["long"]\n')
+    (choice,) = made.choices
+    assert [("long01" in made.legs.cells(way)) for way in choice.ways] == [True]
+    assert made.times[0] / 6 == pytest.approx(numpy.full((1, 12), 15.0))
+
+
 @pytest.mark.parametrize("text", [TWO_WAYS, TWO_PAIRS, grid_study(3, demand=(100, 300))], ids=["ways", "pairs", "grid"])
 def test_the_study_that_is_written_runs_as_the_last_round_did(text, tmp_path, recording_program):
     made, rounds = assigned(tmp_path, text, 1e-9, 3)
@@ -150,42 +200,3 @@ def test_a_queue_that_is_left_at_the_end_goes_on_as_then(tmp_path, recording_pro
     # Who sets out 12 min 30 s after the start leaves 9 min 10 s later, 6 min 40 s behind the end.
     for times in made.times:
         assert times[0] / 6 == pytest.approx([5 + t / 3 for t in (2.5, 7.5, 12.5)], abs=0.01)
-
-
-def row(clock, way, vehicles):
-    return WayRow("home", "work", clock, 1, vehicles, 10.0, ("a", way, "b"))
-
-
-def test_drivers_keep_the_ways_of_the_earlier_assignment_interval_by_interval(tmp_path):
-    made = begun(tmp_path, TWO_WAYS)
-    rows = [row(clock, way, part) for clock in CLOCKS for way, part in
-            (("short", 30 if clock == "07:00:00" else 10), ("long", 10 if clock == "07:00:00" else 30))]
-    divert(made, rows, 0.4, after=60)
-    (choice,) = made.choices
-    short = next(place for place, way in enumerate(choice.ways) if "short01" in made.legs.cells(way))
-    assert choice.parts[short] == pytest.approx([0.75] + [0.25] * 11)
-    # Step 60 is 07:10, and who sets out then is the first who may choose.
-    assert choice.informed.tolist() == [0, 0] + [0.4] * 10
-
-
-def test_the_share_of_a_route_is_that_of_the_middle_of_an_interval(tmp_path):
-    routes = "".join(f'[[routes]]\nfrom = "home"\nto = "work"\nroads = ["{road}"]\nshare = {share}\n' for road, share in
-                     (("short", '[["07:00", "07:32", 1], ["07:32", "09:00", 3]]'), ("long", 1)))
-    (choice,) = begun(tmp_path, TWO_WAYS + routes).choices
-    assert choice.parts[0] == pytest.approx([0.5] * 6 + [0.75] * 6)
-
-
-def test_drivers_keep_to_the_routes_that_are_given(tmp_path, recording_program):
-    made, _ = assigned(tmp_path, TWO_WAYS.replace("3000]]", "1800]]") + '[[routes]]\nfrom = "home"\nto = "work"\nroads = ["long"]\n')
-    (choice,) = made.choices
-    assert [("long01" in made.legs.cells(way)) for way in choice.ways] == [True]
-    assert made.times[0] / 6 == pytest.approx(numpy.full((1, 12), 15.0))
-
-
-def test_a_way_that_nobody_takes_makes_room_for_another():
-    choice = choice_of([1, 0])
-    choice.kept[:, 0] = [1, 0]
-    choice.most = 2
-    assert choice.put((7,)) and choice.ways == [(0,), (7,)] and choice.parts[:, 0].tolist() == [1, 0]
-    choice.chosen[:, 0] = [0.5, 0.5]
-    assert not choice.put((8,)) and choice.put((7,)) and choice.ways == [(0,), (7,)]

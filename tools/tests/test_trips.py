@@ -55,6 +55,38 @@ def test_trips_that_cannot_be_are_refused(tmp_path, text, told):
     assert told in str(found.value)
 
 
+@pytest.mark.parametrize("row, told", [
+    ("g,x,07:00,07:10,-1", "line 2, vehicles: a number of vehicles isn't negative, found \"-1\""),
+    *((f"g,x,07:00,07:10,{text}", f'line 2, vehicles: expected a number of vehicles, found "{text}"')
+      for text in ("ten", "nan", "inf", "1e400", "1_0", "1/2", "")),
+    ("g,x,07:10,07:00,1", "line 2, end: the end isn't after the start"),
+    ("g,x,7,07:10,1", "line 2, start: expected a clock time"),
+    ("h,x,07:00,07:10,1", "line 2: from h: is no gate of the study, which has g"),
+    ("g,z,07:00,07:10,1", "line 2: to z: is no exit of the study, which has x, y"),
+    ("g,x,07:00,07:10", "line 2 has 4 fields, and 5 are expected")])
+def test_a_row_of_a_list_that_cannot_be_is_refused_with_its_line(tmp_path, row, told):
+    with pytest.raises(Problem) as found:
+        study_of(tmp_path, ROADS + '[trips]\nfile = "od.csv"\n', od=f"from,to,start,end,vehicles\n{row}\n")
+    assert f"od.csv: {told}" in str(found.value)
+
+
+@pytest.mark.parametrize("matrix, told", [
+    (",x,y\ng,1,2,3\n", "line 2: the row of g has 3 numbers for 2 exits"), (",x,x\ng,1,2\n", "line 1 has the exit x twice"),
+    (",x,y\ng,1,2\ng,1,2\n", "line 3: the gate g has a row already"), (",x,z\ng,1,2\n", "line 2: to z: is no exit of the study"),
+    (",x,y\nh,1,2\n", "line 2: from h: is no gate of the study"), (",x,y\ng,1,\n", "line 2, y: expected a number of vehicles"),
+    ("", "is empty")])
+def test_a_matrix_that_is_not_one_of_gates_and_exits_is_refused(tmp_path, matrix, told):
+    with pytest.raises(Problem) as found:
+        study_of(tmp_path, ROADS + '[trips]\nmatrices = [{ file = "m.csv" }]\n', m=matrix)
+    assert f"m.csv: {told}" in str(found.value)
+
+
+@pytest.mark.parametrize("text, vehicles", [("25", 25), ("2.5e1", 25), (".5", 0.5), ("5.", 5), ("+5", 5)])
+def test_numbers_of_vehicles_are_read_as_programs_write_them(tmp_path, text, vehicles):
+    study = study_of(tmp_path, ROADS + '[trips]\nfile = "od.csv"\n', od=f"from,to,start,end,vehicles\ng,x,07:00,08:00,{text}\n")
+    assert flows(study) == {("g", "x"): [(0, 3600, vehicles)]}
+
+
 @pytest.mark.parametrize("change, told", [
     (lambda text: text.replace('into = "m"', 'into = "m"\ndemand = 10'), "gates.g.demand: trips come from this gate"),
     (lambda text: text.replace('into = ["x", "y"]', 'into = ["x", "y"]\nshares = [1, 1]'),
