@@ -143,6 +143,27 @@ def test_a_time_after_which_nobody_sets_out_is_refused(opened, tmp_path, after):
         assign(tmp_path / "s.toml", earlier=opened, informed=1, after=after)
 
 
+@pytest.mark.parametrize("informed, roads", [(0, {"short"}), (1, {"short", "long"})])
+def test_the_study_says_who_is_informed_where_the_call_does_not(opened, tmp_path, informed, roads):
+    text = TWO_WAYS.replace("3000]]", "1800]]").replace("ways = 8", f"ways = 8\ninformed = {informed}")
+    (tmp_path / "s.toml").write_text(text + CLOSED)
+    frame = assign(tmp_path / "s.toml", earlier=opened, iterations=3)
+    assert {own[1] for own in frame.roads} == roads
+
+
+@pytest.mark.parametrize("output, told", [("s.toml", "s.toml: is the study that is assigned"),
+                                          ("od.toml", "od.csv: stands there and wasn't made by ctm-tools"),
+                                          ("od.csv", "od.csv: a study's name ends with .toml")])
+def test_nothing_that_a_user_made_is_written_over(tool, tmp_path, recording_program, output, told):
+    (tmp_path / "s.toml").write_text(TWO_PAIRS)
+    (tmp_path / "od.csv").write_text("from,to,start,end,vehicles\n")
+    status, out, err = tool("assign", "s.toml", "-o", output)
+    assert status == 2 and told in err and out == ""
+    with pytest.raises(Problem, match=told):
+        assign("s.toml", output)
+    assert (tmp_path / "s.toml").read_text() == TWO_PAIRS and sorted(path.name for path in tmp_path.iterdir()) == ["od.csv", "s.toml"]
+
+
 @pytest.mark.parametrize("change, told", [
     (lambda text: text.replace('"5 min"', '"10 min"'), "who set out at 07:05:00, at which no interval of choice begins here"),
     (lambda text: text.replace("08:00", "08:10"), "has nobody from home to work who sets out at 08:00:00"),

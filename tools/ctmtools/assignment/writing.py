@@ -41,14 +41,15 @@ class Places:
         """The pictures of the gap and of the ways."""
         return self.study.with_suffix(".gap.png"), self.study.with_suffix(".ways.png")
 
-    def guard(self, source: Path) -> None:
-        """Refuses to write over the study that is assigned, or over what these tools haven't made."""
+    def guard(self, source: Path, named: bool) -> None:
+        """Refuses to write over the study that is assigned, or over what these tools haven't made, but for a report that is named."""
         if self.study.suffix != ".toml":
             raise Problem(f"{self.study}: a study's name ends with .toml")
         if self.study.resolve() == source.resolve():
             raise Problem(f"{self.study}: is the study that is assigned; name another file with -o")
         guard_network(self.report.with_suffix(".csv"))
-        guard_report(self.report)
+        if not named:
+            guard_report(self.report)
 
 
 def places_of(source: str | Path, output: str | Path | None = None) -> Places:

@@ -68,10 +68,7 @@ def command(source: str, earlier: str | None, informed: str | None, after: str |
         _tell_table(tasks, _done(tasks, jobs, address), output)
         return
     places = places_of(source, output)
-    if output is None:
-        places.guard(Path(source))
-    elif places.study.suffix != ".toml":
-        raise Problem(f"{output}: a study's name ends with .toml")
+    places.guard(Path(source), output is not None)
     assignment = begun(tasks[0], workers)
     for line in told_of_study(assignment.shared.built):
         click.echo(line)
