@@ -119,3 +119,62 @@ def test_given_routes_are_taken_as_they_say(tmp_path, recording_program):
     assert len(choice.ways) == 2 and rounds[-1].gap.relative == 0
     assert choice.parts[0, :6] == pytest.approx(0.5) and choice.parts[0, 6:] == pytest.approx(0.75)
     assert made.report.cells.gone["long01"] == pytest.approx(1125, abs=5)
+
+
+def route(roads, more=""):
+    return f'[[routes]]\nfrom = "home"\nto = "work"\nroads = {roads}\n{more}'
+
+
+@pytest.mark.parametrize("text, told", [
+    (route('["lane"]'), "routes[1].roads: there is no road lane"), (route("[]"), "routes[1].roads: expected the roads of the way"),
+    (route('["b", "short"]'), "routes[1].roads: no way leads from b1 to road short"),
+    (route('["short"]', "share = -1\n"), "routes[1].share: a share isn't negative"),
+    (route('["short"]', "share = 1\n") + route('["long"]'), "routes[1].share: either all routes from home to work have shares or none"),
+    (route('["short"]', 'share = [["07:30", "09:00", 1]]\n'),
+     "routes[1].share: no route from home to work has a share at 07:02:30, when drivers set out")])
+def test_a_route_that_cannot_be_driven_or_shared_is_refused(tool, tmp_path, text, told):
+    (tmp_path / "s.toml").write_text(TWO_WAYS + text)
+    status, _, err = tool("assign", "s.toml")
+    assert status == 2 and f"s.toml: {told}" in err and [path.name for path in tmp_path.iterdir()] == ["s.toml"]
+
+
+@pytest.mark.parametrize("line, told", [
+    ("ways = 0", "routing.ways: expected a whole number"), ("ways = 2\ninformed = 1.5", "routing.informed: expected a part from 0 to 1"),
+    ("ways = 2\ninformed = -0.1", "routing.informed: expected a part from 0 to 1")])
+def test_routing_that_cannot_be_is_refused(tmp_path, line, told):
+    with pytest.raises(Problem) as found:
+        study_of(tmp_path, TWO_WAYS.replace("ways = 8", line))
+    assert told in str(found.value)
+
+
+def test_trips_come_by_a_flow_by_rows_or_by_counts(tmp_path):
+    said = {"600": [(0, 3600, 600)], '[["07:00", "07:30", 600], ["07:30", "08:00", 300]]': [(0, 1800, 600), (1800, 3600, 300)],
+            '{ counts = "c.csv", column = "n" }': [(0, 1800, 600), (1800, 3600, 300)]}  # 300 and 150 in half an hour
+    for demand, wanted in said.items():
+        study = study_of(tmp_path, ROADS + f'[[trips]]\nfrom = "g"\nto = "x"\ndemand = {demand}\n', c="time,n\n07:00,300\n07:30,150\n")
+        assert flows(study) == {("g", "x"): wanted}
+
+
+def test_where_a_junction_leaves_out_a_movement_no_way_leads_over_it(tmp_path, recording_program):
+    text = TWO_PAIRS.split("[roads]")[0] + """[roads]
+p = { length = 1, lanes = 1 }
+q = { length = 1, lanes = 1 }
+quick = { length = 1, lanes = 1 }
+slow = { length = 2, lanes = 1 }
+last = { length = 1, lanes = 1 }
+[gates]
+g = { into = "p" }
+h = { into = "q" }
+[exits.x]
+from = "last"
+[[junctions]]
+from = ["p", "q"]
+into = ["quick", "slow"]
+lanes = [[0, 1], [1, 1]]
+[[merges]]
+from = ["quick", "slow"]
+into = "last"
+priorities = [1, 1]
+""" + "".join(f'[[trips]]\nfrom = "{gate}"\nto = "x"\ndemand = [["07:00", "07:10", 600]]\n' for gate in "gh")
+    made, _ = assigned(tmp_path, text)
+    assert {(row.source, row.roads[-2]) for row in made.rows()} == {("g", "slow"), ("h", "quick")}
