@@ -54,9 +54,20 @@ def by_sumo(net, number):
 
 
 def iterate(net, times, *options):
-    """Runs duaIterate so many times over NET.net.xml and NET.trips.xml; gives the first iteration and the last one."""
+    """Runs duaIterate so many times over NET.net.xml and NET.trips.xml; gives all its iterations."""
     run("/usr/bin/python3", TOOLS / "assign" / "duaIterate.py", "-n", f"{net}.net.xml", "-t", f"{net}.trips.xml", "-l", times, *options)
-    return by_sumo(net, 0), by_sumo(net, times - 1)
+    return [by_sumo(net, number) for number in range(times)]
+
+
+def mean_of(found):
+    """The mean of several iterations, named with the least and the most delay of them."""
+    count, delays = len(found), [one.delay for one in found]
+    mean = Driven(f"SUMO, last {count}: {min(delays):.1f} to {max(delays):.1f}", sum(one.hours for one in found) / count,
+                  sum(delays) / count)
+    for one in found:
+        for own, whole in ((mean.streets, one.streets), (mean.taken, one.taken)):
+            own.update({street: value / count for street, value in whole.items()})
+    return mean
 
 
 def by_ctm(net, gap, rounds, *options):
