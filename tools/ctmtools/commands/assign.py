@@ -46,7 +46,7 @@ The traffic is the program's: one run a round. tools/docs/routes.md has the meth
 @click.option("--from", "earlier", metavar="OPEN.assigned.toml", type=click.Path(),
               help="An earlier assignment, whose ways the drivers have.")
 @click.option("--informed", metavar="PART[,PART..]", help="The part of the drivers who choose; else the study's.")
-@click.option("--after", metavar="TIME", help="Only who set out then or later choose anew.")
+@click.option("--after", metavar="TIME", help="Only who set out in an interval of choice from then on choose anew.")
 @click.option("--gap", default=0.01, show_default=True, type=Finite(0, min_open=True),
               help="The relative gap below which it ends.")
 @click.option("--iterations", default=50, show_default=True, type=click.IntRange(1, 10_000), help="The most rounds.")
