@@ -4,12 +4,15 @@ from types import SimpleNamespace
 
 import pytest
 
-from ctmtools import Problem, assign
+from ctmtools import Problem, assign, read_report
+from ctmtools.assignment.assigning import Round
 from ctmtools.assignment.messages import settled_lines
+from ctmtools.assignment.times import Gap
 from ctmtools.assignment.ways_file import read_ways
+from ctmtools.study.reading import read_values
 
 from .test_assign import assigned
-from .trips import TWO_PAIRS, TWO_WAYS
+from .trips import HEAD, TWO_PAIRS, TWO_WAYS
 
 HOUR = '[["07:00", "08:00", 3000]]'
 CLOSED = '[[closures]]\nroad = "short"\nfrom = 5\nto = 6\nlanes = 2\nstart = "07:20"\nend = "07:50"\n'
@@ -56,22 +59,72 @@ def test_ways_that_find_no_room_are_told(tool, tmp_path, recording_program):
     assert status == 0 and "1 pairs have as many ways as routing.ways says, and quicker ones were found, as from home to work" in out, err
 
 
-def test_the_run_of_the_written_study_has_greens_that_follow_traffic(tool, tmp_path, recording_program):
-    signal = '[[signals]]\nroad = "b"\ncycle = 60\ngreen = 30\nactuated = { least = 10, most = 40, gap = 10 }\n'
-    short = TWO_WAYS.replace("09:00", "07:40").replace(HOUR, '[["07:00", "07:15", 3000]]')
-    (tmp_path / "s.toml").write_text(short + signal)
+# The short way passes 1,000 vehicles/h by its fixed green of half a cycle, and more by one that lasts as long as who come need it.
+FOLLOWED = TWO_WAYS.replace("09:00", "08:10").replace(HOUR, '[["07:00", "07:25", 1500]]') + """
+[[signals]]
+road = "short"
+cycle = 60
+green = 30
+actuated = { least = 10, most = 300, gap = 10 }
+"""
+
+
+def test_gap_and_times_are_those_of_the_run_of_the_written_study(tool, tmp_path, recording_program):
+    (tmp_path / "s.toml").write_text(FOLLOWED)
     status, out, err = tool("assign", "s.toml", "--iterations", "1")
     assert status == 0 and "greens that follow traffic are worked out in the run of the written study alone" in out, err
+    # All take the short way. By the fixed green 500 too many come for 25 min, and who waits longer than 5 min would gain by the long
+    # way. Three of four come that pass in the green, so it lasts until its queue is gone, and nobody waits longer than the red, 30 s.
+    assert float(out.split("the last round ")[1].split(" and ")[1].split(";")[0]) > 0.1 and "has 0 vehicle" not in out
+    assert "and a gap of 0.00000, the last round" in out
+    rows = read_ways(tmp_path / "s.assigned.ways.csv")
+    assert all(10 <= row.minutes < 10.7 for row in rows) and sum(row.vehicles for row in rows) == pytest.approx(625, abs=0.001)
 
 
-@pytest.mark.parametrize("yields, actuated, delay, wanted", [
-    (True, False, 12, "The run of the written study works out anew what passes of those who give way; it has 12"),
-    (False, True, 12, "warning: greens that follow traffic"), (True, True, 12, "warning: greens that follow traffic"),
-    (True, True, 10, ""), (False, False, 12, "")])
-def test_another_delay_of_the_written_study_is_told_with_its_cause(yields, actuated, delay, wanted):
-    study = SimpleNamespace(yields=yields, actuated=actuated)
-    told = "".join(settled_lines(study, SimpleNamespace(delay=10.0), SimpleNamespace(delay_vehicle_hours=float(delay))))
+@pytest.mark.parametrize("yields, actuated, delay, gap, wanted", [
+    (True, False, 12, 0.01, "The run of the written study works out anew what passes of those who give way; it has 12 vehicle-hours of delay "
+     "and a gap of 0.01000, the last round 10 and 0.01000."),
+    (True, False, 10, 0.02, "The run of the written study works out anew what passes of those who give way; it has 10 vehicle-hours of delay "
+     "and a gap of 0.02000, the last round 10 and 0.01000."),
+    (False, True, 12, 0.01, "warning: greens that follow traffic"), (True, True, 12, 0.01, "warning: greens that follow traffic"),
+    (True, True, 10, 0.01, ""), (False, False, 12, 0.01, "")])
+def test_another_delay_or_gap_of_the_written_study_is_told_with_its_cause(yields, actuated, delay, gap, wanted):
+    last, final = (Round(3, Gap(100 + 100 * part, 100, 500), 0.0, hours, 0.0) for part, hours in ((0.01, 10.0), (gap, float(delay))))
+    told = "".join(settled_lines(SimpleNamespace(yields=yields, actuated=actuated), last, final))
     assert told.strip().startswith(wanted) and bool(told) == bool(wanted)
+
+
+# Two streets that come together, at a junction out of which one way leads.
+TOGETHER = HEAD.format(title="Together", end="07:20") + """
+[roads]
+p = { length = 1, lanes = 1 }
+q = { length = 1, lanes = 1 }
+b = { length = 1, lanes = 2 }
+[gates]
+g = { into = "p" }
+h = { into = "q" }
+[exits.x]
+from = "b"
+[[junctions]]
+from = ["p", "q"]
+into = ["b"]
+[[trips]]
+from = "g"
+to = "x"
+demand = [["07:00", "07:10", 600]]
+[[trips]]
+from = "h"
+to = "x"
+demand = [["07:00", "07:10", 300]]
+"""
+
+
+def test_a_junction_at_which_nobody_parts_keeps_its_one_way(tool, tmp_path, recording_program):
+    (tmp_path / "s.toml").write_text(TOGETHER)
+    status, _, err = tool("assign", "s.toml")
+    assert status == 0, err
+    assert read_values("s.assigned.toml")["junctions"][0]["shares"] == [[1], [1]]
+    assert read_report("s.assigned.report").total.left == pytest.approx(150, abs=0.01)  # 100 and 50
 
 
 @pytest.fixture(scope="module")
@@ -88,6 +141,27 @@ def test_a_time_after_which_nobody_sets_out_is_refused(opened, tmp_path, after):
     (tmp_path / "s.toml").write_text(TWO_WAYS.replace("3000]]", "1800]]") + CLOSED)
     with pytest.raises(Problem, match="s.toml: --after: nobody sets out in an interval of choice that begins then or later"):
         assign(tmp_path / "s.toml", earlier=opened, informed=1, after=after)
+
+
+@pytest.mark.parametrize("informed, roads", [(0, {"short"}), (1, {"short", "long"})])
+def test_the_study_says_who_is_informed_where_the_call_does_not(opened, tmp_path, informed, roads):
+    text = TWO_WAYS.replace("3000]]", "1800]]").replace("ways = 8", f"ways = 8\ninformed = {informed}")
+    (tmp_path / "s.toml").write_text(text + CLOSED)
+    frame = assign(tmp_path / "s.toml", earlier=opened, iterations=3)
+    assert {own[1] for own in frame.roads} == roads
+
+
+@pytest.mark.parametrize("output, told", [("s.toml", "s.toml: is the study that is assigned"),
+                                          ("od.toml", "od.csv: stands there and wasn't made by ctm-tools"),
+                                          ("od.csv", "od.csv: a study's name ends with .toml")])
+def test_nothing_that_a_user_made_is_written_over(tool, tmp_path, recording_program, output, told):
+    (tmp_path / "s.toml").write_text(TWO_PAIRS)
+    (tmp_path / "od.csv").write_text("from,to,start,end,vehicles\n")
+    status, out, err = tool("assign", "s.toml", "-o", output)
+    assert status == 2 and told in err and out == ""
+    with pytest.raises(Problem, match=told):
+        assign("s.toml", output)
+    assert (tmp_path / "s.toml").read_text() == TWO_PAIRS and sorted(path.name for path in tmp_path.iterdir()) == ["od.csv", "s.toml"]
 
 
 @pytest.mark.parametrize("change, told", [

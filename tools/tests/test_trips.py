@@ -55,6 +55,38 @@ def test_trips_that_cannot_be_are_refused(tmp_path, text, told):
     assert told in str(found.value)
 
 
+@pytest.mark.parametrize("row, told", [
+    ("g,x,07:00,07:10,-1", "line 2, vehicles: a number of vehicles isn't negative, found \"-1\""),
+    *((f"g,x,07:00,07:10,{text}", f'line 2, vehicles: expected a number of vehicles, found "{text}"')
+      for text in ("ten", "nan", "inf", "1e400", "1_0", "1/2", "")),
+    ("g,x,07:10,07:00,1", "line 2, end: the end isn't after the start"),
+    ("g,x,7,07:10,1", "line 2, start: expected a clock time"),
+    ("h,x,07:00,07:10,1", "line 2: from h: is no gate of the study, which has g"),
+    ("g,z,07:00,07:10,1", "line 2: to z: is no exit of the study, which has x, y"),
+    ("g,x,07:00,07:10", "line 2 has 4 fields, and 5 are expected")])
+def test_a_row_of_a_list_that_cannot_be_is_refused_with_its_line(tmp_path, row, told):
+    with pytest.raises(Problem) as found:
+        study_of(tmp_path, ROADS + '[trips]\nfile = "od.csv"\n', od=f"from,to,start,end,vehicles\n{row}\n")
+    assert f"od.csv: {told}" in str(found.value)
+
+
+@pytest.mark.parametrize("matrix, told", [
+    (",x,y\ng,1,2,3\n", "line 2: the row of g has 3 numbers for 2 exits"), (",x,x\ng,1,2\n", "line 1 has the exit x twice"),
+    (",x,y\ng,1,2\ng,1,2\n", "line 3: the gate g has a row already"), (",x,z\ng,1,2\n", "line 2: to z: is no exit of the study"),
+    (",x,y\nh,1,2\n", "line 2: from h: is no gate of the study"), (",x,y\ng,1,\n", "line 2, y: expected a number of vehicles"),
+    ("", "is empty")])
+def test_a_matrix_that_is_not_one_of_gates_and_exits_is_refused(tmp_path, matrix, told):
+    with pytest.raises(Problem) as found:
+        study_of(tmp_path, ROADS + '[trips]\nmatrices = [{ file = "m.csv" }]\n', m=matrix)
+    assert f"m.csv: {told}" in str(found.value)
+
+
+@pytest.mark.parametrize("text, vehicles", [("25", 25), ("2.5e1", 25), (".5", 0.5), ("5.", 5), ("+5", 5)])
+def test_numbers_of_vehicles_are_read_as_programs_write_them(tmp_path, text, vehicles):
+    study = study_of(tmp_path, ROADS + '[trips]\nfile = "od.csv"\n', od=f"from,to,start,end,vehicles\ng,x,07:00,08:00,{text}\n")
+    assert flows(study) == {("g", "x"): [(0, 3600, vehicles)]}
+
+
 @pytest.mark.parametrize("change, told", [
     (lambda text: text.replace('into = "m"', 'into = "m"\ndemand = 10'), "gates.g.demand: trips come from this gate"),
     (lambda text: text.replace('into = ["x", "y"]', 'into = ["x", "y"]\nshares = [1, 1]'),
@@ -87,3 +119,62 @@ def test_given_routes_are_taken_as_they_say(tmp_path, recording_program):
     assert len(choice.ways) == 2 and rounds[-1].gap.relative == 0
     assert choice.parts[0, :6] == pytest.approx(0.5) and choice.parts[0, 6:] == pytest.approx(0.75)
     assert made.report.cells.gone["long01"] == pytest.approx(1125, abs=5)
+
+
+def route(roads, more=""):
+    return f'[[routes]]\nfrom = "home"\nto = "work"\nroads = {roads}\n{more}'
+
+
+@pytest.mark.parametrize("text, told", [
+    (route('["lane"]'), "routes[1].roads: there is no road lane"), (route("[]"), "routes[1].roads: expected the roads of the way"),
+    (route('["b", "short"]'), "routes[1].roads: no way leads from b1 to road short"),
+    (route('["short"]', "share = -1\n"), "routes[1].share: a share isn't negative"),
+    (route('["short"]', "share = 1\n") + route('["long"]'), "routes[1].share: either all routes from home to work have shares or none"),
+    (route('["short"]', 'share = [["07:30", "09:00", 1]]\n'),
+     "routes[1].share: no route from home to work has a share at 07:02:30, when drivers set out")])
+def test_a_route_that_cannot_be_driven_or_shared_is_refused(tool, tmp_path, text, told):
+    (tmp_path / "s.toml").write_text(TWO_WAYS + text)
+    status, _, err = tool("assign", "s.toml")
+    assert status == 2 and f"s.toml: {told}" in err and [path.name for path in tmp_path.iterdir()] == ["s.toml"]
+
+
+@pytest.mark.parametrize("line, told", [
+    ("ways = 0", "routing.ways: expected a whole number"), ("ways = 2\ninformed = 1.5", "routing.informed: expected a part from 0 to 1"),
+    ("ways = 2\ninformed = -0.1", "routing.informed: expected a part from 0 to 1")])
+def test_routing_that_cannot_be_is_refused(tmp_path, line, told):
+    with pytest.raises(Problem) as found:
+        study_of(tmp_path, TWO_WAYS.replace("ways = 8", line))
+    assert told in str(found.value)
+
+
+def test_trips_come_by_a_flow_by_rows_or_by_counts(tmp_path):
+    said = {"600": [(0, 3600, 600)], '[["07:00", "07:30", 600], ["07:30", "08:00", 300]]': [(0, 1800, 600), (1800, 3600, 300)],
+            '{ counts = "c.csv", column = "n" }': [(0, 1800, 600), (1800, 3600, 300)]}  # 300 and 150 in half an hour
+    for demand, wanted in said.items():
+        study = study_of(tmp_path, ROADS + f'[[trips]]\nfrom = "g"\nto = "x"\ndemand = {demand}\n', c="time,n\n07:00,300\n07:30,150\n")
+        assert flows(study) == {("g", "x"): wanted}
+
+
+def test_where_a_junction_leaves_out_a_movement_no_way_leads_over_it(tmp_path, recording_program):
+    text = TWO_PAIRS.split("[roads]")[0] + """[roads]
+p = { length = 1, lanes = 1 }
+q = { length = 1, lanes = 1 }
+quick = { length = 1, lanes = 1 }
+slow = { length = 2, lanes = 1 }
+last = { length = 1, lanes = 1 }
+[gates]
+g = { into = "p" }
+h = { into = "q" }
+[exits.x]
+from = "last"
+[[junctions]]
+from = ["p", "q"]
+into = ["quick", "slow"]
+lanes = [[0, 1], [1, 1]]
+[[merges]]
+from = ["quick", "slow"]
+into = "last"
+priorities = [1, 1]
+""" + "".join(f'[[trips]]\nfrom = "{gate}"\nto = "x"\ndemand = [["07:00", "07:10", 600]]\n' for gate in "gh")
+    made, _ = assigned(tmp_path, text)
+    assert {(row.source, row.roads[-2]) for row in made.rows()} == {("g", "slow"), ("h", "quick")}

@@ -32,7 +32,7 @@ class AssignedStudy:
         for name in ("trips", "routes", "routing", "assigned"):
             self.values.pop(name, None)
         self._demands()
-        for place in dict.fromkeys(fork.place for fork, _ in self.forks):
+        for place in self.study.by_trips:
             own = [(fork, parts) for fork, parts in self.forks if fork.place == place]
             shares = self._table(place)
             shares.update(self._junction(place, own) if place.startswith("junctions") else self._diverge(*own[0]))

@@ -115,18 +115,27 @@ class Assignment:
         counts = self._loaded()
         for number in range(1, iterations + 1):
             self._run(counts)
-            self._find()
-            self._measure()
-            found, again = gap_of(self.choices, self.departures, self.times), self._loaded()
-            assert self.report is not None  # the run gave it
-            shifted = moved(counts, again, self.bounds, self.departures.width)
-            done = Round(number, found, shifted, self.report.units.hours(self.report.total.delay), changed, self.limits_moved)
+            done = self._judged(number, changed)
             yield done
             if done.settled(gap) or number == iterations:
                 return
             self._limit(1.0 if number == 1 else DAMPING)
-            changed = swap(self.choices, self.departures, self.times, pace.next(found.relative))
+            changed = swap(self.choices, self.departures, self.times, pace.next(done.gap.relative))
             counts = self._loaded()
+
+    def by_run_of(self, report: Report, last: Round) -> Round:
+        """The last round as another run of its shares has it, the report of which is taken, with the times that follow."""
+        self.report, self.passing = report, self.passings.of(report)
+        return self._judged(last.number, last.changed)
+
+    def _judged(self, number: int, changed: float) -> Round:
+        """What a round came to, by the ways that are best as traffic was in its run."""
+        self._find()
+        self._measure()
+        assert self.report is not None  # the run gave it
+        gap, delay = gap_of(self.choices, self.departures, self.times), self.report.units.hours(self.report.total.delay)
+        shifted = moved(self.counts, self._loaded(), self.bounds, self.departures.width)
+        return Round(number, gap, shifted, delay, changed, self.limits_moved)
 
     def _loaded(self) -> Numbers:
         return loaded(self.choices, self.courses)

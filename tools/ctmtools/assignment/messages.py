@@ -69,17 +69,18 @@ def rounded_lines(assignment: Assignment) -> Iterator[str]:
         yield "All shares are modelled as asked, to 0.1 % of the lesser branch."
 
 
-def settled_lines(study: Study, last: Round, report: Report) -> Iterator[str]:
+def settled_lines(study: Study, last: Round, final: Round) -> Iterator[str]:
     """What the run of the written study has otherwise than the last round, where it works out what passes."""
-    delay = report.delay_vehicle_hours
-    if number_text(delay) == number_text(last.delay):
+    figures = [(number_text(one.delay), f"{one.gap.relative:.5f}") for one in (final, last)]
+    if figures[0] == figures[1]:
         return
+    (delay, gap), (delay_before, gap_before) = figures
+    found = f"{delay} vehicle-hours of delay and a gap of {gap}, the last round {delay_before} and {gap_before}"
     if study.actuated:
-        yield (f"\nwarning: greens that follow traffic are worked out in the run of the written study alone, which has "
-               f"{number_text(delay)} vehicle-hours of delay; drivers chose without them")
+        yield (f"\nwarning: greens that follow traffic are worked out in the run of the written study alone, which has {found}; drivers "
+               "chose without them")
     elif study.yields:
-        yield (f"\nThe run of the written study works out anew what passes of those who give way; it has {number_text(delay)} "
-               "vehicle-hours of delay.")
+        yield f"\nThe run of the written study works out anew what passes of those who give way; it has {found}."
 
 
 def pair_lines(rows: Sequence[WayRow]) -> Iterator[str]:

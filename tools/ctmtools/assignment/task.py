@@ -41,7 +41,8 @@ def begun(task: AssignTask, workers: int | None = None) -> Assignment:
     """The assignment of a task, before its first round."""
     assignment = Assignment(study_of(task.values, Path(task.path)), workers, task.program)
     if task.rows is not None:
-        divert(assignment, task.rows, 1.0 if task.informed is None else task.informed, task.after)
+        informed = float(assignment.study.routing.informed) if task.informed is None else task.informed
+        divert(assignment, task.rows, informed, task.after)
     elif task.informed is not None:
         for choice in assignment.choices:
             choice.informed[:] = task.informed
@@ -66,10 +67,13 @@ def assigned_frame(source: str | Path, output: str | Path | None, earlier: str |
     study = study_of(values, Path(source))
     task = AssignTask(values, str(source), str(program_path()), ways_of_study(earlier) if earlier else None, informed,
                       step_of(after, study), gap, iterations)
+    places = None if output is None else Places(Path(output))
+    if places:
+        places.guard(Path(source), named=True)
     assignment = begun(task)
     *_, last = assignment.rounds(gap, iterations)
-    if output is not None:
-        written(assignment, values, Places(Path(output)))
+    if places:
+        last = written(assignment, last, values, places).last
     frame = pandas.DataFrame(assignment.rows()).rename(columns={"source": "from", "into": "to"})
     frame.attrs.update(measures(assignment, last))
     return frame

@@ -41,14 +41,15 @@ class Places:
         """The pictures of the gap and of the ways."""
         return self.study.with_suffix(".gap.png"), self.study.with_suffix(".ways.png")
 
-    def guard(self, source: Path) -> None:
-        """Refuses to write over the study that is assigned, or over what these tools haven't made."""
+    def guard(self, source: Path, named: bool) -> None:
+        """Refuses to write over the study that is assigned, or over what these tools haven't made, but for a report that is named."""
         if self.study.suffix != ".toml":
             raise Problem(f"{self.study}: a study's name ends with .toml")
         if self.study.resolve() == source.resolve():
             raise Problem(f"{self.study}: is the study that is assigned; name another file with -o")
         guard_network(self.report.with_suffix(".csv"))
-        guard_report(self.report)
+        if not named:
+            guard_report(self.report)
 
 
 def places_of(source: str | Path, output: str | Path | None = None) -> Places:
@@ -56,27 +57,44 @@ def places_of(source: str | Path, output: str | Path | None = None) -> Places:
     return Places(Path(output) if output else Path(Path(source).stem + ".assigned.toml"))
 
 
-def written(assignment: Assignment, values: dict[str, Any], places: Places) -> tuple[Report, list[WayRow], list[str]]:
+@dataclass(frozen=True)
+class Written:
+    """What was written: the last round as the run of the study has it, its report, the ways, and what is told of those who give way."""
+
+    last: Round
+    report: Report
+    rows: list[WayRow]
+    passing: list[str]
+
+
+def written(assignment: Assignment, last: Round, values: dict[str, Any], places: Places) -> Written:
     """Writes the study, runs it, and writes its network, its report and its ways; the pictures aren't drawn.
 
-    Gives the report, the ways, and what is told of those who give way in it: what passes is worked out anew, as `run` does.
+    What passes of those who give way is worked out anew there, as `run` does, and so are greens that follow traffic. Then gap and
+    times are of that run too.
     """
-    source = assignment.study.path
-    made = AssignedStudy(assignment.study, values, assignment.forks, assignment.parts, assignment.bounds)
-    values = moved_to(made.made(places.ways.name, assignment.let_through), source, places.study)
-    rows = assignment.rows()
-    text = ways_text(rows)
-    write(places.ways, text)
-    write(places.study, study_text(values, f"{source.name} with the shares that ctm-tools assign found"))
+    study = assignment.study
+    made = AssignedStudy(study, values, assignment.forks, assignment.parts, assignment.bounds)
+    values = moved_to(made.made(places.ways.name, assignment.let_through), study.path, places.study)
+    write(places.ways, ways_text(assignment.rows()))
+    write(places.study, study_text(values, f"{study.path.name} with the shares that ctm-tools assign found"))
     prepared = opened(places.study)
     told = [*prepared.built.remarks, *(f"warning: {line}" for line in prepared.built.warnings)] if prepared.built else []
     begun = {*assignment.shared.built.remarks, *(f"warning: {line}" for line in assignment.shared.built.warnings)}
     report = run_into(places.report, placed(prepared, places.report), None, assignment.workers)
+    if study.yields or study.actuated:
+        last = assignment.by_run_of(report, last)
+    rows = assignment.rows()
+    _mark_ways(report, places, ways_text(rows), assignment.departures.width)
+    return Written(last, report, rows, [line for line in told if line not in begun] if assignment.yielding else [])
+
+
+def _mark_ways(report: Report, places: Places, text: str, width: int) -> None:
+    """Writes the ways of a report, and in its units that they are its own."""
+    write(places.ways, text)
     units = report.units
-    units.ways_checksum, units.ways_network = checksum(text.encode()), units.network_checksum
-    units.ways_interval = assignment.departures.width
+    units.ways_checksum, units.ways_network, units.ways_interval = checksum(text.encode()), units.network_checksum, width
     write_units(units_path(places.report), units)
-    return report, rows, [line for line in told if line not in begun] if assignment.yielding else []
 
 
 def drawn(rounds: Sequence[Round], rows: Sequence[WayRow], report: Report, width: float, places: Places) -> None:

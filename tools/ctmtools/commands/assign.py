@@ -46,7 +46,7 @@ The traffic is the program's: one run a round. tools/docs/routes.md has the meth
 @click.option("--from", "earlier", metavar="OPEN.assigned.toml", type=click.Path(),
               help="An earlier assignment, whose ways the drivers have.")
 @click.option("--informed", metavar="PART[,PART..]", help="The part of the drivers who choose; else the study's.")
-@click.option("--after", metavar="TIME", help="Only who set out then or later choose anew.")
+@click.option("--after", metavar="TIME", help="Only who set out in an interval of choice from then on choose anew.")
 @click.option("--gap", default=0.01, show_default=True, type=Finite(0, min_open=True),
               help="The relative gap below which it ends.")
 @click.option("--iterations", default=50, show_default=True, type=click.IntRange(1, 10_000), help="The most rounds.")
@@ -68,18 +68,15 @@ def command(source: str, earlier: str | None, informed: str | None, after: str |
         _tell_table(tasks, _done(tasks, jobs, address), output)
         return
     places = places_of(source, output)
-    if output is None:
-        places.guard(Path(source))
-    elif places.study.suffix != ".toml":
-        raise Problem(f"{output}: a study's name ends with .toml")
+    places.guard(Path(source), output is not None)
     assignment = begun(tasks[0], workers)
     for line in told_of_study(assignment.shared.built):
         click.echo(line)
     rounds = _rounds(assignment, gap, iterations)
-    report, ways, passing = written(assignment, values, places)
-    drawn(rounds, ways, report, assignment.departures.width, places)
-    _tell(assignment, rounds, gap, ways, passing)
-    for line in settled_lines(assignment.study, rounds[-1], report):
+    made = written(assignment, rounds[-1], values, places)
+    drawn(rounds, made.rows, made.report, assignment.departures.width, places)
+    _tell(assignment, [*rounds[:-1], made.last], gap, made.rows, made.passing)
+    for line in settled_lines(assignment.study, rounds[-1], made.last):
         click.echo(line)
     click.echo(f"\n{places.study}, {places.report}, {places.ways}, {', '.join(map(str, places.pictures))}")
 

@@ -3,6 +3,7 @@
 from __future__ import annotations
 
 import csv
+import re
 from collections.abc import Iterator, Sequence
 from fractions import Fraction
 from pathlib import Path
@@ -14,6 +15,7 @@ from .times import Times
 
 HOUR = 3600
 COLUMNS = ("from", "to", "start", "end", "vehicles")
+DECIMAL = re.compile(r"[+-]?([0-9]+\.?[0-9]*|\.[0-9]+)([eE][+-]?[0-9]{1,2})?")
 Rows = list[tuple[int, list[str]]]  # each row with its line
 
 
@@ -68,10 +70,9 @@ def _rows(path: Path) -> Rows:
 
 
 def _vehicles(text: str, key: str) -> Fraction:
-    try:
-        vehicles = Fraction(text)
-    except (ValueError, ZeroDivisionError):
-        raise Problem(f"{key}: expected a number of vehicles, found \"{text}\"") from None
+    if not DECIMAL.fullmatch(text):
+        raise Problem(f"{key}: expected a number of vehicles, found \"{text}\"")
+    vehicles = Fraction(text)
     if vehicles < 0:
         raise Problem(f"{key}: a number of vehicles isn't negative, found \"{text}\"")
     return vehicles
