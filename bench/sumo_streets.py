@@ -16,7 +16,8 @@ from xml.etree import ElementTree
 TOOLS = Path(os.environ.get("SUMO_HOME", "/usr/share/sumo")) / "tools"
 RILSA = TOOLS / "sumolib" / "scenario" / "scenarios" / "RealWorld" / "RiLSA_example1"
 STEP = 0.25  # s
-CAR = '<vType id="car"/>'  # as SUMO has it by default, some faster than others
+# By default some are faster than others, as SUMO has it, so that platoons form behind the slow ones.
+CAR = '<vType id="car" speedFactor="1" speedDev="0"/>' if os.environ.get("SPEEDS") == "one" else '<vType id="car"/>'
 FAR = 300  # m to the ends of the roads
 ALONE, APART = 12, 67  # vehicles of each route that drive alone, and s between them
 BEGINS = 300  # s until those who pass are counted

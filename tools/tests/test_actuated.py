@@ -158,3 +158,40 @@ def test_signals_that_merge_have_one_cycle_and_greens_apart(tmp_path):
         with pytest.raises(Problem) as refused:
             read_study(path)
         assert why in str(refused.value)
+
+
+SIDE_STREET = """[roads.before]
+length = 0.2
+lanes = 1
+[roads.side]
+length = 0.2
+lanes = 1
+[roads.behind]
+length = 0.2
+lanes = 1
+[gates.main]
+into = "before"
+demand = 600
+[gates.village]
+into = "side"
+demand = 600
+[exits.out]
+from = "behind"
+[[merges]]
+from = ["before", "side"]
+into = "behind"
+priorities = [1, 1]
+yields_to = "before"
+"""
+
+
+def test_greens_follow_traffic_in_each_run_that_settles_who_gives_way(tmp_path, tool, recording_program):
+    path = write(tmp_path, more=SIDE_STREET)
+    found = opened(path)
+    # The greens are those of paper without a side street, and its limit that of Harders past 600 vehicles/h.
+    greens = told(found)
+    assert greens[:2] == pytest.approx([11.2, 8.8], abs=1.2) and greens[2] == pytest.approx(28, abs=2.4)
+    assert any(re.match(r"merges\[1\], side: 50[45] to \d+ vehicles/h may pass through gaps", line) for line in found.built.remarks)
+    status, _, _ = tool("run", "study.toml")
+    again = ask(("run", "--every", "1"), (tmp_path / "study.csv").read_bytes())
+    assert status == 0 and again.out == (tmp_path / "study.report").read_bytes()
