@@ -19,11 +19,13 @@ STEP = 0.25  # s
 # By default some are faster than others, as SUMO has it, so that platoons form behind the slow ones.
 CAR = '<vType id="car" speedFactor="1" speedDev="0"/>' if os.environ.get("SPEEDS") == "one" else '<vType id="car"/>'
 FAR = 300  # m to the ends of the roads
+RED = 4  # s at the end of each phase
 ALONE, APART = 12, 67  # vehicles of each route that drive alone, and s between them
 BEGINS = 300  # s until those who pass are counted
 LONGEST_WAIT = 20  # s for room, after which a vehicle of a queue that is to stand doesn't come
 ARMS = {"N": (0, 1), "E": (1, 0), "S": (0, -1), "W": (-1, 0)}
 RIGHT_OF = {"N": "W", "W": "S", "S": "E", "E": "N"}  # where who comes from an arm turns right
+NO_TURNS = "--no-turnarounds", "true"
 BEHIND = {"N": "S", "S": "N", "E": "W", "W": "E"}
 
 
@@ -70,16 +72,17 @@ def join(arm, to, lane):
 def permitted_left(towards, left, through=200, first=30, second=30):
     """One direction turns left out of a lane of its own through the other, which drives through, in 30 s of a cycle of 60 s."""
     rows, edges = arms("traffic_light", 1)
-    edges = edges.replace('id="Si" from="S" to="J" priority="2" numLanes="1"', 'id="Si" from="S" to="J" priority="2" numLanes="2"')
+    edges = edges.replace(edge("Si", "S", "J", 2), edge("Si", "S", "J", 2, lanes=2))
     joins = "".join(join(*ends) for ends in (("N", "S", 0), ("S", "N", 0), ("S", "W", 1), ("E", "W", 0), ("W", "E", 0)))
     flows = {"Ni So": towards, "Si Wo": left, "Si No": through, "Ei Wo": through, "Wi Eo": through}
     return Streets(rows, edges, flows, joins, two_phases(first, second))
 
 
 def two_phases(first, second):
-    """North and south are green together, then west and east, each for so long, the last 4 s of it red."""
-    return (f'<tlLogic id="J" type="static" programID="made" offset="0"><phase duration="{first - 4}" state="NS"/><phase duration="4" '
-            f'state="--"/><phase duration="{second - 4}" state="WE"/><phase duration="4" state="--"/></tlLogic>')
+    """North and south are green together, then west and east, each for so long, the last of it red."""
+    phases = "".join(f'<phase duration="{lasting}" state="{streets}"/>' for lasting, streets in (
+        (first - RED, "NS"), (RED, "--"), (second - RED, "WE"), (RED, "--")))
+    return f'<tlLogic id="J" type="static" programID="made" offset="0">{phases}</tlLogic>'
 
 
 def crossing():
@@ -141,12 +144,13 @@ class Sumo:
         made = self.streets
         for name, inside, text in ("nod", "nodes", made.nodes), ("edg", "edges", made.edges), ("con", "connections", made.joins):
             (self.folder / f"n.{name}.xml").write_text(f"<{inside}>{text}</{inside}>")
-        words = ["netconvert", "-n", "n.nod.xml", "-e", "n.edg.xml", "-x", "n.con.xml", "-o", "n.net.xml", "--no-turnarounds", "true"]
+        words = ["netconvert", "-n", "n.nod.xml", "-e", "n.edg.xml", "-x", "n.con.xml", "-o", "n.net.xml", *NO_TURNS]
         run(*words, cwd=self.folder)
         if not made.signal:
             return
         net = ElementTree.parse(self.folder / "n.net.xml").getroot()
-        links = sorted((int(one.get("linkIndex")), one.get("from")[0], one.get("dir")) for one in net.iter("connection") if one.get("tl"))
+        links = sorted((int(one.get("linkIndex")), one.get("from")[0], one.get("dir"))
+                       for one in net.iter("connection") if one.get("tl"))
         signal = made.signal
         for streets in ("NS", "WE", "--"):
             state = "".join(("g" if turn == "l" else "G") if arm in streets else "r" for _, arm, turn in links)
@@ -166,7 +170,7 @@ class Sumo:
         free = "".join(f'<node id="{node.get("id")}" type="unregulated"/>' for node in net.iter("junction")
                        if node.get("type") not in ("internal", "dead_end"))
         (self.folder / "free.nod.xml").write_text(f"<nodes>{free}</nodes>")
-        run("netconvert", "-s", "n.net.xml", "-n", "free.nod.xml", "-o", "free.net.xml", "--no-turnarounds", "true", cwd=self.folder)
+        run("netconvert", "-s", "n.net.xml", "-n", "free.nod.xml", "-o", "free.net.xml", *NO_TURNS, cwd=self.folder)
 
     def write_vehicles(self, vehicles):
         """Writes vehicles and the routes that they drive to r.rou.xml."""
@@ -178,12 +182,14 @@ class Sumo:
         self.write_vehicles(vehicles)
         run("sumo", "-n", net, "-r", "r.rou.xml", "--no-step-log", "--no-warnings", "--time-to-teleport", -1, "--step-length", step,
             "--tripinfo-output", "t.xml", *words, cwd=self.folder)
-        return [(int(trip.get("id").split(".")[0]), trip) for trip in ElementTree.parse(self.folder / "t.xml").getroot().iter("tripinfo")]
+        found = ElementTree.parse(self.folder / "t.xml").getroot()
+        return [(int(trip.get("id").split(".")[0]), trip) for trip in found.iter("tripinfo")]
 
     def random(self, flows, lasting):
         """Vehicles of some routes that come at random, so many in an hour."""
-        return "".join(f'<flow id="{self.routes.index(route)}" type="car" route="{self.routes.index(route)}" begin="0" end="{lasting}" '
-                       f'period="exp({flow / 3600:.6f})" departSpeed="max"/>' for route, flow in flows.items())
+        numbered = ((self.routes.index(route), flow) for route, flow in flows.items())
+        return "".join(f'<flow id="{i}" type="car" route="{i}" begin="0" end="{lasting}" period="exp({flow / 3600:.6f})" '
+                       'departSpeed="max"/>' for i, flow in numbered)
 
     def _lost_alone(self):
         """What a vehicle of each route loses in the mean, in s, that is alone on streets without signs and signals."""

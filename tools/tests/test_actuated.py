@@ -64,6 +64,11 @@ def test_the_greens_settle_at_those_of_paper(tmp_path, recording_program, a, b, 
     assert found[:2] == pytest.approx(greens, abs=1.2) and found[2] == pytest.approx(cycle, abs=2.4)
 
 
+def test_greens_that_need_less_last_the_least(tmp_path, recording_program):
+    # Where few come 0.02·(28 - 4) + 4 = 4.5 s would do.
+    assert told(opened(write(tmp_path, 36, 36, "{ least = 10, most = 40, gap = 4 }"))) == [10, 10, 28]
+
+
 def test_greens_that_are_too_short_last_the_most(tmp_path, recording_program):
     assert told(opened(write(tmp_path, 1200, 1200)))[:2] == [40, 40]
 
