@@ -64,6 +64,11 @@ def test_the_greens_settle_at_those_of_paper(tmp_path, recording_program, a, b, 
     assert found[:2] == pytest.approx(greens, abs=1.2) and found[2] == pytest.approx(cycle, abs=2.4)
 
 
+def test_greens_that_need_less_last_the_least(tmp_path, recording_program):
+    # Where few come 0.02·(28 - 4) + 4 = 4.5 s would do.
+    assert told(opened(write(tmp_path, 36, 36, "{ least = 10, most = 40, gap = 4 }"))) == [10, 10, 28]
+
+
 def test_greens_that_are_too_short_last_the_most(tmp_path, recording_program):
     assert told(opened(write(tmp_path, 1200, 1200)))[:2] == [40, 40]
 
@@ -158,3 +163,40 @@ def test_signals_that_merge_have_one_cycle_and_greens_apart(tmp_path):
         with pytest.raises(Problem) as refused:
             read_study(path)
         assert why in str(refused.value)
+
+
+SIDE_STREET = """[roads.before]
+length = 0.2
+lanes = 1
+[roads.side]
+length = 0.2
+lanes = 1
+[roads.behind]
+length = 0.2
+lanes = 1
+[gates.main]
+into = "before"
+demand = 600
+[gates.village]
+into = "side"
+demand = 600
+[exits.out]
+from = "behind"
+[[merges]]
+from = ["before", "side"]
+into = "behind"
+priorities = [1, 1]
+yields_to = "before"
+"""
+
+
+def test_greens_follow_traffic_in_each_run_that_settles_who_gives_way(tmp_path, tool, recording_program):
+    path = write(tmp_path, more=SIDE_STREET)
+    found = opened(path)
+    # The greens are those of paper without a side street, and its limit that of Harders past 600 vehicles/h.
+    greens = told(found)
+    assert greens[:2] == pytest.approx([11.2, 8.8], abs=1.2) and greens[2] == pytest.approx(28, abs=2.4)
+    assert any(re.match(r"merges\[1\], side: 50[45] to \d+ vehicles/h may pass through gaps", line) for line in found.built.remarks)
+    status, _, _ = tool("run", "study.toml")
+    again = ask(("run", "--every", "1"), (tmp_path / "study.csv").read_bytes())
+    assert status == 0 and again.out == (tmp_path / "study.report").read_bytes()

@@ -1,11 +1,18 @@
-"""What is recorded of the runs that settle what passes of those who give way."""
+"""The runs that settle what passes of those who give way: what is recorded of them, and how far limits go from one to the next."""
+
+import re
+
+import numpy
+import pandas
+import pytest
 
 from ctmtools import read_study
+from ctmtools.report.reading import Report
 from ctmtools.running import run
 from ctmtools.yielding import settling
 from ctmtools.yielding.settling import settled
 
-from .test_yield import CROSSING, PERMITTED, write
+from .test_yield import CROSSING, PERMITTED, SIDE, write
 
 # A step of 7 s, a signal whose cycle has 9 of them, and beside it a side street: intervals of 45 and of 43 steps.
 ODD = CROSSING.replace("step = 2", "step = 7").format(more=PERMITTED.replace("cycle = 60", "cycle = 63").replace(
@@ -65,3 +72,45 @@ def test_intervals_that_others_divide_need_no_records_of_their_own():
     assert settling.recorded_every(ones, 1) == {150: 150, 180: 180, 300: 150, 450: 150}
     # A network so large that the program records no finer than every 160 steps.
     assert settling.recorded_every(ones, 160) == {150: 160, 180: 180, 300: 160, 450: 160}
+
+
+def side_report(built, main):
+    """A report in which so many vehicles/h leave the road with priority all the time."""
+    steps, units = built.network.steps, built.units
+    gone = {cell: [0.0, main * steps * units.step / 3600 * (cell == units.roads["before"][-1])] for cell in built.network.cells.index}
+    frame = pandas.DataFrame(gone, index=[0, steps])
+    return Report(steps, frame, frame.iloc[0], numpy.array([0, steps]), frame, frame, units)
+
+
+def settle_by(tmp_path, flows):
+    """What is settled of a side street whose runs have such flows with priority, the last of them ever after.
+
+    Beside it are the limits of each run but the first in vehicles/h, and the runs that the bar was told of.
+    """
+    limits, counted = [], []
+
+    def run_built(built, every):
+        found = re.findall(f"^limit,{built.units.roads['side'][-1]},0,1800,(.*)$", built.text, re.MULTILINE)
+        limits.extend(float(amount) * 1800 for amount in found)
+        main = flows[min(len(counted), len(flows) - 1)]
+        return {steps: side_report(built, main) for steps in every}
+    study = read_study(write(tmp_path, SIDE.format(main=600, low=300, high=300)))
+    return settled(study, run_built, lambda runs, text: counted.append(runs)), limits, counted
+
+
+def test_limits_go_half_way_from_the_third_run_on_until_they_move_by_a_hundredth(tmp_path):
+    # Past 300 vehicles/h pass 744.3 by Harders and past 600 504.6: the first limit is all the way at 744.3, and 239.7 are halved from
+    # run to run. At 508.3 it would move by 3.7, less than a hundredth; at 512.1 by 7.5, more than that.
+    found, limits, counted = settle_by(tmp_path, [300, 600])
+    assert limits == pytest.approx([744.3, 624.4, 564.5, 534.6, 519.6, 512.1, 508.3], abs=0.1)
+    assert found.is_settled and found.runs == 8 and found.moved == pytest.approx(0.0074, abs=1e-4)
+    assert counted == [1] * 8 + [12]  # the bar has 20 runs, and ends full
+
+
+def test_limits_that_swing_go_less_than_half_way_and_end_after_20_runs(tmp_path):
+    # Past 300 vehicles/h pass 744.3, past 900 340.0. They move by 0.543, 0.373 and 0.471, which is more than 0.8 of that before: from
+    # there on by a quarter, to 643.2 - 303.2/4 and on by 176.9/4.
+    found, limits, counted = settle_by(tmp_path, [300, 900] * 10)
+    assert limits[:5] == pytest.approx([744.3, 542.1, 643.2, 567.4, 611.6], abs=0.1)
+    assert found.runs == 20 and not found.is_settled and counted == [1] * 20 + [0]
+    assert any("merges[1], side: after 20 runs what passes isn't settled" in line for line in found.built.warnings)

@@ -172,6 +172,23 @@ def test_a_left_turn_is_alone_in_the_phase_in_which_it_is_not_permitted(tmp_path
     assert flow(report, "s-y1", 20, 60) == pytest.approx(357.3 + 180, rel=0.01)
 
 
+@pytest.mark.parametrize("changes, capacity", [
+    # Two lanes of 800 are gone as soon as one of 400. Past 800 turn 800·exp(-1)/(1 - exp(-0.55556)) = 690.5 in 21.43 s of 60, and 2.
+    ([('n = { length = 0.2, lanes = 1', 'n = { length = 0.2, lanes = 2'), ('x = { length = 0.2, lanes = 1', 'x = { length = 0.2, lanes = 2'),
+      ('into = "n", demand = 400', 'into = "n", demand = 800')], 366.6),
+    # Of 600 who come towards it a third turn right. They needn't be heeded, but stand in the queue, of 600·30/(1,800 - 600) = 15 s.
+    ([("shares = [[1, 0],", "shares = [[2, 1],"), ('into = "n", demand = 400', 'into = "n", demand = 600')], 1000.3 / 4 + 120),
+    # Greens that begin 20 s later let as many turn.
+    ([("cycle = 60", "cycle = 60\noffset = 20")], 477.3)])
+def test_what_comes_towards_a_permitted_left_turn_clears_as_it_stands(tmp_path, recording_program, changes, capacity):
+    text = CROSSING.format(more=PERMITTED.replace("SNEAKERS", "2"))
+    for old, new in changes:
+        assert old in text
+        text = text.replace(old, new)
+    found, report = settle(tmp_path, text)
+    assert found.is_settled and flow(report, "s-y1", 20, 60) == pytest.approx(capacity, rel=0.01)
+
+
 def test_a_left_turn_out_of_a_side_street_waits_for_a_right_of_way_that_waits_itself(tmp_path, recording_program):
     more = """yields = [{ movement = ["s", "y"], yields_to = [["n", "x"]], kind = "major-left" },
       { movement = ["e", "y"], yields_to = [["s", "y"]], kind = "minor-right" }]"""

@@ -4,7 +4,8 @@ Of a two-way stop: Highway Capacity Manual 2010, chapter 19 (2016: chapter 20), 
 of the street with priority, without heavy vehicles and on level ground. Of a left turn at a green light: the same, chapter 31
 (the supplement on signals), from a lane of its own. Of a roundabout: the same, 2016, chapter 22, an entry of one lane against one
 lane, whose `1,380·exp(-0.00102·v)` is Siegloch's formula with the gaps below. Each kind has the formula by which its gaps were
-estimated, since gaps of one are wrong in the other: Harders' and Siegloch's, both in ctmtools.yielding.gaps.
+estimated, since gaps of one are wrong in the other: Harders' and Siegloch's, both in ctmtools.yielding.gaps. The manual's tables are
+from memory, as no copy of it was at hand.
 """
 
 from __future__ import annotations
