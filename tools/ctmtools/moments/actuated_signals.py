@@ -20,6 +20,7 @@ from time import monotonic
 from ..amounts import PARTS
 from ..files import write
 from ..network_file.editing import with_records
+from ..network_file.kinds import record_text
 from ..study.network_text import FIXED, Built
 from ..study.plan import ActuatedJunction, ActuatedPhase, StopLine, Study
 from ..checksums import checksum
@@ -69,7 +70,7 @@ class ActuatedSignals:
         self.places = {name: place for place, name in enumerate(self.network.cells.index)}
         stop_lines = tuple(f"signal,{cells[-1]}," for cells in self.lines.values())
         self.own = "".join(line for line in built.text.splitlines(keepends=True) if not line.startswith(stop_lines)).encode()
-        self.reds = [f"limit,{cells[-1]},0,{one.next},0" for one in self.controllers if one.next
+        self.reds = [record_text("limit", cells[-1], 0, one.next, 0) for one in self.controllers if one.next
                      for cells in self._approaches(one)]
         self.seen: dict[str, tuple[int, int]] = {}  # for each stop line's cell its last green's step, and what had come before it
         self.moment: Moment | None = None
@@ -168,7 +169,7 @@ class ActuatedSignals:
         for line in dict.fromkeys(line for each in phases for line in each.lines):
             red = one.next if line not in phase.lines else stop if line in behind.lines and behind is not phase else end
             if red < min(stop, self.network.steps):
-                self.reds.append(f"limit,{self.lines[line][-1]},{red},{min(stop, self.network.steps)},0")
+                self.reds.append(record_text("limit", self.lines[line][-1], red, min(stop, self.network.steps), 0))
         if one.phase == 0:
             one.began.append(one.next)
         one.greens.append((one.phase, green))

@@ -18,9 +18,10 @@ from pathlib import Path
 
 import pandas
 
-from ..amounts import PARTS, amount_text, rounded_parts
+from ..amounts import PARTS, rounded_parts
 from ..files import write
 from ..network_file.editing import with_records
+from ..network_file.kinds import record_text
 from ..network_file.network import Network
 from ..problem import Problem
 from ..study.network_text import Built
@@ -217,7 +218,7 @@ class Metering:
         place = time
         for capacity, same in groupby(own.tolist()):
             end = place + len(list(same))
-            yield f"limit,{gauge.cell},{place},{end},{amount_text(min(parts, capacity))}"
+            yield record_text("limit", gauge.cell, place, end, min(parts, capacity))
             place = end
 
     def _go_on(self, moment: Moment | None, until: int) -> Moment:
