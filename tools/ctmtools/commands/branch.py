@@ -11,10 +11,11 @@ import pandas
 from ..moments.futures import futures_of, reports_of
 from ..moments.moment import read_moment
 from ..report.comparing import side_by_side
-from ..report.summary import table, number_text
+from ..report.summary import number_text
 from ..report.comparability import unlike
 from ..units import Units
 from ..progress import bar
+from ..text_table import table
 from .compare import signed
 from .finite import Finite
 

@@ -10,11 +10,12 @@ import pandas
 from ..files import write
 from ..plans.choosing import Choice
 from ..problem import Interrupted, one_line
-from ..report.summary import table, number_text
+from ..report.summary import number_text
 from ..study.messages import warned_before_runs
 from ..sweeps.task import study
 from ..sweeps.variations import shown, variation
 from ..progress import bar
+from ..text_table import table
 
 EPILOG = """\b
 Examples:

@@ -10,9 +10,10 @@ import pandas
 from ..assignment.comparing import pair_changes
 from ..files import write
 from ..report.comparing import compare, part_of, totals, travel
-from ..report.summary import table, number_text
+from ..report.summary import number_text
 from ..report.reading import read_report
 from ..report.comparability import otherwise, unlike
+from ..text_table import table
 from .finite import Finite
 from .reports import on_reports
 

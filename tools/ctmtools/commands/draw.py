@@ -9,7 +9,6 @@ import click
 
 from ..files import write
 from ..problem import Interrupted, Problem
-from ..report.summary import table
 from ..study.times import Times
 from ..uncertainty.drawn_runs import DrawnRuns
 from ..uncertainty.interval import within
@@ -18,6 +17,7 @@ from ..uncertainty.results_files import write_results
 from ..uncertainty.task import Asked
 from ..uncertainty.telling import HEADS, compared_lines, plan_lines, spread_rows
 from ..progress import bar
+from ..text_table import table
 
 EPILOG = """\b
 Examples:

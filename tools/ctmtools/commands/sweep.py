@@ -10,10 +10,11 @@ import pandas
 
 from ..files import write
 from ..problem import Interrupted, Problem
-from ..report.summary import kilometre, table, number_text
+from ..report.summary import kilometre, number_text
 from ..sweeps.sweeping import Sweep
 from ..sweeps.variations import Variation, shown, variation
 from ..progress import bar
+from ..text_table import table
 
 EPILOG = """\b
 Examples:
