@@ -12,7 +12,7 @@ from ..report.reading import Report, read_report
 from ..report.travel import chain_of, travel_times
 from ..study.quantities import duration
 from ..text_table import table
-from .reports import on_reports
+from .report_options import on_reports
 
 EPILOG = """\b
 Examples:

@@ -407,7 +407,7 @@ class Writer:
         if split:
             notes.append(f"{len(split)} movements are green several times in a cycle, as {self._moving(split[0])}; "
                          "the longest of them is kept")
-        notes += [*self.giving.told(self._moving), *self.following.told()]
+        notes += [*self.giving.notes(self._moving), *self.following.notes()]
         dark = [way for way in self.traffic.ways() if self._dark(way)]
         if dark:
             notes.append(f"{len(dark)} movements at signals are never green in their program, as {self._moving(dark[0])}; "

@@ -9,7 +9,6 @@ With a file what was reached is kept there every few seconds and at an interrupt
 
 from __future__ import annotations
 
-import json
 from collections.abc import Callable, Sequence
 from dataclasses import dataclass, field, replace
 from fractions import Fraction
@@ -25,8 +24,9 @@ from ..study.network_text import FIXED, Built
 from ..study.plan import ActuatedJunction, ActuatedPhase, StopLine, Study
 from ..checksums import checksum
 from ..units import cell_of
+from .kept_state import kept_state, state_text
 from .runner import Runner
-from .moment import Moment, moment_of
+from .moment import Moment
 
 KEPT = ".actuated.json"  # the ending of what is kept of greens that aren't done
 KEPT_EACH = 2.0  # seconds
@@ -124,8 +124,7 @@ class ActuatedSignals:
         assert self.moment is not None
         rows = [{"next": at, "phase": phase, "greens": one.greens[:greens], "began": one.began[:began]}
                 for one, (at, phase, greens, began) in zip(self.controllers, self.point.controllers)]
-        return json.dumps({"of": self.mark, "reds": self.reds[:self.point.reds], "seen": self.point.seen, "controllers": rows,
-                           "moment": self.moment.of(b"").text.decode()})
+        return state_text(self.mark, self.moment, reds=self.reds[:self.point.reds], seen=self.point.seen, controllers=rows)
 
     def _keep(self) -> None:
         """Keeps what was reached, once there is something."""
@@ -135,18 +134,15 @@ class ActuatedSignals:
 
     def _take_up(self) -> None:
         """Takes up what an earlier call has kept of the same network and signals."""
-        try:
-            state = json.loads(self.kept.read_text()) if self.kept and self.kept.exists() else {}
-        except (OSError, ValueError):
-            state = {}
-        if not isinstance(state, dict) or state.get("of") != self.mark:
+        state = kept_state(self.kept, self.mark)
+        if state is None:
             return
         self.reds = state["reds"]
         self.seen = {cell: (step, come) for cell, (step, come) in state["seen"].items()}
         for one, was in zip(self.controllers, state["controllers"]):
             one.next, one.phase, one.began = was["next"], was["phase"], was["began"]
             one.greens = [(phase, green) for phase, green in was["greens"]]
-        self.moment = moment_of(state["moment"].encode(), str(self.kept)).of(self._content())
+        self.moment = state["moment"].of(self._content())
         self.point = self._point()
 
     def _content(self) -> bytes:

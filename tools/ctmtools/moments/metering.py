@@ -9,7 +9,6 @@ feedback control law for on-ramp metering", Transportation Research Record 1320,
 
 from __future__ import annotations
 
-import json
 from collections.abc import Callable, Iterator, Sequence
 from dataclasses import dataclass, replace
 from fractions import Fraction
@@ -29,8 +28,9 @@ from ..study.plan import Meter
 from ..checksums import checksum
 from ..units import Units
 from .agreement import Plan, last_of, plan_of
+from .kept_state import kept_state, state_text
 from .runner import Runner
-from .moment import Moment, moment_of
+from .moment import Moment
 
 HOUR = 3600
 
@@ -186,23 +186,19 @@ class Metering:
     def _state(self) -> str:
         """What was reached, as text."""
         assert self.moment is not None
-        return json.dumps({"of": self.mark, "reached": self.reached, "limits": self.limits, "rows": self.rows,
-                           "seen": self.seen, "rates": [gauge.rate for gauge in self.gauges],
-                           "moment": self.moment.of(b"").text.decode()})
+        return state_text(self.mark, self.moment, reached=self.reached, limits=self.limits, rows=self.rows, seen=self.seen,
+                          rates=[gauge.rate for gauge in self.gauges])
 
     def _take_up(self) -> None:
         """Takes up what an earlier call has kept of the same network and meters."""
-        try:
-            state = json.loads(self.kept.read_text()) if self.kept and self.kept.exists() else {}
-        except (OSError, ValueError):
-            state = {}
-        if not isinstance(state, dict) or state.get("of") != self.mark:
+        state = kept_state(self.kept, self.mark)
+        if state is None:
             return
         self.reached, self.limits, self.seen = state["reached"], state["limits"], state["seen"]
         self.rows = [(step, ramp, occupancy, rate) for step, ramp, occupancy, rate in state["rows"]]
         for gauge, rate in zip(self.gauges, state["rates"]):
             gauge.rate = rate
-        self.moment = moment_of(state["moment"].encode(), str(self.kept)).of(self.content)
+        self.moment = state["moment"].of(self.content)
 
     def _set(self, gauge: Gauge, time: int, until: int, occupancy: float | None) -> None:
         """Sets the rate of a meter for an interval."""

@@ -12,8 +12,7 @@ from itertools import groupby
 from ..amounts import PARTS, rounded_parts
 from ..network_file.faults import NAME, first_fault
 from ..network_file.kinds import COUNTED, KINDS, MOST_RECORDS, NAME_RULE, headings, record_text
-from ..network_file.network import Network, network_of
-from ..network_file.network import fault_line as fault_told
+from ..network_file.network import Network, fault_line, network_of
 from ..network_file.records import read_records
 from ..problem import Problem
 from ..units import Units, clock_text
@@ -219,4 +218,4 @@ def _check(text: str) -> None:
     records = read_records(content)
     fault = first_fault(records)
     if fault:
-        raise Problem("the built network has a fault: " + fault_told(content, records, fault))
+        raise Problem("the built network has a fault: " + fault_line(content, records, fault))
