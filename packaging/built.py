@@ -65,24 +65,24 @@ class Built:
 
 def built_here(program: Path, waiting_program: Path, handed: bool = False) -> Built:
     """These programs, built of what stands in the repository, or said to be where they were handed."""
-    commit, _, rest = told("git", "log", "-1", "--format=%H %cs %ct").partition(" ")
+    commit, _, rest = output_of("git", "log", "-1", "--format=%H %cs %ct").partition(" ")
     date, _, seconds = rest.partition(" ")
     # A call that is broken off would leave the lock of git's index.
-    changed = told("git", "--no-optional-locks", "status", "--porcelain", "--", *PACKAGED)
+    changed = output_of("git", "--no-optional-locks", "status", "--porcelain", "--", *PACKAGED)
     return Built(program, waiting_program, commit or UNKNOWN, date, int(seconds or 0), bool(changed),
-                 told("rt", "version") or UNKNOWN, sum_of_sources(), handed)
+                 output_of("rt", "version") or UNKNOWN, sum_of_sources(), handed)
 
 
 def sum_of_sources() -> str:
     """The checksum by which ./ctm knows whether a built program is of its sources."""
     asks = 'set -o pipefail; top=$1 target=ctm_program; . "$top/launcher/current"; sum_of_sources'
-    made = told("bash", "-c", asks, "bash", str(TOP))
+    made = output_of("bash", "-c", asks, "bash", str(TOP))
     if not made:
         raise Problem("the checksum of the sources takes find, sort, xargs and sha256sum of the path; nothing was made")
     return made.split()[0]
 
 
-def told(*command: str) -> str:
+def output_of(*command: str) -> str:
     """What a command writes at the top, or nothing where it fails."""
     try:
         ended = subprocess.run(command, cwd=TOP, stdout=subprocess.PIPE, stderr=subprocess.DEVNULL, text=True)

@@ -107,4 +107,4 @@ def _dashed(words: Iterable[str]) -> str:
     return " ".join(f"--{word}" for word in words)
 
 
-OF = {"bash": bash_completion, "zsh": zsh_completion, "fish": fish_completion}
+BY_SHELL = {"bash": bash_completion, "zsh": zsh_completion, "fish": fish_completion}

@@ -9,9 +9,15 @@ from pathlib import Path
 
 TOP = Path(__file__).resolve().parents[1]
 sys.path += [str(TOP / ".ci"), str(TOP / "tools")]
+
+from figures.crates import crates_picture
+from figures.field import field_picture
+from figures.user_book import PICTURES
+
+# The heads of the tables that are written here.
 CHECK_TIMES = "| Crate | Functions | Proof | Tests | Must-fail edits |\n|---|---|---|---|---|\n"
 MODES = "| Mode | Begin with | Definitions | Files | Files not read yet |\n|---|---|---|---|---|\n"
-RUN = "| Crate | Files of `specs` |\n|---|---|\n"
+FILES_OF_RUN = "| Crate | Files of `specs` |\n|---|---|\n"
 
 
 def map_page() -> str:
@@ -31,7 +37,7 @@ def proved_page() -> str:
     page = with_table(page, MODES, [[f"`{mode}`", linked(first), *counts] for mode, first, *counts in reading.modes(TOP)])
     files = reading.files_of_run(TOP)
     rows = [[f"`{crate}`", ", ".join(linked(path) for path in sorted(files[crate]))] for crate in reversed(crates()) if crate in files]
-    return with_table(page, RUN, rows)
+    return with_table(page, FILES_OF_RUN, rows)
 
 
 def linked(path: Path) -> str:
@@ -43,24 +49,6 @@ def with_table(page: str, heads: str, rows: list[list]) -> str:
     before, _, behind = page.partition(heads)
     table = "".join(f"| {' | '.join(map(str, row))} |\n" for row in rows)
     return before + heads + table + re.sub(r"\A(?:\|.*\n)*", "", behind)
-
-
-def crates_picture() -> str:
-    """The crates, of crates.txt and the tables of docs/inside/MAP.md."""
-    from figures.crates import crates_picture
-    return crates_picture(TOP)
-
-
-def field_picture() -> str:
-    """A turn and a shot in time, by the steps of region_slots."""
-    from figures.field import field_picture
-    return field_picture(TOP)
-
-
-def user_picture(name: str) -> str:
-    """A picture of the user's book, of the rules and words that it shows."""
-    from figures.user_book import PICTURES
-    return PICTURES[name]()
 
 
 def tools_page() -> str:
@@ -75,28 +63,28 @@ def completion(shell: str) -> str:
     return tools_completion(shell)
 
 
-PAGES = {"docs/inside/MAP.md": map_page, "docs/inside/PROVED.md": proved_page, "docs/inside/pictures/crates.svg": crates_picture,
-         "docs/inside/pictures/field.svg": field_picture, "docs/ctm-tools.1": tools_page,
-         **{f"docs/pictures/{name}.svg": partial(user_picture, name)
-            for name in ("diverge-cases", "flow-over-density", "merge-cases", "regions", "statuses")},
+PAGES = {"docs/inside/MAP.md": map_page, "docs/inside/PROVED.md": proved_page,
+         "docs/inside/pictures/crates.svg": partial(crates_picture, TOP),
+         "docs/inside/pictures/field.svg": partial(field_picture, TOP), "docs/ctm-tools.1": tools_page,
+         **{f"docs/pictures/{name}.svg": PICTURES[name] for name in sorted(PICTURES)},
          **{f"packaging/shells/ctm-tools.{shell}": partial(completion, shell) for shell in ("bash", "zsh", "fish")}}
 
 
 def main() -> None:
     """Makes the pages that are named, or all."""
-    words = argparse.ArgumentParser(prog="tools/documents", description=__doc__)
-    words.add_argument("--check", action="store_true")
-    words.add_argument("pages", nargs="*", metavar="PAGE", help=f"{', '.join(PAGES)}; by default all")
-    given = words.parse_args()
+    parser = argparse.ArgumentParser(prog="tools/documents", description=__doc__)
+    parser.add_argument("--check", action="store_true")
+    parser.add_argument("pages", nargs="*", metavar="PAGE", help=f"{', '.join(PAGES)}; by default all")
+    words = parser.parse_args()
     status = 0
-    for page in given.pages or PAGES:
+    for page in words.pages or PAGES:
         if page not in PAGES:
-            words.error(f"{page} isn't made here")
+            parser.error(f"{page} isn't made here")
         text = PAGES[page]()
-        if given.check and (TOP / page).read_text() != text:
+        if words.check and (TOP / page).read_text() != text:
             print(f"{page} isn't what tools/documents makes of its sources", file=sys.stderr)
             status = 1
-        elif not given.check:
+        elif not words.check:
             (TOP / page).write_text(text)
     sys.exit(status)
 

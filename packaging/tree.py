@@ -13,8 +13,8 @@ DOCUMENTS = ("README.md", "CHANGELOG.md", "docs/*.md", "docs/how-to/*.md", "docs
 TOOLS_DOCUMENTS = ("tools/README.md", "tools/docs/*.md")
 LICENSES = ("LICENSE-*",)
 # Where the shells look for the completions of a command, below share.
-COMPLETIONS = {"bash": "bash-completion/completions/{}", "zsh": "zsh/site-functions/_{}",
-               "fish": "fish/vendor_completions.d/{}.fish"}
+COMPLETION_PLACES = {"bash": "bash-completion/completions/{}", "zsh": "zsh/site-functions/_{}",
+                     "fish": "fish/vendor_completions.d/{}.fish"}
 
 
 def lay_programs(folder: Path, built: Built) -> None:
@@ -27,8 +27,8 @@ def lay_programs(folder: Path, built: Built) -> None:
     for name in ("ctm", "ctm-wait"):
         copy(TOP / "launcher/installed" / name, folder / "bin" / name, 0o755)
         copy(TOP / f"docs/{name}.1", folder / f"share/man/man1/{name}.1")
-    for shell, place in COMPLETIONS.items():
-        put(folder / "share" / place.format("ctm"), completions.OF[shell](read_table()))
+    for shell, place in COMPLETION_PLACES.items():
+        put(folder / "share" / place.format("ctm"), completions.BY_SHELL[shell](read_table()))
 
 
 def lay_documents(folder: Path, patterns: tuple[str, ...] = DOCUMENTS) -> None:
@@ -54,7 +54,7 @@ def lay_tools(folder: Path, python: str, command: Path) -> None:
 def lay_tools_pages(folder: Path) -> None:
     """The manual page and the completions of the tools."""
     copy(TOP / "docs/ctm-tools.1", folder / "share/man/man1/ctm-tools.1")
-    for shell, place in COMPLETIONS.items():
+    for shell, place in COMPLETION_PLACES.items():
         copy(TOP / f"packaging/shells/ctm-tools.{shell}", folder / "share" / place.format("ctm-tools"))
 
 

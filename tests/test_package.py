@@ -290,7 +290,7 @@ def test_each_package_has_its_licenses(unpacked):
 
 
 # What the tools import of others, and can't do without.
-NEEDED = {"click", "matplotlib", "networkx", "numpy", "pandas"}
+NEEDED = {"click", "matplotlib", "networkx", "numpy", "pandas", "tabulate"}
 # What a command or an option of theirs takes, and they tell where it is missing. sumolib they do without.
 TAKEN = {"distributed", "holidays", "pyproj", "scipy", "sumolib"}
 

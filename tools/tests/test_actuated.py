@@ -45,7 +45,7 @@ def write(tmp_path, a=540, b=360, follow=FOLLOW, more=""):
     return path
 
 
-def told(prepared):
+def settled_greens(prepared):
     """The mean greens and the mean cycle that are told, in s."""
     line = next(line for line in prepared.told if "in the second half" in line)
     return [float(number) for number in re.findall(r"\d+\.\d", line)]
@@ -59,7 +59,7 @@ def told(prepared):
     # The least where few come: 5 + 5 + 8.
     (36, 36, (5, 5), 18)])
 def test_the_greens_settle_at_those_of_paper(tmp_path, recording_program, a, b, greens, cycle):
-    found = told(opened(write(tmp_path, a, b)))
+    found = settled_greens(opened(write(tmp_path, a, b)))
     # A green is rounded up to whole steps of 1 s.
     assert found[:2] == pytest.approx(greens, abs=1.2) and found[2] == pytest.approx(cycle, abs=2.4)
 
@@ -70,7 +70,7 @@ def test_greens_that_need_less_last_the_least(tmp_path, recording_program):
 
 
 def test_greens_that_are_too_short_last_the_most(tmp_path, recording_program):
-    assert told(opened(write(tmp_path, 1200, 1200)))[:2] == [40, 40]
+    assert settled_greens(opened(write(tmp_path, 1200, 1200)))[:2] == [40, 40]
 
 
 def test_the_network_with_its_greens_is_run_again_byte_for_byte(tmp_path, tool, recording_program):
@@ -125,12 +125,12 @@ def signals(tmp_path, second="actuated = { least = 5, most = 40, gap = 4 }", a=5
 
 def test_signals_whose_roads_merge_take_turns_as_phases_do(tmp_path, recording_program):
     # As the junction: C = (8 + 2·4 - 4·Y)/(1 - Y) = 28 with Y = 0.3 + 0.2, and greens of y·(C - 4) + 4.
-    found = told(opened(signals(tmp_path)))
+    found = settled_greens(opened(signals(tmp_path)))
     assert found[:2] == pytest.approx([11.2, 8.8], abs=1.2) and found[2] == pytest.approx(28, abs=2.4)
 
 
 def test_a_signal_without_actuated_keeps_its_green_between_the_others(tmp_path, recording_program):
-    found = told(opened(signals(tmp_path, second="")))
+    found = settled_greens(opened(signals(tmp_path, second="")))
     # The green of b lasts 26 s, and a's is g = 0.3·(C - 4) + 4 with a cycle of C = g + 34, so 13/0.7 = 18.6.
     assert found[1] == 26 and found[0] == pytest.approx(18.6, abs=1.5)
 
@@ -140,7 +140,7 @@ def test_a_stop_line_alone_has_its_red_between_its_greens(tmp_path, recording_pr
     path = tmp_path / "study.toml"
     path.write_text(text.replace('road = "a"\ncycle', 'road = "a"\nat = 0.2\ncycle'))
     # The red lasts 34 s, so its green as above 18.6.
-    assert told(opened(path))[0] == pytest.approx(18.6, abs=1.5)
+    assert settled_greens(opened(path))[0] == pytest.approx(18.6, abs=1.5)
 
 
 @pytest.mark.parametrize("second, why", [

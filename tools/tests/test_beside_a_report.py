@@ -9,7 +9,7 @@ from ctmtools.report.by_road import network_states
 from ctmtools.units import Units, units_path
 
 from .corridor import corridor
-from .test_travel import at_a_light
+from .plain_reports import at_a_light
 
 
 @pytest.fixture

@@ -11,7 +11,7 @@ from ctmtools.plots.time_space import _values
 from ctmtools.report.by_road import by_road, level, network_states
 
 from .corridor import corridor
-from .test_travel import at_a_light, reported
+from .plain_reports import at_a_light, reported
 
 
 @pytest.mark.parametrize("a_mile, wanted", [(0, "A"), (11, "A"), (11.1, "B"), (18, "B"), (26, "C"), (35, "D"), (45, "E"), (45.1, "F"),

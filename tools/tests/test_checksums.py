@@ -8,17 +8,9 @@ from ctmtools.problem import Problem
 from ctmtools.program import ask
 from ctmtools.report.reading import read_report
 
-from .corridor import HEAD
+from .corridor import corridor_text
 
-STUDY = HEAD.format(end="07:00") + """[roads.m]
-length = 1
-lanes = 2
-[gates.g]
-into = "m"
-demand = 1000
-[exits.x]
-from = "m"
-"""
+STUDY = corridor_text()
 
 
 def study(tmp_path, *changes):

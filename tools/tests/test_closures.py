@@ -9,6 +9,7 @@ from ctmtools.report.reading import report_of
 
 from .corridor import corridor
 from .examples import TOOLS
+from .plain_reports import reported
 
 STEP = 10  # s, of the corridor; a lane passes 6 vehicles in it and has room for 36 in a cell of 250 m
 WORKS = '[[closures]]\nroad = "m"\nfrom = 0.5\nto = 0.75\nlanes = 1\n'
@@ -169,9 +170,7 @@ def test_the_queue_at_a_signal_that_runs_for_a_time_is_one(tmp_path):
     signal = '[[signals]]\nroad = "m"\nat = 0.5\ncycle = 120\ngreen = 60\nstart = "06:05"\n'
     made = corridor(tmp_path, signal, demand='[["06:00", "06:39:30", 720]]')
     assert made.units.cycles == {"m2": 12}
-    report = report_of(plain_model.report(made.text.encode(), 1))
-    report.network, report.units = made.network, made.units
-    queue, = queues_in(report)
+    queue, = queues_in(reported(made))
     # It is red in each even minute from 06:06 on, for the last time with vehicles before it at 06:38.
     assert (queue.origin, queue.start, queue.spells) == ("m2", 36, 17)
 

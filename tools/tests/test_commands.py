@@ -166,7 +166,7 @@ def test_the_launcher_takes_a_python_that_has_the_packages():
 
 def test_a_missing_package_is_named(tmp_path):
     bare = tmp_path / "python3"
-    bare.write_text(f"#!/bin/bash\necho pandas networkx\n")
+    bare.write_text("#!/bin/bash\necho pandas networkx\n")
     bare.chmod(0o755)
     text = (TOOLS / "find-python").read_text().replace("python3 /usr/bin/python3 /usr/local/bin/python3", str(bare))
     script = tmp_path / "find-python"

@@ -12,7 +12,7 @@ from ctmtools.calibration.nearest import around
 from ctmtools.calibration.observed import modelled, read_observed
 
 from .corridor import HEAD, corridor
-from .test_travel import reported
+from .plain_reports import reported
 
 
 @pytest.mark.parametrize("text, told", [

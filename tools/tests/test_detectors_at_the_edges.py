@@ -15,7 +15,7 @@ def written(folder, **files):
     return [folder / f"{name}.csv" for name in files]
 
 
-def told(path, *words, **terms):
+def refusal(path, *words, **terms):
     with pytest.raises(Problem) as found:
         read_detectors(path, *words, **terms)
     return str(found.value)
@@ -25,7 +25,7 @@ def test_rows_of_vehicles_are_not_read_beside_counts(tmp_path):
     paths = written(tmp_path, a="time,occupied (s)\n2019-12-04 06:00:10,1\n2019-12-04 06:06:00,1\n",
                     b="time,count\n2019-12-04 06:00,30\n2019-12-04 06:05,40\n")
     for files in (paths, paths[::-1]):
-        assert "b.csv: has a row a station and time, and" in told(files, interval="5 min") and "a row a vehicle" in told(files, interval="5 min")
+        assert "b.csv: has a row a station and time, and" in refusal(files, interval="5 min") and "a row a vehicle" in refusal(files, interval="5 min")
 
 
 def test_lanes_that_are_asked_for_are_of_the_stations_that_say_none(tmp_path):
@@ -35,7 +35,7 @@ def test_lanes_that_are_asked_for_are_of_the_stations_that_say_none(tmp_path):
     assert found.lanes.tolist() == [2, 2, 5, 5]
     # 300 in 5 min are 3,600 vehicles/h: more than 1,000 in each of two lanes, and not of five.
     assert read_detectors(path, lanes=5, leave_out=["capacity=1000"]).station.tolist() == ["b", "b"]
-    assert "the files don't say it of station b; say lanes" in told(path, leave_out=["capacity"])
+    assert "the files don't say it of station b; say lanes" in refusal(path, leave_out=["capacity"])
 
 
 def pems(station, minute, flow, lane=True):
@@ -51,7 +51,7 @@ def test_a_station_of_pems_that_is_dead_needs_no_lanes(tmp_path):
 
 def test_an_interval_that_is_asked_for_is_that_of_the_file(tmp_path):
     path, = written(tmp_path, p="\n".join(pems(1, minute, 100) for minute in (0, 5, 10)) + "\n")
-    assert "is of intervals of 300 s, and an interval of 600 s is asked" in told(path, interval="10 min")
+    assert "is of intervals of 300 s, and an interval of 600 s is asked" in refusal(path, interval="10 min")
     assert read_detectors(path, interval="5 min").flow.tolist() == [1200] * 3
 
 
@@ -88,7 +88,7 @@ def test_vehicles_of_an_hour_that_comes_again_are_not_counted_twice(tmp_path):
 
 def test_holidays_of_a_country_need_dates_that_are_known(tmp_path):
     path, = written(tmp_path, h=HEAD + "".join(f"a,0{number}/07/2019 0{hour}:00,{hour}\n" for number in (4, 5) for hour in range(3)))
-    assert "04/07/2019 may be of two months" in told(path, holidays=["US"])
+    assert "04/07/2019 may be of two months" in refusal(path, holidays=["US"])
     # The fourth of July is one; 7 April and 7 May are none.
     assert read_detectors(path, holidays=["US"], date_order="day-first").time.dt.day.unique().tolist() == [5]
     assert len(read_detectors(path, holidays=["US"], date_order="month-first")) == 6
@@ -106,7 +106,7 @@ def test_a_holiday_that_is_named_is_taken_and_not_told_as_left_out(tmp_path):
 def test_per_cent_that_are_called_shares_are_refused(tmp_path, shares, wanted):
     path, = written(tmp_path, o="time,count,occ (share)\n" + "".join(f"2019-12-04 06:0{i},5,{share}\n" for i, share in enumerate(shares)))
     if wanted:
-        assert wanted in told(path)
+        assert wanted in refusal(path)
     else:
         assert len(read_detectors(path)) == 3
 
@@ -134,7 +134,7 @@ def test_numbers_are_read_as_they_are_written(tmp_path, count, wanted):
     ({}, ("inf", "4"), 'line 2, count: expected a count, found "inf"')])
 def test_numbers_about_which_there_is_doubt_are_refused(tmp_path, terms, counts, wanted):
     path, = written(tmp_path, n=HEAD + "".join(f"a,2019-12-04 0{6 + i}:00,{count}\n" for i, count in enumerate(counts)))
-    assert wanted in told(path, **terms)
+    assert wanted in refusal(path, **terms)
 
 
 def test_a_decimal_comma_is_read_where_it_is_said(tmp_path):
@@ -145,7 +145,7 @@ def test_a_decimal_comma_is_read_where_it_is_said(tmp_path):
 @pytest.mark.parametrize("separator", [";;", "", "\n", "§"])
 def test_a_separator_is_one_character_of_ascii(tmp_path, separator):
     path, = written(tmp_path, s=HEAD + "a,2019-12-04 06:00,1\n")
-    assert "a separator is one character of ASCII" in told(path, separator=separator)
+    assert "a separator is one character of ASCII" in refusal(path, separator=separator)
 
 
 def test_fields_are_counted_line_by_line(tmp_path):

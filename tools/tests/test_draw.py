@@ -11,8 +11,10 @@ import pytest
 
 from ctmtools import draw, read_study, run
 from ctmtools.kept_rows import KeptRows
+from ctmtools.plans.candidates import candidate, judged
 from ctmtools.plots import draws
 from ctmtools.study.plan import Closure, RoadPart
+from ctmtools.sweeps.task import study
 from ctmtools.uncertainty.draw import drawn
 from ctmtools.uncertainty.drawn_runs import DrawnRuns
 from ctmtools.uncertainty.incident import happened
@@ -20,24 +22,16 @@ from ctmtools.uncertainty.results import results_of
 from ctmtools.uncertainty.task import Asked
 
 from .clusters import at_row, done_by, kill_a_worker, two_workers, wait_until
+from .corridor import GATE
 from .examples import EXAMPLES
 from .test_interrupt import interrupted, stand_in
 from .test_pictures import assert_readable
 
 STUDY = EXAMPLES / "uncertain.toml"
 SHOULDER = EXAMPLES / "uncertain-shoulder.toml"
-
-# Two hours of a gate that lets 1,200 vehicles/h pass; in the first 1,500 a factor of them come.
-GATE = """
-step = 60
-start = "06:00"
-end = "08:00"
-lane = { free_flow_speed = 60, wave_speed = 20, jam_density = 140, saturation_flow = 1800 }
-roads = { m = { length = 1, lanes = 1 } }
-exits = { off = { from = "m" } }
-gates = { on = { into = "m", capacity = 1200, demand = [["06:00", "07:00", 1500]] } }
-"""
 UNIFORM = '[[uncertain]]\nkey = "demand"\nfactor = "uniform"\nleast = 0.9\nmost = 1.2\n'
+# Where the queue clears within a step the sum over steps is at most an eighth of a step's flow above the area.
+STEPS_ERROR = 20 / 8 / 60 + 1e-4  # vehicle-hours
 
 
 def delay(demand):
@@ -50,11 +44,14 @@ def written(folder, text, name="s.toml"):
     return folder / name
 
 
-def by_formula(task):
-    """What a run of the gate comes to, its delay that of the formula."""
-    found = delay(1500 * float(task.plan.changes.get("demand", 1)))
-    return {"delay_vehicle_hours": found, "served_vehicles": 1500.0, "inside_vehicles": 0.0, "last_queue_s": None, "delays": {"gate on": found},
-            "travel": {}, "free": {}, "past": {}, "incidents": 0, "network": "", "rounded": "", "error": ""}
+def chosen_of(tasks, _):
+    """The runs of the gate, which the program makes as plans of `choose`, 16 in a call; it tells the delay of each and no more."""
+    candidates = [candidate(study(task.plan)) for task in tasks]
+    for place, vehicle_steps in enumerate(found for group in judged(candidates) for found in group):
+        hours = float(vehicle_steps * 60 / 3600)
+        yield place, {"delay_vehicle_hours": hours, "served_vehicles": 1500.0, "inside_vehicles": 0.0, "last_queue_s": None,
+                      "delays": {"gate on": hours}, "travel": {}, "free": {}, "past": {}, "incidents": 0, "network": "", "rounded": "",
+                      "error": ""}
 
 
 def test_each_run_has_the_delay_that_is_a_square_of_its_demand(program, tmp_path):
@@ -62,17 +59,18 @@ def test_each_run_has_the_delay_that_is_a_square_of_its_demand(program, tmp_path
     for _ in drawn_runs.run():
         pass
     own = results_of(drawn_runs).own("s")
-    # Where the queue clears within a step the sum over steps is at most an eighth of a step's flow above the area.
-    assert numpy.abs(own.delay_vehicle_hours - delay(1500 * own.demand.to_numpy())).max() < 20 / 8 / 60 + 1e-4
+    assert numpy.abs(own.delay_vehicle_hours - delay(1500 * own.demand.to_numpy())).max() < STEPS_ERROR
     assert (own["delay_vehicle_hours gate on"] - own.delay_vehicle_hours).abs().max() < 1e-6  # all wait before the gate
 
 
 def test_delays_that_are_a_square_of_the_demand_lie_as_on_paper(program, tmp_path, monkeypatch):
-    """Of 2,000 draws, whose runs have the delay of the formula, as those of the test before have."""
-    monkeypatch.setattr("ctmtools.uncertainty.drawn_runs.measure", by_formula)
+    """Of 2,000 draws, each of whose networks the program runs."""
+    monkeypatch.setattr("ctmtools.uncertainty.drawn_runs.here", chosen_of)
     drawn_runs = DrawnRuns([written(tmp_path, GATE + UNIFORM)], 2000, 1)
     assert sum(1 for _ in drawn_runs.run(jobs=1)) == 2000
     results = results_of(drawn_runs)
+    own = results.own("s")
+    assert numpy.abs(own.delay_vehicle_hours - delay(1500 * own.demand.to_numpy())).max() < STEPS_ERROR
     # With D uniform from 1,350 to 1,800 the mean of D(D - C) is (a² + ab + b²)/3 - C (a + b)/2, and a percentile is that of D.
     low, high = 1350, 1800
     mean = ((low**2 + low * high + high**2) / 3 - 1200 * (low + high) / 2) / 2400
@@ -231,15 +229,15 @@ def test_an_incident_delays_as_a_closure_that_is_written(program, tmp_path):
     incidents = frame.pivot(index="draw", columns="plan", values="incidents")
     assert (incidents.s == incidents["uncertain-shoulder"]).all() and incidents.s.nunique() > 1
     row = frame[(frame.plan == "s") & (frame.incidents > 0)].iloc[0]
-    study = read_study(path)
+    plan = read_study(path)
     factor = drawn(drawn_runs.uncertainty, 1, row.draw)["demand"]
-    for flow in study.gates["on"].demand:
+    for flow in plan.gates["on"].demand:
         flow.flow *= factor
-    without = run(study)
-    closures = happened(drawn_runs.uncertainty.incidents, without, study, 1, int(row.draw))
-    study.closures = [Closure(RoadPart("m", one.part.start_km, one.part.start_km + Fraction(1, 2), one.part.start,
-                                       min(one.part.start + 1200, study.duration), "by hand"), Fraction(2)) for one in closures]
-    assert len(closures) == row.incidents and run(study).delay_vehicle_hours == row.delay_vehicle_hours
+    without = run(plan)
+    closures = happened(drawn_runs.uncertainty.incidents, without, plan, 1, int(row.draw))
+    plan.closures = [Closure(RoadPart("m", one.part.start_km, one.part.start_km + Fraction(1, 2), one.part.start,
+                                       min(one.part.start + 1200, plan.duration), "by hand"), Fraction(2)) for one in closures]
+    assert len(closures) == row.incidents and run(plan).delay_vehicle_hours == row.delay_vehicle_hours
     assert row.delay_vehicle_hours > without.delay_vehicle_hours
 
 

@@ -15,7 +15,7 @@ from ctmtools.units import Units
 
 from .corridor import corridor
 from .test_lines import corridors
-from .test_travel import at_a_light, reported
+from .plain_reports import at_a_light, reported
 
 
 def light(**units):

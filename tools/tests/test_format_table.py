@@ -4,34 +4,71 @@ import re
 
 import pytest
 
+from ctmtools.amounts import PARTS
 from ctmtools.network_file.faults import first_fault
-from ctmtools.network_file.kinds import FIELDS, kinds_of
+from ctmtools.network_file.kinds import COUNTED, KINDS, MOST_RECORDS, headings, kinds_of, record_text
 from ctmtools.network_file.network import clipped, network_of, fault_line
 from ctmtools.network_file.records import read_records
 from ctmtools.study.network_text import _is_large
 
 from .examples import TOOLS
 
-ROW = re.compile(r"\| `(\w+)`(?:, in format 2)? \| ([^|]*) \| (\d) \| `[^`]*` \|")
-ROWS = {found[1]: (found[2], int(found[3])) for found in map(ROW.fullmatch, (TOOLS.parent / "docs/FORMAT.md").read_text().splitlines()) if found}
+FORMAT = (TOOLS.parent / "docs/FORMAT.md").read_text()
+ROW = re.compile(r"\| `(?P<kind>\w+)`(?P<form>, in format 2)? \| (?P<terms>[^|]*) \| (?P<count>\d) \| `(?P<example>[^`]*)` \|")
+ROWS = {found["kind"]: found for found in map(ROW.fullmatch, FORMAT.splitlines()) if found}
 EXAMPLE = ("ctm,2", "steps,9", "gate,g,18,2.5", "road,a,108,12,1,5,7.25", "road,b,60.5,9,2,3,0", "road,c,60,9,1,1,0", "exit,x,12.5", "exit,y,3",
            "link,g,a", "diverge,a,b,c,3,4", "merge,b,c,x,5,6", "signal,a,8,7,2,5", "limit,b,1,4,2.5", "demand,g,0,3,1.25", "turn,a,2,5,8,9")
 
 
-def test_the_kinds_and_their_numbers_of_fields_are_those_of_the_table():
-    assert {kind: len(fields) + 1 for kind, fields in FIELDS.items()} == {kind: count for kind, (_, count) in ROWS.items()}
-    assert kinds_of(2) == tuple(ROWS) and kinds_of(1) == tuple(kind for kind in ROWS if kind not in ("turn", "region"))
+def terms_of(kind):
+    """What the table says of each field behind a kind."""
+    terms = [re.sub(r", (each )?(a road|an exit) .*", "", term) for term in ROWS[kind]["terms"].split("; ")]
+    return [one for term in terms for one in ([term.replace("first and the second", which) for which in ("first", "second")]
+                                              if "first and the second" in term else [term])]
 
 
-@pytest.mark.parametrize("kind", FIELDS)
-def test_what_a_fault_expects_is_what_the_table_says(kind):
-    terms = [re.sub(r"^[^:]*: ", "", term).replace("`", "").replace("from+1", "from + 1").replace("cycle-1", "cycle - 1")
-             for term in ROWS[kind][0].split("; ")]
-    wanted = [re.sub(r"^whole ", "a whole number, ", term) if "whole" in term else re.sub(r"^.*amount to (\w+)$", r"0 to \1,", term)
-              for term in terms if "whole" in term or "amount" in term]
-    told_of = [field.expected for field in FIELDS[kind] if field.sort in ("whole", "amount")]
-    assert len(told_of) == len(wanted) and all(want in one for want, one in zip(wanted, told_of))
-    assert all(want == one for want, one in zip(wanted, told_of) if "whole" in want)
+def sort_of(term, kind):
+    """The sort of field that a term of the table is of, which is that of its kind where it names a cell of an earlier record."""
+    sorts = {"whole": "whole", "amount": "amount", "new name": "new", "upstream": "up", "downstream": "down"}
+    return next((sort for word, sort in sorts.items() if word in term), kind)
+
+
+def test_the_kinds_and_their_fields_are_those_of_the_table():
+    assert kinds_of(2) == tuple(KINDS) == tuple(ROWS)
+    assert kinds_of(1) == tuple(kind for kind, row in ROWS.items() if not row["form"])
+    for kind, row in ROWS.items():
+        assert len(KINDS[kind].fields) + 1 == int(row["count"]) == len(terms_of(kind)) + 1
+        assert [field.sort for field in KINDS[kind].fields] == [sort_of(term, kind) for term in terms_of(kind)]
+
+
+@pytest.mark.parametrize("kind", KINDS)
+def test_the_names_and_edges_of_fields_are_those_of_the_table(kind):
+    for term, field in zip(terms_of(kind), KINDS[kind].fields):
+        name = re.match("`(\\w+)`: |the (.*cell (?:up|down)stream)", term)
+        assert name is None or field.name == (name[1] or name[2])
+        edges = re.search(r"(?:whole (\S+)|amount) to (\S+)$", term.replace("`", ""))
+        if edges:
+            number = str(field.most.number // PARTS) if field.sort == "amount" and not field.most.field else str(field.most)
+            assert [str(field.least).replace(" ", ""), number.replace(" ", "")] == [edges[1] or "0", edges[2]]
+            said = f"{edges[1] or 0} to {edges[2]}".replace("+", " + ").replace("-", " - ")
+            assert field.expected.endswith(f", {said}" if field.sort == "whole" else f", {said}, with a point and at most six decimals")
+
+
+@pytest.mark.parametrize("kind", KINDS)
+def test_a_record_is_written_as_it_is_read(kind):
+    example = ROWS[kind]["example"]
+    assert record_text(kind, *KINDS[kind].values(tuple(example.split(",")[1:])).values()) == example
+
+
+def test_so_many_records_are_counted_as_the_table_of_formats_says():
+    (sorts, *most), (more, no, most_turns) = re.findall(r"\| Most ([^|]*) \| ([^|]*) \| ([^|]*) \|", FORMAT)
+    assert COUNTED == (*re.split(", | and ", sorts), more) and no == "none"
+    assert [f"{count:,} of each" for count in MOST_RECORDS.values()] == most and f"{MOST_RECORDS[2]:,}" == most_turns
+
+
+def test_a_built_network_says_the_fields_of_its_records():
+    assert headings("road") == "road,name,N,Q,A,B,first" and headings("demand") == "demand,gate,from,to,vehicles in a step"
+    assert headings("link", "merge", "diverge") == "link,up,down; merge,first up,second up,down,P1,P2; diverge,up,first down,second down,B1,B2"
 
 
 # Records behind the example, each with the fault that the table gives it, if any, and at which field.

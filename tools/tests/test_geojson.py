@@ -10,7 +10,7 @@ from ctmtools.report.by_road import by_road
 
 from .corridor import HEAD, corridor
 from .examples import save_report
-from .test_travel import reported
+from .plain_reports import reported
 
 
 def made(tmp_path, **named):

@@ -41,7 +41,7 @@ UNOPPOSED = "movements that give way to others run unopposed, so their delay is 
 
 
 @pytest.fixture
-def told(tool, tmp_path):
+def import_net(tool, tmp_path):
     """What an import tells of the network, with a signal of two phases or without one, and with flows."""
     def imported(*phases, flows=FLOWS, net=NET, logic="static", limits="", **terms):
         (tmp_path / "n.net.xml").write_text(net.format(
@@ -79,12 +79,12 @@ def bare(text):
 
 
 @pytest.mark.parametrize("phases, wanted", [((), "w to n, s to p"), (("GgGr", "rrrG"), "w to n"), (("GGGr", "rrrG"), None)])
-def test_a_network_without_lanes_within_junctions_says_who_gives_way(told, phases, wanted):
-    assert gives_way(told(*phases, net=bare(NET))) == wanted
+def test_a_network_without_lanes_within_junctions_says_who_gives_way(import_net, phases, wanted):
+    assert gives_way(import_net(*phases, net=bare(NET))) == wanted
 
 
-def test_a_left_turn_and_a_side_street_give_way_by_the_gaps_of_their_kind(told):
-    out = told(right="0101")
+def test_a_left_turn_and_a_side_street_give_way_by_the_gaps_of_their_kind(import_net):
+    out = import_net(right="0101")
     assert gives_way(out) == "w to n, s to p" and UNOPPOSED not in out
     (junction,) = study()["junctions"]
     assert yields_of(junction) == {
@@ -94,8 +94,8 @@ def test_a_left_turn_and_a_side_street_give_way_by_the_gaps_of_their_kind(told):
     assert len(read_study("n.toml").yields) == 2 and build(read_study("n.toml")).text
 
 
-def test_what_passes_of_them_is_that_of_the_formula(told, recording_program):
-    told()
+def test_what_passes_of_them_is_that_of_the_formula(import_net, recording_program):
+    import_net()
     found = settled_by_runs(read_study("n.toml"))
     # Through 300 vehicles/h: 300·exp(-300·4.1/3600)/(1 - exp(-300·2.2/3600)) turn left, 300·exp(-300·6.2/3600)/(1 -
     # exp(-300·3.3/3600)) come out of the side street.
@@ -108,40 +108,40 @@ def test_what_passes_of_them_is_that_of_the_formula(told, recording_program):
     # Who drives through and crosses nobody merges, as one who turns to the right.
     ({"turn": "s", "sign": "s"}, {"kind": "minor-right"}), ({"turn": "L", "sign": "="}, {"kind": "minor-left", "control": "give_way"}),
     ({"more": '<roundabout nodes="J" edges="w p"/>'}, {"kind": "roundabout"})])
-def test_signs_turns_and_roundabouts_say_the_kind(told, terms, wanted):
-    told(**terms)
+def test_signs_turns_and_roundabouts_say_the_kind(import_net, terms, wanted):
+    import_net(**terms)
     found = yields_of(study()["junctions"][0])["s", "p"]
     assert found == {"yields_to": [["w", "p"]], **wanted}
 
 
-def test_who_drives_through_and_crosses_another_has_the_gaps_of_that(told):
-    told(right="0101", turn="s")
+def test_who_drives_through_and_crosses_another_has_the_gaps_of_that(import_net):
+    import_net(right="0101", turn="s")
     found = yields_of(study()["junctions"][0])["s", "p"]
     assert (found["yields_to"], found["kind"]) == ([["e", "o"], ["w", "p"]], "minor-through")
 
 
-def test_a_left_turn_that_has_priority_over_a_side_street_counts_twice_there(told):
+def test_a_left_turn_that_has_priority_over_a_side_street_counts_twice_there(import_net):
     # w to n is a left turn out of the street with priority, to which who drives through from s gives way.
-    told(right="0011", turn="s")
+    import_net(right="0011", turn="s")
     assert yields_of(study()["junctions"][0])["s", "p"]["yields_to"] == [["w", "n", 2], ["w", "p"]]
 
 
-def test_where_one_drives_on_the_left_a_right_turn_crosses(told):
-    told(net=NET.replace("<net>", '<net lefthand="true">'), turn="l")
+def test_where_one_drives_on_the_left_a_right_turn_crosses(import_net):
+    import_net(net=NET.replace("<net>", '<net lefthand="true">'), turn="l")
     found = yields_of(study()["junctions"][0])
     # The letter l of w to n is a turn to the side on which one drives there.
     assert found["w", "n"]["kind"] == "minor-right" and found["s", "p"]["kind"] == "minor-right"
 
 
-def test_two_streets_that_merge_are_a_merge(told):
-    out = told(flows={"w p": 300, "s p": 60})
+def test_two_streets_that_merge_are_a_merge(import_net):
+    out = import_net(flows={"w p": 300, "s p": 60})
     (merge,) = study()["merges"]
     assert gives_way(out) == "s to p"
     assert (merge["yields_to"], merge["kind"], merge["control"]) == ("w", "minor-right", "give_way")
 
 
-def test_streets_that_only_cross_become_one_junction(told):
-    told(flows={"w n": 90, "e o": 300})
+def test_streets_that_only_cross_become_one_junction(import_net):
+    import_net(flows={"w n": 90, "e o": 300})
     (junction,) = study()["junctions"]
     assert junction["from"] == ["w", "e"] and junction["into"] == ["n", "o"] and junction["shares"] == [[100, 0], [0, 100]]
 
@@ -150,8 +150,8 @@ def test_streets_that_only_cross_become_one_junction(told):
     ({"sign": "w"}, "at an all-way stop nobody has priority: s to p"),
     ({"sign": "Z"}, "they merge in turn with those whom they meet: s to p"),
     ({"speed": 30}, "streams that meet at more than 80 km/h don't take gaps as on streets: s to p")])
-def test_who_cant_give_way_is_told_with_the_reason(told, terms, why):
-    out = told(**terms)
+def test_who_cant_give_way_is_told_with_the_reason(import_net, terms, why):
+    out = import_net(**terms)
     assert f"  1 {UNOPPOSED}{why}\n" in out and gives_way(out) == "w to n"
     # The study has it at its junction, and it is told by each run.
     with open("n.toml") as file:
@@ -159,20 +159,20 @@ def test_who_cant_give_way_is_told_with_the_reason(told, terms, why):
     assert f"1 {UNOPPOSED}{why}" in build(read_study("n.toml")).remarks
 
 
-def test_a_movement_whose_others_have_no_traffic_gives_way_to_nobody(told):
-    out = told(flows={"w n": 90, "w p": 300})
+def test_a_movement_whose_others_have_no_traffic_gives_way_to_nobody(import_net):
+    out = import_net(flows={"w n": 90, "w p": 300})
     assert gives_way(out) is None and UNOPPOSED not in out
 
 
 @pytest.mark.parametrize("phases, wanted", [
     (("GgGr", "rrrG"), "w to n"), (("GGGr", "rrrG"), None), (("GgrG", "rrGr"), None), (("GgGr", "rrrg"), "w to n"),
     (("rrGg", "GGrr"), None)])
-def test_at_a_signal_a_green_without_priority_counts_while_the_others_have_theirs(told, phases, wanted):
-    assert gives_way(told(*phases)) == wanted
+def test_at_a_signal_a_green_without_priority_counts_while_the_others_have_theirs(import_net, phases, wanted):
+    assert gives_way(import_net(*phases)) == wanted
 
 
-def test_a_green_without_priority_is_permitted_in_its_phase(told):
-    told("GgGr", "rGrG")  # w to n is green without priority for 30 s, and alone then
+def test_a_green_without_priority_is_permitted_in_its_phase(import_net):
+    import_net("GgGr", "rGrG")  # w to n is green without priority for 30 s, and alone then
     (junction,) = study()["junctions"]
     assert junction["phases"] == [
         {"start": 0, "green": 30, "movements": [["w", "n"], ["w", "p"], ["e", "o"]], "permitted": [["w", "n"]]},
@@ -182,15 +182,15 @@ def test_a_green_without_priority_is_permitted_in_its_phase(told):
     assert one.permission.permitted == [(0, 30)]
 
 
-def test_a_movement_that_gives_way_in_the_shorter_of_two_greens_alone_is_told(told):
+def test_a_movement_that_gives_way_in_the_shorter_of_two_greens_alone_is_told(import_net):
     net = NET.replace("{signal}", '<tlLogic id="J" type="static" programID="0" offset="0"><phase duration="10" state="rgGr"/>'
                       '<phase duration="20" state="GrGr"/><phase duration="30" state="rGrG"/><phase duration="9" state="rrrr"/></tlLogic>')
-    out = told("", "", net=net)
+    out = import_net("", "", net=net)
     assert f"  1 {UNOPPOSED}in the green that is kept of them they don't give way: w to n\n" in out
 
 
-def test_greens_between_a_least_and_a_most_follow_traffic(told):
-    out = told("GGGr", "rrrG", logic="actuated", limits='minDur="5" maxDur="45"')
+def test_greens_between_a_least_and_a_most_follow_traffic(import_net):
+    out = import_net("GGGr", "rrrG", logic="actuated", limits='minDur="5" maxDur="45"')
     (junction,) = study()["junctions"]
     assert junction["phases"] == [
         {"start": 0, "green": 30, "movements": [["w", "n"], ["w", "p"], ["e", "o"]], "actuated": {"least": 5, "most": 45, "gap": 3}},
@@ -198,8 +198,8 @@ def test_greens_between_a_least_and_a_most_follow_traffic(told):
     assert "1 signals follow traffic, each green between its least and its most" in out and len(read_study("n.toml").actuated) == 1
 
 
-def test_a_street_alone_at_a_signal_follows_traffic_too(told):
-    out = told("GGGr", "rrrG", logic="actuated", limits='minDur="0" maxDur="9999"', flows={"w p": 300})
+def test_a_street_alone_at_a_signal_follows_traffic_too(import_net):
+    out = import_net("GGGr", "rrrG", logic="actuated", limits='minDur="0" maxDur="9999"', flows={"w p": 300})
     (signal,) = study()["signals"]
     # A green lasts a second or more, and an hour at most.
     assert signal["actuated"] == {"least": 1, "most": 3600, "gap": 3} and "1 signals follow traffic" in out
@@ -209,21 +209,21 @@ def test_a_street_alone_at_a_signal_follows_traffic_too(told):
 @pytest.mark.parametrize("phases, why", [
     (("GgGr", "rrrG"), "some are green there for who gives way: J"),
     (("GrGr", "rGrG"), "movements of one approach have greens of their own: J")])
-def test_greens_that_cant_follow_traffic_are_fixed_and_told(told, phases, why):
-    out = told(*phases, logic="actuated", limits='minDur="5" maxDur="45"')
+def test_greens_that_cant_follow_traffic_are_fixed_and_told(import_net, phases, why):
+    out = import_net(*phases, logic="actuated", limits='minDur="5" maxDur="45"')
     assert f"1 signals that follow traffic keep the lengths of their phases as fixed ones, since {why}" in out
     assert not any("actuated" in phase for phase in study()["junctions"][0]["phases"])
 
 
-def test_a_signal_of_another_sort_keeps_its_greens(told):
-    out = told("GGGr", "rrrG", logic="delay_based", limits='minDur="5" maxDur="45"')
+def test_a_signal_of_another_sort_keeps_its_greens(import_net):
+    out = import_net("GGGr", "rrrG", logic="delay_based", limits='minDur="5" maxDur="45"')
     assert "1 signals follow traffic otherwise than by a least and a most of their greens (J); the lengths of their phases are" in out
 
 
 # In the full check no case may be skipped: where sumolib isn't there, this is none.
 if sumolib_net.is_there():
-    def test_sumolib_reads_the_same_of_giving_way(told, tmp_path, monkeypatch):
-        told("GgGr", "rrrG", logic="actuated", limits='minDur="5"', more='<roundabout nodes="J" edges="w p"/>')
+    def test_sumolib_reads_the_same_of_giving_way(import_net, tmp_path, monkeypatch):
+        import_net("GgGr", "rrrG", logic="actuated", limits='minDur="5"', more='<roundabout nodes="J" edges="w p"/>')
         (tmp_path / "n.net.xml").write_text((tmp_path / "n.net.xml").read_text().replace("<net>", '<net lefthand="true">'))
         by_library = read_network(tmp_path / "n.net.xml")
         monkeypatch.setattr(sumolib_net, "is_there", lambda: False)

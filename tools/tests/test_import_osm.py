@@ -36,7 +36,7 @@ def east_and_north(place):
     return (place[0] - 11) * 74630, (place[1] - 48) * 111190
 
 
-def told(places, kind):
+def of_kind(places, kind):
     """The streets of a kind of places, with where these lie in whole metres."""
     return [(place.street, tuple(round(value) for value in east_and_north(place.at))) for place in places if place.kind == kind]
 
@@ -78,7 +78,7 @@ def test_what_the_map_does_not_say_is_a_guess_and_told():
     what = {place.kind: [other.what for other in places if (other.kind, other.street) == (place.kind, "Kreisel")] for place in places}
     assert what["speed"] == ["37 km/h by a radius of 19 m"] and what["lanes"] == ["2 by the class primary"]
     assert what["roundabout"] == ["a ring of 4 streets of 122 m in all"]
-    assert {street for street, _ in told(places, "speed")} == {"Untere Gasse", "Am Graben", "Kreisel", "motorway_link 112",
+    assert {street for street, _ in of_kind(places, "speed")} == {"Untere Gasse", "Am Graben", "Kreisel", "motorway_link 112",
                                                                "Obere Gasse", "Am Tor"}
 
 
@@ -100,16 +100,16 @@ def test_a_roundabout_of_one_or_two_arms_is_one(tmp_path, arms):
 
 def test_what_became_of_the_map_is_told_with_its_place():
     found, places = town()
-    assert told(places, "gap") == [("Am Graben", (1300, 196))]
-    assert told(places, "roundabout") == [("Kreisel", pytest.approx((420, 400), abs=8))]
-    assert {street for street, _ in told(places, "left out")} == {"Am Graben", "Inselweg", "Rundweg", "Am Tor",
+    assert of_kind(places, "gap") == [("Am Graben", (1300, 196))]
+    assert of_kind(places, "roundabout") == [("Kreisel", pytest.approx((420, 400), abs=8))]
+    assert {street for street, _ in of_kind(places, "left out")} == {"Am Graben", "Inselweg", "Rundweg", "Am Tor",
                                                                   'Sackgasse "Zur Mühle", Hof'}
-    assert told(places, "dead end") == [("Am Graben", (1300, 200))]
-    assert told(places, "barred") == [("Privatweg", (900, -1000))]
-    assert sorted(told(places, "signal")) == [("Bahnhofstraße and Münchner Straße", (900, 400)),
+    assert of_kind(places, "dead end") == [("Am Graben", (1300, 200))]
+    assert of_kind(places, "barred") == [("Privatweg", (900, -1000))]
+    assert sorted(of_kind(places, "signal")) == [("Bahnhofstraße and Münchner Straße", (900, 400)),
                                               ("Bahnhofstraße and Ring", pytest.approx((900, -6), abs=7))]
-    assert told(places, "signal left out") == [("Münchner Straße", (700, 400))]
-    assert told(places, "joined") == [("Bahnhofstraße and Ring", pytest.approx((900, -6), abs=7))]
+    assert of_kind(places, "signal left out") == [("Münchner Straße", (700, 400))]
+    assert of_kind(places, "joined") == [("Bahnhofstraße and Ring", pytest.approx((900, -6), abs=7))]
     assert "1 gaps lie between streets that go on behind them, and stay: Am Graben at 11.01742, 48.00176" in found.notes
 
 
@@ -251,7 +251,7 @@ def test_a_study_of_each_map_is_built(tool):
 def test_roads_of_some_classes_with_their_ramps():
     found, places = town(classes_of("motorway"))
     assert {street.title for street in found.streets.values()} == {"A 9", "motorway_link 111", "motorway_link 112"}
-    assert told(places, "dead end") == [("motorway_link 112", (406, 414)), ("motorway_link 111", (406, 386))]  # at the roundabout
+    assert of_kind(places, "dead end") == [("motorway_link 112", (406, 414)), ("motorway_link 111", (406, 386))]  # at the roundabout
     found, _ = town(classes_of("motorway,primary"))
     assert {"motorway_link 111", "motorway_link 112", "Kreisel"} <= {street.title for street in found.streets.values()}
     assert classes_of("primary") == ("primary", "primary_link") and classes_of(None) == CLASSES
@@ -264,7 +264,7 @@ def test_a_box_of_a_packed_map(tmp_path):
     # The box has the crossing of Münchner Straße and Bahnhofstraße, and not the motorway nor the Ring.
     found, places = read_map(str(tmp_path / "town.osm.pbf"), CLASSES, box_of("11.010,48.002,11.013,48.005"), 2)
     assert {street.title for street in found.streets.values()} == {"Münchner Straße", "Bahnhofstraße"}
-    assert not told(places, "dead end") and found.programs.keys() == {"40"}
+    assert not of_kind(places, "dead end") and found.programs.keys() == {"40"}
 
 
 @pytest.mark.parametrize("tags, lanes, speed", [

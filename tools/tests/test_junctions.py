@@ -125,7 +125,7 @@ def test_its_cells_can_be_taken_off_the_approaches(tmp_path):
     (THREE.replace("[0, 1, 0]", "[0, 1]"), "junctions[1].shares[2]: expected 3 entries, found 2"),
     (THREE.replace("[0, 1, 0]", "[0, 0, 0]"), "junctions[1].shares: nobody drives on from e"),
     (THREE.replace("2, 3]", "0, 3]").replace("[0, 1, 0]", "[1, 0, 0]"), "junctions[1].shares: nobody drives into y"),
-    (THREE.replace("[0, 1, 0]", "[0, -1, 0]"), "expected a number that isn't negative"),
+    (THREE.replace("[0, 1, 0]", "[0, -1, 0]"), "a number here isn't negative, found -1"),
     (THREE + "cycle = 60\n", "junctions[1].phases: is missing; phases and a cycle go together"),
     (THREE + PHASES.format('{ from = ["n"], green = 20 }'), "phases: the movement e to y is green in none"),
     (THREE + PHASES.format('{ from = ["q"], green = 20 }'), "phases[1].from: q isn't of this junction, which has n, e, w"),

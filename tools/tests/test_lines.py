@@ -3,15 +3,15 @@
 from types import SimpleNamespace
 
 import pandas
-import plain_model
 import pytest
 
 from ctmtools.commands.compare import _travel, signed
-from ctmtools.network_file.network import network_of
-from ctmtools.report.summary import _lasting, clock, kilometre, length, page, table, number_text, where
 from ctmtools.report.queues import queues_in
-from ctmtools.report.reading import report_of
+from ctmtools.report.summary import _lasting, clock, kilometre, length, number_text, page, where
+from ctmtools.text_table import table
 from ctmtools.units import Units
+
+from .plain_reports import plain_report
 
 
 @pytest.mark.parametrize("value, text", [(0, "0"), (0.004, "0"), (0.006, "0.01"), (2.5, "2.5"), (12, "12"), (1234.567, "1,234.57"),
@@ -63,10 +63,7 @@ def corridors(steps, **demands):
     for name, demand in demands.items():
         records += [f"gate,g{name},9,0", f"road,{name},60,9,1,5,0", f"exit,x{name},1", f"link,g{name},{name}", f"link,{name},x{name}",
                     f"demand,g{name},0,{demand},2"]
-    text = "\n".join([*records, ""]).encode()
-    report = report_of(plain_model.report(text, 1), "made.report")
-    report.network = network_of(text)
-    return report
+    return plain_report("\n".join([*records, ""]), name="made.report")
 
 
 def test_a_queue_from_its_beginning_to_its_end():

@@ -4,7 +4,7 @@ import csv
 
 import pytest
 
-from ctmtools import Problem, build, read_report, read_study
+from ctmtools import Problem, read_report
 from ctmtools.moments.runner import Runner, rows_of
 from ctmtools.moments.metering import alinea, gauge_of, meter
 from ctmtools.study.plan import Meter

@@ -8,7 +8,7 @@ from ctmtools import build, read_study
 from ctmtools.plots.layout import lay_out
 
 from .corridor import HEAD
-from .test_travel import reported
+from .plain_reports import reported
 
 JUNCTION = HEAD.format(end="07:00") + """
 [roads.b]

@@ -24,7 +24,7 @@ from ctmtools.report.reading import Report, report_of
 from .corridor import HEAD, corridor
 from .examples import TOOLS
 from .page_data import cells_of, decoded, figures, queued
-from .test_travel import reported
+from .plain_reports import reported
 
 # A road and its gate beside the corridor: 3 vehicles come in a step and 2 leave.
 BESIDE = """

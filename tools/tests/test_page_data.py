@@ -17,7 +17,7 @@ from ctmtools.units import Units
 from .corridor import corridor
 from .page_data import cells_of, decoded, figures
 from .test_lines import corridors
-from .test_travel import at_a_light, reported
+from .plain_reports import at_a_light, reported
 
 
 # In 3,200,000 bytes each cell has in a frame two of density, two of flow and a bit of its queue, and each frame 24 for its time.

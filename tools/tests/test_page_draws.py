@@ -16,6 +16,7 @@ from ctmtools.uncertainty.reliability import DELAY, TRAVEL
 from ctmtools.uncertainty.results import Results
 from ctmtools.uncertainty.results_files import read_results, write_results
 
+from .corridor import GATE
 from .test_page_in_browser import browser, opened, printed_pages, text  # noqa: F401
 
 TITLES = {"uncertain": "A lane drop, demand uncertain", "uncertain-shoulder": "The same with a hard shoulder"}
@@ -131,16 +132,7 @@ def test_draws_that_are_not_whole_are_on_no_page(beside, tmp_path, change, wante
 
 def test_draws_come_from_the_command_into_the_page(tool, program, tmp_path):
     """A gate lets 1,200 vehicles/h pass, and an hour has 1,500: the delay is 1500·300/2400 = 187.5 in each draw."""
-    (tmp_path / "s.toml").write_text("""
-step = 60
-start = "06:00"
-end = "08:00"
-lane = { free_flow_speed = 60, wave_speed = 20, jam_density = 140, saturation_flow = 1800 }
-roads = { m = { length = 1, lanes = 1 } }
-exits = { off = { from = "m" } }
-gates = { on = { into = "m", capacity = 1200, demand = [["06:00", "07:00", 1500]] } }
-uncertain = [{ key = "demand", factor = "given", values = [1] }]
-""")
+    (tmp_path / "s.toml").write_text(GATE + '[[uncertain]]\nkey = "demand"\nfactor = "given"\nvalues = [1]\n')
     for words in (["draw", "s.toml", "--runs", "2", "-j", "1"], ["run", "s.toml"], ["report", "s.report"]):
         status, _, err = tool(*words)
         assert status == 0, err

@@ -20,7 +20,7 @@ from ctmtools.pages.tables import table_of
 
 from .corridor import corridor
 from .test_page import BESIDE
-from .test_travel import reported
+from .plain_reports import reported
 
 LANE_DROP, STAGGERED = "A lane drop", "Staggered hours before a lane drop"
 LESS = f"{STAGGERED} less {LANE_DROP}"

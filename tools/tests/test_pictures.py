@@ -4,22 +4,20 @@ from itertools import combinations
 
 import numpy
 import pandas
-import plain_model
 import pytest
 from matplotlib.collections import LineCollection
 from matplotlib.colors import to_hex
 from matplotlib.text import Text
 
 from ctmtools import Problem, plot, read_report
-from ctmtools.network_file.network import network_of
 from ctmtools.plots.layout import lay_out
 from ctmtools.plots.network_map import MOST_WIDTH, _points
 from ctmtools.plots.pictures import PICTURES
 from ctmtools.report.queues import queues_in
-from ctmtools.report.reading import report_of
 from ctmtools.units import Units
 
 from .examples import EXAMPLES, save_report
+from .plain_reports import plain_report
 
 RED = "#c00000"
 STUDIES = ["grid", "meter", "interchange", "street"]
@@ -111,8 +109,7 @@ def many_roads(count):
     text = ("ctm,1\nsteps,60\n" + "".join(
         f"gate,g{i},9,0\nroad,r{i},300,9,1,5,0\nexit,x{i},2\nlink,g{i},r{i}\nlink,r{i},x{i}\ndemand,g{i},0,30,{3 + i % 5}\n"
         for i in range(count)))
-    made = report_of(plain_model.report(text.encode(), 1))
-    made.network, made.name = network_of(text.encode()), "many"
+    made = plain_report(text, name="many")
     made.units = Units("Many", 10.0, 0.0, None, {f"r{i}": {"road": f"road{i}", "from_km": 0.0, "to_km": 0.25, "lanes": 2}
                                                  for i in range(count)}, {f"road{i}": [f"r{i}"] for i in range(count)})
     return made

@@ -1,26 +1,22 @@
 """Queues: where they begin, what is one queue, their course over time, and what the page tells of them."""
 
 import numpy
-import plain_model
 import pytest
 
-from ctmtools.network_file.network import network_of
 from ctmtools.report.summary import page
 from ctmtools.report.queues import course, queues_in, reach_of_part
-from ctmtools.report.reading import report_of
 from ctmtools.report.upstream import spills
 
 from .corridor import corridor
+from .plain_reports import plain_report
 
 
 def test_platoons_in_free_flow_are_no_queue():
     roads = [f"c{i:02d}" for i in range(40)]
     links = zip(["g", *roads], [*roads, "x"])
-    text = ("ctm,1\nsteps,200\ngate,g,9,0\nexit,x,9\n" + "".join(f"road,{name},60,9,1,5,0\n" for name in roads) +
-            "".join(f"link,{up},{down}\n" for up, down in links) +
-            "".join(f"demand,g,{step},{step + 3},6\n" for step in range(0, 200, 10))).encode()
-    made = report_of(plain_model.report(text, 10))
-    made.network = network_of(text)
+    made = plain_report("ctm,1\nsteps,200\ngate,g,9,0\nexit,x,9\n" + "".join(f"road,{name},60,9,1,5,0\n" for name in roads) +
+                        "".join(f"link,{up},{down}\n" for up, down in links) +
+                        "".join(f"demand,g,{step},{step + 3},6\n" for step in range(0, 200, 10)), 10)
     assert made.total.delay == 0 and queues_in(made) == []
 
 
@@ -63,13 +59,7 @@ def signalled(*demands):
     """The report of a road with a signal of ten steps, five of them green, and a vehicle a step in some spans."""
     text = ("ctm,1\nsteps,200\ngate,g,9,0\nroad,a,60,9,1,5,0\nexit,x,9\nlink,g,a\nlink,a,x\nsignal,a,10,0,0,5\n" +
             "".join(f"demand,g,{begin},{end},1\n" for begin, end in demands))
-    return reported(text)
-
-
-def reported(text, every=1):
-    made = report_of(plain_model.report(text.encode(), every))
-    made.network = network_of(text.encode())
-    return made
+    return plain_report(text)
 
 
 def test_a_queue_that_stays_away_for_more_than_two_cycles_is_another():
@@ -87,7 +77,7 @@ def test_the_queues_at_a_signal_of_a_part_of_the_time_are_told_one_by_one(tmp_pa
     signal = '[[signals]]\nroad = "m"\ncycle = 60\ngreen = 30\n'
     for terms, spells in (("", [60]), ('start = "06:00"\nend = "06:30"\n', 30 * [1])):
         made = corridor(tmp_path, signal + terms)
-        report = reported(made.text)
+        report = plain_report(made.text)
         assert [queue.spells for queue in queues_in(report)] == spells
 
 
@@ -97,7 +87,7 @@ def test_short_queues_are_counted_in_one_line():
     text = ("ctm,1\nsteps,200\ngate,g,9,0\ngate,h,9,0\nroad,a,300,9,1,5,0\nroad,b,60,9,1,5,0\nexit,x,2\nexit,y,2\n"
             "link,g,a\nlink,a,x\nlink,h,b\nlink,b,y\ndemand,g,0,60,3\n" +
             "".join(f"demand,h,{step},{step + 1},6\n" for step in (0, 40, 80, 120)))
-    lines = list(page(reported(text)))
+    lines = list(page(plain_report(text)))
     assert [line for line in lines if "short" in line] == [
         "  and 4 short queues, the longest of 1 cell from b at 2, 24 vehicle-steps in all, cleared in less than 12 steps each"]
     assert sum(line.startswith("  a ") for line in lines) == 1 and not any(line.startswith("  b ") for line in lines)
@@ -105,7 +95,7 @@ def test_short_queues_are_counted_in_one_line():
 
 def test_where_all_queues_are_short_they_are_told():
     text = ("ctm,1\nsteps,50\ngate,h,9,0\nroad,b,60,9,1,5,0\nexit,y,2\nlink,h,b\nlink,b,y\ndemand,h,0,1,6\n")
-    lines = list(page(reported(text)))
+    lines = list(page(plain_report(text)))
     assert any(line.startswith("  b ") for line in lines) and not any("short" in line for line in lines)
 
 
@@ -113,7 +103,7 @@ def test_more_queues_than_rows_are_counted():
     text = "ctm,1\nsteps,60\n" + "".join(
         f"gate,g{i},9,0\nroad,r{i},300,9,1,5,0\nexit,x{i},2\nlink,g{i},r{i}\nlink,r{i},x{i}\ndemand,g{i},0,{30 - i},3\n"
         for i in range(15))
-    lines = [line for line in page(reported(text)) if "more queues" in line]
+    lines = [line for line in page(plain_report(text)) if "more queues" in line]
     # In k steps 1, 2, .. k vehicles wait, and then two fewer in each: 243 vehicle-steps for k = 18, 217 for 17, 192 for 16.
     assert lines == ["  and 3 more queues, the longest of 1 cell from r12 at 2, 652 vehicle-steps in all"]
 
@@ -122,7 +112,7 @@ def test_queues_in_gates_alone_are_counted_by_their_vehicles():
     text = "ctm,1\nsteps,60\n" + "".join(
         f"gate,g{i},2,0\nroad,r{i},300,9,1,5,0\nexit,x{i},9\nlink,g{i},r{i}\nlink,r{i},x{i}\ndemand,g{i},0,{30 - i},3\n"
         for i in range(15))
-    lines = [line for line in page(reported(text)) if "more queues" in line]
+    lines = [line for line in page(plain_report(text)) if "more queues" in line]
     assert lines == ["  and 3 more queues, the greatest of 18 vehicles in the gate g12 at 18, 652 vehicle-steps in all"]
 
 
@@ -150,7 +140,7 @@ def closed(tmp_path, rows, demand=4860, lanes=3, after=0):
     """The report of a road of three lanes, 13.5 vehicles in each cell, part of which is closed from 06:10 to 06:40."""
     parts = "".join(f'[[closures]]\nroad = "m"\nstart = "06:10"\nend = "06:40"\n{row}\n' for row in rows)
     made = corridor(tmp_path, parts, lanes, f'[["06:00", "06:20", {demand}], ["06:20", "07:00", {after}]]')
-    return reported(made.text)
+    return plain_report(made.text)
 
 
 @pytest.mark.parametrize("lanes, slow", [(1.1, False), (1.5, True), (2, True), (3, True)])
@@ -173,7 +163,7 @@ def test_what_is_slow_in_a_closure_is_of_the_queue_before_it():
     # c and d pass 12. d holds 18 and is slow, c between them 12.5 and isn't; b, to which 15 come in a step, is from step 1 on.
     rows = "".join(f"road,{name},108,18,1,5,{first}\n" for name, first in zip("abcd", (15, 15, 12.5, 18)))
     links = "".join(f"link,{up},{down}\n" for up, down in zip("gabcd", "abcdx"))
-    made = reported(f"ctm,1\nsteps,60\ngate,g,18,15\n{rows}exit,x,18\n{links}limit,c,0,40,12\nlimit,d,0,40,12\n"
+    made = plain_report(f"ctm,1\nsteps,60\ngate,g,18,15\n{rows}exit,x,18\n{links}limit,c,0,40,12\nlimit,d,0,40,12\n"
                     "demand,g,0,20,15\n")
     queue, = queues_in(made)
     assert queue.origin == "b" and {"b", "d"} <= set(queue.spans) and "c" not in queue.spans and queue.start == 0
@@ -185,14 +175,14 @@ def test_a_stop_line_in_a_closed_road_is_the_head(tmp_path):
     signal = '[[signals]]\nroad = "m"\ncycle = 60\ngreen = 20\n'
     parts = signal + '[[closures]]\nroad = "m"\nfrom = 0.5\nlanes = 1\n'
     made = corridor(tmp_path, parts, 3, '[["06:00", "06:20", 1800], ["06:20", "07:00", 0]]')
-    assert not queues_in(read) and queues_in(reported(made.text))[0].origin == "m4"
+    assert not queues_in(read) and queues_in(plain_report(made.text))[0].origin == "m4"
 
 
 def test_where_nobody_waits_before_a_closure_its_queue_is_in_it(tmp_path):
     # At 06:10 a vehicle less comes than m3 and m4 pass from then on, so that they empty from m3 on.
     made = corridor(tmp_path, '[[closures]]\nroad = "m"\nfrom = 0.5\nstart = "06:10"\nend = "06:40"\nlanes = 2\n', 3,
                     '[["06:00", "06:09:30", 4860], ["06:09:30", "07:00", 1800]]')
-    queue, = queues_in(reported(made.text))
+    queue, = queues_in(plain_report(made.text))
     assert (queue.origin, queue.start) == ("m4", 60) and set(queue.spans) == {"m3", "m4"}
 
 
@@ -207,7 +197,7 @@ def test_the_reach_of_a_part_begins_with_it(report):
 
 def test_a_queue_that_still_stands():
     # b leads nowhere. Of the 9 vehicles it holds 5.75 at the end and a behind it 2.25; the last stands in no queue.
-    made = reported("ctm,1\nsteps,9\ngate,g,1,0\nroad,a,6,2,1,2,0\nroad,b,6,2,1,2,0\nlink,g,a\nlink,a,b\ndemand,g,0,9,1\n")
+    made = plain_report("ctm,1\nsteps,9\ngate,g,1,0\nroad,a,6,2,1,2,0\nroad,b,6,2,1,2,0\nlink,g,a\nlink,a,b\ndemand,g,0,9,1\n")
     queue, = queues_in(made)
     assert queue.end is None and queue.origin == "b"
     lines = "\n".join(page(made))
@@ -216,13 +206,13 @@ def test_a_queue_that_still_stands():
 
 
 def test_through_traffic_at_the_end_is_no_queue():
-    made = reported("ctm,1\nsteps,9\ngate,g,2,0\nroad,a,6,2,1,2,0\nroad,b,6,2,1,2,0\nexit,x,2\nlink,g,a\nlink,a,b\n"
+    made = plain_report("ctm,1\nsteps,9\ngate,g,2,0\nroad,a,6,2,1,2,0\nroad,b,6,2,1,2,0\nexit,x,2\nlink,g,a\nlink,a,b\n"
                     "link,b,x\ndemand,g,0,9,1\n")
     assert list(page(made))[-1] == "Still inside at the end: 3 vehicles, none of them in a queue."
 
 
 def two_bottlenecks():
-    return reported(two_bottlenecks_text())
+    return plain_report(two_bottlenecks_text())
 
 
 def two_bottlenecks_text():
@@ -260,7 +250,7 @@ def test_a_queue_that_reaches_the_upstream_end_is_told_with_who_wait_behind_it()
 
 def test_a_queue_that_reaches_a_gate_where_vehicles_wait_already_is_told():
     # Of 7 a step that come to the gate 6 go in, so one more waits in each step from the first on. The queue of c10 is as before.
-    read = reported(two_bottlenecks_text().replace("demand,g,0,220,6", "demand,g,0,220,7"))
+    read = plain_report(two_bottlenecks_text().replace("demand,g,0,220,6", "demand,g,0,220,7"))
     alone = two_bottlenecks()
     queue, = queues_in(read)
     assert queue.origin == "g" and {part.cell for part in queue.others} == {"c09", "c20"}

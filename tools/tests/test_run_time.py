@@ -1,7 +1,6 @@
 """About how long a run takes: the estimate on paper, and what a terminal shows of it."""
 
 import re
-from dataclasses import replace
 
 import pytest
 

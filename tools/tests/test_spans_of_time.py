@@ -11,7 +11,7 @@ from ctmtools.report.states import queues_of, states, totals
 from ctmtools.report.travel import travel_times
 from ctmtools.units import Units
 
-from .test_travel import at_a_light
+from .plain_reports import at_a_light
 
 # The cell holds one at step 2, which leaves in it; one from step 5 on, and another from step 9 on, which both leave in step 10.
 

@@ -7,19 +7,10 @@ import pytest
 from ctmtools.files import network_target, report_target
 from ctmtools.units import units_path
 
-from .corridor import HEAD
+from .corridor import corridor_text
 from .examples import EXAMPLES, TOOLS
 
-ROAD = """[roads.m]
-length = 1
-lanes = 2
-[gates.g]
-into = "m"
-demand = 1000
-[exits.x]
-from = "m"
-"""
-STUDY = HEAD.format(end="07:00") + ROAD
+STUDY = corridor_text()
 # A study that can hardly be meant, and what is told of it.
 SLIPS = {
     "metres for kilometres": (STUDY.replace("length = 1\n", "length = 250\n"),

@@ -5,21 +5,13 @@ import plain_model
 import pytest
 
 from ctmtools import Problem, read_report
-from ctmtools.network_file.network import network_of
 from ctmtools.report.comparing import travel
-from ctmtools.report.reading import report_of
+from ctmtools.report.summary import page
 from ctmtools.report.travel import chain_of, road_times, travel_times, trips
 
 from .corridor import corridor
 from .examples import save_report
-
-
-def reported(made, every=1):
-    """The report of a built study."""
-    text = made.text.encode()
-    report = report_of(plain_model.report(text, every), "made")
-    report.network, report.units = network_of(text), made.units
-    return report
+from .plain_reports import at_a_light, reported
 
 
 def test_at_free_flow_a_cell_takes_a_step(tmp_path):
@@ -32,15 +24,6 @@ def test_at_free_flow_a_cell_takes_a_step(tmp_path):
     assert frame.speed.tolist() == pytest.approx([90] * 3) and frame.delay.tolist() == pytest.approx([0] * 3)
     assert frame.vehicles.sum() == pytest.approx(500, abs=0.01)
     assert frame.vehicles[0] == pytest.approx(890 * 1000 / 3600, abs=0.01)
-
-
-def at_a_light(*steps):
-    """A cell that is green in steps 0 to 4 of each 10, and a vehicle that comes to its gate in each of some steps."""
-    text = ("ctm,1\nsteps,40\ngate,g,9,0\nroad,a,60,9,1,5,0\nexit,x,9\nlink,g,a\nlink,a,x\nsignal,a,10,0,0,5\n" +
-            "".join(f"demand,g,{step},{step + 1},1\n" for step in steps)).encode()
-    report = report_of(plain_model.report(text, 1), "light")
-    report.network = network_of(text)
-    return report
 
 
 def test_who_comes_in_a_red_waits_for_the_green():
@@ -110,7 +93,7 @@ def test_mistakes_in_places(tmp_path, begin, end, road, wanted):
     assert wanted in str(found.value)
 
 
-def test_the_command(tool, reports, tmp_path):
+def test_the_command_prints_and_writes_rows_draws_them_and_refuses_odd_spans(tool, reports, tmp_path):
     path = reports("bottleneck")
     status, out, err = tool("travel-time", path, "--road", "m", "--every", "30 min", "-o", "rows.csv", "--plot", "t.png")
     assert status == 0 and "at free flow, 30 steps" in out and out.splitlines()[2].split()[:4] == ["set", "out", "from", "vehicles"]
@@ -139,8 +122,6 @@ def test_the_page_and_the_comparison_tell_it(tool, tmp_path):
 
 
 def test_the_page_has_the_roads_that_are_held_up(report):
-    from ctmtools.report.summary import page
-
     lines = list(page(report("bottleneck")))
     row = next(line.split() for line in lines if line.startswith("  m "))
     assert row[:4] == ["m", "7.50", "5.0", "min"] and row[6:8] == ["11.2", "min"]

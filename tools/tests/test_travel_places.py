@@ -6,7 +6,7 @@ from ctmtools.calibration.observed import modelled, read_observed
 from ctmtools.report.travel import cell_before, chain_of
 
 from .corridor import corridor
-from .test_travel import reported
+from .plain_reports import reported
 
 
 # Cells end at 0.25, 0.5, 0.75 and 1 km.

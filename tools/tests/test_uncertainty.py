@@ -18,7 +18,7 @@ from ctmtools.uncertainty.task import Asked, figures
 
 from .corridor import corridor
 from .examples import EXAMPLES
-from .test_travel import reported
+from .plain_reports import reported
 
 SCORES = [-3.0, -1.2815515655446004, -0.3, 0.0, 0.5, 1.6448536269514722, 2.7]
 SCALE = numpy.sqrt(numpy.log(1 + 0.25**2))  # of a lognormal distribution whose deviation is a quarter of its mean

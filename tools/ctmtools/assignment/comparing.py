@@ -6,8 +6,9 @@ from collections.abc import Iterator, Sequence
 
 import pandas
 
-from ..report.summary import table, number_text
+from ..report.summary import number_text
 from ..report.reading import Report
+from ..text_table import table
 from .ways_file import WayRow, ways_of_report
 
 MOST_PAIRS = 10  # so many pairs are told, those with the greatest changes

@@ -6,9 +6,10 @@ from collections.abc import Iterator, Sequence
 
 import numpy
 
-from ..report.summary import table, number_text
+from ..report.summary import number_text
 from ..report.reading import Report
 from ..study.plan import Study
+from ..text_table import table
 from ..units import clock_text
 from .assigning import Assignment, Round
 from .ways_file import THEN, WayRow

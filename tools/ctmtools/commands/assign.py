@@ -19,13 +19,14 @@ from ..assignment.writing import drawn, places_of, written
 from ..files import write
 from ..problem import Problem
 from ..program import program_path
-from ..report.summary import table, number_text
+from ..report.summary import number_text
 from ..running import processors
 from ..study.reading import read_values, study_of
 from ..study.messages import built_lines as told_of_study
 from ..study.trips import part_of_drivers
 from ..sweeps.workers import beside, cluster, here
 from ..progress import bar
+from ..text_table import table
 from .finite import Finite
 
 EPILOG = """\b

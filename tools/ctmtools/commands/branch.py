@@ -11,10 +11,11 @@ import pandas
 from ..moments.futures import futures_of, reports_of
 from ..moments.moment import read_moment
 from ..report.comparing import side_by_side
-from ..report.summary import table, number_text
-from ..report.comparability import unlike
+from ..report.summary import number_text
+from ..report.comparability import mismatches
 from ..units import Units
 from ..progress import bar
+from ..text_table import table
 from .compare import signed
 from .finite import Finite
 
@@ -46,7 +47,7 @@ def command(saved: str, sources: tuple[str, ...], output: str | None, jobs: int 
     (name, first), *others = reports.items()
     click.echo(f"{saved}: saved at {_when(moment.steps, first.units)}, {len(reports)} futures")
     for other, report in others:
-        for line in unlike(first, report):
+        for line in mismatches(first, report):
             click.echo(f"warning: A is {name}, B is {other}: {line}")
     click.echo()
     click.echo("\n".join(beside_each_other(side_by_side(reports, value_of_time), "future")))

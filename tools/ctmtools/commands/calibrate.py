@@ -10,9 +10,10 @@ import click
 from ..calibration.fitting import FILE, Calibration, by_place, fitted, most_runs, range_of
 from ..calibration.observed import read_observed
 from ..problem import Interrupted, Problem
-from ..report.summary import table, number_text
+from ..report.summary import number_text
 from ..study.reading import read_study
 from ..progress import bar
+from ..text_table import table
 from .detector_options import detector_options, wanted_by
 
 EPILOG = """\b

@@ -10,11 +10,13 @@ import pandas
 from ..files import write
 from ..plans.choosing import Choice
 from ..problem import Interrupted, one_line
-from ..report.summary import table, number_text
+from ..report.summary import number_text
 from ..study.messages import warned_before_runs
 from ..sweeps.task import study
 from ..sweeps.variations import shown, variation
 from ..progress import bar
+from ..text_table import table
+from .run_options import ROWS, VARIED
 
 EPILOG = """\b
 Examples:
@@ -32,10 +34,9 @@ missing."""
 
 @click.command(epilog=EPILOG)
 @click.argument("source", metavar="STUDY.toml", type=click.Path())
-@click.option("--vary", "varied", metavar="KEY=VALUES", multiple=True, required=True,
-              help="A key and its values; may be given again.")
+@VARIED
 @click.option("-o", "--output", metavar="FILE.csv", type=click.Path(), help="Write all rows there.")
-@click.option("--rows", default=20, show_default=True, type=click.IntRange(1), help="How many rows are told.")
+@ROWS
 def command(source: str, varied: tuple[str, ...], output: str | None, rows: int) -> None:
     """Have the program choose among all combinations of varied values, and tell them, the least delay first.
 

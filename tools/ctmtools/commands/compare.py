@@ -10,11 +10,12 @@ import pandas
 from ..assignment.comparing import pair_changes
 from ..files import write
 from ..report.comparing import compare, part_of, totals, travel
-from ..report.summary import table, number_text
+from ..report.summary import number_text
 from ..report.reading import read_report
-from ..report.comparability import otherwise, unlike
+from ..report.comparability import mismatches, other_lanes_and_speeds
+from ..text_table import table
 from .finite import Finite
-from .reports import on_reports
+from .report_options import on_reports
 
 EPILOG = """\b
 Examples:
@@ -49,9 +50,9 @@ def command(first: str, second: str, rows: int, output: str | None, picture: str
     frame, sums = compare(one, two), totals(one, two, value_of_time)
     unit = frame.attrs["units"]["delay"]
     click.echo(f"A  {one.title} ({first})\nB  {two.title} ({second})")
-    for line in unlike(one, two):
+    for line in mismatches(one, two):
         click.echo(f"warning: {line}")
-    for line in otherwise(one, two):
+    for line in other_lanes_and_speeds(one, two):
         click.echo(line)
     click.echo()
     lines = [("", "A", "B", "B - A", "")]

@@ -11,7 +11,7 @@ from ..detectors.reading import COLUMNS, read, times_of
 from ..detectors.rules import RULES
 from ..files import write
 from ..problem import Problem
-from ..report.summary import table
+from ..text_table import table
 from .detector_options import detector_options, wanted_by
 from .finite import Finite
 

@@ -9,15 +9,16 @@ import click
 
 from ..files import write
 from ..problem import Interrupted, Problem
-from ..report.summary import table
 from ..study.times import Times
 from ..uncertainty.drawn_runs import DrawnRuns
 from ..uncertainty.interval import within
 from ..uncertainty.results import Results, results_of
 from ..uncertainty.results_files import write_results
 from ..uncertainty.task import Asked
-from ..uncertainty.telling import HEADS, compared_lines, plan_lines, spread_rows
+from ..uncertainty.messages import HEADS, compared_lines, plan_lines, spread_rows
 from ..progress import bar
+from ..text_table import table
+from .run_options import CLUSTER, EVERY, JOBS
 
 EPILOG = """\b
 Examples:
@@ -53,11 +54,10 @@ The runs are kept in FOLDER/runs.csv as they come; called again, draw makes thos
               help="Tell how probable it is that a queue lasts past a clock time.")
 @click.option("--until-within", "narrow", metavar="X",
               help="Stop once the 95 % interval of the mean delay, or of the difference, is +-X vehicle-hours, or X%.")
-@click.option("-j", "--jobs", metavar="N", type=click.IntRange(1, 256),
-              help="Runs side by side; by default as many as processors.")
-@click.option("--dask", "address", metavar="ADDRESS", help="The scheduler of a Dask cluster.")
+@JOBS
+@CLUSTER
 @click.option("-o", "--output", metavar="FOLDER", type=click.Path(), help="Where the results go; else STUDY.draw here.")
-@click.option("--every", metavar="E", type=click.IntRange(1, 100_000), help="Record each E-th step.")
+@EVERY
 def command(sources: tuple[str, ...], runs: int, seed: int, given: str | None, routes: tuple[tuple[str, str], ...],
             places: tuple[str, ...], times: tuple[str, ...], narrow: str | None, jobs: int | None, address: str | None,
             output: str | None, every: int | None) -> None:

@@ -11,7 +11,7 @@ from ..files import write
 from ..problem import Problem
 from ..report.reading import read_report
 from .importing import seconds
-from .reports import on_reports
+from .report_options import on_reports
 
 EPILOG = """\b
 Examples:

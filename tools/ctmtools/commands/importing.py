@@ -34,6 +34,12 @@ CHOICE = 300  # s, the interval in which drivers of a map's study choose their w
 SHARES = ("turning shares aren't on a map: at each junction they are by the lanes of its movements; with --trips drivers choose "
           "their ways")
 
+OUTPUT = click.option("-o", "--output", metavar="STUDY.toml", type=click.Path(), help="Where the study goes.")
+STEP = click.option("--step", default="2 s", show_default=True, metavar="TIME", help="The length of a step.")
+AFTER = click.option("--after", default="30 min", show_default=True, metavar="TIME", help="How long the study goes on then.")
+HEADWAY = click.option("--headway", default=1.4, show_default=True, metavar="SECONDS", type=Finite(0.5, 5),
+                       help="Between two vehicles that follow each other; with 7.5 m a vehicle it gives each lane's capacity.")
+
 
 @click.group("import", epilog=EPILOG)
 def command() -> None:
@@ -55,15 +61,14 @@ demand and turning shares by --interval. Streets on which nobody drives are left
 @click.option("--taz", metavar="FILE.taz.xml", type=click.Path(), help="With --trips: the districts of matrices.")
 @click.option("--matrix", "matrices", metavar="FILE.od", type=click.Path(), multiple=True,
               help="With --trips: a matrix of SUMO's, of format O or V; may be given again.")
-@click.option("-o", "--output", metavar="STUDY.toml", type=click.Path(), help="Where the study goes.")
-@click.option("--step", default="2 s", show_default=True, metavar="TIME", help="The length of a step.")
+@OUTPUT
+@STEP
 @click.option("--start", default="00:00", show_default=True, metavar="TIME", help="The clock time of SUMO's second 0.")
 @click.option("--until", default="1 h", show_default=True, metavar="TIME", help="Until when vehicles come.")
-@click.option("--after", default="30 min", show_default=True, metavar="TIME", help="How long the study goes on then.")
+@AFTER
 @click.option("--interval", default="15 min", show_default=True, metavar="TIME",
               help="The spans by which demand and shares change.")
-@click.option("--headway", default=1.4, show_default=True, metavar="SECONDS", type=Finite(0.5, 5),
-              help="Between two vehicles that follow each other; with 7.5 m a vehicle it gives each lane's capacity.")
+@HEADWAY
 def sumo(network: str, routes: tuple[str, ...], additional: tuple[str, ...], trips: bool, taz: str | None,
          matrices: tuple[str, ...], output: str | None, step: str, start: str, until: str, after: str, interval: str,
          headway: float) -> None:
@@ -136,8 +141,8 @@ signal_phase_mvmt.csv, signal_coordination.csv and of config.csv the units (else
 Demand is no part of GMNS: it comes from demand.csv with the columns link_id, start, end (s) and flow (vehicles/h), turning
 shares from a column `share` of movement.csv, else by lanes.""")
 @click.argument("folder", metavar="FOLDER", type=click.Path())
-@click.option("-o", "--output", metavar="STUDY.toml", type=click.Path(), help="Where the study goes.")
-@click.option("--step", default="2 s", show_default=True, metavar="TIME", help="The length of a step.")
+@OUTPUT
+@STEP
 @click.option("--start", default="00:00", show_default=True, metavar="TIME", help="The clock time of second 0.")
 @click.option("--until", default="1 h", show_default=True, metavar="TIME", help="How long the study is.")
 @click.option("--trips", is_flag=True, help="Take demand.csv as DTALite's trips between zones, for `ctm-tools assign`.")
@@ -172,13 +177,12 @@ and latitude.""")
 @click.option("--roads", metavar="CLASS,..", help="The classes of road that are taken, each with its ramps, as motorway,primary; "
               "else all that cars may use.")
 @click.option("--trips", is_flag=True, help="Ask who drives from where to where, for `ctm-tools assign`, in place of who comes.")
-@click.option("-o", "--output", metavar="STUDY.toml", type=click.Path(), help="Where the study goes.")
-@click.option("--step", default="2 s", show_default=True, metavar="TIME", help="The length of a step.")
+@OUTPUT
+@STEP
 @click.option("--start", default="06:00", show_default=True, metavar="TIME", help="The clock time at which the study begins.")
 @click.option("--until", default="1 h", show_default=True, metavar="TIME", help="How long vehicles come.")
-@click.option("--after", default="30 min", show_default=True, metavar="TIME", help="How long the study goes on then.")
-@click.option("--headway", default=1.4, show_default=True, metavar="SECONDS", type=Finite(0.5, 5),
-              help="Between two vehicles that follow each other; with 7.5 m a vehicle it gives each lane's capacity.")
+@AFTER
+@HEADWAY
 def osm(map_file: str, box: str | None, roads: str | None, trips: bool, output: str | None, step: str, start: str, until: str,
         after: str, headway: float) -> None:
     """Make a study of a map of OpenStreetMap."""

@@ -16,7 +16,7 @@ from ..moments.metered_run import MeteredRun, kept_path, metered_run
 from ..problem import Interrupted, Problem
 from ..report.by_road import roads_and_gates
 from ..report.comparing import side_by_side
-from ..report.summary import table, number_text, where
+from ..report.summary import number_text, where
 from ..report.reading import Report
 from ..study.network_text import build
 from ..study.plan import Meter, Study
@@ -25,6 +25,7 @@ from ..study.reading import read_study
 from ..study.messages import built_lines as told_of
 from ..units import units_path
 from ..progress import bar
+from ..text_table import table
 from .branch import beside_each_other
 from .compare import signed
 from .finite import Finite

@@ -12,11 +12,12 @@ from ..plans.searching import BEST, Search, best_study
 from ..plans.timing import Point
 from ..problem import Interrupted, Problem
 from ..report.comparing import LEAST_WHOLE
-from ..report.summary import kilometre, table, number_text
+from ..report.summary import kilometre, number_text
 from ..study.quantities import duration
 from ..study.reading import read_values
 from ..sweeps.task import Task, measure
 from ..progress import bar
+from ..text_table import table
 
 EPILOG = """\b
 Examples:

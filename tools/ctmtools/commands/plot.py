@@ -8,7 +8,7 @@ import click
 
 from ..report.reading import read_report
 from .finite import Finite
-from .reports import Command, on_reports
+from .report_options import Command, on_reports
 
 EPILOG = """\b
 Examples:

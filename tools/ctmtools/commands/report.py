@@ -9,7 +9,7 @@ import click
 from ..files import write
 from ..problem import Problem
 from ..report.reading import read_report
-from .reports import on_reports
+from .report_options import on_reports
 
 EPILOG = """\b
 Examples:

@@ -10,10 +10,12 @@ import pandas
 
 from ..files import write
 from ..problem import Interrupted, Problem
-from ..report.summary import kilometre, table, number_text
+from ..report.summary import kilometre, number_text
 from ..sweeps.sweeping import Sweep
 from ..sweeps.variations import Variation, shown, variation
 from ..progress import bar
+from ..text_table import table
+from .run_options import CLUSTER, EVERY, JOBS, ROWS, VARIED
 
 EPILOG = """\b
 Examples:
@@ -33,17 +35,15 @@ path that it has here."""
 
 @click.command(epilog=EPILOG)
 @click.argument("source", metavar="STUDY.toml", type=click.Path())
-@click.option("--vary", "varied", metavar="KEY=VALUES", multiple=True, required=True,
-              help="A key and its values; may be given again.")
-@click.option("-j", "--jobs", metavar="N", type=click.IntRange(1, 256),
-              help="Runs side by side; by default as many as processors.")
-@click.option("--dask", "address", metavar="ADDRESS", help="The scheduler of a Dask cluster.")
+@VARIED
+@JOBS
+@CLUSTER
 @click.option("-o", "--output", metavar="FOLDER", type=click.Path(),
               help="Where the results go; else STUDY.sweep here.")
 @click.option("--over", metavar="KEY", multiple=True,
               help="Draw over this key, or over two; else the first two varied.")
-@click.option("--every", metavar="E", type=click.IntRange(1, 100_000), help="Record each E-th step.")
-@click.option("--rows", default=20, show_default=True, type=click.IntRange(1), help="How many rows are told.")
+@EVERY
+@ROWS
 def command(source: str, varied: tuple[str, ...], jobs: int | None, address: str | None, output: str | None,
             over: tuple[str, ...], every: int | None, rows: int) -> None:
     """Build and run a study with every combination of varied values, and tell them, the least delay first.

@@ -13,7 +13,7 @@ from ..report.reading import read_report
 from ..report.states import states, totals
 from ..study.quantities import duration
 from .finite import Finite
-from .reports import on_reports
+from .report_options import on_reports
 
 EPILOG = """\b
 Examples:

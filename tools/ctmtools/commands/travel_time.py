@@ -7,11 +7,12 @@ import pandas
 
 from ..files import write
 from ..problem import Problem
-from ..report.summary import table, number_text, where
+from ..report.summary import number_text, where
 from ..report.reading import Report, read_report
 from ..report.travel import chain_of, travel_times
 from ..study.quantities import duration
-from .reports import on_reports
+from ..text_table import table
+from .report_options import on_reports
 
 EPILOG = """\b
 Examples:

@@ -12,6 +12,7 @@ from pathlib import Path
 import numpy
 import pandas
 
+from ..first_few import first_few
 from ..problem import Problem, one_line
 from .file_text import text_of
 
@@ -85,5 +86,4 @@ def _widths(plain: str, separator: str) -> numpy.ndarray:
 
 def named(names: Sequence[str]) -> str:
     """Names as a message tells them, the first of many."""
-    more = len(names) - MOST_NAMED
-    return ", ".join(names[:MOST_NAMED]) + (f" and {more} more" if more > 0 else "")
+    return first_few(names, MOST_NAMED)

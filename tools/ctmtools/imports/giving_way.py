@@ -5,8 +5,9 @@ from __future__ import annotations
 from collections.abc import Callable, Iterator
 from dataclasses import dataclass
 
+from ..first_few import first_few
 from .greens import kept_green, overlap
-from .streets import ALL_STOP, LEFT, RIGHT, STOP, THROUGH, ZIPPER, Movement, Streets, grouped, named
+from .streets import ALL_STOP, LEFT, RIGHT, STOP, THROUGH, ZIPPER, Movement, Streets, grouped
 from .traffic import Traffic
 
 MOST_NAMED = 12  # movements that a note names; the study has all of them at their junctions
@@ -73,14 +74,14 @@ class GivingWay:
             del self.taken[way]
             self.left.setdefault(reason, []).append(way)
 
-    def told(self, called: Callable[[Movement], str]) -> Iterator[str]:
+    def notes(self, called: Callable[[Movement], str]) -> Iterator[str]:
         """Who gives way, and which movements run unopposed over others, and why; `called` names a movement."""
         if self.taken:
             yield (f"{len(self.taken)} movements give way to others, by the gaps of their kind: "
-                   f"{named([called(way) for way in self.taken], MOST_NAMED)}")
+                   f"{first_few([called(way) for way in self.taken], MOST_NAMED)}")
         for reason, ways in self.left.items():
             yield (f"{len(ways)} movements that give way to others run unopposed, so their delay is too low, since {reason}: "
-                   f"{named([called(way) for way in ways], MOST_NAMED)}")
+                   f"{first_few([called(way) for way in ways], MOST_NAMED)}")
 
     def _node(self, way: Movement) -> str:
         return self.found.streets[way[0]].end

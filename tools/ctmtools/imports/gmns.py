@@ -7,12 +7,12 @@ from collections.abc import Mapping
 from math import inf
 from pathlib import Path
 
+from ..first_few import first_few
 from ..problem import Problem
 from ..study.quantities import MILE
 from .gmns_places import Places
 from .gmns_tables import ZONAL, Row, once, read_table
-from .streets import (ALL_STOP, BY_TIME, GIVE_WAY, STOP, Movement, Program, Said, Span, Street, Streets, Way, grouped,
-                      named)
+from .streets import ALL_STOP, BY_TIME, GIVE_WAY, STOP, Movement, Program, Said, Span, Street, Streets, Way, grouped
 from .sumo import always, joined
 from .turning import meet, turn_of
 
@@ -146,10 +146,10 @@ class Reader:
         without = sorted(pair for pair in self.yielding if not self.found.ways[pair].yields and self._others(pair))
         if without:
             self.found.notes.append(f"{len(without)} movements give way by their ctrl_type, and so do all whom they meet, so none "
-                                    f"has priority: {named([' to '.join(pair) for pair in without])}")
+                                    f"has priority: {first_few([' to '.join(pair) for pair in without])}")
         if self.unsaid:
             self.found.notes.append(f"{len(self.unsaid)} nodes have a ctrl_type, as {', '.join(self.unsaid.values())}, and no "
-                                    f"movement that says who gives way: {named(list(self.unsaid))}")
+                                    f"movement that says who gives way: {first_few(self.unsaid)}")
 
     def _check_shares(self, rows: list[Row]) -> None:
         """Refuses a movement without a share whose link has others with one, since by lanes it would be another measure."""
@@ -273,7 +273,7 @@ class Reader:
             limits = [row for row in rows if row.text("free_speed")]
             if limits:
                 links = dict.fromkeys(row.text("link_id") for row in limits if row.text("link_id"))
-                where = f" at links {named(list(links))}" if links else ""
+                where = f" at links {first_few(links)}" if links else ""
                 self.found.notes.append(f"{BY_TIME}: {len(limits)} of {name}.csv{where} are left out")
             for column in ("lanes", "capacity"):
                 count = sum(bool(row.text(column)) for row in rows)

@@ -6,7 +6,8 @@ from collections import Counter
 from collections.abc import Collection, Container, Iterator, Mapping
 from dataclasses import dataclass
 
-from .streets import Movement, Program, Span, Streets, Way, grouped, named
+from ..first_few import first_few
+from .streets import Movement, Program, Span, Streets, Way, grouped
 from .traffic import Traffic
 
 SEVERAL = "they control several junctions"
@@ -88,13 +89,13 @@ class Following:
             shown.setdefault(pair[0], set()).add(tuple(stages_of(found.ways[pair], program)))
         return APART if any(len(each) > 1 for each in shown.values()) else None
 
-    def told(self) -> Iterator[str]:
+    def notes(self) -> Iterator[str]:
         """How many signals follow traffic, and which don't, and why."""
         if self.nodes:
             yield f"{len(self.nodes)} signals follow traffic, each green between its least and its most"
         for reason, names in self.fixed.items():
             yield (f"{len(names)} signals that follow traffic keep the lengths of their phases as fixed ones, since {reason}: "
-                   f"{named(names)}")
+                   f"{first_few(names)}")
 
 
 def stages_of(way: Way, program: Program) -> Iterator[int]:

@@ -7,8 +7,8 @@ import io
 from collections.abc import Iterator, Sequence
 from dataclasses import dataclass
 
+from ..first_few import first_few
 from .osm_map import Point
-from .streets import named
 
 HEADER = ("kind", "street", "longitude", "latitude", "what")
 DECIMALS = 5  # of a degree, a metre
@@ -34,7 +34,7 @@ def notes_of(places: Sequence[Place], says: dict[str, str]) -> Iterator[str]:
     for kind, words in says.items():
         own = [place for place in places if place.kind == kind]
         if own:
-            yield f"{len(own)} {words}: {named([place.text for place in own])}"
+            yield f"{len(own)} {words}: {first_few([place.text for place in own])}"
 
 
 def table(places: Sequence[Place]) -> str:

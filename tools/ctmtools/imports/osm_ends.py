@@ -11,8 +11,7 @@ import networkx
 
 from .map_places import Place
 from .osm_map import Point
-from .osm_map import reach as reach_of
-from .streets import Street, Streets, grouped
+from .streets import Street, Streets, grouped, reached
 
 EDGE = 50.0  # metres within which an end lies at the edge of the map
 GAP = 25.0  # metres between two ends that a gap may lie between
@@ -89,8 +88,8 @@ def drop_ways_to_nowhere(streets: Streets, ends: Ends) -> list[Place]:
     graph = networkx.DiGraph(list(streets.ways))
     graph.add_nodes_from(streets.streets)
     causes = dict.fromkeys(streets.streets, "")
-    onward, back = _reached(graph, [gate.name for gate in ends.gates()]), _reached(graph.reverse(), [
-        exit_.name for exit_ in ends.exits()])
+    onward = reached(graph, [gate.name for gate in ends.gates()])
+    back = reached(graph.reverse(), [exit_.name for exit_ in ends.exits()])
     for name in causes:
         causes[name] = "no gate leads to it" if name not in onward else "it leads to no exit" if name not in back else ""
     parts = _joined(streets, [name for name in causes if not causes[name]])
@@ -117,8 +116,3 @@ def _joined(streets: Streets, names: Iterable[str]) -> list[list[str]]:
     for nodes in networkx.connected_components(graph):
         part.update(dict.fromkeys(nodes, min(nodes)))
     return [*grouped(names, lambda name: part[streets.streets[name].start]).values()]
-
-
-def _reached(graph: networkx.DiGraph, starts: list[str]) -> set[str]:
-    """What is reached from some streets, with these."""
-    return {name for layer in networkx.bfs_layers(graph, starts) for name in layer} if starts else set()

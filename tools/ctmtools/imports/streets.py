@@ -3,9 +3,11 @@
 from __future__ import annotations
 
 from collections import defaultdict
-from collections.abc import Callable, Iterable, Mapping
+from collections.abc import Callable, Collection, Iterable, Mapping
 from dataclasses import dataclass, field
 from typing import TypeVar
+
+import networkx
 
 Movement = tuple[str, str]  # a street and the one that it leads into
 Span = tuple[float, float]  # from and to, in seconds
@@ -144,7 +146,6 @@ def grouped(items: Iterable[Item], name: Callable[[Item], str]) -> Mapping[str, 
     return found
 
 
-def named(names: list[str], most: int = 3) -> str:
-    """The first few of some names, and how many more there are."""
-    more = len(names) - most
-    return ", ".join(names[:most]) + (f" and {more} more" if more > 0 else "")
+def reached(graph: networkx.DiGraph, starts: Collection[str]) -> set[str]:
+    """What is reached in a graph from some starts, with these."""
+    return {name for layer in networkx.bfs_layers(graph, starts) for name in layer} if starts else set()

@@ -9,6 +9,7 @@ from math import floor
 
 import networkx
 
+from ..chains import chains
 from ..study.coordinates import decimals_of
 from ..study.crossings import MOST_ARMS
 from ..study.quantities import clock
@@ -71,7 +72,7 @@ class Writer:
         self.joints = self._joints()
         self.unopposed = grouped((way for ways in self.giving.left.values() for way in ways), lambda way: way[0])
         self.crossed = {arm for comes, _ in self.joints if len(comes) > 1 for arm in comes}
-        self.chains = self._chains()
+        self.chains = chains(self.traffic.streets, self._follows)
         self.chain_of = {street: chain for chain in self.chains for street in chain}
         self.names: dict[str, str] = {}
         self.cells: dict[str, str] = {}
@@ -141,25 +142,6 @@ class Writer:
         if len(ways) != 1 or ways[0].startswith(EXIT) or self._signalled(street) or street in self.crossed:
             return None
         return ways[0] if self.into[ways[0]] == [street] else None
-
-    def _chains(self) -> list[list[str]]:
-        """The streets as chains that are roads, in the order of their first ones."""
-        behind = {self._follows(street): street for street in self.traffic.streets}
-        chains: list[list[str]] = []
-        seen: set[str] = set()
-        starts = [street for street in self.traffic.streets if street not in behind]
-        for start in [*starts, *self.traffic.streets]:
-            if start in seen:
-                continue
-            chain = [start]
-            seen.add(start)
-            following = self._follows(start)
-            while following is not None and following not in seen:
-                chain.append(following)
-                seen.add(following)
-                following = self._follows(following)
-            chains.append(chain)
-        return chains
 
     def _name_roads(self) -> None:
         """Names roads, their cells, gates and exits: for a chain's first and last street that of its road."""
@@ -425,7 +407,7 @@ class Writer:
         if split:
             notes.append(f"{len(split)} movements are green several times in a cycle, as {self._moving(split[0])}; "
                          "the longest of them is kept")
-        notes += [*self.giving.told(self._moving), *self.following.told()]
+        notes += [*self.giving.notes(self._moving), *self.following.notes()]
         dark = [way for way in self.traffic.ways() if self._dark(way)]
         if dark:
             notes.append(f"{len(dark)} movements at signals are never green in their program, as {self._moving(dark[0])}; "

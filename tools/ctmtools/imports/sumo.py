@@ -7,9 +7,10 @@ from collections.abc import Iterator
 from pathlib import Path
 
 from . import sumo_net, sumolib_net
+from ..first_few import first_few
 from ..study.coordinates import METRES, coded
 from .streets import (ALL_STOP, GIVE_WAY, LEFT, RIGHT, STOP, THROUGH, ZIPPER, Movement, Program, Span, Stage, Street, Streets,
-                      Way, named)
+                      Way)
 from .sumo_net import CAR, Edge, Lane, Link, Location, Logic, LogicPhase, Net
 
 GREEN = "GgoO"  # a signal that is green, or off
@@ -80,7 +81,7 @@ def drop_idle(found: Streets) -> None:
         del found.ways[pair]
     if others & driven:
         found.notes.append(f"{len(others & driven)} edges that cars may not use are kept, since others drive there "
-                           f"({named(sorted(others & driven))})")
+                           f"({first_few(sorted(others & driven))})")
     if others - driven:
         found.notes.append(f"{len(others - driven)} edges that only other motor vehicles may use are left out")
 
@@ -125,7 +126,7 @@ def _programs(net: Net, found: Streets, links: list[Link]) -> None:
     fixed = sorted(name for name, logic in logics.items() if logic.sort != "static" and not _stages(logic))
     if fixed:
         found.notes.append(f"{len(fixed)} signals follow traffic otherwise than by a least and a most of their greens "
-                           f"({named(fixed)}); the lengths of their phases are kept as fixed ones")
+                           f"({first_few(fixed)}); the lengths of their phases are kept as fixed ones")
     greens: dict[tuple[str, str], list[Span]] = {}
     for link in links:
         logic = logics.get(link.signal)

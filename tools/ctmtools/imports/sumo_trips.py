@@ -6,8 +6,9 @@ from collections import Counter
 from collections.abc import Iterator, Sequence
 from pathlib import Path
 
+from ..first_few import first_few
 from ..problem import Problem
-from .streets import BY_TIME, Said, Streets, Trip, named
+from .streets import BY_TIME, Said, Streets, Trip
 from .sumo_departures import Departing, Stretch
 from .sumo_kinds import Kinds, parts_of
 from .sumo_net import MOTOR, Element, read_xml
@@ -61,7 +62,7 @@ def note_signs(found: Streets, roots: Sequence[Element]) -> None:
     lanes = {lane for sign in signs for lane in [*sign.get("lanes", "").split(), *sign.get("edges", "").split()]}
     streets = sorted({street for lane in lanes for street in (lane, lane.rpartition("_")[0]) if street in found.streets})
     if signs:
-        where = f"; {named(streets)} {'keep their speeds' if len(streets) > 1 else 'keeps its speed'} at all times" \
+        where = f"; {first_few(streets)} {'keep their speeds' if len(streets) > 1 else 'keeps its speed'} at all times" \
             if streets else ""
         found.notes.append(f"{BY_TIME}: {len(signs)} variable speed signs are left out{where}")
 

@@ -5,6 +5,7 @@ from __future__ import annotations
 from collections.abc import Callable, Iterator
 from math import ceil
 
+from ..text_table import table
 from .streets import Said, Streets
 from .traffic import Traffic
 
@@ -18,9 +19,7 @@ def tally(found: Streets, interval: float, until: float, clock: Callable[[float]
     if not found.said:
         return []
     rows = [*_by_kind(found.said), *_by_time(found.said, interval, until, clock)]
-    cells = [HEAD, *((name, _tenths(said), _tenths(kept)) for name, said, kept in rows)]
-    wide = [max(len(row[column]) for row in cells) for column in range(len(HEAD))]
-    return [f"  {name:<{wide[0]}}  {said:>{wide[1]}}  {kept:>{wide[2]}}" for name, said, kept in cells]
+    return list(table([HEAD, *((name, _tenths(said), _tenths(kept)) for name, said, kept in rows)], right=(1, 2)))
 
 
 def _tenths(vehicles: float) -> str:

@@ -10,7 +10,7 @@ import networkx
 
 from ..problem import Problem
 from ..study.writing import study_text
-from .streets import Movement, Streets, Trip
+from .streets import Movement, Streets, Trip, reached
 from .study_file import Terms, Writer
 from .traffic import EXIT, GATE, Traffic
 
@@ -42,8 +42,8 @@ def open_traffic(found: Streets, until: float) -> Traffic:
         raise Problem(f"{found.title}: there are no trips")
     graph = networkx.DiGraph(list(found.ways))
     graph.add_edges_from(end for trip in found.trips for end in _ends(trip))
-    kept = _reached(graph, {GATE + trip.route[0] for trip in found.trips}) & \
-        _reached(graph.reverse(), {EXIT + trip.route[-1] for trip in found.trips})
+    kept = reached(graph, {GATE + trip.route[0] for trip in found.trips}) & \
+        reached(graph.reverse(), {EXIT + trip.route[-1] for trip in found.trips})
     made = Traffic(until, 1, [street for street in found.streets if street in kept])
     for movement in graph.edges:
         if kept.issuperset(movement):
@@ -54,11 +54,6 @@ def open_traffic(found: Streets, until: float) -> Traffic:
 def _ends(trip: Trip) -> tuple[Movement, Movement]:
     """The movements from the gate at which a trip begins, and to the exit at which it ends."""
     return (GATE + trip.route[0], trip.route[0]), (trip.route[-1], EXIT + trip.route[-1])
-
-
-def _reached(graph: networkx.DiGraph, starts: set[str]) -> set[str]:
-    """What is reached from some starts, with these."""
-    return {place for layer in networkx.bfs_layers(graph, starts) for place in layer}
 
 
 def _by_pair(trips: list[Trip], interval: float, until: float) -> dict[tuple[str, str], dict[int, float]]:

@@ -9,7 +9,6 @@ With a file what was reached is kept there every few seconds and at an interrupt
 
 from __future__ import annotations
 
-import json
 from collections.abc import Callable, Sequence
 from dataclasses import dataclass, field, replace
 from fractions import Fraction
@@ -20,12 +19,14 @@ from time import monotonic
 from ..amounts import PARTS
 from ..files import write
 from ..network_file.editing import with_records
+from ..network_file.kinds import record_text
 from ..study.network_text import FIXED, Built
 from ..study.plan import ActuatedJunction, ActuatedPhase, StopLine, Study
 from ..checksums import checksum
 from ..units import cell_of
+from .kept_state import kept_state, state_text
 from .runner import Runner
-from .moment import Moment, moment_of
+from .moment import Moment
 
 KEPT = ".actuated.json"  # the ending of what is kept of greens that aren't done
 KEPT_EACH = 2.0  # seconds
@@ -69,7 +70,7 @@ class ActuatedSignals:
         self.places = {name: place for place, name in enumerate(self.network.cells.index)}
         stop_lines = tuple(f"signal,{cells[-1]}," for cells in self.lines.values())
         self.own = "".join(line for line in built.text.splitlines(keepends=True) if not line.startswith(stop_lines)).encode()
-        self.reds = [f"limit,{cells[-1]},0,{one.next},0" for one in self.controllers if one.next
+        self.reds = [record_text("limit", cells[-1], 0, one.next, 0) for one in self.controllers if one.next
                      for cells in self._approaches(one)]
         self.seen: dict[str, tuple[int, int]] = {}  # for each stop line's cell its last green's step, and what had come before it
         self.moment: Moment | None = None
@@ -123,8 +124,7 @@ class ActuatedSignals:
         assert self.moment is not None
         rows = [{"next": at, "phase": phase, "greens": one.greens[:greens], "began": one.began[:began]}
                 for one, (at, phase, greens, began) in zip(self.controllers, self.point.controllers)]
-        return json.dumps({"of": self.mark, "reds": self.reds[:self.point.reds], "seen": self.point.seen, "controllers": rows,
-                           "moment": self.moment.of(b"").text.decode()})
+        return state_text(self.mark, self.moment, reds=self.reds[:self.point.reds], seen=self.point.seen, controllers=rows)
 
     def _keep(self) -> None:
         """Keeps what was reached, once there is something."""
@@ -134,18 +134,15 @@ class ActuatedSignals:
 
     def _take_up(self) -> None:
         """Takes up what an earlier call has kept of the same network and signals."""
-        try:
-            state = json.loads(self.kept.read_text()) if self.kept and self.kept.exists() else {}
-        except (OSError, ValueError):
-            state = {}
-        if not isinstance(state, dict) or state.get("of") != self.mark:
+        state = kept_state(self.kept, self.mark)
+        if state is None:
             return
         self.reds = state["reds"]
         self.seen = {cell: (step, come) for cell, (step, come) in state["seen"].items()}
         for one, was in zip(self.controllers, state["controllers"]):
             one.next, one.phase, one.began = was["next"], was["phase"], was["began"]
             one.greens = [(phase, green) for phase, green in was["greens"]]
-        self.moment = moment_of(state["moment"].encode(), str(self.kept)).of(self._content())
+        self.moment = state["moment"].of(self._content())
         self.point = self._point()
 
     def _content(self) -> bytes:
@@ -168,7 +165,7 @@ class ActuatedSignals:
         for line in dict.fromkeys(line for each in phases for line in each.lines):
             red = one.next if line not in phase.lines else stop if line in behind.lines and behind is not phase else end
             if red < min(stop, self.network.steps):
-                self.reds.append(f"limit,{self.lines[line][-1]},{red},{min(stop, self.network.steps)},0")
+                self.reds.append(record_text("limit", self.lines[line][-1], red, min(stop, self.network.steps), 0))
         if one.phase == 0:
             one.began.append(one.next)
         one.greens.append((one.phase, green))

@@ -9,18 +9,18 @@ from __future__ import annotations
 from collections.abc import Callable, Iterator, Sequence
 from dataclasses import dataclass, field
 from itertools import zip_longest
+from typing import Any
 
 import numpy
 
-from ..amounts import PARTS, parts_of
-from ..network_file.kinds import CELLS, CONNECTORS, FIELDS
+from ..amounts import PARTS
+from ..network_file.kinds import CELLS, CONNECTORS, KINDS
 from ..network_file.naming import Naming
-from ..network_file.network import Network, field_names
-from ..network_file.records import Record
+from ..network_file.network import Network
 
 Numbers = numpy.ndarray
 Spans = list[tuple[int, int, int]]  # from, to and a value, in the order of the file
-Values = tuple[str, ...]  # of a record, its whole numbers and amounts in one spelling each
+Values = tuple[Any, ...]  # of a record: its kind, and what its fields hold, amounts in parts
 
 
 @dataclass
@@ -64,35 +64,27 @@ def plan_of(network: Network) -> Plan:
     """The plan of a network."""
     plan = Plan()
     for record in network.records[1:]:
-        kind, values = record.kind, _values(record)
-        cell = values[0] if values else ""
+        kind, values = record.kind, KINDS[record.kind].values(record.fields[1:])
         if kind in CELLS:
-            plan.cells.append((kind, *values))
-            plan.capacity[cell] = int(values[1 if kind != "road" else 2])
+            plan.cells.append((kind, *values.values()))
+            plan.capacity[values["name"]] = values["Q"]
         elif kind in CONNECTORS:
-            plan.connectors.append((kind, *values))
+            plan.connectors.append((kind, *values.values()))
             if kind == "diverge":
-                plan.shares[cell] = _pair(*map(int, values[3:]))
+                plan.shares[values["cell upstream"]] = _pair(values["B1"], values["B2"])
         elif kind == "signal":
-            plan.signals[cell] = tuple(map(int, values[1:]))
+            cell, *rest = values.values()
+            plan.signals[cell] = tuple(rest)
         elif kind in ("limit", "demand", "turn"):
-            spans = {"limit": plan.limits, "demand": plan.demands, "turn": plan.turns}[kind].setdefault(cell, [])
-            begin, end, *rest = map(int, values[1:])
-            spans.append((begin, end, _pair(*rest) if kind == "turn" else rest[0]))
+            spans = {"limit": plan.limits, "demand": plan.demands, "turn": plan.turns}[kind]
+            cell, begin, end, *rest = values.values()
+            spans.setdefault(cell, []).append((begin, end, _pair(*rest) if kind == "turn" else rest[0]))
     return plan
 
 
 def _pair(first: int, second: int) -> int:
     """Two shares, each at most 1,000, as one number."""
     return first * 1001 + second
-
-
-def _values(record: Record) -> Values:
-    """The fields behind the kind, each number in one spelling: `007` as `7`, and amounts in parts."""
-    def spelled(text: str, sort: str) -> str:
-        return str(int(text)) if sort == "whole" else str(parts_of(text)) if sort == "amount" else text
-
-    return tuple(spelled(text, term.sort) for text, term in zip(record.fields[1:], FIELDS[record.kind]))
 
 
 def _unlike(saved: Plan, other: Plan) -> str:
@@ -108,14 +100,14 @@ def _unlike(saved: Plan, other: Plan) -> str:
 
 
 def _unlike_records(sort: str, one: Values, two: Values) -> str:
-    named = sum(term.sort in ("new", "up", "down") for term in FIELDS[one[0]])
-    if one[:named + 1] != two[:named + 1]:
-        return f"where the saved one has the {sort} {' '.join(one[:named + 1])}, it has {' '.join(two[:named + 1])}"
+    fields = KINDS[one[0]].fields
+    named = 1 + sum(term.sort in ("new", "up", "down") for term in fields)
+    if one[:named] != two[:named]:
+        return f"where the saved one has the {sort} {' '.join(one[:named])}, it has {' '.join(two[:named])}"
     place = next(i for i, (first, second) in enumerate(zip(one, two)) if first != second)
-    sorts = [term.sort for term in FIELDS[one[0]]]
-    values = [f"{int(row[place]) / (PARTS if sorts[place - 1] == 'amount' else 1):g}" for row in (one, two)]
-    what = f"the {field_names(one[0])[place - 1]} of {' '.join(one[:named + 1])}"
-    return f"{what} is {values[1]}, and {values[0]} in the saved one"
+    term = fields[place - 1]
+    values = [f"{row[place] / (PARTS if term.sort == 'amount' else 1):g}" for row in (one, two)]
+    return f"the {term.name} of {' '.join(one[:named])} is {values[1]}, and {values[0]} in the saved one"
 
 
 def _capacities(saved: Plan, other: Plan, until: int, naming: Naming) -> Iterator[Difference | None]:

@@ -9,7 +9,6 @@ feedback control law for on-ramp metering", Transportation Research Record 1320,
 
 from __future__ import annotations
 
-import json
 from collections.abc import Callable, Iterator, Sequence
 from dataclasses import dataclass, replace
 from fractions import Fraction
@@ -18,9 +17,10 @@ from pathlib import Path
 
 import pandas
 
-from ..amounts import PARTS, amount_text, rounded_parts
+from ..amounts import PARTS, rounded_parts
 from ..files import write
 from ..network_file.editing import with_records
+from ..network_file.kinds import record_text
 from ..network_file.network import Network
 from ..problem import Problem
 from ..study.network_text import Built
@@ -28,8 +28,9 @@ from ..study.plan import Meter
 from ..checksums import checksum
 from ..units import Units
 from .agreement import Plan, last_of, plan_of
+from .kept_state import kept_state, state_text
 from .runner import Runner
-from .moment import Moment, moment_of
+from .moment import Moment
 
 HOUR = 3600
 
@@ -185,23 +186,19 @@ class Metering:
     def _state(self) -> str:
         """What was reached, as text."""
         assert self.moment is not None
-        return json.dumps({"of": self.mark, "reached": self.reached, "limits": self.limits, "rows": self.rows,
-                           "seen": self.seen, "rates": [gauge.rate for gauge in self.gauges],
-                           "moment": self.moment.of(b"").text.decode()})
+        return state_text(self.mark, self.moment, reached=self.reached, limits=self.limits, rows=self.rows, seen=self.seen,
+                          rates=[gauge.rate for gauge in self.gauges])
 
     def _take_up(self) -> None:
         """Takes up what an earlier call has kept of the same network and meters."""
-        try:
-            state = json.loads(self.kept.read_text()) if self.kept and self.kept.exists() else {}
-        except (OSError, ValueError):
-            state = {}
-        if not isinstance(state, dict) or state.get("of") != self.mark:
+        state = kept_state(self.kept, self.mark)
+        if state is None:
             return
         self.reached, self.limits, self.seen = state["reached"], state["limits"], state["seen"]
         self.rows = [(step, ramp, occupancy, rate) for step, ramp, occupancy, rate in state["rows"]]
         for gauge, rate in zip(self.gauges, state["rates"]):
             gauge.rate = rate
-        self.moment = moment_of(state["moment"].encode(), str(self.kept)).of(self.content)
+        self.moment = state["moment"].of(self.content)
 
     def _set(self, gauge: Gauge, time: int, until: int, occupancy: float | None) -> None:
         """Sets the rate of a meter for an interval."""
@@ -217,7 +214,7 @@ class Metering:
         place = time
         for capacity, same in groupby(own.tolist()):
             end = place + len(list(same))
-            yield f"limit,{gauge.cell},{place},{end},{amount_text(min(parts, capacity))}"
+            yield record_text("limit", gauge.cell, place, end, min(parts, capacity))
             place = end
 
     def _go_on(self, moment: Moment | None, until: int) -> Moment:

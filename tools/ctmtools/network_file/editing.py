@@ -6,13 +6,14 @@ from collections.abc import Sequence
 from functools import lru_cache
 
 from ..problem import Problem
+from .kinds import record_text
 from .records import end_of, read_records
 
 
 def with_steps(content: bytes, steps: int) -> bytes:
     """The bytes of a network without a fault, with another number of steps."""
     begin, end = _place_of_steps(content)
-    return content[:begin] + f"steps,{steps}".encode() + content[end:]
+    return content[:begin] + record_text("steps", steps).encode() + content[end:]
 
 
 @lru_cache(maxsize=2)

@@ -3,13 +3,12 @@
 from __future__ import annotations
 
 import re
-from collections.abc import Sequence
+from collections.abc import Mapping, Sequence
 from dataclasses import dataclass, field
 from typing import Any
 
-from ..amounts import parts_of, whole_of
 from . import kinds
-from .kinds import FIELDS, MOST_FLOW, MOST_PARTS, Field
+from .kinds import KINDS, MOST_PARTS, Field
 from .records import Record
 
 NAME = re.compile(r"[A-Za-z0-9_.-]{1,32}")
@@ -81,70 +80,48 @@ def _check_record(record: Record, draft: Draft) -> None:
     known = kinds.kinds_of(draft.form)
     if kind not in known:
         raise FaultFound(number, "BadKind", 0, f"one of {', '.join(known)}")
-    wanted = FIELDS[kind]
-    if len(record.fields) != len(wanted) + 1:
-        names = ",".join([kind, *(term.name.replace(" ", "-") for term in wanted)])
-        raise FaultFound(number, "BadCount", expected=f"{len(wanted) + 1} fields: {names}")
-    group = kinds.most_group(kind)
-    if group:
-        draft.counts[group] = draft.counts.get(group, 0) + 1
-        if draft.counts[group] > kinds.MOST_RECORDS[draft.form]:
-            raise FaultFound(number, "TooMany", expected=f"at most {kinds.MOST_RECORDS[draft.form]} {group}")
+    _check_count(record, draft)
     if kind == "steps" and draft.steps_record is not None:
         raise FaultFound(number, "Repeated", 0, "one record of steps alone", draft.steps_record)
-    values = _check_fields(record, wanted, draft)
-    _keep(record, values, draft)
+    _keep(record, _check_fields(record, draft), draft)
 
 
-def _check_fields(record: Record, wanted: Sequence[Field], draft: Draft) -> list[Any]:
-    """The values of the fields, each checked in turn: names as they are, numbers whole or in parts."""
-    values: list[Any] = []
-    for place, term in enumerate(wanted, 1):
-        text = record.fields[place]
+def _check_count(record: Record, draft: Draft) -> None:
+    """That a record has as many fields as its kind, and the file not too many records of that sort."""
+    kind = KINDS[record.kind]
+    if len(record.fields) != len(kind.fields) + 1:
+        names = ",".join([record.kind, *(name.replace(" ", "-") for name in kind.names)])
+        raise FaultFound(record.number, "BadCount", expected=f"{len(kind.fields) + 1} fields: {names}")
+    if kind.sort in kinds.COUNTED:
+        draft.counts[kind.sort] = draft.counts.get(kind.sort, 0) + 1
+        if draft.counts[kind.sort] > kinds.MOST_RECORDS[draft.form]:
+            raise FaultFound(record.number, "TooMany", expected=f"at most {kinds.MOST_RECORDS[draft.form]} {kind.sort}")
+
+
+def _check_fields(record: Record, draft: Draft) -> dict[str, Any]:
+    """The values of the fields by their names, each checked in turn: names as they are, numbers whole or in parts."""
+    values: dict[str, Any] = {}
+    for place, term in enumerate(KINDS[record.kind].fields, 1):
         if term.sort in ("whole", "amount"):
-            values.append(_check_number(record, place, term, text, values))
+            values[term.name] = _check_number(record, place, term, values)
         else:
-            _check_name(record, place, term, text, draft, values)
-            values.append(text)
+            _check_name(record, place, term, draft, values)
+            values[term.name] = record.fields[place]
     return values
 
 
-def _check_number(record: Record, place: int, term: Field, text: str, values: Sequence[Any]) -> int:
-    value = whole_of(text) if term.sort == "whole" else parts_of(text)
+def _check_number(record: Record, place: int, term: Field, values: Mapping[str, Any]) -> int:
+    value: int | None = term.value(record.fields[place])
     if value is None:
         raise FaultFound(record.number, "BadNumber", place, term.expected)
-    least, most = _range_of(record.kind, term, values)
-    if not least <= value <= most:
+    if not term.least.of(values) <= value <= term.most.of(values):
         raise FaultFound(record.number, "OutOfRange", place, term.expected)
     return value
 
 
-def _range_of(kind: str, term: Field, values: Sequence[Any]) -> tuple[int, int]:
-    """The least and the greatest value of a number, which may hang on the fields before it."""
-    if term.sort == "amount":
-        if (kind, term.name) == ("road", "first"):
-            return 0, values[1]
-        return 0, MOST_PARTS if term.name in ("first", "amount") else MOST_FLOW
-    if term.name == "T":
-        return 1, 100_000
-    if term.name == "B":
-        return values[3], 1000
-    if term.name == "region":
-        return 0, 511
-    if kind == "signal":
-        return {"cycle": (1, 100_000), "offset": (0, values[1] - 1 if len(values) > 1 else 0),
-                "from": (0, values[1] - 1 if len(values) > 1 else 0),
-                "to": (values[3] + 1, values[1]) if len(values) > 3 else (0, 0)}[term.name]
-    if term.name == "from":
-        return 0, 99_999
-    if term.name == "to":
-        return values[1] + 1, 100_000
-    return 1, 1000  # A, a priority or a share
-
-
-def _check_name(record: Record, place: int, term: Field, text: str, draft: Draft, values: Sequence[Any]) -> None:
+def _check_name(record: Record, place: int, term: Field, draft: Draft, values: Mapping[str, Any]) -> None:
     """What FORMAT.md asks of a field that names a cell, in its order."""
-    number = record.number
+    number, text = record.number, record.fields[place]
     if term.sort == "new":
         if not NAME.fullmatch(text):
             raise FaultFound(number, "BadName", place, term.expected)
@@ -160,34 +137,34 @@ def _check_name(record: Record, place: int, term: Field, text: str, draft: Draft
         raise FaultFound(number, "WrongKind", place, term.expected, draft.cells[text])
     earlier = {"up": draft.taken_out, "down": draft.taken_in, "signal": draft.signals,
                "region": draft.regions}.get(term.sort, {}).get(text)
-    here = any(other.sort == term.sort and value == text
-               for other, value in zip(FIELDS[record.kind], values)) and term.sort in ("up", "down")
+    here = term.sort in ("up", "down") and any(other.sort == term.sort and values.get(other.name) == text
+                                               for other in KINDS[record.kind].fields)
     if earlier or here:
         code = {"up": "OutTaken", "down": "InTaken"}.get(term.sort, "Repeated")
         raise FaultFound(number, code, place, term.expected, earlier or number)
 
 
-def _keep(record: Record, values: Sequence[Any], draft: Draft) -> None:
+def _keep(record: Record, values: Mapping[str, Any], draft: Draft) -> None:
     """Notes in the draft what a record without a fault gives."""
     kind, number = record.kind, record.number
     if kind == "steps":
-        draft.steps, draft.steps_record = values[0], number
+        draft.steps, draft.steps_record = values["T"], number
     elif kind in kinds.CELLS:
-        draft.cells[values[0]], draft.kinds[values[0]] = number, kind
-        draft.first += {"road": values[-1], "gate": values[-1], "exit": 0}[kind]
+        draft.cells[values["name"]], draft.kinds[values["name"]] = number, kind
+        draft.first += values.get("first", 0)
     elif kind in kinds.CONNECTORS:
-        for term, value in zip(FIELDS[kind], values):
+        for term in KINDS[kind].fields:
             if term.sort in ("up", "down"):
-                (draft.taken_out if term.sort == "up" else draft.taken_in)[value] = number
+                (draft.taken_out if term.sort == "up" else draft.taken_in)[values[term.name]] = number
         if kind == "diverge":
-            draft.diverges[values[0]] = number
+            draft.diverges[values["cell upstream"]] = number
     elif kind == "signal":
-        draft.signals[values[0]] = number
+        draft.signals[values["cell"]] = number
     elif kind == "demand":
-        draft.demands.append((values[1], values[2], values[3]))
+        draft.demands.append((values["from"], values["to"], values["amount"]))
     elif kind == "region":
-        draft.regions[values[0]] = number
-        draft.region_numbers.add(values[1])
+        draft.regions[values["cell"]] = number
+        draft.region_numbers.add(values["region"])
 
 
 def _check_whole(number: int, draft: Draft) -> None:

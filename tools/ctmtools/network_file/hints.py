@@ -8,7 +8,7 @@ from collections.abc import Callable, Sequence
 
 from . import kinds
 from .faults import Fault
-from .kinds import FIELDS, Field
+from .kinds import KINDS, Field
 from .records import Record, line_of
 
 HEADERS = (("ctm", "1"), ("ctm", "2"))
@@ -42,7 +42,7 @@ def _value(record: Record, fault: Fault) -> str:
 def _term(record: Record, fault: Fault) -> Field:
     """What the format has as the field that a fault is of."""
     assert fault.place is not None  # such a fault is of one field
-    return FIELDS[record.kind][fault.place - 1]
+    return KINDS[record.kind].fields[fault.place - 1]
 
 
 def _earlier(records: Sequence[Record], fault: Fault) -> Record:
@@ -83,7 +83,7 @@ def _header_hint(content: bytes, records: Sequence[Record]) -> str:
         names = _looks_like_names(fields)
         what = "a row of column names stands before it" if names else "it must stand before all others"
         return f"The record {','.join(later.fields[:2])} is in line {line_of(content, later.place)}; {what}."
-    if fields[0] in FIELDS:
+    if fields[0] in KINDS:
         return "The record ctm,1 or ctm,2 is missing; put it before all others."
     if _looks_like_names(fields):
         return "A row of column names stands there; this file has none. Put ctm,1 or ctm,2 in its place."
@@ -98,7 +98,7 @@ def _kind_hint(content: bytes, records: Sequence[Record], record: Record, fault:
     form = int(records[0].fields[1])
     kind = record.kind
     joined = ",".join(record.fields)
-    if kind in kinds.ONLY_IN_FORMAT_2 and form == 1:
+    if kind in KINDS and KINDS[kind].form > form:
         return f"A {kind} is of format 2 alone: write ctm,2 in the first record."
     if record.fields in HEADERS:
         return "The header stands once, at the top of the file; are two files joined here?"
@@ -106,11 +106,11 @@ def _kind_hint(content: bytes, records: Sequence[Record], record: Record, fault:
         return ("A comment that ends the file needs a line end." if len(record.fields) == 1
                 else "An empty row of commas, as Excel writes it; take it away.")
     for sign, name in ((";", "Semicolons"), ("\t", "Tabs")):
-        if sign in joined and joined.split(sign)[0] in FIELDS:
+        if sign in joined and joined.split(sign)[0] in KINDS:
             return f"{name} stand between the fields; put commas there."
     if kind.strip().startswith("#"):
         return "A comment begins with # as the first byte of its line, without a space before it."
-    if kind.strip().lower() in FIELDS:
+    if kind.strip().lower() in KINDS:
         return f"Write it as {kind.strip().lower()}, in lower case and without spaces."
     near = difflib.get_close_matches(kind.strip().lower(), kinds.kinds_of(form), 1)
     if near:
@@ -121,7 +121,7 @@ def _kind_hint(content: bytes, records: Sequence[Record], record: Record, fault:
 
 
 def _count_hint(content: bytes, records: Sequence[Record], record: Record, fault: Fault) -> str:
-    wanted = len(FIELDS[record.kind]) + 1
+    wanted = len(KINDS[record.kind].fields) + 1
     fields = record.fields
     if len(fields) > wanted:
         if not any(fields[wanted:]):
@@ -137,13 +137,13 @@ def _count_hint(content: bytes, records: Sequence[Record], record: Record, fault
             return f"{name} stand between the fields; put commas there."
     if fault.record == len(records) and "\n" in fields[-1]:
         return "A quote isn't closed, so all that is behind it is one field; close it or take it away."
-    missing = [term.name for term in FIELDS[record.kind][len(fields) - 1:]]
+    missing = KINDS[record.kind].names[len(fields) - 1:]
     return f"Missing at the end: {', '.join(missing)}." if missing else ""
 
 
 def _decimal_comma_at(record: Record, surplus: int) -> str:
     """Two fields of digits that make one number with a decimal comma, where joining such pairs mends the count."""
-    sorts = [term.sort for term in FIELDS[record.kind]]
+    sorts = [term.sort for term in KINDS[record.kind].fields]
     pairs = []
     place, sort = 1, 0
     fields = record.fields

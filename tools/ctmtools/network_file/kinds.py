@@ -1,35 +1,96 @@
-"""The kinds of records and their fields, as docs/FORMAT.md has them."""
+"""The kinds of records and their fields, as docs/FORMAT.md has them: reading, checking, explaining and writing go by this table."""
 
 from __future__ import annotations
 
+from collections.abc import Mapping
 from dataclasses import dataclass
+from typing import Any
 
-MOST_PARTS = 10_000_000 * 1_000_000
-MOST_FLOW = 100_000 * 1_000_000
+from ..amounts import PARTS, amount_text, parts_of, whole_of
+
+MOST_PARTS = 10_000_000 * PARTS  # vehicles of a network
 NAME_RULE = "1 to 32 letters, digits, `_`, `-` or `.`"
 
 
 @dataclass(frozen=True)
+class Edge:
+    """The least or the greatest value of a number: a number, or what an earlier field of the record holds and a number."""
+
+    number: int = 0
+    field: str = ""
+
+    def of(self, earlier: Mapping[str, Any]) -> int:
+        """The value, by those of the fields before."""
+        return self.number + (earlier[self.field] if self.field else 0)
+
+    def __str__(self) -> str:
+        if not self.field:
+            return str(self.number)
+        return f"{self.field} {'+' if self.number > 0 else '-'} {abs(self.number)}" if self.number else self.field
+
+
+@dataclass(frozen=True)
 class Field:
-    """A field: its name in the documents, its sort, and what may stand in it, in words."""
+    """A field: its name in the documents, its sort, what may stand in it, in words, and of a number its least and its greatest.
+
+    Those of an amount are in parts.
+    """
 
     name: str
     sort: str  # new, up, down, signal, limit, demand, turn, region, whole or amount
     expected: str
+    least: Edge = Edge()
+    most: Edge = Edge()
+
+    @property
+    def heading(self) -> str:
+        """What the comment of a built network calls it."""
+        if self.name == "amount":
+            return "vehicles in a step"
+        return self.name.replace("cell upstream", "up").replace("cell downstream", "down")
+
+    def value(self, text: str) -> Any:
+        """The value that a text spells: a name as it is, a whole number, an amount in parts; None where it spells none."""
+        return whole_of(text) if self.sort == "whole" else parts_of(text) if self.sort == "amount" else text
+
+    def text(self, value: str | int) -> str:
+        """A value as the file spells it."""
+        return amount_text(int(value)) if self.sort == "amount" else str(value)
+
+
+@dataclass(frozen=True)
+class Kind:
+    """A kind of record: what its records are counted among, its fields, and the first format that has it."""
+
+    sort: str  # steps, cells, connectors, signals, limits, demands, turns or regions
+    fields: tuple[Field, ...]
+    form: int = 1
+
+    @property
+    def names(self) -> list[str]:
+        """The names of its fields."""
+        return [field.name for field in self.fields]
+
+    def values(self, texts: tuple[str, ...]) -> dict[str, Any]:
+        """What the fields of a record without a fault hold, by their names; `texts` are those behind the kind."""
+        return {field.name: field.value(text) for field, text in zip(self.fields, texts)}
+
+
+def _edge(value: int | str) -> Edge:
+    """An edge as it is said in words: a number, a field, or a field and one more or less."""
+    if isinstance(value, int):
+        return Edge(value)
+    name, sign, number = value.partition(" + ") if "+" in value else value.partition(" - ")
+    return Edge(int(sign.strip() + number) if number else 0, name)
 
 
 def _whole(name: str, least: int | str, most: int | str) -> Field:
-    return Field(name, "whole", f"a whole number, {least} to {most}")
+    return Field(name, "whole", f"a whole number, {least} to {most}", _edge(least), _edge(most))
 
 
 def _amount(name: str, most: int | str, unit: str = "vehicles") -> Field:
-    return Field(name, "amount", f"{unit}, 0 to {most}, with a point and at most six decimals")
-
-
-NEW = Field("name", "new", "a new name: " + NAME_RULE)
-FROM = _whole("from", 0, 99_999)
-TO = _whole("to", "from + 1", 100_000)
-CAPACITY = _amount("Q", 100_000, "vehicles in a step")
+    return Field(name, "amount", f"{unit}, 0 to {most}, with a point and at most six decimals",
+                 most=Edge(most * PARTS) if isinstance(most, int) else Edge(field=most))
 
 
 def _up(name: str) -> Field:
@@ -40,29 +101,32 @@ def _down(name: str) -> Field:
     return Field(name, "down", "a road or an exit that stands above and has no connector into it yet")
 
 
-FIELDS: dict[str, tuple[Field, ...]] = {
-    "steps": (_whole("T", 1, 100_000),),
-    "road": (NEW, _amount("N", 100_000), CAPACITY, _whole("A", 1, 1000), _whole("B", "A", 1000), _amount("first", "N")),
-    "gate": (NEW, CAPACITY, _amount("first", 10_000_000)),
-    "exit": (NEW, CAPACITY),
-    "link": (_up("cell upstream"), _down("cell downstream")),
-    "merge": (_up("first cell upstream"), _up("second cell upstream"), _down("cell downstream"),
-              _whole("P1", 1, 1000), _whole("P2", 1, 1000)),
-    "diverge": (_up("cell upstream"), _down("first cell downstream"), _down("second cell downstream"),
-                _whole("B1", 1, 1000), _whole("B2", 1, 1000)),
-    "signal": (Field("cell", "signal", "a road or a gate that stands above and has no signal yet"),
-               _whole("cycle", 1, 100_000), _whole("offset", 0, "cycle - 1"), _whole("from", 0, "cycle - 1"),
-               _whole("to", "from + 1", "cycle")),
-    "limit": (Field("cell", "limit", "a cell that stands above"), FROM, TO, CAPACITY),
-    "demand": (Field("gate", "demand", "a gate that stands above"), FROM, TO,
-               _amount("amount", 10_000_000, "vehicles in a step")),
-    "turn": (Field("cell", "turn", "a cell that a diverge above leads out of"), FROM, TO,
-             _whole("B1", 1, 1000), _whole("B2", 1, 1000)),
-    "region": (Field("cell", "region", "a cell that stands above and has no region yet"), _whole("region", 0, 511)),
+NEW = Field("name", "new", "a new name: " + NAME_RULE)
+SPAN = (_whole("from", 0, 99_999), _whole("to", "from + 1", 100_000))
+CAPACITY = _amount("Q", 100_000, "vehicles in a step")
+SHARES = (_whole("B1", 1, 1000), _whole("B2", 1, 1000))
+
+KINDS = {
+    "steps": Kind("steps", (_whole("T", 1, 100_000),)),
+    "road": Kind("cells", (NEW, _amount("N", 100_000), CAPACITY, _whole("A", 1, 1000), _whole("B", "A", 1000), _amount("first", "N"))),
+    "gate": Kind("cells", (NEW, CAPACITY, _amount("first", 10_000_000))),
+    "exit": Kind("cells", (NEW, CAPACITY)),
+    "link": Kind("connectors", (_up("cell upstream"), _down("cell downstream"))),
+    "merge": Kind("connectors", (_up("first cell upstream"), _up("second cell upstream"), _down("cell downstream"),
+                                 _whole("P1", 1, 1000), _whole("P2", 1, 1000))),
+    "diverge": Kind("connectors", (_up("cell upstream"), _down("first cell downstream"), _down("second cell downstream"), *SHARES)),
+    "signal": Kind("signals", (Field("cell", "signal", "a road or a gate that stands above and has no signal yet"),
+                               _whole("cycle", 1, 100_000), _whole("offset", 0, "cycle - 1"), _whole("from", 0, "cycle - 1"),
+                               _whole("to", "from + 1", "cycle"))),
+    "limit": Kind("limits", (Field("cell", "limit", "a cell that stands above"), *SPAN, CAPACITY)),
+    "demand": Kind("demands", (Field("gate", "demand", "a gate that stands above"), *SPAN,
+                               _amount("amount", 10_000_000, "vehicles in a step"))),
+    "turn": Kind("turns", (Field("cell", "turn", "a cell that a diverge above leads out of"), *SPAN, *SHARES), form=2),
+    "region": Kind("regions", (Field("cell", "region", "a cell that stands above and has no region yet"),
+                               _whole("region", 0, 511)), form=2),
 }
-CELLS = ("road", "gate", "exit")
-CONNECTORS = ("link", "merge", "diverge")
-ONLY_IN_FORMAT_2 = ("turn", "region")
+CELLS, CONNECTORS = (tuple(name for name, kind in KINDS.items() if kind.sort == sort) for sort in ("cells", "connectors"))
+COUNTED = ("cells", "connectors", "limits", "demands", "turns")  # the sorts of which a file has so many records at most
 MOST_RECORDS = {1: 100_000, 2: 200_000}
 
 CODES = {1: "NoHeader", 2: "BadKind", 3: "BadCount", 4: "BadName", 5: "BadNumber", 6: "OutOfRange", 7: "Repeated",
@@ -73,13 +137,14 @@ NUMBERS = {name: number for number, name in CODES.items()}
 
 def kinds_of(form: int) -> tuple[str, ...]:
     """The kinds of records that a file of format 1 or 2 may have."""
-    return tuple(kind for kind in FIELDS if form == 2 or kind not in ONLY_IN_FORMAT_2)
+    return tuple(name for name, kind in KINDS.items() if kind.form <= form)
 
 
-def most_group(kind: str) -> str | None:
-    """The sort of records that are counted together with a kind, or None where it isn't counted."""
-    if kind in CELLS:
-        return "cells"
-    if kind in CONNECTORS:
-        return "connectors"
-    return {"limit": "limits", "demand": "demands", "turn": "turns"}.get(kind)
+def record_text(kind: str, *values: str | int) -> str:
+    """A record as the file has it, of what its fields hold: names, whole numbers, and amounts in parts."""
+    return ",".join([kind, *(field.text(value) for field, value in zip(KINDS[kind].fields, values, strict=True))])
+
+
+def headings(*kinds: str) -> str:
+    """What the comment of a built network says of some kinds of records: their fields."""
+    return "; ".join(",".join([kind, *(field.heading for field in KINDS[kind].fields)]) for kind in kinds)

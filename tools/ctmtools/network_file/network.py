@@ -3,24 +3,26 @@
 from __future__ import annotations
 
 from bisect import bisect_right
-from collections.abc import Callable, Sequence
+from collections.abc import Iterator, Sequence
 from dataclasses import dataclass, field
 from functools import cached_property
+from itertools import product
 from pathlib import Path
 from typing import Any
 
 import networkx
 import pandas
 
-from ..amounts import PARTS, parts_of
+from ..amounts import PARTS
 from ..problem import Problem, reason
 from .faults import Fault, first_fault
 from .hints import hint_of
-from .kinds import FIELDS
+from .kinds import CELLS, CONNECTORS, KINDS
 from .records import Record, ends_of_lines, line_of, read_records
 
-Rows = dict[str, list[Any]]  # for each frame its rows
-Put = Callable[[Rows, int, list[str]], None]  # puts the fields of a record of a number among the rows
+CELL_TERMS = KINDS["road"].names[1:]  # a road has all that any cell has
+COLUMNS = {"cells": ["cell", "kind", *CELL_TERMS, "record"], "links": ["up", "down", "kind", "weight", "record"],
+           **{KINDS[kind].sort: [*KINDS[kind].names, "record"] for kind in ("signal", "limit", "demand", "turn")}}
 
 
 @dataclass
@@ -93,15 +95,19 @@ def network_of(content: bytes, name: str = "the network") -> Network:
     fault = first_fault(records)
     if fault:
         raise Problem(f"{name}: {fault_line(content, records, fault)}")
-    rows: Rows = {sort: [] for sort in ("cells", "links", "signals", "limits", "demands", "turns")}
+    rows: dict[str, list[Any]] = {sort: [] for sort in COLUMNS}
     steps = 0
     for record in records[1:]:
-        kind, *values = record.fields
-        if kind == "steps":
-            steps = int(values[0])
-        else:
-            _ROWS[kind](rows, record.number, values)
-    frames = {sort: pandas.DataFrame(rows[sort], columns=_COLUMNS[sort]) for sort in rows}
+        values = _in_vehicles(record)
+        if record.kind == "steps":
+            steps = values["T"]
+        elif record.kind in CELLS:
+            rows["cells"].append(_cell(record, values))
+        elif record.kind in CONNECTORS:
+            rows["links"] += _links(record, values)
+        elif record.kind != "region":  # which changes nothing of the traffic
+            rows[KINDS[record.kind].sort].append((*values.values(), record.number))
+    frames = {sort: pandas.DataFrame(rows[sort], columns=COLUMNS[sort]) for sort in rows}
     frames["cells"] = frames["cells"].set_index("cell")
     return Network(steps, **frames, records=records, content=content)
 
@@ -121,7 +127,7 @@ def _place_of(content: bytes, records: Sequence[Record], fault: Fault) -> str:
     line = line_of(content, record.place)
     if fault.place is None:
         return f"line {line}, `{clipped(','.join(record.fields))}`"
-    names = ["kind"] + field_names(record.kind)
+    names = ["kind", *(KINDS[record.kind].names if record.kind in KINDS else [])]
     return f"line {line}, field {fault.place + 1} ({names[fault.place]}), `{clipped(record.fields[fault.place])}`"
 
 
@@ -131,72 +137,23 @@ def clipped(text: str, most: int = 60) -> str:
     return text if len(text) <= most else text[:most] + ".."
 
 
-def field_names(kind: str) -> list[str]:
-    """The names of the fields behind a kind."""
-    return [term.name for term in FIELDS.get(kind, ())]
+def _in_vehicles(record: Record) -> dict[str, Any]:
+    """What the fields of a record of a file without a fault hold, by their names, the amounts in vehicles."""
+    kind = KINDS[record.kind]
+    amounts = {term.name for term in kind.fields if term.sort == "amount"}
+    return {name: value / PARTS if name in amounts else value for name, value in kind.values(record.fields[1:]).items()}
 
 
-def _vehicles(text: str) -> float:
-    parts = parts_of(text)
-    assert parts is not None  # the file has no fault
-    return parts / PARTS
+def _cell(record: Record, values: dict[str, Any]) -> dict[str, Any]:
+    """The row of a cell; what its kind has no field for is left out, and it holds nothing at first."""
+    terms: dict[str, Any] = {**dict.fromkeys(CELL_TERMS), "first": 0.0, **values}
+    return {"cell": terms.pop("name"), "kind": record.kind, **terms, "record": record.number}
 
 
-def _cell(kind: str) -> Put:
-    def put(rows: Rows, record: int, values: list[str]) -> None:
-        row: dict[str, Any] = {"cell": values[0], "kind": kind, "N": None, "Q": None, "A": None, "B": None,
-                               "first": 0.0, "record": record}
-        if kind == "road":
-            row.update(N=_vehicles(values[1]), Q=_vehicles(values[2]), A=int(values[3]), B=int(values[4]),
-                       first=_vehicles(values[5]))
-        else:
-            row.update(Q=_vehicles(values[1]))
-            if kind == "gate":
-                row["first"] = _vehicles(values[2])
-        rows["cells"].append(row)
-    return put
-
-
-def _link(rows: Rows, record: int, values: list[str]) -> None:
-    rows["links"].append((values[0], values[1], "link", 1, record))
-
-
-def _merge(rows: Rows, record: int, values: list[str]) -> None:
-    rows["links"].append((values[0], values[2], "merge", int(values[3]), record))
-    rows["links"].append((values[1], values[2], "merge", int(values[4]), record))
-
-
-def _diverge(rows: Rows, record: int, values: list[str]) -> None:
-    rows["links"].append((values[0], values[1], "diverge", int(values[3]), record))
-    rows["links"].append((values[0], values[2], "diverge", int(values[4]), record))
-
-
-def _signal(rows: Rows, record: int, values: list[str]) -> None:
-    rows["signals"].append((values[0], *map(int, values[1:]), record))
-
-
-def _limit(rows: Rows, record: int, values: list[str]) -> None:
-    rows["limits"].append((values[0], int(values[1]), int(values[2]), _vehicles(values[3]), record))
-
-
-def _demand(rows: Rows, record: int, values: list[str]) -> None:
-    rows["demands"].append((values[0], int(values[1]), int(values[2]), _vehicles(values[3]), record))
-
-
-def _turn(rows: Rows, record: int, values: list[str]) -> None:
-    rows["turns"].append((values[0], *map(int, values[1:]), record))
-
-
-def _region(rows: Rows, record: int, values: list[str]) -> None:
-    """A region changes nothing of the traffic."""
-
-
-_ROWS: dict[str, Put] = {
-    "road": _cell("road"), "gate": _cell("gate"), "exit": _cell("exit"), "link": _link, "merge": _merge,
-    "diverge": _diverge, "signal": _signal, "limit": _limit, "demand": _demand, "turn": _turn, "region": _region}
-_COLUMNS = {"cells": ["cell", "kind", "N", "Q", "A", "B", "first", "record"],
-            "links": ["up", "down", "kind", "weight", "record"],
-            "signals": ["cell", "cycle", "offset", "from", "to", "record"],
-            "limits": ["cell", "from", "to", "Q", "record"],
-            "demands": ["gate", "from", "to", "amount", "record"],
-            "turns": ["cell", "from", "to", "B1", "B2", "record"]}
+def _links(record: Record, values: dict[str, Any]) -> Iterator[tuple[Any, ...]]:
+    """The rows of a connector: each pair of cells that it joins, with the priority or the share."""
+    own: dict[str, list[Any]] = {"up": [], "down": [], "whole": []}
+    for term in KINDS[record.kind].fields:
+        own[term.sort].append(values[term.name])
+    for (up, down), weight in zip(product(own["up"], own["down"]), own["whole"] or [1]):
+        yield up, down, record.kind, weight, record.number

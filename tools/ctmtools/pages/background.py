@@ -4,7 +4,6 @@ from __future__ import annotations
 
 from dataclasses import dataclass
 
-from ..plots.layout import Line
 from ..problem import Problem
 from ..report.reading import Report
 from ..study.coordinates import METRES, moved, system
@@ -42,6 +41,6 @@ class Background:
             return report.units.crs, f"{report.name}: crs"
         raise Problem(f"{report.name}: where its roads lie on the earth isn't known; --crs names the system of their points")
 
-    def told(self) -> dict[str, str]:
+    def data(self) -> dict[str, str]:
         """The background for the page."""
         return {"tiles": self.tiles, "credit": CREDIT if self.tiles == STREETS else ""}

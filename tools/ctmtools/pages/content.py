@@ -43,7 +43,7 @@ def data_of(reports: Sequence[Report], background: Background | None = None, dra
         network = network_of(report, measured, place)
         if network not in networks:
             networks.append(network)
-        shown.append({"network": networks.index(network), **own.told()})
+        shown.append({"network": networks.index(network), **own.data()})
     return {"title": _title(reports), "subtitle": _subtitle(reports),
             "provenance": provenance(reports), "notes": _notes(reports, bounds), "names": names, "slow": SLOW,
             "measured": measured, "hour": steps_an_hour(first), "units": _units(first, measured),
@@ -51,7 +51,7 @@ def data_of(reports: Sequence[Report], background: Background | None = None, dra
             "networks": networks, "reports": shown, "opening": opening(frames),
             "tables": {"roads": table_of(reports), "cells": differing(reports, names), "told": unlike_lines(reports, names),
                        "reports": reports_of(reports, names) if len(reports) > 1 else None},
-            "ways": ways_of(reports), "draws": draws_of(reports, names, draws), "background": background.told() if background else None}
+            "ways": ways_of(reports), "draws": draws_of(reports, names, draws), "background": background.data() if background else None}
 
 
 def _need_alike(reports: Sequence[Report]) -> None:

@@ -16,7 +16,7 @@ from ..uncertainty.bars import bars_of
 from ..uncertainty.reliability import PERCENTS
 from ..uncertainty.results import Results
 from ..uncertainty.results_files import BESIDE, read_results
-from ..uncertainty.telling import HEADS, compared_lines, plan_lines, spread_rows
+from ..uncertainty.messages import HEADS, compared_lines, plan_lines, spread_rows
 
 MOST_POINTS = 1000  # of the sum of a plan's draws
 

@@ -58,7 +58,7 @@ class Frames:
         """Whether each cell stands in a queue for half of the frame or longer."""
         return self._means(standing(self.report).to_numpy().astype(float)) >= 0.5
 
-    def told(self) -> dict[str, Any]:
+    def data(self) -> dict[str, Any]:
         """The frames for the page: of each cell the most, and numbers of 16 bits in parts of it; queues as bits."""
         bits = numpy.packbits(self.queued.T.ravel()).tobytes()
         return {"density": _numbers(self.density), "flow": _numbers(self.flow), "queued": _text(bits)}

@@ -12,7 +12,7 @@ from ..report.comparing import compare, side_by_side
 from ..report.queues import standing
 from ..report.reading import Report
 from ..report.travel import road_times
-from ..report.comparability import otherwise, unlike
+from ..report.comparability import mismatches, other_lanes_and_speeds
 from .junctions import junctions_of
 from .networks import is_measured, roads_of
 
@@ -130,7 +130,8 @@ def unlike_lines(reports: Sequence[Report], names: Sequence[str]) -> list[str]:
     """What `compare` tells of networks and times in which another report differs from the first."""
     lines = []
     for report, name in zip(reports[1:], names[1:]):
-        told = [*(f"Mind: {line}." for line in unlike(reports[0], report)), *(f"{line}." for line in otherwise(reports[0], report))]
+        told = [*(f"Mind: {line}." for line in mismatches(reports[0], report)),
+                *(f"{line}." for line in other_lanes_and_speeds(reports[0], report))]
         if told:
             lines += [f"A is “{names[0]}”, B is “{name}”:", *told]
     return lines

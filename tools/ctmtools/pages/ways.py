@@ -29,13 +29,13 @@ def ways_of(reports: Sequence[Report]) -> dict[str, Any] | None:
     by_way = [_by_way(own or ()) for own in found]
     ways = sorted(dict.fromkeys(way for own in by_way for way in own), key=lambda way: -_most([way], by_way))
     room = max(1, MOST_NUMBERS // (2 * len(reports) * len(starts)))
-    told = [_ReportWays(report, own, starts) for report, own in zip(reports, by_way)]
+    of_reports = [_ReportWays(report, own, starts) for report, own in zip(reports, by_way)]
     pairs: dict[tuple[str, str], list[Way]] = {}
     for way in ways[:room]:
         pairs.setdefault(way[:2], []).append(way)
     return {"starts": starts, "widths": [_width(report) for report in reports], "has": [own is not None for own in found],
             "left_out": max(0, len(ways) - room),
-            "pairs": [{"from": source, "to": into, "ways": [{"roads": list(way[2]), "of": [one.told(way) for one in told]}
+            "pairs": [{"from": source, "to": into, "ways": [{"roads": list(way[2]), "of": [one.data(way) for one in of_reports]}
                                                             for way in own]}
                       for (source, into), own in sorted(pairs.items(), key=lambda pair: -_most(pair[1], by_way))]}
 
@@ -67,7 +67,7 @@ class _ReportWays:
         self.intervals = {start: number for number, start in enumerate(starts)}
         self.numbers = {cell: number for number, cell in enumerate(report.cells.index)}
 
-    def told(self, way: Way) -> dict[str, Any] | None:
+    def data(self, way: Way) -> dict[str, Any] | None:
         """What the page has of a way; None where nobody takes it in this report."""
         if way not in self.rows:
             return None

@@ -8,7 +8,7 @@ from fractions import Fraction
 from functools import cached_property
 from pathlib import Path
 
-from ..network_file.kinds import CELLS
+from ..network_file.kinds import CELLS, record_text
 from ..problem import Problem
 from ..program import ask, in_words, why
 from ..study.network_text import Builder
@@ -65,7 +65,7 @@ def question(candidates: Sequence[Candidate]) -> bytes:
     """The input of `choose`: the base, which is what all candidates have, and behind it what each has beyond that."""
     first, *others = candidates
     common = {key for key, records in first.groups.items() if all(other.groups.get(key) == records for other in others)}
-    lines = [f"ctm,{max(one.form for one in candidates)}", f"steps,{first.steps}"]
+    lines = [f"ctm,{max(one.form for one in candidates)}", record_text("steps", first.steps)]
     lines += [record for key, records in first.groups.items() if key in common for record in records]
     for one in candidates:
         lines += ["==", *(record for key, records in one.groups.items() if key not in common for record in records)]

@@ -63,7 +63,7 @@ class Search:
             points[:, moved] = numpy.rint(columns.T)
             return numpy.array([float(delay) for delay in self._judged([tuple(map(int, point)) for point in points])])
 
-        def told(*_: Any, **__: Any) -> None:
+        def generation_done(*_: Any, **__: Any) -> None:
             nonlocal done
             done += 1
             if news:
@@ -71,7 +71,7 @@ class Search:
 
         differential_evolution(delays, [(0, int(one)) for one in most[moved]], integrality=numpy.ones(len(moved), bool),
                                vectorized=True, updating="deferred", init=first[:, moved].astype(float), seed=seed,
-                               maxiter=generations, tol=0, polish=False, callback=told)
+                               maxiter=generations, tol=0, polish=False, callback=generation_done)
         return self.tried.best
 
     def _judged(self, points: Sequence[Point]) -> list[Fraction]:

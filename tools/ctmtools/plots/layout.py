@@ -8,6 +8,7 @@ from collections.abc import Iterator, Sequence
 
 import networkx
 
+from ..chains import chains
 from ..report.reading import Report
 from ..report.routes import main_route
 from .unplaced_joints import Point, middle, middles
@@ -37,7 +38,7 @@ class Map:
         self.places: dict[Joint, Point] = {}
         self.lines: dict[str, Line] = {}
         self.side = 1
-        self.chains = self._chains()
+        self.chains = chains(self.network.graph, self._follower)
         self._place_points()
         self._place_ends()
         self._settle()
@@ -60,29 +61,10 @@ class Map:
         downs = list(self.network.graph.successors(cell))
         return self._head(downs[0]) if downs else ("sink", cell)
 
-    def _chains(self) -> list[list[str]]:
-        """The cells as chains that are joined by plain links alone."""
-        graph = self.network.graph
-        chains: list[list[str]] = []
-        seen: set[str] = set()
-
-        def follows(up: str, down: str) -> bool:
-            return graph.out_degree(up) == 1 and graph.in_degree(down) == 1
-
-        starts = [cell for cell in graph if not any(follows(up, cell) for up in graph.predecessors(cell))]
-        for start in [*starts, *graph]:
-            if start in seen:
-                continue
-            chain = [start]
-            seen.add(start)
-            while True:
-                downs = [down for down in graph.successors(chain[-1]) if follows(chain[-1], down) and down not in seen]
-                if not downs:
-                    break
-                chain.append(downs[0])
-                seen.add(downs[0])
-            chains.append(chain)
-        return chains
+    def _follower(self, cell: str) -> str | None:
+        """The cell that goes on where one ends, by a plain link."""
+        downs = list(self.network.graph.successors(cell))
+        return downs[0] if len(downs) == 1 and self.network.graph.in_degree(downs[0]) == 1 else None
 
     def _place_points(self) -> None:
         """Roads whose points the study gives."""

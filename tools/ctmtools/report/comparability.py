@@ -2,17 +2,17 @@
 
 from __future__ import annotations
 
-from collections.abc import Iterator, Mapping, Sequence
+from collections.abc import Iterator, Mapping
 from typing import Any
 
+from ..first_few import first_few
 from .reading import Report
 
-MOST_NAMED = 3  # cells of each sort that a line names
 TERMS = {"lanes": ("number of lanes", ""), "free_flow_kmh": ("free-flow speed", " km/h"),
          "wave_kmh": ("wave speed", " km/h")}
 
 
-def unlike(first: Report, second: Report) -> Iterator[str]:
+def mismatches(first: Report, second: Report) -> Iterator[str]:
     """A line for each thing in which the networks and the times of two reports, A and B, differ."""
     yield from _cells(first, second)
     yield from _places(first, second)
@@ -21,7 +21,7 @@ def unlike(first: Report, second: Report) -> Iterator[str]:
         yield f"A is of {spans[0]}, B of {spans[1]}"
 
 
-def otherwise(first: Report, second: Report) -> Iterator[str]:
+def other_lanes_and_speeds(first: Report, second: Report) -> Iterator[str]:
     """A line for each of lanes and speeds in which cells of one place differ, A and B: what one compares, mostly."""
     for key, (what, unit) in TERMS.items():
         other = [(cell, row[key], second.units.cells[cell][key]) for cell, row in first.units.cells.items()
@@ -38,7 +38,7 @@ def _cells(first: Report, second: Report) -> Iterator[str]:
              for one, other in ((first, second), (second, first))]
     if any(alone):
         both = len(first.cells) - len(alone[0])
-        told = [f"{len(cells)} of {name} alone ({_named(cells)})" for name, cells in zip("AB", alone) if cells]
+        told = [f"{len(cells)} of {name} alone ({first_few(cells)})" for name, cells in zip("AB", alone) if cells]
         yield f"A and B have other cells: {' and '.join(told)}, {both} of both"
 
 
@@ -65,8 +65,3 @@ def _span(report: Report) -> str:
     if not units.known:
         return f"{report.steps:,} steps of unknown length"
     return f"{report.steps:,} steps of {units.step:g} s, {units.clock(0)} to {units.clock(report.steps)}"
-
-
-def _named(cells: Sequence[str]) -> str:
-    more = len(cells) - MOST_NAMED
-    return ", ".join(cells[:MOST_NAMED]) + (f" and {more} more" if more > 0 else "")

@@ -2,8 +2,9 @@
 
 from __future__ import annotations
 
-from collections.abc import Container, Iterator, Sequence
+from collections.abc import Iterator
 
+from ..text_table import table
 from .queues import CYCLES, SHORT, SHORT_STEPS, SLOW, Queue, is_short, queues_in
 from .reading import Report
 from .travel import road_times
@@ -196,11 +197,3 @@ def number_text(value: float) -> str:
     """A number of vehicles or hours for reading: thousands apart, at most two decimals."""
     text = f"{value:,.2f}"
     return text.rstrip("0").rstrip(".") if "." in text else text
-
-
-def table(rows: Sequence[Sequence[str]], right: Container[int] = ()) -> Iterator[str]:
-    """Rows of texts as lines of columns; the columns of `right` stand at the right."""
-    widths = [max(len(row[i]) for row in rows) for i in range(len(rows[0]))]
-    for row in rows:
-        yield "  " + "  ".join(text.rjust(width) if i in right else text.ljust(width)
-                               for i, (text, width) in enumerate(zip(row, widths))).rstrip()

@@ -9,12 +9,13 @@ from typing import Any
 from ..problem import Problem
 from .entries import Entries, Reader, list_of
 from .plan import Actuation, Crossing, Matrix, Phase
-from .quantities import duration, number, shown, word
+from .quantities import duration, not_negative, shown, word
 from .precedences import check_precedence, precedence
 from .times import Times
 from .ways import movements, named, taken_ways
 
 MOST_ARMS = 16
+_weight = not_negative("a number here")  # a share, a priority, or lanes
 
 
 def crossing(table: Entries, times: Times, trips: bool = False) -> Crossing:
@@ -78,13 +79,6 @@ def _priorities(rows: int, columns: int) -> Reader[Matrix]:
             return _matrix(rows, columns)(value, key)
         return [[weight] * columns for weight in list_of(_weight, rows)(value, key)]
     return read
-
-
-def _weight(value: Any, key: str) -> Fraction:
-    weight = number(value, key)
-    if weight < 0:
-        raise Problem(f"{key}: expected a number that isn't negative, found {shown(value)}")
-    return weight
 
 
 def _truth(value: Any, key: str) -> bool:

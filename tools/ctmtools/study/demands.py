@@ -5,7 +5,8 @@ from __future__ import annotations
 from collections.abc import Iterator
 from fractions import Fraction
 
-from ..amounts import PARTS, amount_text
+from ..amounts import PARTS
+from ..network_file.kinds import record_text
 from .layout import HOUR
 from .plan import Study
 from .scale import Scale
@@ -23,5 +24,5 @@ def demands(study: Study, scale: Scale) -> Iterator[str]:
             asked += demand.flow * (min(demand.end, lasting) - demand.start) / HOUR
             modelled += Fraction(parts * (min(end, scale.steps) - begin), PARTS)
             if parts:
-                yield f"demand,{gate.name},{begin},{end},{amount_text(parts)}"
+                yield record_text("demand", gate.name, begin, end, parts)
         scale.rounding.note(f"vehicles that come to gate {gate.name}", asked, modelled, "vehicles")

@@ -6,6 +6,7 @@ from collections.abc import Collection, Sequence
 from difflib import get_close_matches
 from fractions import Fraction
 
+from ..network_file.kinds import record_text
 from ..problem import Problem
 from .layout import Layout, RoadCell
 from .plan import Diverge, Merge, RoadPart, Signal, Study
@@ -107,7 +108,7 @@ class Junctions:
                 raise Problem(f"{place}: something leads into {down} already, by {self.into[down]}; a merge joins two "
                               "into one")
             self.into[down] = place
-        self.connectors.append(",".join([kind, *ups, *downs, *map(str, numbers)]))
+        self.connectors.append(record_text(kind, *ups, *downs, *numbers))
 
     def _roads(self, cut: Collection[Boundary]) -> None:
         """Links the cells of each road, but for the boundaries that ramps have taken."""
@@ -174,4 +175,4 @@ class Junctions:
             what = f"{diverge.place}.turns[{i}]"
             begin, end = self.scale.span(what, turn.start, turn.end)
             shares = self.scale.weights(f"{what}: share of the first", turn.shares)
-            self.turns.append(f"turn,{up},{begin},{end},{shares[0]},{shares[1]}")
+            self.turns.append(record_text("turn", up, begin, end, *shares))

@@ -7,7 +7,8 @@ from fractions import Fraction
 from functools import partial
 from typing import Any
 
-from ..amounts import amount_text, rounded_parts
+from ..amounts import rounded_parts
+from ..network_file.kinds import record_text
 from ..problem import Problem
 from ..units import clock_text
 from .capacities import Change, flow_left, lanes_left, least, most_opened, spans
@@ -114,10 +115,10 @@ class Limits:
                 last = last[0], end, parts
                 continue
             if last:
-                yield _record(name, *last)
+                yield record_text("limit", name, *last)
             last = begin, end, parts
         if last:
-            yield _record(name, *last)
+            yield record_text("limit", name, *last)
 
     def _overlapping(self, name: str) -> list[Span]:
         """The spans of a cell in which several closures, openings or limits hold; red lights and gaps aren't told."""
@@ -139,10 +140,6 @@ class Limits:
     def _clock(self, begin: int, end: int) -> str:
         start, step = self.study.start, self.scale.step
         return " to ".join(clock_text(float(start + step * time)) for time in (begin, min(end, self.scale.steps)))
-
-
-def _record(name: str, begin: int, end: int, parts: int) -> str:
-    return f"limit,{name},{begin},{end},{amount_text(parts)}"
 
 
 def _places(holding: Sequence[Change]) -> str:

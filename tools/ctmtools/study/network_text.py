@@ -2,17 +2,17 @@
 
 from __future__ import annotations
 
+from collections import Counter
 from collections.abc import Iterable, Iterator
 from dataclasses import dataclass, field
 from fractions import Fraction
 from functools import cached_property
 from itertools import groupby
 
-from ..amounts import PARTS, amount_text, rounded_parts
+from ..amounts import PARTS, rounded_parts
 from ..network_file.faults import NAME, first_fault
-from ..network_file.kinds import CELLS, CONNECTORS, MOST_RECORDS, NAME_RULE
-from ..network_file.network import Network, network_of
-from ..network_file.network import fault_line as fault_told
+from ..network_file.kinds import COUNTED, KINDS, MOST_RECORDS, NAME_RULE, headings, record_text
+from ..network_file.network import Network, fault_line, network_of
 from ..network_file.records import read_records
 from ..problem import Problem
 from ..units import Units, clock_text
@@ -78,7 +78,7 @@ class Builder:
         """The built network."""
         sections = self.sections()
         form = self.form([record for _, records in sections for record in records])
-        text = "\n".join([*self._head(), f"ctm,{form}", f"steps,{self.scale.steps}"]) + "\n"
+        text = "\n".join([*self._head(), f"ctm,{form}", record_text("steps", self.scale.steps)]) + "\n"
         text += "".join("\n".join(["", f"# {comment}", *records]) + "\n" for comment, records in sections if records)
         _check(text)
         remarks = [*self.study.remarks, *self._opened(), *self.limits.overlaps(), *self.signals.remarks]
@@ -88,12 +88,10 @@ class Builder:
     def sections(self) -> list[tuple[str, list[str]]]:
         """The records behind that of the steps, sort by sort, each sort with the comment that tells its fields."""
         made: list[tuple[str, Iterable[str]]] = [
-            ("gate,name,Q,first", self._gates()), ("road,name,N,Q,A,B,first", self._roads()),
-            ("exit,name,Q", self._exits()),
-            ("link,up,down; merge,first up,second up,down,P1,P2; diverge,up,first down,second down,B1,B2; "
-             "turn,cell,from,to,B1,B2", [*self.junctions.connectors, *self.junctions.turns]),
-            ("signal,cell,cycle,offset,from,to", self.signals.records), ("limit,cell,from,to,Q", self.limits.records()),
-            ("demand,gate,from,to,vehicles in a step", demands(self.study, self.scale))]
+            (headings("gate"), self._gates()), (headings("road"), self._roads()), (headings("exit"), self._exits()),
+            (headings("link", "merge", "diverge", "turn"), [*self.junctions.connectors, *self.junctions.turns]),
+            (headings("signal"), self.signals.records), (headings("limit"), self.limits.records()),
+            (headings("demand"), demands(self.study, self.scale))]
         return [(comment, list(records)) for comment, records in made]
 
     def form(self, records: Iterable[str]) -> int:
@@ -162,13 +160,12 @@ class Builder:
         for gate in self.study.gates.values():
             downs = self.junctions.led_to(gate.name)
             capacity = self._capacity(f"gates.{gate.name}.capacity", gate.capacity, downs)
-            yield f"gate,{gate.name},{amount_text(capacity)},{amount_text(rounded_parts(gate.first))}"
+            yield record_text("gate", gate.name, capacity, rounded_parts(gate.first))
 
     def _roads(self) -> Iterator[str]:
         for road, cells in self.layout.cells.items():
             for cell in cells:
-                yield (f"road,{cell.name},{amount_text(cell.room)},{amount_text(cell.capacity)},"
-                       f"{cell.ratio.numerator},{cell.ratio.denominator},{amount_text(cell.first)}")
+                yield record_text("road", cell.name, cell.room, cell.capacity, *cell.ratio.as_integer_ratio(), cell.first)
             for part, section in zip(self.layout.stretches[road], self.study.roads[road].sections):
                 self._note_section(f"of road {road} from km {float(part.start):g}", section, cells[part.first], part)
 
@@ -184,7 +181,7 @@ class Builder:
         for exit_ in self.study.exits.values():
             ups = [up for up, (downs, _) in self.junctions.out_of.items() if exit_.name in downs]
             capacity = self._capacity(f"exits.{exit_.name}.capacity", exit_.capacity, ups)
-            yield f"exit,{exit_.name},{amount_text(capacity)}"
+            yield record_text("exit", exit_.name, capacity)
 
     def _units(self) -> Units:
         units = Units(self.study.title, float(self.study.step), float(self.study.start), cycles=self.signals.cycles,
@@ -211,9 +208,8 @@ def _check_names(study: Study) -> None:
 
 def _is_large(records: Iterable[str]) -> bool:
     """Whether a network has more records of a sort than format 1 allows."""
-    kinds = [record.split(",", 1)[0] for record in records]
-    return any(sum(kind in sort for kind in kinds) > MOST_RECORDS[1]
-               for sort in (CELLS, CONNECTORS, ("limit",), ("demand",)))
+    counts = Counter(KINDS[record.split(",", 1)[0]].sort for record in records)
+    return any(counts[sort] > MOST_RECORDS[1] for sort in COUNTED)
 
 
 def _check(text: str) -> None:
@@ -222,4 +218,4 @@ def _check(text: str) -> None:
     records = read_records(content)
     fault = first_fault(records)
     if fault:
-        raise Problem("the built network has a fault: " + fault_told(content, records, fault))
+        raise Problem("the built network has a fault: " + fault_line(content, records, fault))

@@ -33,6 +33,16 @@ def number(value: Any, key: str) -> Fraction:
     return Fraction(value)
 
 
+def not_negative(what: str) -> Callable[[Any, str], Fraction]:
+    """A reader of numbers that aren't negative; messages call one so, as "a share"."""
+    def read(value: Any, key: str) -> Fraction:
+        result = number(value, key)
+        if result < 0:
+            raise Problem(f"{key}: {what} isn't negative, found {shown(value)}")
+        return result
+    return read
+
+
 def quantity(sort: str) -> Callable[[Any, str], Fraction]:
     """A reader of quantities of a sort, which gives each in the unit of a bare number."""
     unit, units = UNITS[sort]
@@ -57,6 +67,7 @@ speed = quantity("speed")  # in km/h
 density = quantity("density")  # in vehicles/km
 flow = quantity("flow")  # in vehicles/h
 duration = quantity("duration")  # in s
+lanes = not_negative("a number of lanes")  # which needn't be whole
 
 
 def clock(value: Any, key: str) -> Fraction:
@@ -75,14 +86,6 @@ def whole(value: Any, key: str) -> int:
     if result.denominator != 1 or result < 1:
         raise Problem(f"{key}: expected a whole number, 1 or more, found {shown(value)}")
     return int(result)
-
-
-def lanes(value: Any, key: str) -> Fraction:
-    """A number of lanes, which needn't be whole."""
-    result = number(value, key)
-    if result < 0:
-        raise Problem(f"{key}: a number of lanes isn't negative, found {shown(value)}")
-    return result
 
 
 def word(value: Any, key: str) -> str:

@@ -5,6 +5,7 @@ from __future__ import annotations
 from collections.abc import Iterator
 from dataclasses import dataclass
 
+from ..network_file.kinds import record_text
 from ..problem import Problem
 from .capacities import Change
 from .junctions import Junctions
@@ -52,7 +53,7 @@ class Signals:
                 raise Problem(f"{signal.place}: at this stop line {place} runs at the same time")
         self.lines[cell].append((phases, signal.place))
         if phases.begin == 0 and phases.end >= self.scale.steps:
-            self.records.append(f"signal,{cell},{phases.cycle},{-phases.first % phases.cycle},0,{phases.green}")
+            self.records.append(record_text("signal", cell, phases.cycle, -phases.first % phases.cycle, 0, phases.green))
             return
         self.cycles[cell] = max(phases.cycle, self.cycles.get(cell, 0))
         barrier = self._barrier(cell, signal)

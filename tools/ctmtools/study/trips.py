@@ -6,12 +6,16 @@ from collections.abc import Iterable
 from fractions import Fraction
 from typing import Any
 
+from ..first_few import first_few
 from ..problem import Problem
 from .entries import Entries, Reader, list_of
 from .plan import Flow, Route, Routing, Share, Study, Trips
-from .quantities import duration, number, shown, whole, word
+from .quantities import duration, not_negative, number, shown, whole, word
 from .times import Times
 from .trip_files import trips_of_list, trips_of_matrix
+
+MOST_NAMED = 6  # gates or exits of the study that a message names
+_part = not_negative("a share")
 
 
 def read_trips(entries: Entries, study: Study, times: Times, flows: Reader[list[Flow]]) -> None:
@@ -89,13 +93,6 @@ def _shares(times: Times) -> Reader[list[Share]]:
     return read
 
 
-def _part(value: Any, key: str) -> Fraction:
-    part = number(value, key)
-    if part < 0:
-        raise Problem(f"{key}: a share isn't negative, found {shown(value)}")
-    return part
-
-
 def _routing(value: Any, key: str) -> Routing:
     table = Entries(value, key)
     routing = Routing(table.take("ways", whole, Routing.ways), table.take("interval", duration, Routing.interval),
@@ -125,9 +122,9 @@ def put_demand(study: Study) -> None:
     """Gives each gate of trips the demand that they are, and refuses trips that can't be of the study."""
     for trips in study.trips:
         if trips.source not in study.gates:
-            raise Problem(f"{trips.place}: from {trips.source}: is no gate of the study, which has {_few(study.gates)}")
+            raise Problem(f"{trips.place}: from {trips.source}: is no gate of the study, which has {first_few(study.gates, MOST_NAMED)}")
         if trips.into not in study.exits:
-            raise Problem(f"{trips.place}: to {trips.into}: is no exit of the study, which has {_few(study.exits)}")
+            raise Problem(f"{trips.place}: to {trips.into}: is no exit of the study, which has {first_few(study.exits, MOST_NAMED)}")
     for name in dict.fromkeys(trips.source for trips in study.trips):
         gate = study.gates[name]
         if gate.demand:
@@ -140,11 +137,6 @@ def put_demand(study: Study) -> None:
         own = [other for other in study.routes if (other.source, other.into) == (route.source, route.into)]
         if any(bool(other.shares) != bool(route.shares) for other in own):
             raise Problem(f"{route.place}.share: either all routes from {route.source} to {route.into} have shares or none")
-
-
-def _few(names: Iterable[str]) -> str:
-    first = list(names)
-    return ", ".join(first[:6]) + (f" and {len(first) - 6} more" if len(first) > 6 else "")
 
 
 def summed(flows: Iterable[Flow]) -> list[Flow]:

@@ -13,7 +13,7 @@ from ..report.by_road import roads_and_gates
 from ..report.queues import standing
 from ..report.reading import Report
 from ..report.travel import cell_before, chain_of, trips
-from ..study.plan import Closure, Study
+from ..study.plan import Closure
 from ..sweeps.task import Task, ran, study
 from .incident import happened
 from .reliability import DELAY
