@@ -136,6 +136,17 @@ def test_three_ways_out_are_parted_one_by_one():
     assert list(pairs_of(parts)) == [[(1, 1), (1, 2), (1, 1000)], [(3, 2), (1, 1), (1, 1)]]
 
 
+def test_the_rows_of_the_ways_have_all_drivers_and_their_minutes(tmp_path):
+    made = begun(tmp_path, TWO_WAYS.replace("step = 10", "step = 5") + CLOSED)
+    (choice,) = made.choices
+    short = next(place for place, way in enumerate(choice.ways) if "short01" in made.legs.cells(way))
+    choice.informed[:], choice.chosen[:], choice.kept[:] = 0.4, 0, 0
+    choice.chosen[1 - short], choice.kept[short] = 1, 1
+    found = {row.roads[1]: (row.vehicles, row.minutes) for row in made.rows() if row.start == "07:00:00"}
+    # 40 % of 250 choose the long way. 14.75 km at 90 km/h, or 7.5 km more, and a step of 5 s in the gate.
+    assert found["short"] == pytest.approx((150, 595 / 60)) and found["long"] == pytest.approx((100, 895 / 60))
+
+
 @pytest.mark.parametrize("come, told", [([9.925, 10_000], 1), ([10, 9_995], 0)])
 def test_rounding_is_told_from_a_thousandth_of_the_lesser_branch_on(come, told):
     # 1 to 1,000 in place of 1 to 1,007.6 is 0.75 % more; in place of 1 to 999.5, which 1 to 999 is as near to, it is 0.05 %.
