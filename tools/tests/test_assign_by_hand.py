@@ -10,7 +10,7 @@ from ctmtools.assignment.assigning import Assignment, Round
 from ctmtools.assignment.choices import Choice
 from ctmtools.assignment.departures import Departures, departures_of
 from ctmtools.assignment.diversion import divert
-from ctmtools.assignment.forks import Fork, pairs_of, parts_of
+from ctmtools.assignment.forks import Fork, Rounded, pairs_of, parts_of
 from ctmtools.assignment.loading import moved
 from ctmtools.assignment.searching import Search
 from ctmtools.assignment.swapping import Pace, swap
@@ -134,6 +134,26 @@ def test_three_ways_out_are_parted_one_by_one():
     # 500 of 1,000 go the first way, and 300 of the other 500 the second; a third is 1 to 2, and a millionth 1 in 1,001.
     parts = numpy.array([[500_000, 333_333, 1], [300_000, 333_333, 500_000], [200_000, 333_334, 499_999]])
     assert list(pairs_of(parts)) == [[(1, 1), (1, 2), (1, 1000)], [(3, 2), (1, 1), (1, 1)]]
+
+
+def test_the_rows_of_the_ways_have_all_drivers_and_their_minutes(tmp_path):
+    made = begun(tmp_path, TWO_WAYS.replace("step = 10", "step = 5") + CLOSED)
+    (choice,) = made.choices
+    short = next(place for place, way in enumerate(choice.ways) if "short01" in made.legs.cells(way))
+    choice.informed[:], choice.chosen[:], choice.kept[:] = 0.4, 0, 0
+    choice.chosen[1 - short], choice.kept[short] = 1, 1
+    found = {row.roads[1]: (row.vehicles, row.minutes) for row in made.rows() if row.start == "07:00:00"}
+    # 40 % of 250 choose the long way. 14.75 km at 90 km/h, or 7.5 km more, and a step of 5 s in the gate.
+    assert found["short"] == pytest.approx((150, 595 / 60)) and found["long"] == pytest.approx((100, 895 / 60))
+
+
+@pytest.mark.parametrize("come, told", [([9.925, 10_000], 1), ([10, 9_995], 0)])
+def test_rounding_is_told_from_a_thousandth_of_the_lesser_branch_on(come, told):
+    # 1 to 1,000 in place of 1 to 1,007.6 is 0.75 % more; in place of 1 to 999.5, which 1 to 999 is as near to, it is 0.05 %.
+    fork, found = Fork("diverges[1]", 0, (0, 1), (0, 1), ("m",)), Rounded()
+    coming = numpy.array(come, float)[:, None]
+    found.note(fork, coming, parts_of(fork, coming, numpy.array([5.0, 3.0])))
+    assert (found.intervals, found.of) == (told, 1)
 
 
 def row(clock, way, vehicles):
