@@ -173,6 +173,18 @@ def test_the_most_plans_are_those_of_the_crate_wherever_they_are_told():
 
 
 @pytest.mark.parametrize("text, known", [
+    ("A run may record {} values", constant("workerless_call/src/recording.rt", "MOST_RECORDED")),
+    ("A watch may show {} rows", constant("run_modes/src/watch_mode.rt", "MOST_SHOWN")),
+    ("for a network of fewer than {} cells,", constant("workerless_call/src/used_regions.rt", "FEWEST_CELLS")),
+    ("and else {} for each worker,", constant("workerless_call/src/used_regions.rt", "EACH")),
+    ("the number of cells divided by {},", constant("workerless_call/src/used_regions.rt", "FEWEST_OF_A_REGION")),
+    ("and behind {} comes 1.", constant("network_file/src/limits.rt", "MOST_REGIONS")),
+], ids=lambda it: it if isinstance(it, str) else "")
+def test_the_limits_of_what_options_ask_for_are_those_of_the_crates(text, known):
+    assert text.format(f"{known:,}") in MANUAL.partition(".SH OPTIONS")[2].partition(".SH FILES")[0]
+
+
+@pytest.mark.parametrize("text, known", [
     ("the input has more than {} bytes, or with", constant("network_file/src/limits.rt", "MOST_BYTES")),
     ("or with `resume` more than {} |", constant("workerless_call/src/input.rt", "MOST_SAVED_BYTES")),
     ("would record more than {} values", constant("workerless_call/src/recording.rt", "MOST_RECORDED")),
@@ -190,6 +202,9 @@ def test_the_most_plans_are_those_of_the_crate_wherever_they_are_told():
     ("| amount | 1 to {} ASCII digits,", constant("fixed_flow/src/spelling.rt", "MOST_WHOLE_DIGITS")),
     ("followed by `.` and 1 to {} ASCII digits", constant("fixed_flow/src/spelling.rt", "MOST_DECIMALS")),
     ("| name | 1 to {} bytes,", constant("record_fields/src/name.rt", "LONGEST")),
+    ("for a network of fewer than {} cells. Else", constant("workerless_call/src/used_regions.rt", "FEWEST_CELLS")),
+    ("Else it is {}·W,", constant("workerless_call/src/used_regions.rt", "EACH")),
+    ("the number of cells divided by {},", constant("workerless_call/src/used_regions.rt", "FEWEST_OF_A_REGION")),
     ("A *number* is 1 to {} ASCII digits", constant("saved_run/src/number.rt", "MOST_DIGITS")),
     ("and `come` at most `s` times {} vehicles |", constant("network_file/src/limits.rt", "MOST_CAPACITY") // 1_000_000),
     ("still to come are together at most {} vehicles,", constant("fixed_flow/src/amount.rt", "MOST_PARTS") // 1_000_000),

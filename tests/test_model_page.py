@@ -140,8 +140,8 @@ def test_a_wider_ramp_adds_to_the_delay(recorded):
     gate, waits, ramp, stand, first, second, room, capacity, slow, fast, steps, delay, wider, more = numbers
     assert wider > ramp and more > delay
     for out, told in (ramp, delay), (wider, more):
-        report = recorded(lines(f"ctm,1; steps,{steps}; gate,g,{gate},{waits}; gate,r,{out},{stand}; merge,g,r,m,{first},{second}; "
-                                f"road,m,{room},{capacity},{slow},{fast},{room}; exit,x,{capacity}; link,m,x"))
+        report = recorded(lines(f"ctm,1; steps,{steps}; gate,g,{gate},{waits}; gate,r,{out},{stand}; "
+                                f"road,m,{room},{capacity},{slow},{fast},{room}; exit,x,{capacity}; merge,g,r,m,{first},{second}; link,m,x"))
         assert Fraction(fields_of(report)[-1][-1]) == told
 
 

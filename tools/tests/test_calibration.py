@@ -208,6 +208,16 @@ def test_the_triangle_of_known_states_is_found(tmp_path, noise, off):
     assert found.rows == 280 and found.queued == pytest.approx(80, abs=6 if noise else 1)
 
 
+def test_three_rows_of_queued_traffic_are_enough_for_a_triangle():
+    """Free traffic of 100 km/h up to 2,000 vehicles/h, and waves of 20 km/h from a jam of 120 vehicles/km."""
+    free, queued = numpy.arange(2, 21, 2), numpy.array([60, 80, 100])
+    states = pandas.DataFrame({"density": [*free, *queued], "flow": [*(100 * free), *(20 * (120 - queued))]}, dtype=float)
+    found = fit(states)
+    assert (found.speed, found.wave, found.jam) == pytest.approx((100, 20, 120), rel=0.01)
+    with pytest.raises(Problem, match="2 rows are of queued traffic, too few"):
+        fit(states[:-1])
+
+
 def test_queued_rows_near_together_are_told(tool, tmp_path):
     flow, density = states(0.03)
     one = (density < 25) | (density > 60) & (density < 70)  # as before a lane drop: one state of queued traffic

@@ -365,6 +365,19 @@ def test_dates_with_points_begin_with_their_day(tmp_path):
     assert read_detectors(tmp_path / "d.csv", dates=["wednesday"]).time.dt.day.tolist() == [4, 4]
 
 
+@pytest.mark.parametrize("direction, told", [("Direction of Travel", ""), ("Direction", ""), ("Way", "column 5 of that is direction of travel, found Way")])
+def test_a_pems_file_with_a_line_of_names(formats, tmp_path, direction, told):
+    first = (f"Timestamp,Station,District,Freeway,{direction},Lane Type,Station Length,Samples,% Observed,Total Flow,Avg Occupancy,Avg Speed" +
+             "".join(f",Lane {i} Samples,Lane {i} Flow,Lane {i} Avg Occ,Lane {i} Avg Speed,Lane {i} Observed" for i in range(1, 9)))
+    (tmp_path / "named.txt").write_text(f"{first}\n{pems()}")
+    if told:
+        assert told in problem(read_detectors, tmp_path / "named.txt", station="101")
+    else:
+        named, bare = (read_detectors(path, station="101") for path in (tmp_path / "named.txt", formats["pems"][0]))
+        assert (named.line - 1).tolist() == bare.line.tolist()
+        assert named[["time", "flow", "speed"]].to_numpy().tolist() == bare[["time", "flow", "speed"]].to_numpy().tolist()
+
+
 def test_dates_of_pems_begin_with_their_month(formats):
     chosen = read_detectors(formats["pems"][0], station="101", dates=["wednesday"])
     assert set(zip(chosen.time.dt.month, chosen.time.dt.day)) == {(12, 4)}

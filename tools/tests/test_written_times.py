@@ -2,6 +2,7 @@
 
 import pytest
 
+from ctmtools.detectors.days import Days
 from ctmtools.problem import Problem
 from ctmtools.detectors.written_times import Moment, day, day_text, follows, moment
 
@@ -52,3 +53,13 @@ def test_no_day():
     ((31, 12, 99), (1, 1, 100), False), ((30, 4, 19), (31, 4, 19), False), ("4 Dec", "5 Dec", False), ((4, 12, 2019), "5 Dec", False)])
 def test_the_next_day(earlier, later, wanted):
     assert follows(earlier, later) == wanted
+
+
+@pytest.mark.parametrize("days, order, wanted", [
+    # 3 and 4 December are next to each other, 12 March and 12 April are not.
+    ({"03/12/2019": (3, 12, 2019), "04/12/2019": (4, 12, 2019)}, None, ["04/12/2019"]),
+    ({"03/12/2019": (3, 12, 2019), "04/12/2019": (4, 12, 2019)}, "day-first", ["04/12/2019"]),
+    ({"03/12/2019": (3, 12, 2019), "04/12/2019": (4, 12, 2019)}, "month-first", []),
+    ({"03/12/2019": (3, 12, 2019), "03/13/2019": (3, 13, 2019)}, None, ["03/13/2019"])])
+def test_the_day_behind_another(days, order, wanted):
+    assert Days("files", days, order).behind("03/12/2019") == wanted
