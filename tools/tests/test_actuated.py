@@ -64,6 +64,32 @@ def test_the_greens_settle_at_those_of_paper(tmp_path, recording_program, a, b, 
     assert found[:2] == pytest.approx(greens, abs=1.2) and found[2] == pytest.approx(cycle, abs=2.4)
 
 
+THIRD = """[roads.c]
+length = 0.3
+lanes = 1
+[roads.z]
+length = 0.1
+lanes = 1
+[gates.gc]
+into = "c"
+demand = 36
+[exits.oz]
+from = "z"
+"""
+
+
+def test_a_green_of_two_streets_lasts_until_the_longer_queue_is_gone(tmp_path, recording_program):
+    text = STUDY.format(a=540, b=360, first=FOLLOW, follow=FOLLOW, more=THIRD)
+    for two, three in (('["a", "b"]', '["a", "b", "c"]'), ('["x", "y"]', '["x", "y", "z"]'), ('["a"]', '["a", "c"]'),
+                       ("[[1, 0], [0, 1]]", "[[1, 0, 0], [0, 1, 0], [0, 0, 1]]")):
+        text = text.replace(two, three)
+    path = tmp_path / "study.toml"
+    path.write_text(text)
+    # As without c, of which few come.
+    found = told(opened(path))
+    assert found[:2] == pytest.approx([11.2, 8.8], abs=1.2) and found[2] == pytest.approx(28, abs=2.4)
+
+
 def test_greens_that_need_less_last_the_least(tmp_path, recording_program):
     # Where few come 0.02·(28 - 4) + 4 = 4.5 s would do.
     assert told(opened(write(tmp_path, 36, 36, "{ least = 10, most = 40, gap = 4 }"))) == [10, 10, 28]
