@@ -86,13 +86,13 @@ def test_a_green_of_two_streets_lasts_until_the_longer_queue_is_gone(tmp_path, r
     path = tmp_path / "study.toml"
     path.write_text(text)
     # As without c, of which few come.
-    found = told(opened(path))
+    found = settled_greens(opened(path))
     assert found[:2] == pytest.approx([11.2, 8.8], abs=1.2) and found[2] == pytest.approx(28, abs=2.4)
 
 
 def test_greens_that_need_less_last_the_least(tmp_path, recording_program):
     # Where few come 0.02·(28 - 4) + 4 = 4.5 s would do.
-    assert told(opened(write(tmp_path, 36, 36, "{ least = 10, most = 40, gap = 4 }"))) == [10, 10, 28]
+    assert settled_greens(opened(write(tmp_path, 36, 36, "{ least = 10, most = 40, gap = 4 }"))) == [10, 10, 28]
 
 
 def test_greens_that_are_too_short_last_the_most(tmp_path, recording_program):
@@ -220,7 +220,7 @@ def test_greens_follow_traffic_in_each_run_that_settles_who_gives_way(tmp_path, 
     path = write(tmp_path, more=SIDE_STREET)
     found = opened(path)
     # The greens are those of paper without a side street, and its limit that of Harders past 600 vehicles/h.
-    greens = told(found)
+    greens = settled_greens(found)
     assert greens[:2] == pytest.approx([11.2, 8.8], abs=1.2) and greens[2] == pytest.approx(28, abs=2.4)
     assert any(re.match(r"merges\[1\], side: 50[45] to \d+ vehicles/h may pass through gaps", line) for line in found.built.remarks)
     status, _, _ = tool("run", "study.toml")
