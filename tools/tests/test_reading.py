@@ -17,10 +17,7 @@ MOST_PROSE, MOST_WITH_TABLES = 40_000, 54_000
 LONGEST = 40  # words of a sentence
 # Sentences that are longer, by their pages and first words: lists of files, commands or titles, and what others wrote.
 LONGER = [
-    ("CONTRIBUTING.md", "A change of one crate that was really made"),
     ("CONTRIBUTING.md", "Outside the full check, in `bench`"),
-    ("CONTRIBUTING.md", "Really made, `git show --stat e1c6bd47`"),
-    ("CONTRIBUTING.md", "Really made in four commits"),
     ("docs/SPEED.md", "Ratios can be compared with those of another day"),
     ("docs/VALIDATION.md", "Networks of SUMO that nobody here wrote"),
     ("docs/VALIDATION.md", "A grid of SUMO, 16 signals"),
