@@ -2,17 +2,13 @@
 use Rattle.std.specs.Prelude.{◌≡◌, ℕ, ◌+◌, ◌*◌, ◌<◌, ◌≤◌, List, Bool, true, false, length, slice_get, slice_index}
 use Rattle.std.specs.Option.{option_map_or}
 use Rattle.signal_plan.specs.Total.{demand_from}
-use Rattle.network_file.specs.Cells.{is_road, is_exit_at, is_gate_at}
+use Rattle.network_file.specs.Cells.{is_exit_at, is_gate_at, is_road_at}
 use Rattle.network_file.specs.Network.{Network}
 use Rattle.network_file.specs.declared.cell.Cell.{Cell}
 use Rattle.fixed_flow.specs.Limits.{most_parts}
 use Rattle.network_file.specs.Limits.{most_capacity}
 use Rattle.flow_model.specs.State.{row_at, occupancy}
 use Rattle.flow_model.specs.declared.row.Row.{Row}
-
--- whether the cell of this number is a road
-abbrev pub is_road_at : List Cell → ℕ → Bool
-is_road_at cells i = option_map_or (λ cell. is_road cell.kind) (slice_get cells i) false
 
 -- the room of the cell of this number, in parts
 abbrev pub room_parts_at : List Cell → ℕ → ℕ

@@ -20,5 +20,5 @@ MOST_CAPACITY-is = refl
 pub MOST_RECORDS_OF_FORMAT_1-is : MOST_RECORDS_OF_FORMAT_1 ≡ most_records 1
 MOST_RECORDS_OF_FORMAT_1-is = refl
 
-pub MOST_RECORDS-is : MOST_RECORDS ≡ most_records 2
+pub MOST_RECORDS-is : MOST_RECORDS ≡ most_records 3
 MOST_RECORDS-is = refl

@@ -11,11 +11,11 @@ use Rattle.network_file.specs.declared.cell.Cell.{Cell}
 use Rattle.network_file.specs.declared.connector.Connector.{Connector}
 use Rattle.network_file.specs.declared.connector.Connector.TheVariants.{Link}
 
--- a file of either format has at most as many records of a sort as one of format 2
-pub few_records : (format : ℕ) → most_records format ≤ most_records 2
-few_records format = by (format == 2)
+-- a file of any format has at most as many records of a sort as one of the newest
+pub few_records : (format : ℕ) → most_records format ≤ most_records 3
+few_records format = by (format == 1)
   where
-    by : (second : Bool) → cond second (most_records 2) (most_records 1) ≤ most_records 2
+    by : (first : Bool) → cond first (most_records 1) (most_records 3) ≤ most_records 3
     by true = omega arith
     by false = omega arith
 

@@ -10,16 +10,16 @@ use Rattle.std.proofs.lemmas.List.Folds.{list_any-append}
 use Rattle.std.proofs.lemmas.List.Sums.{sum_by_push, sum_by-cons}
 use Rattle.std.proofs.lemmas.Map.Keys.{IsDistinct-push}
 use Rattle.std.proofs.lemmas.Option.{IfSome_then, slice_get_within}
-use Rattle.signal_plan.specs.Counts.{counts_of, demand_count, limit_count, signal_count, turn_count}
+use Rattle.signal_plan.specs.Counts.{counts_of, demand_count, limit_count, signal_count, speed_count, turn_count}
 use Rattle.signal_plan.specs.Green.{is_signalled}
 use Rattle.signal_plan.specs.Limits.{most_steps}
-use Rattle.signal_plan.specs.Records.{CellRecords, DemandRecord, LimitRecord, PlannedCell, PlanRecords, SignalRecord, TurnRecord, bare_cell, planned_at, records_at, with_cell, with_demand, with_limit, with_own_demand, with_own_limit, with_own_signal, with_own_turn, with_records, with_signal, with_turn}
-use Rattle.signal_plan.specs.Sound.{IsSoundTurn}
+use Rattle.signal_plan.specs.Records.{CellRecords, DemandRecord, LimitRecord, PlannedCell, PlanRecords, SignalRecord, SpeedRecord, TurnRecord, bare_cell, planned_at, records_at, with_cell, with_demand, with_limit, with_own_demand, with_own_limit, with_own_signal, with_own_speed, with_own_turn, with_records, with_signal, with_speed, with_turn}
+use Rattle.signal_plan.specs.Sound.{IsSoundSpeed, IsSoundTurn}
 use Rattle.signal_plan.specs.declared.plan_counts.PlanCounts.{PlanCounts}
-use Rattle.signal_plan.proofs.Counting.{counts_of-with_cell, counts_of-with_demand, counts_of-with_limit, counts_of-with_signal, counts_of-with_turn}
+use Rattle.signal_plan.proofs.Counting.{counts_of-with_cell, counts_of-with_demand, counts_of-with_limit, counts_of-with_signal, counts_of-with_speed, counts_of-with_turn}
 use Rattle.network_file.specs.Formats.{most_records}
 use Rattle.network_file.proofs.CellLemmas.{no_name}
-use Rattle.network_file.specs.Cells.{cell_named, is_exit_at, is_gate_at}
+use Rattle.network_file.specs.Cells.{cell_named, is_exit_at, is_gate_at, is_road_at}
 use Rattle.network_file.specs.Connectors.{diverges_from, downstream_of, leads_into, leads_out_of, upstream_of}
 use Rattle.network_file.specs.Network.{HasSoundParts, IsPlanOf, IsPlannedCell, IsSoundCell, IsSoundConnector}
 use Rattle.network_file.specs.declared.cell.Cell.{Cell}
@@ -40,11 +40,22 @@ same_exit cells cell i h = rw (slice_get-push cells cell i h) refl
 same_gate : (cells : List Cell) (cell : Cell) (i : ℕ) → i < length cells → is_gate_at (cells ++ cell ∷ []) i ≡ is_gate_at cells i
 same_gate cells cell i h = rw (slice_get-push cells cell i h) refl
 
+same_road : (cells : List Cell) (cell : Cell) (i : ℕ) → i < length cells → is_road_at (cells ++ cell ∷ []) i ≡ is_road_at cells i
+same_road cells cell i h = rw (slice_get-push cells cell i h) refl
+
 -- a gate is there
 gate-within : (cells : List Cell) (i : ℕ) → is_gate_at cells i ≡ true → i < length cells
 gate-within cells i h = by (slice_get cells i) refl h
   where
     by : (o : Option Cell) → slice_get cells i ≡ o → is_gate_at cells i ≡ true → i < length cells
+    by None e g = cc (rw e at g)
+    by (Some cell) e g = slice_get_within cells i cell e
+
+-- so is a road
+road-within : (cells : List Cell) (i : ℕ) → is_road_at cells i ≡ true → i < length cells
+road-within cells i h = by (slice_get cells i) refl h
+  where
+    by : (o : Option Cell) → slice_get cells i ≡ o → is_road_at cells i ≡ true → i < length cells
     by None e g = cc (rw e at g)
     by (Some cell) e g = slice_get_within cells i cell e
 
@@ -105,12 +116,15 @@ still_planned cells cell planned fits = record {
       let (gate, in_time) = fits.demands k d h in
       (rw (same_gate cells cell _ (gate-within cells _ gate)) gate, in_time);
   turns = fits.turns;
+  speeds = λ k d h.
+      let (road, rest) = fits.speeds k d h in
+      (rw (same_road cells cell _ (road-within cells _ road)) road, rest);
 }
 
 -- a cell without records
 bare_planned : (cells : List Cell) (capacity : ℕ) → capacity ≤ most_capacity → IsPlannedCell cells (bare_cell capacity)
 bare_planned cells capacity low =
-    record { capacity = low; signal = tt; limits = All-nil _; demands = All-nil _; turns = All-nil _ }
+    record { capacity = low; signal = tt; limits = All-nil _; demands = All-nil _; turns = All-nil _; speeds = All-nil _ }
 
 -- a plan of the cells is one of one cell more
 plan-add_cell : (format : ℕ) (cells : List Cell) (plan : PlanRecords) (cell : Cell) (capacity : ℕ) → IsPlanOf format cells plan → capacity ≤ most_capacity
@@ -124,7 +138,9 @@ plan-add_cell format cells plan cell capacity planned low =
       few_limits = omega (arith, planned.few_limits, ap (λ (n : PlanCounts). n.limits) counts);
       few_demands = omega (arith, planned.few_demands, ap (λ (n : PlanCounts). n.demands) counts);
       few_turns = omega (arith, planned.few_turns, ap (λ (n : PlanCounts). n.turns) counts);
+      few_speeds = omega (arith, planned.few_speeds, ap (λ (n : PlanCounts). n.speeds) counts);
       no_turns = λ first. ap (λ (n : PlanCounts). n.turns) counts ∙ planned.no_turns first;
+      no_speeds = λ older. ap (λ (n : PlanCounts). n.speeds) counts ∙ planned.no_speeds older;
     }
 
 pub HasSoundParts-add_cell : (format : ℕ) (cells : List Cell) (connectors : List Connector) (plan : PlanRecords) (cell : Cell) (capacity : ℕ)
@@ -176,9 +192,9 @@ turns-there cells connectors format plan cell sound there = sound.turns_diverge 
 with_own : (format : ℕ) (cells : List Cell) (connectors : List Connector) (plan : PlanRecords) (cell : ℕ) (own : CellRecords) (counts : PlanCounts)
     → HasSoundParts format cells connectors plan → IsPlannedCell cells (record (planned_at plan cell) { records = own })
     → counts_of (with_records plan cell own) ≡ counts → counts.limits ≤ most_records format → counts.demands ≤ most_records format → counts.turns ≤ most_records format
-    → (format ≡ 1 → counts.turns ≡ 0) → All (λ turn. list_any (diverges_from turn.cell) connectors ≡ true) own.turns
+    → counts.speeds ≤ most_records format → (format ≡ 1 → counts.turns ≡ 0) → (format ≤ 2 → counts.speeds ≡ 0) → All (λ turn. list_any (diverges_from turn.cell) connectors ≡ true) own.turns
     → HasSoundParts format cells connectors (with_records plan cell own)
-with_own format cells connectors plan cell own counts sound fits are few_limits few_demands few_turns no_turns diverge =
+with_own format cells connectors plan cell own counts sound fits are few_limits few_demands few_turns few_speeds no_turns no_speeds diverge =
     let changed : PlannedCell = record (planned_at plan cell) { records = own } in
     record {
       few_cells = sound.few_cells;
@@ -194,7 +210,9 @@ with_own format cells connectors plan cell own counts sound fits are few_limits 
         few_limits = omega (arith, few_limits, ap (λ (n : PlanCounts). n.limits) are);
         few_demands = omega (arith, few_demands, ap (λ (n : PlanCounts). n.demands) are);
         few_turns = omega (arith, few_turns, ap (λ (n : PlanCounts). n.turns) are);
+        few_speeds = omega (arith, few_speeds, ap (λ (n : PlanCounts). n.speeds) are);
         no_turns = λ first. ap (λ (n : PlanCounts). n.turns) are ∙ no_turns first;
+        no_speeds = λ older. ap (λ (n : PlanCounts). n.speeds) are ∙ no_speeds older;
       };
       turns_diverge = All-set (λ planned. All (λ turn. list_any (diverges_from turn.cell) connectors ≡ true) planned.records.turns) plan.cells cell changed diverge
           sound.turns_diverge;
@@ -213,8 +231,9 @@ HasSoundParts-add_signal format cells connectors plan signal sound there sends f
       limits = old.limits;
       demands = old.demands;
       turns = old.turns;
+      speeds = old.speeds;
     }) (counts_of-with_signal plan signal (omega (arith, there, sound.planned.one_each)) first) sound.planned.few_limits sound.planned.few_demands sound.planned.few_turns
-    sound.planned.no_turns old_turns
+    sound.planned.few_speeds sound.planned.no_turns sound.planned.no_speeds old_turns
 
 pub HasSoundParts-add_limit : (format : ℕ) (cells : List Cell) (connectors : List Connector) (plan : PlanRecords) (limit : LimitRecord)
     → HasSoundParts format cells connectors plan → limit.cell < length cells → limit_count plan < most_records format → limit.to ≤ most_steps → limit.capacity ≤ most_capacity
@@ -229,8 +248,9 @@ HasSoundParts-add_limit format cells connectors plan limit sound there room in_t
       limits = All-push (λ l. (l.to ≤ most_steps) × (l.capacity ≤ most_capacity)) own.limits limit old.limits (in_time, low);
       demands = old.demands;
       turns = old.turns;
+      speeds = old.speeds;
     }) (counts_of-with_limit plan limit (omega (arith, there, sound.planned.one_each))) (omega (arith, room)) sound.planned.few_demands sound.planned.few_turns
-    sound.planned.no_turns old_turns
+    sound.planned.few_speeds sound.planned.no_turns sound.planned.no_speeds old_turns
 
 pub HasSoundParts-add_demand : (format : ℕ) (cells : List Cell) (connectors : List Connector) (plan : PlanRecords) (demand : DemandRecord)
     → HasSoundParts format cells connectors plan → demand.cell < length cells → demand_count plan < most_records format → is_gate_at cells demand.cell ≡ true → demand.to ≤ most_steps
@@ -245,11 +265,12 @@ HasSoundParts-add_demand format cells connectors plan demand sound there room ga
       limits = old.limits;
       demands = All-push (λ d. (is_gate_at cells d.cell ≡ true) × (d.to ≤ most_steps)) own.demands demand old.demands (gate, in_time);
       turns = old.turns;
+      speeds = old.speeds;
     }) (counts_of-with_demand plan demand (omega (arith, there, sound.planned.one_each))) sound.planned.few_limits (omega (arith, room)) sound.planned.few_turns
-    sound.planned.no_turns old_turns
+    sound.planned.few_speeds sound.planned.no_turns sound.planned.no_speeds old_turns
 
 pub HasSoundParts-add_turn : (format : ℕ) (cells : List Cell) (connectors : List Connector) (plan : PlanRecords) (turn : TurnRecord)
-    → HasSoundParts format cells connectors plan → turn.cell < length cells → format ≡ 2 → turn_count plan < most_records format → list_any (diverges_from turn.cell) connectors ≡ true
+    → HasSoundParts format cells connectors plan → turn.cell < length cells → 2 ≤ format → turn_count plan < most_records format → list_any (diverges_from turn.cell) connectors ≡ true
     → turn.to ≤ most_steps → IsSoundTurn turn
     → HasSoundParts format cells connectors (with_turn plan turn)
 HasSoundParts-add_turn format cells connectors plan turn sound there second room diverges in_time within =
@@ -262,8 +283,27 @@ HasSoundParts-add_turn format cells connectors plan turn sound there second room
       limits = old.limits;
       demands = old.demands;
       turns = All-push (λ t. (t.to ≤ most_steps) × IsSoundTurn t) own.turns turn old.turns (in_time, within);
+      speeds = old.speeds;
     }) (counts_of-with_turn plan turn (omega (arith, there, sound.planned.one_each))) sound.planned.few_limits sound.planned.few_demands (omega (arith, room))
-    (λ first. cc (first, second)) (All-push (λ t. list_any (diverges_from t.cell) connectors ≡ true) own.turns turn old_turns diverges)
+    sound.planned.few_speeds (λ first. absurd (omega (arith, first, second))) sound.planned.no_speeds (All-push (λ t. list_any (diverges_from t.cell) connectors ≡ true) own.turns turn old_turns diverges)
+
+pub HasSoundParts-add_speed : (format : ℕ) (cells : List Cell) (connectors : List Connector) (plan : PlanRecords) (speed : SpeedRecord)
+    → HasSoundParts format cells connectors plan → speed.cell < length cells → 3 ≤ format → speed_count plan < most_records format → is_road_at cells speed.cell ≡ true
+    → speed.to ≤ most_steps → IsSoundSpeed speed
+    → HasSoundParts format cells connectors (with_speed plan speed)
+HasSoundParts-add_speed format cells connectors plan speed sound there third room road in_time within =
+    let own = records_at plan speed.cell in
+    let old = planned-there format cells plan speed.cell sound.planned there in
+    let old_turns = turns-there cells connectors format plan speed.cell sound there in
+    with_own format cells connectors plan speed.cell (with_own_speed own speed) (record (counts_of plan) { speeds = speed_count plan + 1 }) sound (record {
+      capacity = old.capacity;
+      signal = old.signal;
+      limits = old.limits;
+      demands = old.demands;
+      turns = old.turns;
+      speeds = All-push (λ s. (is_road_at cells s.cell ≡ true) × (s.to ≤ most_steps) × IsSoundSpeed s) own.speeds speed old.speeds (road, in_time, within);
+    }) (counts_of-with_speed plan speed (omega (arith, there, sound.planned.one_each))) sound.planned.few_limits sound.planned.few_demands sound.planned.few_turns
+    (omega (arith, room)) sound.planned.no_turns (λ older. absurd (omega (arith, older, third))) old_turns
 
 -- the regions of a draft with one more cell
 pub regions-add_cell : (cells : List Cell) (cell : Cell) (regions : List RegionRecord)

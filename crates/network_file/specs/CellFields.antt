@@ -10,7 +10,7 @@ use Rattle.record_fields.specs.Regions.{region_in}
 use Rattle.record_fields.specs.declared.code.Code.{Code}
 use Rattle.record_fields.specs.declared.code.Code.TheVariants.{BadName, Repeated, Unknown, WrongKind, InTaken, OutTaken}
 use Rattle.record_fields.specs.declared.region_record.RegionRecord.{RegionRecord}
-use Rattle.network_file.specs.Cells.{cell_named, is_exit_at, is_gate_at}
+use Rattle.network_file.specs.Cells.{cell_named, is_exit_at, is_gate_at, is_road_at}
 use Rattle.network_file.specs.Connectors.{diverges_from, leads_into, leads_out_of}
 use Rattle.network_file.specs.declared.cell.Cell.{Cell}
 use Rattle.network_file.specs.declared.connector.Connector.{Connector}
@@ -62,6 +62,13 @@ unfoldable pub turn_cell : List Cell → List Connector → List ℕ → Result 
 turn_cell cells connectors text = do
   cell ← known_cell cells text
   must (list_any (diverges_from cell) connectors) WrongKind
+  Ok cell
+
+-- the road of a speed
+unfoldable pub speed_road : List Cell → List ℕ → Result ℕ Code
+speed_road cells text = do
+  cell ← known_cell cells text
+  must (is_road_at cells cell) WrongKind
   Ok cell
 
 -- the cell of a region: without a region yet

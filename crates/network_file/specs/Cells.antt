@@ -28,6 +28,10 @@ is_exit Road = false
 is_exit Gate = false
 is_exit Exit = true
 
+-- whether the cell of this number is a road
+abbrev pub is_road_at : List Cell → ℕ → Bool
+is_road_at cells i = option_map_or (λ c. is_road c.kind) (slice_get cells i) false
+
 -- whether the cell of this number is a gate
 abbrev pub is_gate_at : List Cell → ℕ → Bool
 is_gate_at cells i = option_map_or (λ c. is_gate c.kind) (slice_get cells i) false

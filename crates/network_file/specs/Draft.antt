@@ -1,7 +1,8 @@
 -- The network as far as its records have been read, and each step that takes one more record.
-use Rattle.std.specs.Prelude.{◌≡◌, ℕ, ◌<◌, ◌≤◌, ◌⊎◌, length, All, List, [], ◌∷◌, ◌++◌, Option, Some, None}
-use Rattle.signal_plan.specs.Records.{DemandRecord, LimitRecord, PlanRecords, SignalRecord, TurnRecord, no_records, with_cell, with_demand, with_limit, with_signal, with_turn}
+use Rattle.std.specs.Prelude.{◌≡◌, ℕ, ◌<◌, ◌≤◌, length, All, List, [], ◌∷◌, ◌++◌, Option, Some, None}
+use Rattle.signal_plan.specs.Records.{DemandRecord, LimitRecord, PlanRecords, SignalRecord, SpeedRecord, TurnRecord, no_records, with_cell, with_demand, with_limit, with_signal, with_speed, with_turn}
 use Rattle.signal_plan.specs.Limits.{most_steps}
+use Rattle.network_file.specs.Formats.{IsFormat}
 use Rattle.network_file.specs.Network.{HasSoundParts}
 use Rattle.network_file.specs.declared.cell.Cell.{Cell}
 use Rattle.network_file.specs.declared.connector.Connector.{Connector}
@@ -9,7 +10,7 @@ use Rattle.record_fields.specs.declared.region_record.RegionRecord.{RegionRecord
 use Rattle.network_file.specs.Limits.{most_regions}
 
 pub record Draft : Type 0 where
-  -- 1 or 2
+  -- 1 to 3
   pub format : ℕ
   -- the number of steps, where a record said it
   pub steps : Option ℕ
@@ -44,12 +45,15 @@ add_demand draft demand = record draft { plan = with_demand draft.plan demand }
 abbrev pub add_turn : Draft → TurnRecord → Draft
 add_turn draft turn = record draft { plan = with_turn draft.plan turn }
 
+abbrev pub add_speed : Draft → SpeedRecord → Draft
+add_speed draft speed = record draft { plan = with_speed draft.plan speed }
+
 abbrev pub add_region : Draft → RegionRecord → Draft
 add_region draft region = record draft { regions = draft.regions ++ region ∷ [] }
 
 -- what holds of a draft at each record
 pub record IsSoundDraft (draft : Draft) : Type 0 where
-  pub format : (draft.format ≡ 1) ⊎ (draft.format ≡ 2)
+  pub format : IsFormat draft.format
   pub some_steps : (steps : ℕ) → draft.steps ≡ Some steps → 1 ≤ steps
   pub few_steps : (steps : ℕ) → draft.steps ≡ Some steps → steps ≤ most_steps
   pub sound : HasSoundParts draft.format draft.cells draft.connectors draft.plan

@@ -1,14 +1,14 @@
 -- Which records a draft can take, and the draft with one of them.
 use Rattle.std.specs.Prelude.{◌≡◌, ℕ, ◌<◌, ◌≤◌, length, All, None, is_none, true, false}
 use Rattle.std.specs.List.{list_any}
-use Rattle.signal_plan.specs.Counts.{demand_count, limit_count, turn_count}
+use Rattle.signal_plan.specs.Counts.{demand_count, limit_count, speed_count, turn_count}
 use Rattle.signal_plan.specs.Green.{is_signalled}
 use Rattle.signal_plan.specs.Limits.{most_steps}
-use Rattle.signal_plan.specs.Records.{DemandRecord, LimitRecord, SignalRecord, TurnRecord}
-use Rattle.signal_plan.specs.Sound.{IsSoundDemand, IsSoundSignal, IsSoundTurn}
-use Rattle.network_file.specs.Cells.{cell_named, is_exit_at, is_gate_at}
+use Rattle.signal_plan.specs.Records.{DemandRecord, LimitRecord, SignalRecord, SpeedRecord, TurnRecord}
+use Rattle.signal_plan.specs.Sound.{IsSoundDemand, IsSoundSignal, IsSoundSpeed, IsSoundTurn}
+use Rattle.network_file.specs.Cells.{cell_named, is_exit_at, is_gate_at, is_road_at}
 use Rattle.network_file.specs.Connectors.{diverges_from, downstream_of, leads_into, leads_out_of, upstream_of}
-use Rattle.network_file.specs.Draft.{Draft, with_steps, add_cell, add_connector, add_demand, add_limit, add_region, add_signal, add_turn}
+use Rattle.network_file.specs.Draft.{Draft, with_steps, add_cell, add_connector, add_demand, add_limit, add_region, add_signal, add_speed, add_turn}
 use Rattle.network_file.specs.Formats.{most_records}
 use Rattle.network_file.specs.Network.{IsSoundCell, IsSoundConnector}
 use Rattle.record_fields.specs.Regions.{region_in}
@@ -62,16 +62,25 @@ pub record FitsDemand (draft : Draft) (demand : DemandRecord) : Type 0 where
 
 -- turning shares of a diverge
 pub record FitsTurn (draft : Draft) (turn : TurnRecord) : Type 0 where
-  pub second_format : draft.format ≡ 2
+  pub second_format : 2 ≤ draft.format
   pub room : turn_count draft.plan < most_records draft.format
   pub there : turn.cell < length draft.cells
   pub diverges : list_any (diverges_from turn.cell) draft.connectors ≡ true
   pub in_time : turn.to ≤ most_steps
   pub sound : IsSoundTurn turn
 
+-- the speed in a road
+pub record FitsSpeed (draft : Draft) (speed : SpeedRecord) : Type 0 where
+  pub third_format : 3 ≤ draft.format
+  pub room : speed_count draft.plan < most_records draft.format
+  pub there : speed.cell < length draft.cells
+  pub road : is_road_at draft.cells speed.cell ≡ true
+  pub in_time : speed.to ≤ most_steps
+  pub sound : IsSoundSpeed speed
+
 -- the region of a cell that has none yet
 pub record FitsRegion (draft : Draft) (region : RegionRecord) : Type 0 where
-  pub second_format : draft.format ≡ 2
+  pub second_format : 2 ≤ draft.format
   pub there : region.cell < length draft.cells
   pub first : region_in draft.regions region.cell ≡ None
   pub few : region.number < most_regions
@@ -85,6 +94,7 @@ FitsEntry draft (says.Signal signal) = FitsSignal draft signal
 FitsEntry draft (says.Limit limit) = FitsLimit draft limit
 FitsEntry draft (says.Demand demand) = FitsDemand draft demand
 FitsEntry draft (says.Turn turn) = FitsTurn draft turn
+FitsEntry draft (says.Speed speed) = FitsSpeed draft speed
 FitsEntry draft (says.Region region) = FitsRegion draft region
 
 -- the draft with what a record says
@@ -96,4 +106,5 @@ with_entry draft (says.Signal signal) = add_signal draft signal
 with_entry draft (says.Limit limit) = add_limit draft limit
 with_entry draft (says.Demand demand) = add_demand draft demand
 with_entry draft (says.Turn turn) = add_turn draft turn
+with_entry draft (says.Speed speed) = add_speed draft speed
 with_entry draft (says.Region region) = add_region draft region

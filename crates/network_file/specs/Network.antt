@@ -2,27 +2,27 @@
 use Rattle.std.specs.Prelude.{◌≡◌, ℕ, ◌+◌, ◌<◌, ◌≤◌, ◌⊎◌, List, [], length, map, eqb, bytes_eq, All, count_by, sum_by, IfSome, true, false}
 use Rattle.std.specs.List.{IsDistinct, list_any}
 use Rattle.fixed_flow.specs.Limits.{most_parts}
-use Rattle.signal_plan.specs.Counts.{demand_count, limit_count, turn_count}
+use Rattle.signal_plan.specs.Counts.{demand_count, limit_count, speed_count, turn_count}
 use Rattle.signal_plan.specs.Records.{PlannedCell, PlanRecords}
-use Rattle.signal_plan.specs.Sound.{IsSoundTurn}
+use Rattle.signal_plan.specs.Sound.{IsSoundSpeed, IsSoundTurn}
 use Rattle.signal_plan.specs.Total.{total_demand}
 use Rattle.signal_plan.specs.Limits.{most_ratio, most_steps}
-use Rattle.network_file.specs.Cells.{is_road, is_exit, is_exit_at, is_gate_at}
+use Rattle.network_file.specs.Cells.{is_road, is_exit, is_exit_at, is_gate_at, is_road_at}
 use Rattle.network_file.specs.Connectors.{diverges_from, upstream_of, downstream_of, weights_of, leads_into, leads_out_of}
 use Rattle.network_file.specs.Cutting.{IsCutting}
-use Rattle.network_file.specs.Formats.{most_records}
+use Rattle.network_file.specs.Formats.{IsFormat, most_records}
 use Rattle.network_file.specs.Limits.{most_capacity, most_room}
 use Rattle.network_file.specs.declared.cell.Cell.{Cell}
 use Rattle.network_file.specs.declared.connector.Connector.{Connector}
 
 pub record Network : Type 0 where
-  -- 1 or 2
+  -- 1 to 3
   pub format : ℕ
   -- T, the number of steps
   pub steps : ℕ
   pub cells : List Cell
   pub connectors : List Connector
-  -- each cell's capacity, signal, limits, demands and turns
+  -- each cell's capacity, signal, limits, demands, turns and speeds
   pub plan : PlanRecords
   -- the number of each cell's region, where the file gives them, and else nothing
   pub regions : List ℕ
@@ -57,6 +57,7 @@ pub record IsPlannedCell (cells : List Cell) (planned : PlannedCell) : Type 0 wh
   pub limits : All (λ limit. (limit.to ≤ most_steps) × (limit.capacity ≤ most_capacity)) planned.records.limits
   pub demands : All (λ demand. (is_gate_at cells demand.cell ≡ true) × (demand.to ≤ most_steps)) planned.records.demands
   pub turns : All (λ turn. (turn.to ≤ most_steps) × IsSoundTurn turn) planned.records.turns
+  pub speeds : All (λ speed. (is_road_at cells speed.cell ≡ true) × (speed.to ≤ most_steps) × IsSoundSpeed speed) planned.records.speeds
 
 -- the plan is of these cells, within the ranges of the format
 pub record IsPlanOf (format : ℕ) (cells : List Cell) (plan : PlanRecords) : Type 0 where
@@ -65,8 +66,11 @@ pub record IsPlanOf (format : ℕ) (cells : List Cell) (plan : PlanRecords) : Ty
   pub few_limits : limit_count plan ≤ most_records format
   pub few_demands : demand_count plan ≤ most_records format
   pub few_turns : turn_count plan ≤ most_records format
+  pub few_speeds : speed_count plan ≤ most_records format
   -- format 1 has no turns
   pub no_turns : format ≡ 1 → turn_count plan ≡ 0
+  -- format 3 alone has speeds
+  pub no_speeds : format ≤ 2 → speed_count plan ≡ 0
 
 -- what holds of the parts of a network, and of a draft of one at each record
 pub record HasSoundParts (format : ℕ) (cells : List Cell) (connectors : List Connector) (plan : PlanRecords) : Type 0 where
@@ -88,7 +92,7 @@ load_of cells plan steps = sum_by (λ cell. cell.first) cells + total_demand pla
 
 -- what holds of every network
 pub record IsNetwork (net : Network) : Type 0 where
-  pub format : (net.format ≡ 1) ⊎ (net.format ≡ 2)
+  pub format : IsFormat net.format
   pub some_steps : 1 ≤ net.steps
   pub few_steps : net.steps ≤ most_steps
   pub some_cells : 1 ≤ length net.cells

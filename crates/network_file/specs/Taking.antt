@@ -1,13 +1,13 @@
 -- What each kind of record adds to the draft, or the first fault that it has there.
 use Rattle.std.specs.Prelude.{ℕ, ◌-◌, ◌==◌, List, Some, None, Result, Ok, is_none, nat_lt, length, ok_or}
 use Rattle.fixed_flow.specs.Limits.{most_parts}
-use Rattle.signal_plan.specs.Counts.{demand_count, limit_count, turn_count}
+use Rattle.signal_plan.specs.Counts.{demand_count, limit_count, speed_count, turn_count}
 use Rattle.signal_plan.specs.Limits.{most_ratio, most_steps}
 use Rattle.record_fields.specs.Checks.{◌>>=◌, ◌>>◌, must}
-use Rattle.network_file.specs.Draft.{Draft, with_steps, add_cell, add_connector, add_demand, add_limit, add_region, add_signal, add_turn}
+use Rattle.network_file.specs.Draft.{Draft, with_steps, add_cell, add_connector, add_demand, add_limit, add_region, add_signal, add_speed, add_turn}
 use Rattle.record_fields.specs.Fields.{field, whole_within, range_within, ratio, weights, amount_within}
 use Rattle.record_fields.specs.RecordKinds.{field_count, record_kind_of}
-use Rattle.network_file.specs.CellFields.{new_name, known_cell, upstream, downstream, signal_cell, demand_gate, turn_cell, region_cell}
+use Rattle.network_file.specs.CellFields.{new_name, known_cell, upstream, downstream, signal_cell, demand_gate, turn_cell, speed_road, region_cell}
 use Rattle.network_file.specs.Formats.{most_records}
 use Rattle.network_file.specs.Limits.{most_capacity, most_regions, most_room}
 use Rattle.network_file.specs.declared.cell.Cell.{Cell}
@@ -17,7 +17,7 @@ use Rattle.record_fields.specs.declared.code.Code.{Code}
 use Rattle.record_fields.specs.declared.code.Code.TheVariants.{BadKind, BadCount, TooMany, Repeated}
 use Rattle.network_file.specs.declared.connector.Connector.TheVariants as connector
 use Rattle.record_fields.specs.declared.record_kind.RecordKind.{RecordKind}
-use Rattle.record_fields.specs.declared.record_kind.RecordKind.TheVariants.{Steps, Road, Gate, Exit, Link, Merge, Diverge, Signal, Limit, Demand, Turn, Region}
+use Rattle.record_fields.specs.declared.record_kind.RecordKind.TheVariants.{Steps, Road, Gate, Exit, Link, Merge, Diverge, Signal, Limit, Demand, Turn, Region, Speed}
 
 -- how many records the draft has of those that count together with this kind; `steps`, signals and regions have no such limit
 abbrev pub taken_before : RecordKind → Draft → ℕ
@@ -33,6 +33,7 @@ taken_before Limit draft = limit_count draft.plan
 taken_before Demand draft = demand_count draft.plan
 taken_before Turn draft = turn_count draft.plan
 taken_before Region draft = 0
+taken_before Speed draft = speed_count draft.plan
 
 unfoldable pub take_steps : Draft → List (List ℕ) → Result Draft Code
 take_steps draft fields = do
@@ -123,6 +124,13 @@ take_region draft fields = do
   number ← whole_within 0 (most_regions - 1) (field fields 2)
   Ok (add_region draft (record { cell = cell; number = number }))
 
+unfoldable pub take_speed : Draft → List (List ℕ) → Result Draft Code
+take_speed draft fields = do
+  road ← speed_road draft.cells (field fields 1)
+  (from, to) ← range_within most_steps (field fields 2) (field fields 3)
+  (num, den) ← ratio most_ratio (field fields 4) (field fields 5)
+  Ok (add_speed draft (record { cell = road; from = from; to = to; num = num; den = den }))
+
 abbrev pub take_kind : RecordKind → Draft → List (List ℕ) → Result Draft Code
 take_kind Steps = take_steps
 take_kind Road = take_road
@@ -136,6 +144,7 @@ take_kind Limit = take_limit
 take_kind Demand = take_demand
 take_kind Turn = take_turn
 take_kind Region = take_region
+take_kind Speed = take_speed
 
 -- the draft with one more record
 unfoldable pub take_record : Draft → List (List ℕ) → Result Draft Code

@@ -3,8 +3,8 @@ ghost use Rattle.std.specs.Option.{ForSome};
 ghost use Rattle.std.specs.List.{list_any};
 ghost use Rattle.signal_plan.specs.Green.{is_signalled};
 ghost use Rattle.record_fields.specs.Regions.{region_in};
-ghost use Rattle.network_file.specs.Cells.{cell_named, is_exit_at, is_gate_at};
-ghost use Rattle.network_file.specs.CellFields.{demand_gate, downstream, known_cell, new_name, region_cell, signal_cell, turn_cell, upstream};
+ghost use Rattle.network_file.specs.Cells.{cell_named, is_exit_at, is_gate_at, is_road_at};
+ghost use Rattle.network_file.specs.CellFields.{demand_gate, downstream, known_cell, new_name, region_cell, signal_cell, speed_road, turn_cell, upstream};
 ghost use Rattle.network_file.specs.Connectors.{diverges_from, leads_into, leads_out_of};
 
 use crate::cell_table::CellTable;
@@ -134,6 +134,21 @@ pub(crate) fn turn_cell(
 {
     let cell = known_cell(cells, text)?;
     if connectors.diverges_from(cell) {
+        Ok(cell)
+    } else {
+        Err(Code::WrongKind)
+    }
+}
+
+/// The road of a speed.
+#[tactic(auto, unfolding(crate::specs::CellFields::speed_road))]
+pub(crate) fn speed_road(cells: &CellTable, text: &[u8]) -> Result<u32, Code>
+    ensures value { result ≡ speed_road cells.now text.now }
+    ensures there { IfOk result (λ cell. cell < length cells.now) }
+    ensures road { IfOk result (λ cell. is_road_at cells.now cell ≡ true) }
+{
+    let cell = known_cell(cells, text)?;
+    if cells.is_road(cell) {
         Ok(cell)
     } else {
         Err(Code::WrongKind)

@@ -1,5 +1,5 @@
 ghost use Rattle.std.specs.Prelude.{◌≡◌, ◌<◌, ◌≤◌, ◌*◌, ◌^◌, sum_by, ◌++◌, ◌∷◌, [], None, Some, IfOk, IfSome, length, true};
-ghost use Rattle.network_file.specs.Cells.{cell_named, is_exit_at, is_gate_at, name_at};
+ghost use Rattle.network_file.specs.Cells.{cell_named, is_exit_at, is_gate_at, is_road_at, name_at};
 ghost use Rattle.network_file.specs.declared.limits.TheConstants.{MOST_BYTES};
 ghost use Rattle.signal_plan.specs.declared.bounds.TheConstants.{MOST_RECORDS};
 
@@ -100,6 +100,15 @@ impl CellTable {
         CellTable {
             parts: self.parts,
             near: cell,
+        }
+    }
+
+    pub(crate) fn is_road(&self, cell: u32) -> bool
+        ensures { result ≡ is_road_at self.now cell }
+    {
+        match self.parts.cells.get(cell as usize) {
+            Some(cell) => matches!(cell.kind, Kind::Road),
+            None => false,
         }
     }
 

@@ -1,6 +1,7 @@
-ghost use Rattle.std.specs.Prelude.{◌≡◌, ◌≤◌, ◌⊎◌, IfOk, length};
-ghost use Rattle.network_file.specs.Draft.{add_cell, add_connector, add_demand, add_limit, add_region, add_signal, add_turn, empty_draft, with_steps};
-ghost use Rattle.network_file.specs.Fitting.{FitsEntry, FitsCell, FitsConnector, FitsDemand, FitsLimit, FitsRegion, FitsSignal, FitsTurn, with_entry};
+ghost use Rattle.std.specs.Prelude.{◌≡◌, ◌≤◌, IfOk, length};
+ghost use Rattle.network_file.specs.Draft.{add_cell, add_connector, add_demand, add_limit, add_region, add_signal, add_speed, add_turn, empty_draft, with_steps};
+ghost use Rattle.network_file.specs.Fitting.{FitsEntry, FitsCell, FitsConnector, FitsDemand, FitsLimit, FitsRegion, FitsSignal, FitsSpeed, FitsTurn, with_entry};
+ghost use Rattle.network_file.specs.Formats.{IsFormat};
 ghost use Rattle.network_file.specs.Taking.{taken_before};
 ghost use Rattle.network_file.specs.declared.limits.TheConstants.{MOST_BYTES};
 
@@ -12,7 +13,7 @@ use crate::entry::Entry;
 use crate::limits::MOST_BYTES;
 use no_memory::NoMemory;
 use record_fields::{RecordKind, RegionRecord, RegionTable};
-use signal_plan::{Demand, Limit, MOST_STEPS, Plan, Signal, Turn};
+use signal_plan::{Demand, Limit, MOST_STEPS, Plan, Signal, Speed, Turn};
 use std::alloc::Global;
 use std::marker::Model;
 
@@ -42,7 +43,7 @@ impl Model for NetDraft {
 impl NetDraft {
     /// Without records, for those of a file of a format.
     pub(crate) fn of_file(alloc: Global, bytes: &[u8], format: u32) -> Result<NetDraft, NoMemory>
-        requires known { (format ≡ 1) ⊎ (format ≡ 2) }
+        requires known { IsFormat format }
         requires few { length bytes.now ≤ MOST_BYTES }
         ensures { IfOk result (λ draft. draft ≡ empty_draft format) }
     {
@@ -87,6 +88,7 @@ impl NetDraft {
             Entry::Limit(limit) => self.near(limit.cell).add_limit(limit),
             Entry::Demand(demand) => self.near(demand.cell).add_demand(demand),
             Entry::Turn(turn) => self.near(turn.cell).add_turn(turn),
+            Entry::Speed(speed) => self.near(speed.cell).add_speed(speed),
             Entry::Region(region) => self.near(region.cell).add_region(region),
         }
     }
@@ -165,6 +167,16 @@ impl NetDraft {
         Ok(NetDraft { plan, ..self })
     }
 
+    /// With the speed in a road in each step of a range.
+    fn add_speed(self, speed: Speed) -> Result<NetDraft, NoMemory>
+        requires { FitsSpeed self speed }
+        ensures { IfOk result (λ more. more ≡ add_speed self speed) }
+    {
+        let mut plan = self.plan;
+        plan.put_speed(speed)?;
+        Ok(NetDraft { plan, ..self })
+    }
+
     /// With the region of a cell.
     fn add_region(self, region: RegionRecord) -> Result<NetDraft, NoMemory>
         requires { FitsRegion self region }
@@ -186,6 +198,7 @@ impl NetDraft {
             RecordKind::Limit => counts.limits,
             RecordKind::Demand => counts.demands,
             RecordKind::Turn => counts.turns,
+            RecordKind::Speed => counts.speeds,
         }
     }
 }

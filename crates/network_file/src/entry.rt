@@ -1,7 +1,7 @@
 use crate::cell::Cell;
 use crate::connector::Connector;
 use record_fields::RegionRecord;
-use signal_plan::{Demand, Limit, Signal, Turn};
+use signal_plan::{Demand, Limit, Signal, Speed, Turn};
 
 /// What a record of the file says, before a draft has taken it.
 #[derive(Drop)]
@@ -15,5 +15,6 @@ pub(crate) enum Entry {
     Limit(Limit),
     Demand(Demand),
     Turn(Turn),
+    Speed(Speed),
     Region(RegionRecord),
 }

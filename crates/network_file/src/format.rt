@@ -1,5 +1,5 @@
-ghost use Rattle.std.specs.Prelude.{◌≡◌, ◌⊎◌, ◌≤◌, IfSome};
-ghost use Rattle.network_file.specs.Formats.{format_of, most_records};
+ghost use Rattle.std.specs.Prelude.{◌≡◌, ◌≤◌, IfSome};
+ghost use Rattle.network_file.specs.Formats.{IsFormat, format_of, most_records};
 
 use crate::limits::MOST_RECORDS_OF_FORMAT_1;
 use record_fields::FileRecord;
@@ -9,7 +9,7 @@ use signal_plan::MOST_RECORDS;
 #[tactic(auto, unfolding(crate::specs::Formats::format_of))]
 pub(crate) fn format_of(header: &FileRecord) -> Option<u32>
     ensures value { result ≡ format_of header.now }
-    ensures known { IfSome result (λ format. (format ≡ 1) ⊎ (format ≡ 2)) }
+    ensures known { IfSome result IsFormat }
 {
     if header.len() != 2 || header.field(0) != b"ctm".as_slice() {
         return None;
@@ -17,18 +17,19 @@ pub(crate) fn format_of(header: &FileRecord) -> Option<u32>
     match header.field(1) {
         b"1" => Some(1),
         b"2" => Some(2),
+        b"3" => Some(3),
         _ => None,
     }
 }
 
-/// The most cells, the most connectors, and the most limit, demand and turn records of a file of this format.
+/// The most cells, the most connectors, and the most limit, demand, turn and speed records of a file of this format.
 pub(crate) fn most_records(format: u32) -> usize
     ensures value { result ≡ most_records format }
     ensures bound { result ≤ MOST_RECORDS }
 {
-    if format == 2 {
-        MOST_RECORDS
-    } else {
+    if format == 1 {
         MOST_RECORDS_OF_FORMAT_1
+    } else {
+        MOST_RECORDS
     }
 }

@@ -15,7 +15,7 @@ use std::marker::Model;
 /// (docs/MODEL.md, docs/FORMAT.md).
 #[derive(Drop)]
 pub struct Net {
-    /// The format of its file, 1 or 2.
+    /// The format of its file, 1 to 3.
     pub format: u32,
     /// How many steps it is taken through.
     pub steps: u64,
@@ -23,7 +23,7 @@ pub struct Net {
     pub cells: Vec<Cell>,
     /// Its connectors, in the order of their records.
     pub connectors: Vec<Connector>,
-    /// The capacity of each cell, its limits and its signal, the demand of each gate and the turning shares of steps.
+    /// The capacity of each cell, its limits and its signal, the demand of each gate, the turning shares and speeds of steps.
     pub plan: Plan,
     /// The number of each cell's region, from 0, where the file gives them, and else nothing.
     pub regions: Vec<u32>,

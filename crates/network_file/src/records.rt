@@ -1,15 +1,16 @@
-ghost use Rattle.std.specs.Prelude.{◌≡◌, ◌<◌, IfOk, Some, length};
-ghost use Rattle.signal_plan.specs.Counts.{demand_count, limit_count, turn_count};
+ghost use Rattle.std.specs.Prelude.{◌≡◌, ◌<◌, ◌≤◌, IfOk, Some, length};
+ghost use Rattle.signal_plan.specs.Counts.{demand_count, limit_count, speed_count, turn_count};
 ghost use Rattle.record_fields.specs.Answers.{Answers, AnswersBy};
 ghost use Rattle.record_fields.specs.Fields.{field};
 ghost use Rattle.record_fields.specs.RecordKinds.{record_kind_of};
 ghost use Rattle.network_file.specs.Fitting.{FitsEntry, with_entry};
 ghost use Rattle.network_file.specs.Formats.{most_records};
-ghost use Rattle.network_file.specs.Taking.{take_demand, take_diverge, take_exit, take_gate, take_kind, take_limit, take_link, take_merge, take_record, take_region, take_road, take_signal, take_steps, take_turn, taken_before};
+ghost use Rattle.network_file.specs.Taking.{take_demand, take_diverge, take_exit, take_gate, take_kind, take_limit, take_link, take_merge, take_record, take_region, take_road, take_signal, take_speed, take_steps, take_turn, taken_before};
 
 use crate::cell::{Cell, Kind};
 use crate::cell_fields::{
-    demand_gate, downstream, known_cell, new_name, region_cell, signal_cell, turn_cell, upstream,
+    demand_gate, downstream, known_cell, new_name, region_cell, signal_cell, speed_road, turn_cell,
+    upstream,
 };
 use crate::connector::Connector;
 use crate::draft::NetDraft;
@@ -21,7 +22,7 @@ use record_fields::{
     Code, FileRecord, RecordKind, RecordRefusal, RegionRecord, amount_within, range_within, ratio,
     weights, whole_within,
 };
-use signal_plan::{Demand, Limit, MOST_RATIO, MOST_STEPS, Signal, Turn};
+use signal_plan::{Demand, Limit, MOST_RATIO, MOST_STEPS, Signal, Speed, Turn};
 
 /// The draft with one more record of the file.
 #[inline(always)]
@@ -78,6 +79,7 @@ fn read_of_kind(
         RecordKind::Demand => read_demand(draft, row),
         RecordKind::Turn => read_turn(draft, row),
         RecordKind::Region => read_region(draft, row),
+        RecordKind::Speed => read_speed(draft, row),
     }
 }
 
@@ -244,7 +246,7 @@ fn read_demand(draft: &NetDraft, row: &FileRecord) -> Result<Entry, RecordRefusa
 #[tactic(auto, unfolding(crate::specs::Taking::take_turn))]
 fn read_turn(draft: &NetDraft, row: &FileRecord) -> Result<Entry, RecordRefusal>
     requires room { turn_count draft.now.plan < most_records draft.now.format }
-    requires second_format { draft.now.format ≡ 2 }
+    requires second_format { 2 ≤ draft.now.format }
     ensures answer { AnswersBy result (with_entry draft.now) (take_turn draft.now row.now) }
     ensures fits { IfOk result (FitsEntry draft.now) }
 {
@@ -262,11 +264,30 @@ fn read_turn(draft: &NetDraft, row: &FileRecord) -> Result<Entry, RecordRefusal>
 
 #[tactic(auto, unfolding(crate::specs::Taking::take_region))]
 fn read_region(draft: &NetDraft, row: &FileRecord) -> Result<Entry, RecordRefusal>
-    requires { draft.now.format ≡ 2 }
+    requires { 2 ≤ draft.now.format }
     ensures answer { AnswersBy result (with_entry draft.now) (take_region draft.now row.now) }
     ensures fits { IfOk result (FitsEntry draft.now) }
 {
     let cell = region_cell(&draft.cells, &draft.regions, row.field(1))?;
     let number = whole_within(0, MOST_REGIONS - 1, row.field(2))?;
     Ok(Entry::Region(RegionRecord { cell, number }))
+}
+
+#[tactic(auto, unfolding(crate::specs::Taking::take_speed))]
+fn read_speed(draft: &NetDraft, row: &FileRecord) -> Result<Entry, RecordRefusal>
+    requires room { speed_count draft.now.plan < most_records draft.now.format }
+    requires third_format { 3 ≤ draft.now.format }
+    ensures answer { AnswersBy result (with_entry draft.now) (take_speed draft.now row.now) }
+    ensures fits { IfOk result (FitsEntry draft.now) }
+{
+    let cell = speed_road(&draft.cells, row.field(1))?;
+    let (from, to) = range_within(MOST_STEPS, row.field(2), row.field(3))?;
+    let (num, den) = ratio(MOST_RATIO, row.field(4), row.field(5))?;
+    Ok(Entry::Speed(Speed {
+        cell,
+        from,
+        to,
+        num,
+        den,
+    }))
 }

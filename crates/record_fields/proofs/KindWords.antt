@@ -1,11 +1,11 @@
--- The word of each kind of record: a kind that is named is named by its word, and is one of format 2.
-use Rattle.std.proofs.Common.{ℕ, ◌≡◌, ◌==◌, ◌&&◌, Bool, true, false, List, Some, cond, refl, ap, subst, ◌∙◌}
-use Rattle.std.specs.Prelude.{bytes_eq, codes, Option}
+-- The word of each kind of record: a kind that is named is named by its word, and is one of format 3.
+use Rattle.std.proofs.Common.{ℕ, ◌≡◌, ◌≤◌, ◌&&◌, Bool, true, false, List, Some, cond, refl, ap, subst, ◌∙◌}
+use Rattle.std.specs.Prelude.{bytes_eq, codes, nat_le, Option}
 use Rattle.std.specs.Cmp.Lexicographic.{bytes_decides}
-use Rattle.std.proofs.lemmas.Bool.{and_parts, eqb-true}
+use Rattle.std.proofs.lemmas.Bool.{and_parts, leb-true}
 use Rattle.record_fields.specs.RecordKinds.{record_kind_of}
 use Rattle.record_fields.specs.declared.record_kind.RecordKind.{RecordKind}
-use Rattle.record_fields.specs.declared.record_kind.RecordKind.TheVariants.{Steps, Road, Gate, Exit, Link, Merge, Diverge, Signal, Limit, Demand, Turn, Region}
+use Rattle.record_fields.specs.declared.record_kind.RecordKind.TheVariants.{Steps, Road, Gate, Exit, Link, Merge, Diverge, Signal, Limit, Demand, Turn, Region, Speed}
 
 abbrev pub word_of : RecordKind → List ℕ
 word_of Steps = codes "steps"
@@ -20,6 +20,7 @@ word_of Limit = codes "limit"
 word_of Demand = codes "demand"
 word_of Turn = codes "turn"
 word_of Region = codes "region"
+word_of Speed = codes "speed"
 
 -- a choice by a test that gave a kind: the test holds and it is the first kind, or what follows gave it
 named_by : (text : List ℕ) (test : Bool) (first kind : RecordKind) (rest : Option RecordKind) → (test ≡ true → text ≡ word_of first)
@@ -41,29 +42,38 @@ record_kind_of-word format text kind =
     (named_by text (bytes_eq text (codes "signal")) Signal kind _ ((bytes_decides text (codes "signal")).0)
     (named_by text (bytes_eq text (codes "limit")) Limit kind _ ((bytes_decides text (codes "limit")).0)
     (named_by text (bytes_eq text (codes "demand")) Demand kind _ ((bytes_decides text (codes "demand")).0)
-    (named_by text ((format == 2) && bytes_eq text (codes "turn")) Turn kind _ (λ both. (bytes_decides text (codes "turn")).0 (and_parts (format == 2) (bytes_eq text (codes "turn")) both).1)
-    (named_by text ((format == 2) && bytes_eq text (codes "region")) Region kind _ (λ both. (bytes_decides text (codes "region")).0 (and_parts (format == 2) (bytes_eq text (codes "region")) both).1)
-    (λ named. cc named)))))))))))))
+    (named_by text (nat_le 2 format && bytes_eq text (codes "turn")) Turn kind _ (λ both. (bytes_decides text (codes "turn")).0 (and_parts (nat_le 2 format) (bytes_eq text (codes "turn")) both).1)
+    (named_by text (nat_le 2 format && bytes_eq text (codes "region")) Region kind _ (λ both. (bytes_decides text (codes "region")).0 (and_parts (nat_le 2 format) (bytes_eq text (codes "region")) both).1)
+    (named_by text (nat_le 3 format && bytes_eq text (codes "speed")) Speed kind _ (λ both. (bytes_decides text (codes "speed")).0 (and_parts (nat_le 3 format) (bytes_eq text (codes "speed")) both).1)
+    (λ named. cc named))))))))))))))
 
--- turns and regions are kinds of format 2 alone
-pub record_kind_of-Turn : (format : ℕ) (text : List ℕ) → record_kind_of format text ≡ Some Turn → format ≡ 2
+-- turns and regions are kinds from format 2 on, speeds of format 3
+pub record_kind_of-Turn : (format : ℕ) (text : List ℕ) → record_kind_of format text ≡ Some Turn → 2 ≤ format
 unfolding record_kind_of
-record_kind_of-Turn format text named = by (format == 2) refl (subst (λ t. record_kind_of format t ≡ Some Turn) (record_kind_of-word format text Turn named) named)
+record_kind_of-Turn format text named = by (nat_le 2 format) refl (subst (λ t. record_kind_of format t ≡ Some Turn) (record_kind_of-word format text Turn named) named)
   where
-    by : (b : Bool) → (format == 2) ≡ b → record_kind_of format (codes "turn") ≡ Some Turn → format ≡ 2
-    by true e named = eqb-true format 2 e
+    by : (b : Bool) → nat_le 2 format ≡ b → record_kind_of format (codes "turn") ≡ Some Turn → 2 ≤ format
+    by true e named = leb-true 2 format e
     by false e named = cc (rw e at named)
 
-pub record_kind_of-Region : (format : ℕ) (text : List ℕ) → record_kind_of format text ≡ Some Region → format ≡ 2
+pub record_kind_of-Region : (format : ℕ) (text : List ℕ) → record_kind_of format text ≡ Some Region → 2 ≤ format
 unfolding record_kind_of
-record_kind_of-Region format text named = by (format == 2) refl (subst (λ t. record_kind_of format t ≡ Some Region) (record_kind_of-word format text Region named) named)
+record_kind_of-Region format text named = by (nat_le 2 format) refl (subst (λ t. record_kind_of format t ≡ Some Region) (record_kind_of-word format text Region named) named)
   where
-    by : (b : Bool) → (format == 2) ≡ b → record_kind_of format (codes "region") ≡ Some Region → format ≡ 2
-    by true e named = eqb-true format 2 e
+    by : (b : Bool) → nat_le 2 format ≡ b → record_kind_of format (codes "region") ≡ Some Region → 2 ≤ format
+    by true e named = leb-true 2 format e
     by false e named = cc (rw e at named)
 
--- the word of a kind names it in format 2
-pub record_kind_of-word_of : (kind : RecordKind) → record_kind_of 2 (word_of kind) ≡ Some kind
+pub record_kind_of-Speed : (format : ℕ) (text : List ℕ) → record_kind_of format text ≡ Some Speed → 3 ≤ format
+unfolding record_kind_of
+record_kind_of-Speed format text named = by (nat_le 3 format) refl (subst (λ t. record_kind_of format t ≡ Some Speed) (record_kind_of-word format text Speed named) named)
+  where
+    by : (b : Bool) → nat_le 3 format ≡ b → record_kind_of format (codes "speed") ≡ Some Speed → 3 ≤ format
+    by true e named = leb-true 3 format e
+    by false e named = cc (rw e at named)
+
+-- the word of a kind names it in format 3
+pub record_kind_of-word_of : (kind : RecordKind) → record_kind_of 3 (word_of kind) ≡ Some kind
 unfolding record_kind_of
 record_kind_of-word_of Steps = refl
 record_kind_of-word_of Road = refl
@@ -77,3 +87,4 @@ record_kind_of-word_of Limit = refl
 record_kind_of-word_of Demand = refl
 record_kind_of-word_of Turn = refl
 record_kind_of-word_of Region = refl
+record_kind_of-word_of Speed = refl

@@ -1,9 +1,9 @@
 -- The kinds of record: the word of each, and how many fields it has.
-use Rattle.std.specs.Prelude.{ℕ, ◌==◌, ◌&&◌, List, Option, Some, None, if◌then◌else◌, bytes_eq, codes}
+use Rattle.std.specs.Prelude.{ℕ, ◌&&◌, List, Option, Some, None, if◌then◌else◌, bytes_eq, codes, nat_le}
 use Rattle.record_fields.specs.declared.record_kind.RecordKind.{RecordKind}
-use Rattle.record_fields.specs.declared.record_kind.RecordKind.TheVariants.{Steps, Road, Gate, Exit, Link, Merge, Diverge, Signal, Limit, Demand, Turn, Region}
+use Rattle.record_fields.specs.declared.record_kind.RecordKind.TheVariants.{Steps, Road, Gate, Exit, Link, Merge, Diverge, Signal, Limit, Demand, Turn, Region, Speed}
 
--- the kind that a first field names; turns and regions are kinds of format 2 alone
+-- the kind that a first field names; turns and regions are kinds from format 2 on, speeds of format 3
 unfoldable pub record_kind_of : (format : ℕ) → List ℕ → Option RecordKind
 record_kind_of format text =
     if bytes_eq text (codes "steps") then Some Steps
@@ -16,8 +16,9 @@ record_kind_of format text =
     else if bytes_eq text (codes "signal") then Some Signal
     else if bytes_eq text (codes "limit") then Some Limit
     else if bytes_eq text (codes "demand") then Some Demand
-    else if (format == 2) && bytes_eq text (codes "turn") then Some Turn
-    else if (format == 2) && bytes_eq text (codes "region") then Some Region
+    else if nat_le 2 format && bytes_eq text (codes "turn") then Some Turn
+    else if nat_le 2 format && bytes_eq text (codes "region") then Some Region
+    else if nat_le 3 format && bytes_eq text (codes "speed") then Some Speed
     else None
 
 -- how many fields a record has, the kind among them
@@ -34,3 +35,4 @@ field_count Limit = 5
 field_count Demand = 5
 field_count Turn = 6
 field_count Region = 3
+field_count Speed = 6

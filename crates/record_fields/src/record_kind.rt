@@ -24,10 +24,12 @@ pub enum RecordKind {
     Limit,
     /// What enters a gate in some steps.
     Demand,
-    /// The turning shares of a diverge in some steps, in format 2.
+    /// The turning shares of a diverge in some steps, from format 2 on.
     Turn,
-    /// The region of a cell, in format 2.
+    /// The region of a cell, from format 2 on.
     Region,
+    /// The speed in a road in some steps, in format 3.
+    Speed,
 }
 
 impl RecordKind {
@@ -47,8 +49,9 @@ impl RecordKind {
             b"signal" => Some(RecordKind::Signal),
             b"limit" => Some(RecordKind::Limit),
             b"demand" => Some(RecordKind::Demand),
-            b"turn" if format == 2 => Some(RecordKind::Turn),
-            b"region" if format == 2 => Some(RecordKind::Region),
+            b"turn" if format >= 2 => Some(RecordKind::Turn),
+            b"region" if format >= 2 => Some(RecordKind::Region),
+            b"speed" if format >= 3 => Some(RecordKind::Speed),
             _ => None,
         }
     }
@@ -62,7 +65,11 @@ impl RecordKind {
             RecordKind::Road => 7,
             RecordKind::Gate => 4,
             RecordKind::Exit | RecordKind::Link | RecordKind::Region => 3,
-            RecordKind::Merge | RecordKind::Diverge | RecordKind::Signal | RecordKind::Turn => 6,
+            RecordKind::Merge
+            | RecordKind::Diverge
+            | RecordKind::Signal
+            | RecordKind::Turn
+            | RecordKind::Speed => 6,
             RecordKind::Limit | RecordKind::Demand => 5,
         }
     }

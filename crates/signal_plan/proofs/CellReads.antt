@@ -1,9 +1,11 @@
 -- What the cell that is read answers is what the plan says.
+use Rattle.std.specs.Prelude.{◌==◌, not}
 use Rattle.std.proofs.Common.{◌≡◌, ℕ, ◌<◌, length, get_or, ap, sym, ◌∙◌}
 use Rattle.signal_plan.specs.Capacity.{capacity_at, own_capacity}
 use Rattle.signal_plan.specs.Demand.{demand_at, own_demand}
 use Rattle.signal_plan.specs.Green.{green_at, is_green_by, signal_of}
 use Rattle.signal_plan.specs.Records.{PlannedCell, PlanRecords}
+use Rattle.signal_plan.specs.Speeds.{has_speeds, own_speed, speed_at}
 use Rattle.signal_plan.specs.Total.{demand_from, own_demand_from}
 use Rattle.signal_plan.specs.Turning.{own_shares, shares_at}
 use Rattle.signal_plan.proofs.Planned.{planned_read}
@@ -38,3 +40,13 @@ pub shares_read : (plan : PlanRecords) (cell t : ℕ) (own : ℕ × ℕ) (c : Pl
     own_shares c.records t own ≡ shares_at plan cell t own
 unfolding shares_at
 shares_read plan cell t own c has read = ap (λ (p : PlannedCell). own_shares p.records t own) (planned_read plan cell c has read)
+
+pub speed_read : (plan : PlanRecords) (cell t : ℕ) (c : PlannedCell) → cell < length plan.cells → c ≡ get_or plan.cells cell c →
+    own_speed c.records t ≡ speed_at plan cell t
+unfolding speed_at
+speed_read plan cell t c has read = ap (λ (p : PlannedCell). own_speed p.records t) (planned_read plan cell c has read)
+
+pub has_speeds_read : (plan : PlanRecords) (cell : ℕ) (c : PlannedCell) → cell < length plan.cells → c ≡ get_or plan.cells cell c →
+    not (length c.records.speeds == 0) ≡ has_speeds plan cell
+unfolding has_speeds
+has_speeds_read plan cell c has read = ap (λ (p : PlannedCell). not (length p.records.speeds == 0)) (planned_read plan cell c has read)

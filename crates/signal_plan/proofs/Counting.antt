@@ -3,9 +3,9 @@ use Rattle.std.specs.Prelude.{is_some, if◌then◌else◌, slice_set, sum_by}
 use Rattle.std.proofs.Common.{◌≡◌, ℕ, false, ◌+◌, ◌<◌, length, arith, add-zero, refl}
 use Rattle.std.proofs.lemmas.List.{length_push}
 use Rattle.std.proofs.lemmas.List.Sums.{sum_by-set, sum_by_push}
-use Rattle.signal_plan.specs.Counts.{counts_of, demand_count, limit_count, signal_count, turn_count}
+use Rattle.signal_plan.specs.Counts.{counts_of, demand_count, limit_count, signal_count, speed_count, turn_count}
 use Rattle.signal_plan.specs.Green.{is_signalled, signal_of}
-use Rattle.signal_plan.specs.Records.{CellRecords, DemandRecord, LimitRecord, PlannedCell, PlanRecords, SignalRecord, TurnRecord, bare_cell, planned_at, records_at, with_cell, with_demand, with_limit, with_own_demand, with_own_limit, with_own_signal, with_own_turn, with_records, with_signal, with_turn}
+use Rattle.signal_plan.specs.Records.{CellRecords, DemandRecord, LimitRecord, PlannedCell, PlanRecords, SignalRecord, SpeedRecord, TurnRecord, bare_cell, planned_at, records_at, with_cell, with_demand, with_limit, with_own_demand, with_own_limit, with_own_signal, with_own_speed, with_own_turn, with_records, with_signal, with_speed, with_turn}
 
 -- a sum over the cells grows as the term of the cell that changes
 sum_by-with_records : (f : PlannedCell → ℕ) (plan : PlanRecords) (cell : ℕ) (own : CellRecords) (more : ℕ) → cell < length plan.cells →
@@ -30,22 +30,28 @@ demands_of cell = length cell.records.demands
 abbrev turns_of : PlannedCell → ℕ
 turns_of cell = length cell.records.turns
 
+abbrev speeds_of : PlannedCell → ℕ
+speeds_of cell = length cell.records.speeds
+
 -- with other records of a cell, of which there are so many more
-counts_of-with_records : (plan : PlanRecords) (cell : ℕ) (own : CellRecords) (signals limits demands turns : ℕ) → cell < length plan.cells →
+counts_of-with_records : (plan : PlanRecords) (cell : ℕ) (own : CellRecords) (signals limits demands turns speeds : ℕ) → cell < length plan.cells →
     own_signals own ≡ own_signals (records_at plan cell) + signals → length own.limits ≡ length (records_at plan cell).limits + limits →
     length own.demands ≡ length (records_at plan cell).demands + demands → length own.turns ≡ length (records_at plan cell).turns + turns →
+    length own.speeds ≡ length (records_at plan cell).speeds + speeds →
     counts_of (with_records plan cell own) ≡ record {
       signals = signal_count plan + signals;
       limits = limit_count plan + limits;
       demands = demand_count plan + demands;
       turns = turn_count plan + turns;
+      speeds = speed_count plan + speeds;
     }
-counts_of-with_records plan cell own signals limits demands turns has more_signals more_limits more_demands more_turns =
+counts_of-with_records plan cell own signals limits demands turns speeds has more_signals more_limits more_demands more_turns more_speeds =
     rw (
       sum_by-with_records signals_of plan cell own signals has more_signals,
       sum_by-with_records limits_of plan cell own limits has more_limits,
       sum_by-with_records demands_of plan cell own demands has more_demands,
       sum_by-with_records turns_of plan cell own turns has more_turns,
+      sum_by-with_records speeds_of plan cell own speeds has more_speeds,
     )
 
 -- one more record of a kind
@@ -55,28 +61,35 @@ unfolding signal_of
 counts_of-with_signal plan signal has none =
     let own = records_at plan signal.cell in
     let before : own_signals own ≡ 0 = rw none refl in
-    rw (counts_of-with_records plan signal.cell (with_own_signal own signal) 1 0 0 0 has (omega (arith, before)) (omega arith) (omega arith) (omega arith))
+    rw (counts_of-with_records plan signal.cell (with_own_signal own signal) 1 0 0 0 0 has (omega (arith, before)) (omega arith) (omega arith) (omega arith) (omega arith))
     (simp add-zero)
 
 pub counts_of-with_limit : (plan : PlanRecords) (limit : LimitRecord) → limit.cell < length plan.cells →
     counts_of (with_limit plan limit) ≡ record (counts_of plan) { limits = limit_count plan + 1 }
 counts_of-with_limit plan limit has =
     let own = records_at plan limit.cell in
-    rw (counts_of-with_records plan limit.cell (with_own_limit own limit) 0 1 0 0 has (omega arith) (length_push own.limits limit) (omega arith) (omega arith))
+    rw (counts_of-with_records plan limit.cell (with_own_limit own limit) 0 1 0 0 0 has (omega arith) (length_push own.limits limit) (omega arith) (omega arith) (omega arith))
     (simp add-zero)
 
 pub counts_of-with_demand : (plan : PlanRecords) (demand : DemandRecord) → demand.cell < length plan.cells →
     counts_of (with_demand plan demand) ≡ record (counts_of plan) { demands = demand_count plan + 1 }
 counts_of-with_demand plan demand has =
     let own = records_at plan demand.cell in
-    rw (counts_of-with_records plan demand.cell (with_own_demand own demand) 0 0 1 0 has (omega arith) (omega arith) (length_push own.demands demand) (omega arith))
+    rw (counts_of-with_records plan demand.cell (with_own_demand own demand) 0 0 1 0 0 has (omega arith) (omega arith) (length_push own.demands demand) (omega arith) (omega arith))
     (simp add-zero)
 
 pub counts_of-with_turn : (plan : PlanRecords) (turn : TurnRecord) → turn.cell < length plan.cells →
     counts_of (with_turn plan turn) ≡ record (counts_of plan) { turns = turn_count plan + 1 }
 counts_of-with_turn plan turn has =
     let own = records_at plan turn.cell in
-    rw (counts_of-with_records plan turn.cell (with_own_turn own turn) 0 0 0 1 has (omega arith) (omega arith) (omega arith) (length_push own.turns turn))
+    rw (counts_of-with_records plan turn.cell (with_own_turn own turn) 0 0 0 1 0 has (omega arith) (omega arith) (omega arith) (length_push own.turns turn) (omega arith))
+    (simp add-zero)
+
+pub counts_of-with_speed : (plan : PlanRecords) (speed : SpeedRecord) → speed.cell < length plan.cells →
+    counts_of (with_speed plan speed) ≡ record (counts_of plan) { speeds = speed_count plan + 1 }
+counts_of-with_speed plan speed has =
+    let own = records_at plan speed.cell in
+    rw (counts_of-with_records plan speed.cell (with_own_speed own speed) 0 0 0 0 1 has (omega arith) (omega arith) (omega arith) (omega arith) (length_push own.speeds speed))
     (simp add-zero)
 
 -- a cell that comes brings none
@@ -87,4 +100,5 @@ counts_of-with_cell plan capacity =
       sum_by_push limits_of plan.cells (bare_cell capacity),
       sum_by_push demands_of plan.cells (bare_cell capacity),
       sum_by_push turns_of plan.cells (bare_cell capacity),
+      sum_by_push speeds_of plan.cells (bare_cell capacity),
     ) (simp add-zero)

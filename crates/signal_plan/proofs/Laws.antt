@@ -1,19 +1,21 @@
--- What callers may know of a plan's capacities, turning shares, demands and totals.
-use Rattle.std.specs.Prelude.{All, reverse, if◌then◌else◌}
+-- What callers may know of a plan's capacities, turning shares, speeds, demands and totals.
+use Rattle.std.specs.Prelude.{All, Bool, ◌==◌, not, reverse, if◌then◌else◌}
 use Rattle.std.specs.List.{range_with_len}
-use Rattle.std.proofs.Common.{◌≡◌, ℕ, suc, true, false, zero-add, ◌+◌, ◌-◌, ◌*◌, ◌<◌, ◌≤◌, List, length, get_or, inl, inr, arith, refl, ap, sym, subst, ◌∙◌}
-use Rattle.std.proofs.Math.Nat.{mul-le-mul, mul-le-mul_right}
-use Rattle.std.proofs.lemmas.Bool.{cases_lt}
+use Rattle.std.specs.Option.{option_map_or}
+use Rattle.std.proofs.Common.{◌≡◌, ℕ, suc, true, false, zero-add, ◌+◌, ◌-◌, ◌*◌, ◌<◌, ◌≤◌, List, [], ◌∷◌, length, get_or, inl, inr, arith, refl, ap, sym, subst, ◌∙◌}
+use Rattle.std.proofs.Math.Nat.{div-le_of_le-mul, mul_comm, mul-div_left, mul-le-mul, mul-le-mul_left, mul-le-mul_right}
+use Rattle.std.proofs.lemmas.Bool.{cases_lt, eqb-true}
 use Rattle.std.proofs.lemmas.List.{get_or_default}
 use Rattle.std.proofs.lemmas.List.Elements.{All-nil, All-weaker}
 use Rattle.std.proofs.lemmas.List.FromFn.{length-range_with_len, get_or-range_with_len}
 use Rattle.std.proofs.lemmas.List.Sums.{sum_by-cons, sum_by-le, get_or-le-sum_by}
 use Rattle.signal_plan.specs.Limits.{most_records, most_parts}
-use Rattle.signal_plan.specs.Records.{CellRecords, DemandRecord, PlannedCell, PlanRecords, bare_cell, in_range, planned_at, records_at}
-use Rattle.signal_plan.specs.Sound.{AreSound, IsSoundDemand, IsSoundPlan}
+use Rattle.signal_plan.specs.Records.{CellRecords, DemandRecord, PlannedCell, PlanRecords, SpeedRecord, bare_cell, in_range, planned_at, records_at}
+use Rattle.signal_plan.specs.Sound.{AreSound, IsSoundDemand, IsSoundPlan, IsSoundSpeed}
 use Rattle.signal_plan.specs.Capacity.{capacity_at}
 use Rattle.signal_plan.specs.Demand.{brings, demand_at}
 use Rattle.signal_plan.specs.Total.{demand_from, own_demand_from, total_demand}
+use Rattle.signal_plan.specs.Speeds.{IsSpeed, arriving, has_speeds, last_speed, speed_at}
 use Rattle.signal_plan.specs.Turning.{shares_at}
 use Rattle.signal_plan.proofs.Sums.{sum_by_range_split, sum_by-le-times}
 use Rattle.signal_plan.proofs.Planned.{records_at-all, records_at-past}
@@ -36,6 +38,45 @@ shares_at-all P plan cell t own fallback turns =
     let each = records_at-all (λ records. All (λ turn. P (turn.b1, turn.b2)) records.turns) plan cell turns (All-nil _) in
     find-has P (λ u. (u.b1, u.b2)) (λ u. in_range u.from u.to t) (reverse (records_at plan cell).turns) own
     (All-reverse (λ u. P (u.b1, u.b2)) (records_at plan cell).turns each) fallback
+
+-- the speed records of each cell have speeds within bounds
+speeds-sound : (plan : PlanRecords) (cell : ℕ) → IsSoundPlan plan → All (λ s. IsSpeed (s.num, s.den)) (records_at plan cell).speeds
+speeds-sound plan cell sound = elim (cases_lt cell (length plan.cells)) [
+  | inl there ↦
+      All-weaker (λ (s : SpeedRecord). (s.cell ≡ cell) × IsSoundSpeed s) (λ s. IsSpeed (s.num, s.den)) (λ s fits. fits.1.bounds) (records_at plan cell).speeds (sound.records cell there).speeds
+  | inr past ↦
+      subst (λ (own : CellRecords). All (λ s. IsSpeed (s.num, s.den)) own.speeds) (sym (records_at-past plan cell past)) (All-nil (λ (s : SpeedRecord). IsSpeed (s.num, s.den)))
+]
+
+-- the road's own speed
+pub IsSpeed-own : IsSpeed (1, 1)
+IsSpeed-own = record { positive = omega arith; ratio = omega arith; small = omega arith }
+
+pub speed_at-sound : (plan : PlanRecords) (cell t : ℕ) → IsSoundPlan plan → IsSpeed (speed_at plan cell t)
+unfolding speed_at
+speed_at-sound plan cell t sound =
+    find-has IsSpeed (λ s. (s.num, s.den)) (λ s. in_range s.from s.to t) (reverse (records_at plan cell).speeds) (1, 1)
+    (All-reverse (λ s. IsSpeed (s.num, s.den)) (records_at plan cell).speeds (speeds-sound plan cell sound)) IsSpeed-own
+
+-- a cell without speed records has the road's own speed
+pub speed_at-none : (plan : PlanRecords) (cell t : ℕ) → has_speeds plan cell ≡ false → speed_at plan cell t ≡ (1, 1)
+unfolding speed_at has_speeds
+speed_at-none plan cell t none = by (records_at plan cell).speeds (eqb-true (length (records_at plan cell).speeds) 0 (is_zero (length (records_at plan cell).speeds == 0) none))
+  where
+    is_zero : (b : Bool) → not b ≡ false → b ≡ true
+    is_zero true e = refl
+    is_zero false e = cc e
+    by : (speeds : List SpeedRecord) → length speeds ≡ 0 → ◌≡◌ {A = ℕ × ℕ} (option_map_or (λ speed. (speed.num, speed.den)) (last_speed speeds t) (1, 1)) (1, 1)
+    by [] e = refl
+    by (speed ∷ speeds) e = absurd (omega (arith, e))
+
+pub arriving-own : (n : ℕ) → arriving (1, 1) n ≡ n
+arriving-own n = mul-div_left n (omega arith)
+
+-- no more arrive than there are
+pub arriving-le : (speed : ℕ × ℕ) (n : ℕ) → IsSpeed speed → arriving speed n ≤ n
+arriving-le speed n fits =
+    div-le_of_le-mul speed.1 (omega (arith, mul_comm n speed.1, mul-le-mul_left n fits.ratio))
 
 brings-le : (d : DemandRecord) (t : ℕ) → brings d t ≤ d.amount
 brings-le d t =

@@ -6,10 +6,10 @@ use Rattle.std.proofs.lemmas.List.Elements.{All-nil, All-push}
 use Rattle.signal_plan.specs.Counts.{counts_of, demand_count}
 use Rattle.signal_plan.specs.Green.{is_signalled}
 use Rattle.signal_plan.specs.Limits.{most_cells, most_records}
-use Rattle.signal_plan.specs.Records.{CellRecords, DemandRecord, LimitRecord, PlannedCell, PlanRecords, SignalRecord, TurnRecord, bare, bare_cell, no_records, records_at, with_cell, with_demand, with_limit, with_own_demand, with_own_limit, with_own_signal, with_own_turn, with_records, with_signal, with_turn}
-use Rattle.signal_plan.specs.Sound.{AreSound, IsCounted, IsSoundDemand, IsSoundPlan, IsSoundSignal, IsSoundTurn}
+use Rattle.signal_plan.specs.Records.{CellRecords, DemandRecord, LimitRecord, PlannedCell, PlanRecords, SignalRecord, SpeedRecord, TurnRecord, bare, bare_cell, no_records, records_at, with_cell, with_demand, with_limit, with_own_demand, with_own_limit, with_own_signal, with_own_speed, with_own_turn, with_records, with_signal, with_speed, with_turn}
+use Rattle.signal_plan.specs.Sound.{AreSound, IsCounted, IsSoundDemand, IsSoundPlan, IsSoundSignal, IsSoundSpeed, IsSoundTurn}
 use Rattle.signal_plan.specs.declared.plan_counts.PlanCounts.{PlanCounts}
-use Rattle.signal_plan.proofs.Counting.{counts_of-with_cell, counts_of-with_demand, counts_of-with_limit, counts_of-with_signal, counts_of-with_turn}
+use Rattle.signal_plan.proofs.Counting.{counts_of-with_cell, counts_of-with_demand, counts_of-with_limit, counts_of-with_signal, counts_of-with_speed, counts_of-with_turn}
 use Rattle.signal_plan.proofs.Planned.{records_at-with_other, records_at-with_same}
 
 AreSound-bare : (cell : ℕ) → AreSound cell bare
@@ -18,6 +18,7 @@ AreSound-bare cell = record {
   limits = All-nil _;
   demands = All-nil _;
   turns = All-nil _;
+  speeds = All-nil _;
 }
 
 pub IsSoundPlan-no_records : IsSoundPlan no_records
@@ -72,7 +73,7 @@ pub IsCounted-with_signal : (plan : PlanRecords) (signal : SignalRecord) (counts
 IsCounted-with_signal plan signal counts more has none fits one counted =
     let old = counted.sound.records signal.cell has in
     IsCounted-with_records plan signal.cell (with_own_signal (records_at plan signal.cell) signal) counts (record counts { signals = more }) has
-    (record { signal = (refl, fits); limits = old.limits; demands = old.demands; turns = old.turns })
+    (record { signal = (refl, fits); limits = old.limits; demands = old.demands; turns = old.turns; speeds = old.speeds })
     (rw (one, counted.counts) (sym (counts_of-with_signal plan signal has none))) (few_demands plan counts counted) counted
 
 pub IsCounted-with_limit : (plan : PlanRecords) (limit : LimitRecord) (counts : PlanCounts) (more : ℕ) → limit.cell < length plan.cells →
@@ -87,6 +88,7 @@ IsCounted-with_limit plan limit counts more has fits one counted =
       limits = All-push (λ l. (l.cell ≡ limit.cell) × (l.from < l.to)) own.limits limit old.limits (refl, fits);
       demands = old.demands;
       turns = old.turns;
+      speeds = old.speeds;
     })
     (rw (one, counted.counts) (sym (counts_of-with_limit plan limit has))) (few_demands plan counts counted) counted
 
@@ -102,6 +104,7 @@ IsCounted-with_demand plan demand counts more has few fits one counted =
       limits = old.limits;
       demands = All-push (λ d. (d.cell ≡ demand.cell) × IsSoundDemand d) own.demands demand old.demands (refl, fits);
       turns = old.turns;
+      speeds = old.speeds;
     })
     (rw (one, counted.counts) (sym (counts_of-with_demand plan demand has)))
     (omega (arith, one, few, ap (λ (n : PlanCounts). n.demands) counted.counts)) counted
@@ -118,5 +121,22 @@ IsCounted-with_turn plan turn counts more has fits one counted =
       limits = old.limits;
       demands = old.demands;
       turns = All-push (λ u. (u.cell ≡ turn.cell) × IsSoundTurn u) own.turns turn old.turns (refl, fits);
+      speeds = old.speeds;
     })
     (rw (one, counted.counts) (sym (counts_of-with_turn plan turn has))) (few_demands plan counts counted) counted
+
+pub IsCounted-with_speed : (plan : PlanRecords) (speed : SpeedRecord) (counts : PlanCounts) (more : ℕ) → speed.cell < length plan.cells →
+    IsSoundSpeed speed → more ≡ counts.speeds + 1 → IsCounted plan counts →
+    IsCounted (with_speed plan speed) (record counts { speeds = more })
+IsCounted-with_speed plan speed counts more has fits one counted =
+    let old = counted.sound.records speed.cell has in
+    let own = records_at plan speed.cell in
+    IsCounted-with_records plan speed.cell (with_own_speed own speed) counts (record counts { speeds = more }) has
+    (record {
+      signal = old.signal;
+      limits = old.limits;
+      demands = old.demands;
+      turns = old.turns;
+      speeds = All-push (λ s. (s.cell ≡ speed.cell) × IsSoundSpeed s) own.speeds speed old.speeds (refl, fits);
+    })
+    (rw (one, counted.counts) (sym (counts_of-with_speed plan speed has))) (few_demands plan counts counted) counted

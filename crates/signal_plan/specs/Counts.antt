@@ -15,10 +15,14 @@ demand_count plan = sum_by (λ cell. length cell.records.demands) plan.cells
 abbrev pub turn_count : PlanRecords → ℕ
 turn_count plan = sum_by (λ cell. length cell.records.turns) plan.cells
 
+abbrev pub speed_count : PlanRecords → ℕ
+speed_count plan = sum_by (λ cell. length cell.records.speeds) plan.cells
+
 abbrev pub counts_of : PlanRecords → PlanCounts
 counts_of plan = record {
   signals = signal_count plan;
   limits = limit_count plan;
   demands = demand_count plan;
   turns = turn_count plan;
+  speeds = speed_count plan;
 }

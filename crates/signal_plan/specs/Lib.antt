@@ -1,6 +1,7 @@
 pub mod Limits
 pub mod Records
 pub mod Counts
+pub mod Speeds
 pub mod Sound
 pub mod Capacity
 pub mod Green

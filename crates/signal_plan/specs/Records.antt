@@ -35,12 +35,21 @@ pub record TurnRecord : Type 0 where
   pub b1 : ℕ
   pub b2 : ℕ
 
--- the records of a cell: its signal, and its limit, demand and turn records in the order in which they were put
+-- in each step of `[from, to)` the free-flow speed in the cell is num/den of the road's
+pub record SpeedRecord : Type 0 where
+  pub cell : ℕ
+  pub from : ℕ
+  pub to : ℕ
+  pub num : ℕ
+  pub den : ℕ
+
+-- the records of a cell: its signal, and its limit, demand, turn and speed records in the order in which they were put
 pub record CellRecords : Type 0 where
   pub signal : Option SignalRecord
   pub limits : List LimitRecord
   pub demands : List DemandRecord
   pub turns : List TurnRecord
+  pub speeds : List SpeedRecord
 
 -- the capacity Q of a cell, and its records
 pub record PlannedCell : Type 0 where
@@ -53,7 +62,7 @@ pub record PlanRecords : Type 0 where
 
 -- no records
 abbrev pub bare : CellRecords
-bare = record { signal = None; limits = []; demands = []; turns = [] }
+bare = record { signal = None; limits = []; demands = []; turns = []; speeds = [] }
 
 -- a cell without records
 abbrev pub bare_cell : (capacity : ℕ) → PlannedCell
@@ -92,6 +101,9 @@ with_own_demand own demand = record own { demands = own.demands ++ demand ∷ []
 abbrev pub with_own_turn : CellRecords → TurnRecord → CellRecords
 with_own_turn own turn = record own { turns = own.turns ++ turn ∷ [] }
 
+abbrev pub with_own_speed : CellRecords → SpeedRecord → CellRecords
+with_own_speed own speed = record own { speeds = own.speeds ++ speed ∷ [] }
+
 -- the record among those of its cell
 abbrev pub with_signal : PlanRecords → SignalRecord → PlanRecords
 with_signal plan signal = with_records plan signal.cell (with_own_signal (records_at plan signal.cell) signal)
@@ -104,3 +116,6 @@ with_demand plan demand = with_records plan demand.cell (with_own_demand (record
 
 abbrev pub with_turn : PlanRecords → TurnRecord → PlanRecords
 with_turn plan turn = with_records plan turn.cell (with_own_turn (records_at plan turn.cell) turn)
+
+abbrev pub with_speed : PlanRecords → SpeedRecord → PlanRecords
+with_speed plan speed = with_records plan speed.cell (with_own_speed (records_at plan speed.cell) speed)

@@ -1,7 +1,8 @@
 use Rattle.std.specs.Prelude.{◌≡◌, ℕ, ◌<◌, ◌≤◌, length, All, IfSome}
 use Rattle.signal_plan.specs.Counts.{counts_of, demand_count}
 use Rattle.signal_plan.specs.Limits.{most_cells, most_records, most_parts, most_ratio, most_steps}
-use Rattle.signal_plan.specs.Records.{CellRecords, DemandRecord, PlanRecords, SignalRecord, TurnRecord, records_at}
+use Rattle.signal_plan.specs.Records.{CellRecords, DemandRecord, PlanRecords, SignalRecord, SpeedRecord, TurnRecord, records_at}
+use Rattle.signal_plan.specs.Speeds.{IsSpeed}
 use Rattle.signal_plan.specs.declared.plan_counts.PlanCounts.{PlanCounts}
 
 -- the offset and the green range lie in the cycle
@@ -24,12 +25,18 @@ pub record IsSoundTurn (turn : TurnRecord) : Type 0 where
   pub first : turn.b1 ≤ most_ratio
   pub second : turn.b2 ≤ most_ratio
 
+-- the record has a step, and its speed is at most the road's
+pub record IsSoundSpeed (speed : SpeedRecord) : Type 0 where
+  pub steps : speed.from < speed.to
+  pub bounds : IsSpeed (speed.num, speed.den)
+
 -- what holds of the records of each cell: they are of this cell, and sound
 pub record AreSound (cell : ℕ) (own : CellRecords) : Type 0 where
   pub signal : IfSome own.signal (λ signal. (signal.cell ≡ cell) × IsSoundSignal signal)
   pub limits : All (λ limit. (limit.cell ≡ cell) × (limit.from < limit.to)) own.limits
   pub demands : All (λ demand. (demand.cell ≡ cell) × IsSoundDemand demand) own.demands
   pub turns : All (λ turn. (turn.cell ≡ cell) × IsSoundTurn turn) own.turns
+  pub speeds : All (λ speed. (speed.cell ≡ cell) × IsSoundSpeed speed) own.speeds
 
 -- what holds of every plan
 pub record IsSoundPlan (plan : PlanRecords) : Type 0 where

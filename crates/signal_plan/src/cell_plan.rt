@@ -1,4 +1,4 @@
-ghost use Rattle.std.specs.Prelude.{◌≡◌, ℕ, ◌<◌, ◌^◌, is_some, reverse, IfOk, OnOk, OnErr};
+ghost use Rattle.std.specs.Prelude.{◌≡◌, ◌==◌, ℕ, ◌<◌, ◌^◌, is_some, length, not, reverse, IfOk, OnOk, OnErr};
 ghost use Rattle.std.specs.List.{find};
 ghost use Rattle.signal_plan.specs.Changes.{in_force, IsRising};
 
@@ -11,6 +11,7 @@ use crate::limit::Limit;
 use crate::ranged::Ranged;
 use crate::record_changes::record_changes;
 use crate::signal::Signal;
+use crate::speed::Speed;
 use crate::turn::Turn;
 use no_memory::NoMemory;
 use std::alloc::Global;
@@ -45,6 +46,7 @@ impl CellPlan {
     ghost use Rattle.signal_plan.specs.Demand.{own_demand};
     ghost use Rattle.signal_plan.specs.Total.{own_demand_from};
     ghost use Rattle.signal_plan.specs.Turning.{own_shares};
+    ghost use Rattle.signal_plan.specs.Speeds.{own_speed};
 
     /// A cell of this capacity, without records.
     pub(crate) fn new(capacity: u64) -> Self
@@ -112,6 +114,23 @@ impl CellPlan {
         }
     }
 
+    // Its speed records.
+    fn speeds(&self) -> &[Speed]
+        ensures { result.now ≡ self.now.records.speeds }
+    {
+        match &self.records {
+            Some(records) => &records.speeds,
+            None => &[],
+        }
+    }
+
+    /// Whether the cell has a speed record.
+    pub(crate) fn has_speeds(&self) -> bool
+        ensures { result ≡ not (length self.now.records.speeds == 0) }
+    {
+        !self.speeds().is_empty()
+    }
+
     /// Whether the cell has a signal.
     pub(crate) fn has_signal(&self) -> bool
         ensures { result ≡ is_some self.now.records.signal }
@@ -147,6 +166,16 @@ impl CellPlan {
         match newest_at(self.turns(), t) {
             Some(turn) => (turn.b1, turn.b2),
             None => own,
+        }
+    }
+
+    /// The speed at step `t` as a ratio to the road's, by the newest speed record that speaks of it, and else 1/1.
+    pub(crate) fn speed_at(&self, t: u64) -> (u32, u32)
+        ensures { result ≡ own_speed self.now.records t }
+    {
+        match newest_at(self.speeds(), t) {
+            Some(speed) => (speed.num, speed.den),
+            None => (1, 1),
         }
     }
 
@@ -206,6 +235,16 @@ impl CellPlan {
     {
         let changes = record_changes(alloc, self.turns())?;
         with_fallback(alloc, &changes, own)
+    }
+
+    /// The changes of the speed as a ratio to the road's, which is 1/1 where no speed record speaks.
+    pub(crate) fn speed_changes(&self, alloc: Global) -> Result<Vec<Change<(u32, u32)>>, NoMemory>
+        ensures in_force { IfOk result (λ changes. (t : ℕ) → in_force (1, 1) changes.items t ≡
+            own_speed self.now.records t) }
+        ensures rising { IfOk result (λ changes. IsRising changes.items) }
+    {
+        let changes = record_changes(alloc, self.speeds())?;
+        with_fallback(alloc, &changes, (1, 1))
     }
 }
 

@@ -4,6 +4,7 @@ ghost use Rattle.signal_plan.specs.Records as cell;
 use crate::demand::Demand;
 use crate::limit::Limit;
 use crate::signal::Signal;
+use crate::speed::Speed;
 use crate::turn::Turn;
 use no_memory::NoMemory;
 use std::alloc::Global;
@@ -16,6 +17,7 @@ pub(crate) struct CellRecords {
     pub(crate) limits: Vec<Limit>,
     pub(crate) demands: Vec<Demand>,
     pub(crate) turns: Vec<Turn>,
+    pub(crate) speeds: Vec<Speed>,
 }
 
 impl Model for CellRecords {
@@ -26,6 +28,7 @@ impl Model for CellRecords {
       limits = own.limits.items;
       demands = own.demands.items;
       turns = own.turns.items;
+      speeds = own.speeds.items;
     } };
 }
 
@@ -39,6 +42,7 @@ impl CellRecords {
             limits: Vec::new(alloc),
             demands: Vec::new(alloc),
             turns: Vec::new(alloc),
+            speeds: Vec::new(alloc),
         }
     }
 }
@@ -85,6 +89,14 @@ impl CellRecord for Turn {
 
     fn put_into(self, records: &mut CellRecords) -> Result<(), NoMemory> {
         push(&mut records.turns, self)
+    }
+}
+
+impl CellRecord for Speed {
+    ghost added = { cell.with_own_speed };
+
+    fn put_into(self, records: &mut CellRecords) -> Result<(), NoMemory> {
+        push(&mut records.speeds, self)
     }
 }
 

@@ -1,12 +1,12 @@
 //! The plan of a network: what the network file says of single steps.
 //!
-//! A plan has a list of cells, each with its capacity and its signal, limits, demand records and turn
-//! records. It is asked for the capacity, the light, the demand and the turning shares of a cell at a
-//! step, or for all their changes in the order of the steps. Amounts are in parts, millionths of a
+//! A plan has a list of cells, each with its capacity and its signal, limits, demand records, turn
+//! records and speed records. It is asked for the capacity, the light, the demand, the turning shares
+//! and the speed of a cell at a step, or for all their changes in the order of the steps. Amounts are in parts, millionths of a
 //! vehicle; cells are numbered from 0 in the order in which they were put.
 //!
 //! - The plan is in `step_plan`; what it says of one cell in `cell_plan`, over its `cell_records`; the
-//!   records in `signal`, `limit`, `demand` and `turn`.
+//!   records in `signal`, `limit`, `demand`, `turn` and `speed`.
 //! - Lists of changes: `span` makes that of one `ranged` record; `merge` makes one of two lists, by a
 //!   `join` of their values; `record_changes` that of all records of one kind that a cell has; `fallback`
 //!   puts the cell's own value where no record speaks.
@@ -27,6 +27,7 @@ mod ranged;
 mod record_changes;
 mod signal;
 mod span;
+mod speed;
 mod step_plan;
 mod turn;
 
@@ -36,5 +37,6 @@ pub use demand::Demand;
 pub use limit::Limit;
 pub use plan_counts::PlanCounts;
 pub use signal::Signal;
+pub use speed::Speed;
 pub use step_plan::Plan;
 pub use turn::Turn;

@@ -9,4 +9,6 @@ pub struct PlanCounts {
     pub demands: usize,
     /// The turn records.
     pub turns: usize,
+    /// The speed records.
+    pub speeds: usize,
 }

@@ -1,5 +1,5 @@
 ghost use Rattle.std.specs.Prelude.{◌≡◌, ◌+◌, ◌*◌, ◌<◌, ◌≤◌, ℕ, false, length, IfOk, OnOk, OnErr};
-ghost use Rattle.signal_plan.specs.Records.{no_records, planned_at, with_cell, with_demand, with_limit, with_signal, with_turn};
+ghost use Rattle.signal_plan.specs.Records.{no_records, planned_at, with_cell, with_demand, with_limit, with_signal, with_speed, with_turn};
 ghost use Rattle.signal_plan.specs.Counts.{counts_of, demand_count};
 ghost use Rattle.signal_plan.specs.Sound.{IsSoundPlan};
 ghost use Rattle.signal_plan.specs.Capacity.{capacity_at};
@@ -8,6 +8,7 @@ ghost use Rattle.signal_plan.specs.Changes.{in_force, IsRising};
 ghost use Rattle.signal_plan.specs.Demand.{demand_at};
 ghost use Rattle.signal_plan.specs.Total.{demand_from, total_demand};
 ghost use Rattle.signal_plan.specs.Turning.{shares_at};
+ghost use Rattle.signal_plan.specs.Speeds.{IsSpeed, has_speeds, speed_at};
 
 use crate::bounds::{MOST_CELLS, MOST_PARTS, MOST_RATIO, MOST_RECORDS, MOST_STEPS};
 use crate::cell_plan::CellPlan;
@@ -16,13 +17,14 @@ use crate::demand::Demand;
 use crate::limit::Limit;
 use crate::plan_counts::PlanCounts;
 use crate::signal::Signal;
+use crate::speed::Speed;
 use crate::turn::Turn;
 use no_memory::NoMemory;
 use std::alloc::Global;
 use std::marker::Model;
 
 /// What varies from step to step: the capacity of each cell, the light of each signal, the demand of
-/// each gate and the turning shares of each diverge.
+/// each gate, the turning shares of each diverge and the speed in each road.
 ///
 /// Each record stands with its cell, so that what is asked of a cell takes the time of its own records
 /// alone.
@@ -57,6 +59,7 @@ impl Plan {
                 limits: 0,
                 demands: 0,
                 turns: 0,
+                speeds: 0,
             },
         }
     }
@@ -136,6 +139,21 @@ impl Plan {
         Ok(())
     }
 
+    /// Adds a speed record. Of the speed records that speak of a step the last one holds.
+    pub fn put_speed(&mut self, speed: Speed) -> Result<(), NoMemory>
+        requires has_cell { speed.cell < length self.old.cells }
+        requires some_step { speed.from < speed.to }
+        requires bounds { IsSpeed (speed.num, speed.den) }
+        ensures added { OnOk result (self.new ≡ with_speed self.old speed) }
+        ensures unchanged { OnErr result (self.new ≡ self.old) }
+    {
+        let speeds = one_more(self.counts.speeds)?;
+        let own = &mut self.cells[speed.cell as usize];
+        own.put(self.alloc, speed)?;
+        self.counts.speeds = speeds;
+        Ok(())
+    }
+
     /// The capacity of a cell at a step, in parts: `Q` of Daganzo (1994). The time it takes grows with
     /// the limits of this cell alone.
     pub fn capacity(&self, cell: u32, t: u64) -> u64
@@ -185,6 +203,25 @@ impl Plan {
         ensures { result ≡ shares_at self.now cell t own }
     {
         self.cells[cell as usize].shares_at(t, own)
+    }
+
+    /// The free-flow speed in a cell at a step, as numerator and denominator of its ratio to the road's: by the last speed
+    /// record that speaks of it, and else 1/1. The time it takes grows with the speed records of this cell alone.
+    pub fn speed(&self, cell: u32, t: u64) -> (u32, u32)
+        requires has_cell { cell < length self.now.cells }
+        requires in_time { t < MOST_STEPS }
+        ensures speed { result ≡ speed_at self.now cell t }
+        ensures bounds { IsSpeed result }
+    {
+        self.cells[cell as usize].speed_at(t)
+    }
+
+    /// Whether a cell has a speed record.
+    pub fn has_speeds(&self, cell: u32) -> bool
+        requires has_cell { cell < length self.now.cells }
+        ensures { result ≡ has_speeds self.now cell }
+    {
+        self.cells[cell as usize].has_speeds()
     }
 
     /// Whether a cell has a signal.
@@ -237,6 +274,20 @@ impl Plan {
         ensures rising { IfOk result (λ changes. IsRising changes.items) }
     {
         self.cells[cell as usize].share_changes(alloc, own)
+    }
+
+    /// The changes of the speed in a cell as a ratio to the road's, from 1/1 at the start. For k speed records of the cell
+    /// it takes time in the order of k log k.
+    pub fn speed_changes(
+        &self,
+        alloc: Global,
+        cell: u32,
+    ) -> Result<Vec<Change<(u32, u32)>>, NoMemory>
+        requires has_cell { cell < length self.now.cells }
+        ensures in_force { IfOk result (λ changes. (t : ℕ) → in_force (1, 1) changes.items t ≡ speed_at self.now cell t) }
+        ensures rising { IfOk result (λ changes. IsRising changes.items) }
+    {
+        self.cells[cell as usize].speed_changes(alloc)
     }
 
     /// How many records of each kind the plan has. It takes the same time for any plan.

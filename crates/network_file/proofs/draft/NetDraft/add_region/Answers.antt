@@ -1,4 +1,4 @@
-use Rattle.std.proofs.Common.{rules, ◌≡◌, ◌++◌, ◌∷◌, []}
+use Rattle.std.proofs.Common.{rules, arith, ◌≡◌, ◌++◌, ◌∷◌, []}
 use Rattle.network_file.proofs.SoundLemmas.{regions-add_region}
 use Rattle.network_file.proofs.draft.NetDraft.add_region.Goals as goal
 
@@ -13,5 +13,5 @@ invariant_of-result c =
       few_steps = c.self.invariant.few_steps;
       sound = c.self.invariant.sound;
       regions = rw regions (regions-add_region draft.cells draft.regions c.args.region fits.there fits.few c.self.invariant.regions);
-      no_regions = λ first. cc (first, fits.second_format);
+      no_regions = λ first. absurd (omega (arith, first, fits.second_format));
     }

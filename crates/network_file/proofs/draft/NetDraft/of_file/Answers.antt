@@ -1,11 +1,12 @@
-use Rattle.std.proofs.Common.{◌≡◌, ◌⊎◌, ℕ, arith, refl, rules}
+use Rattle.std.proofs.Common.{◌≡◌, ℕ, arith, refl, rules}
 use Rattle.std.specs.List.{IsDistinct}
 use Rattle.std.proofs.lemmas.List.Elements.{All-nil}
 use Rattle.signal_plan.specs.Records.{no_records}
 use Rattle.network_file.specs.Draft.{IsSoundDraft, empty_draft}
+use Rattle.network_file.specs.Formats.{IsFormat}
 use Rattle.network_file.proofs.draft.NetDraft.of_file.Goals as goal
 
-sound-empty_draft : (format : ℕ) → (format ≡ 1) ⊎ (format ≡ 2) → IsSoundDraft (empty_draft format)
+sound-empty_draft : (format : ℕ) → IsFormat format → IsSoundDraft (empty_draft format)
 unfolding IsDistinct
 sound-empty_draft format known = record {
   format = known;
@@ -25,7 +26,9 @@ sound-empty_draft format known = record {
       few_limits = omega arith;
       few_demands = omega arith;
       few_turns = omega arith;
+      few_speeds = omega arith;
       no_turns = λ first. refl;
+      no_speeds = λ older. refl;
     };
     turns_diverge = All-nil _;
   };

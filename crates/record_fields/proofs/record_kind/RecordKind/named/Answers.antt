@@ -26,7 +26,7 @@ pub returns-in-region : goal.returns-in-region
 unfolding record_kind_of
 returns-in-region c =
     let same : c.args.text.now ≡ codes "region" = text_from_reads c.args.text.now (codes "region") (omega arith) (search rules) in
-    rw (same, c.if-format-eq2-2.true) refl
+    rw (same, c.if-format-ge2-2.true) refl
 
 pub returns-in-steps : goal.returns-in-steps
 unfolding record_kind_of
@@ -74,4 +74,10 @@ pub returns-in-turn : goal.returns-in-turn
 unfolding record_kind_of
 returns-in-turn c =
     let same : c.args.text.now ≡ codes "turn" = text_from_reads c.args.text.now (codes "turn") (omega arith) (search rules) in
-    rw (same, c.if-format-eq2.true) refl
+    rw (same, c.if-format-ge2.true) refl
+
+pub returns-in-speed : goal.returns-in-speed
+unfolding record_kind_of
+returns-in-speed c =
+    let same : c.args.text.now ≡ codes "speed" = text_from_reads c.args.text.now (codes "speed") (omega arith) (search rules) in
+    rw (same, c.if-format-ge3.true) refl

@@ -1,0 +1,32 @@
+use Rattle.std.specs.Prelude.{ℕ, ◌≤◌, ◌*◌, ◌/◌, Bool, not, ◌==◌, List, Option, length, reverse}
+use Rattle.std.specs.List.{find}
+use Rattle.std.specs.Option.{option_map_or}
+use Rattle.signal_plan.specs.Limits.{most_ratio}
+use Rattle.signal_plan.specs.Records.{CellRecords, PlanRecords, SpeedRecord, in_range, records_at}
+
+-- the last speed record whose range contains `t`
+abbrev pub last_speed : List SpeedRecord → (t : ℕ) → Option SpeedRecord
+last_speed speeds t = find (λ speed. in_range speed.from speed.to t) (reverse speeds)
+
+-- the speed by that record as a ratio to the road's, and else the road's own
+abbrev pub own_speed : CellRecords → (t : ℕ) → ℕ × ℕ
+own_speed own t = option_map_or (λ speed. (speed.num, speed.den)) (last_speed own.speeds t) (1, 1)
+
+-- the free-flow speed in the cell as a ratio to the road's: that of the cell's last speed record whose range contains `t`,
+-- and else 1/1
+unfoldable pub speed_at : PlanRecords → (cell t : ℕ) → ℕ × ℕ
+speed_at plan cell t = own_speed (records_at plan cell) t
+
+-- a ratio of at most 1, with numbers up to 1,000
+pub record IsSpeed (speed : ℕ × ℕ) : Type 0 where
+  pub positive : 1 ≤ speed.0
+  pub ratio : speed.0 ≤ speed.1
+  pub small : speed.1 ≤ most_ratio
+
+-- of n parts those that reach the end of a cell in a step at this speed, which is at most the road's
+abbrev pub arriving : (speed : ℕ × ℕ) → (n : ℕ) → ℕ
+arriving speed n = n * speed.0 / speed.1
+
+-- whether the cell has a speed record
+unfoldable pub has_speeds : PlanRecords → (cell : ℕ) → Bool
+has_speeds plan cell = not (length (records_at plan cell).speeds == 0)
