@@ -1,5 +1,5 @@
 //! Values of a network's plan that change from step to step: what a cell sends or receives at most, what a link carries at
-//! most, a gate's demand, a diverge's turning shares.
+//! most, a gate's demand, a diverge's turning shares, the speed in a road.
 //!
 //! A course follows one such value forward. It answers with the value in force at a step and the first step at which that
 //! may end ([`Now`]); until then the plan isn't asked again. The crate knows no network and no places.
@@ -11,6 +11,7 @@ mod link_course;
 mod now;
 mod phase;
 mod shares;
+mod speeds;
 mod timeline;
 
 pub use cell_course::CellCourse;
@@ -18,4 +19,5 @@ pub use demands::demand_of;
 pub use link_course::LinkCourse;
 pub use now::Now;
 pub use shares::shares_of;
+pub use speeds::speed_of;
 pub use timeline::Timeline;

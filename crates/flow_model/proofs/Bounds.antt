@@ -5,12 +5,12 @@ use Rattle.fixed_flow.specs.Limits.{most_parts}
 use Rattle.signal_plan.specs.Demand.{demand_at}
 use Rattle.signal_plan.specs.Limits.{most_steps}
 use Rattle.signal_plan.proofs.Laws.{demand_from_more}
-use Rattle.network_file.specs.Cells.{is_gate_at, is_exit_at}
+use Rattle.network_file.specs.Cells.{is_gate_at, is_exit_at, is_road_at}
 use Rattle.network_file.specs.Network.{Network, IsNetwork, IsSoundCell}
 use Rattle.network_file.specs.Limits.{most_capacity, most_room}
 use Rattle.flow_model.specs.Flows.{inflow, outflow}
 use Rattle.flow_model.specs.Rows.{moved_row}
-use Rattle.flow_model.specs.Bounds.{is_road_at, room_parts_at, IsHeldInBounds, IsRowInBounds}
+use Rattle.flow_model.specs.Bounds.{room_parts_at, IsHeldInBounds, IsRowInBounds}
 use Rattle.flow_model.specs.declared.row.Row.{Row}
 use Rattle.flow_model.proofs.CellKinds.{cell_at, All-at, kinds_at, road_at-alone, exit_at-no_gate}
 use Rattle.flow_model.proofs.CellLimits.{sending_at-le-held, sending_at-le-capacity, receiving_at-le-capacity, capacity_at-le, add-receiving_at-le-most}
@@ -33,7 +33,7 @@ changes net t i n enters leaves sound has demand brings takes =
     let capacity = capacity_at-le net t i sound has in
     let sent = outflow-le net t i n sound in
     record {
-      held = omega (arith, sent, sending_at-le-held net t i (n i));
+      held = omega (arith, sent, sending_at-le-held net t i (n i) sound);
       sent = omega (arith, sent, capacity, sending_at-le-capacity net t i (n i));
       exit = λ exit. omega (arith, outflow-exit net t i n sound exit);
       demand = demand;

@@ -6,26 +6,42 @@ use Rattle.ordinary_link.specs.Space.{IsRoomHolding}
 use Rattle.ordinary_link.proofs.Bounds.{sending_flow-le-held, sending_flow-le-capacity, receiving_flow-le-capacity, add-receiving_flow-le-most}
 use Rattle.signal_plan.specs.Capacity.{capacity_at}
 use Rattle.signal_plan.specs.Green.{green_at}
-use Rattle.signal_plan.specs.Records.{LimitRecord, bare_cell, records_at}
+use Rattle.signal_plan.specs.Records.{LimitRecord, SpeedRecord, bare_cell, records_at}
+use Rattle.signal_plan.specs.Sound.{IsSoundSpeed}
+use Rattle.signal_plan.specs.Speeds.{IsSpeed, arriving, speed_at}
 use Rattle.signal_plan.specs.Limits.{most_steps}
 use Rattle.signal_plan.proofs.Laws as plan
-use Rattle.network_file.specs.Cells.{is_road}
-use Rattle.network_file.specs.Network.{Network, IsNetwork, IsSoundCell}
+use Rattle.network_file.specs.Cells.{is_road, is_road_at}
+use Rattle.network_file.specs.Network.{Network, IsNetwork, IsPlannedCell, IsSoundCell}
 use Rattle.network_file.specs.Limits.{most_capacity}
 use Rattle.network_file.specs.declared.cell.Cell.{Cell}
 use Rattle.network_file.specs.declared.cell.Kind.{Kind}
 use Rattle.network_file.specs.declared.cell.Kind.TheVariants.{Road, Gate, Exit}
 use Rattle.flow_model.specs.Limits.{room_by, room_at, sending_at, receiving_at}
-use Rattle.flow_model.specs.Bounds.{is_road_at, room_parts_at}
+use Rattle.flow_model.specs.Bounds.{room_parts_at}
 use Rattle.flow_model.proofs.CellKinds.{cell_at, All-at}
 
-pub sending_at-le-held : (net : Network) (t i n : ℕ) → sending_at net t i n ≤ n
+-- the speed in a cell at a step is a ratio of at most 1
+pub speed_at-sound : (net : Network) (i t : ℕ) → IsNetwork net → IsSpeed (speed_at net.plan i t)
+speed_at-sound net i t sound =
+    plan.speed_at-all IsSpeed net.plan i t plan.IsSpeed-own
+    (All-weaker (IsPlannedCell net.cells) (λ planned. All (λ speed. IsSpeed (speed.num, speed.den)) planned.records.speeds)
+    (λ planned fits. All-weaker (λ (speed : SpeedRecord). (is_road_at net.cells speed.cell ≡ true) × (speed.to ≤ most_steps) × IsSoundSpeed speed)
+    (λ speed. IsSpeed (speed.num, speed.den)) (λ speed within. within.2.bounds) planned.records.speeds fits.speeds) net.plan.cells sound.sound.planned.planned)
+
+pub sending_at-le-held : (net : Network) (t i n : ℕ) → IsNetwork net → sending_at net t i n ≤ n
 unfolding sending_at
-sending_at-le-held net t i n = sending_flow-le-held n (capacity_at net.plan i t) (green_at net.plan i t)
+sending_at-le-held net t i n sound =
+    let arrive : ℕ = arriving (speed_at net.plan i t) n in
+    omega (
+      arith,
+      sending_flow-le-held arrive (capacity_at net.plan i t) (green_at net.plan i t),
+      plan.arriving-le (speed_at net.plan i t) n (speed_at-sound net i t sound),
+    )
 
 pub sending_at-le-capacity : (net : Network) (t i n : ℕ) → sending_at net t i n ≤ capacity_at net.plan i t
 unfolding sending_at
-sending_at-le-capacity net t i n = sending_flow-le-capacity n (capacity_at net.plan i t) (green_at net.plan i t)
+sending_at-le-capacity net t i n = sending_flow-le-capacity (arriving (speed_at net.plan i t) n) (capacity_at net.plan i t) (green_at net.plan i t)
 
 pub receiving_at-le-capacity : (net : Network) (t i n : ℕ) → receiving_at net t i n ≤ capacity_at net.plan i t
 unfolding receiving_at

@@ -2,6 +2,7 @@ ghost use Rattle.std.specs.Prelude.{◌≡◌, ◌<◌, length};
 ghost use Rattle.flow_model.specs.Limits.{room_by, sending_at, receiving_at};
 ghost use Rattle.flow_model.specs.Bounds.{IsHeldInBounds};
 
+use fixed_flow::share_floor;
 use network_file::{Cell, Kind, Net};
 use ordinary_link::{Room, receiving, sending};
 
@@ -19,7 +20,7 @@ fn room(cell: &Cell) -> Option<Room>
     }
 }
 
-/// What a cell can send in step `t` where it holds `n` parts.
+/// What a cell can send in step `t` where it holds `n` parts: of those that reach its end at the speed of the step.
 #[tactic(auto, unfolding(crate::specs::Limits::sending_at))]
 pub(crate) fn sending_at(net: &Net, t: u64, cell: u32, n: u64) -> u64
     requires has_cell { cell < length net.now.cells }
@@ -27,7 +28,13 @@ pub(crate) fn sending_at(net: &Net, t: u64, cell: u32, n: u64) -> u64
     ensures { result ≡ sending_at net.now t cell n }
 {
     let _steps = net.steps;
-    sending(n, net.plan.capacity(cell, t), net.plan.green(cell, t))
+    let (num, den) = net.plan.speed(cell, t);
+    let arriving = share_floor(n, u64::from(num), u64::from(den));
+    sending(
+        arriving,
+        net.plan.capacity(cell, t),
+        net.plan.green(cell, t),
+    )
 }
 
 /// What a cell can receive in step `t` where it holds `n` parts.

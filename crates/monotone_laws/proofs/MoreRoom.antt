@@ -42,5 +42,6 @@ eased-by-rooms net room more =
           subst (IsRoomier a) (same_cell (wider a) b (sym (slice_get-map wider net.cells i ∙ ap (option_map wider) here) ∙ there))
           (record { kind = refl; first = refl; room = more a; ratio = omega arith });
       capacity = λ i t has before. omega arith;
+      speed = λ i t has before. omega arith;
       green = λ i t has before is. is;
     }

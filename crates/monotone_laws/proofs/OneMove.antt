@@ -1,9 +1,10 @@
 -- One move by a link, as plain numbers: by u at most what has gone out of a cell in one network passes what has in the other.
 use Rattle.std.proofs.Common.{◌≡◌, inl, inr, ℕ, Bool, true, false, min, ◌+◌, ◌-◌, ◌*◌, ◌/◌, ◌≤◌, ap, arith, refl}
-use Rattle.std.proofs.Math.Nat.{div-mul-le_self, le_of_mul-le-mul_right, mul-le-mul_left, mul-le-mul_right}
+use Rattle.std.proofs.Math.Nat.{div-mul-le_self, le_of_mul-le-mul_right, mul_comm, mul-le-mul_left, mul-le-mul_right}
 use Rattle.std.proofs.lemmas.Bool.{cases_lt}
 use Rattle.std.proofs.lemmas.Nat.{le-div}
 use Rattle.ordinary_link.specs.Sending.{sending_flow}
+use Rattle.signal_plan.specs.Speeds.{IsSpeed, arriving}
 
 times_sum : (a y d : ℕ) → a * (y + d) ≡ a * y + a * d
 times_sum a y d = grind arith
@@ -46,6 +47,16 @@ ratio_on a b c d y some too ratio =
   where
     swap : (m n k : ℕ) → m * n * k ≡ m * k * n
     swap m n k = grind arith
+
+-- at a speed no lower, of as much that has come in, no less has gone out and reaches the end
+pub speed_on : (slow fast : ℕ × ℕ) (x y g h : ℕ) → IsSpeed slow → IsSpeed fast → slow.0 * fast.1 ≤ fast.0 * slow.1 → x + g ≤ y + h → g ≤ h →
+    arriving slow x + g ≤ arriving fast y + h
+speed_on slow fast x y g h fits fits_too faster all less =
+    let some : 1 ≤ slow.1 = omega (arith, fits.positive, fits.ratio) in
+    let too : 1 ≤ fast.1 = omega (arith, fits_too.positive, fits_too.ratio) in
+    let first : x * slow.0 ≡ slow.0 * x = mul_comm x slow.0 in
+    let second : y * fast.0 ≡ fast.0 * y = mul_comm y fast.0 in
+    rw (first, second) (omega (arith, space_on slow.0 slow.1 x y g h some fits.ratio all less, ratio_on slow.0 slow.1 fast.0 fast.1 y some too faster))
 
 -- what a cell sends, and what it has sent, where the one that it sends to can receive r
 pub sends_on : (g h n m q p r s u : ℕ) (green shown : Bool) → g ≤ h + u → n + g ≤ m + h + u → q ≤ p → (green ≡ true → shown ≡ true) →

@@ -4,22 +4,24 @@ use Rattle.std.proofs.Common.{◌≡◌, ℕ, min, true, ◌+◌, ◌-◌, ◌<�
 use Rattle.ordinary_link.specs.Receiving.{receiving_flow}
 use Rattle.signal_plan.specs.Capacity.{capacity_at}
 use Rattle.signal_plan.specs.Green.{green_at}
-use Rattle.network_file.specs.Cells.{is_exit, is_exit_at, is_gate, is_gate_at, is_road}
+use Rattle.signal_plan.specs.Speeds.{arriving, speed_at}
+use Rattle.network_file.specs.Cells.{is_exit, is_exit_at, is_gate, is_gate_at, is_road, is_road_at}
 use Rattle.network_file.specs.Connectors.{connector_at}
 use Rattle.network_file.specs.Network.{IsNetwork, IsSoundCell, Network}
 use Rattle.network_file.specs.declared.cell.Cell.{Cell}
 use Rattle.network_file.specs.declared.cell.Kind.{Kind}
 use Rattle.network_file.specs.declared.cell.Kind.TheVariants.{Road, Gate, Exit}
 use Rattle.network_file.specs.declared.connector.Connector.TheVariants.{Link}
-use Rattle.flow_model.specs.Bounds.{first_at, is_road_at, room_parts_at}
+use Rattle.flow_model.specs.Bounds.{first_at, room_parts_at}
 use Rattle.flow_model.specs.Limits.{receiving_at, room_by, sending_at}
 use Rattle.flow_model.proofs.CellKinds.{All-at, cell_at, road_at-alone}
+use Rattle.flow_model.proofs.CellLimits.{speed_at-sound}
 use Rattle.flow_model.proofs.States.{state_at-in_bounds}
 use Rattle.monotone_laws.specs.Eased.{IsEased, IsRoomier}
 use Rattle.monotone_laws.specs.Links.{HasLinksAlone}
 use Rattle.monotone_laws.proofs.Linked.{IsLinked, linked-down, linked-up}
 use Rattle.monotone_laws.proofs.Curves.{carried, come, come-linked, gone, gone-linked, held, held-gone}
-use Rattle.monotone_laws.proofs.OneMove.{ratio_on, sends_on, space_on}
+use Rattle.monotone_laws.proofs.OneMove.{ratio_on, sends_on, space_on, speed_on}
 
 -- two networks of links alone, of which the second is eased
 pub record AreEased (one two : Network) : Type 0 where
@@ -72,8 +74,13 @@ sends one two t i r s u both before has stays gone_i come_i receives =
       held-gone two t i both.second (omega (arith, both.eased.steps)) (omega (arith, both.eased.one_each)) (rw stays_too stays),
       same-first one two i both.eased has,
     ) in
-    sends_on (gone one t i) (gone two t i) (held one t i) (held two t i) (capacity_at one.plan i t) (capacity_at two.plan i t) r s u
-    (green_at one.plan i t) (green_at two.plan i t) gone_i all (both.eased.capacity i t has before) (both.eased.green i t has before) receives
+    let slow = speed_at one.plan i t in
+    let fast = speed_at two.plan i t in
+    let arrive : arriving slow (held one t i) + gone one t i ≤ arriving fast (held two t i) + (gone two t i + u) =
+    speed_on slow fast (held one t i) (held two t i) (gone one t i) (gone two t i + u) (speed_at-sound one i t both.first) (speed_at-sound two i t both.second)
+    (both.eased.speed i t has before) (omega (arith, all)) gone_i in
+    sends_on (gone one t i) (gone two t i) (arriving slow (held one t i)) (arriving fast (held two t i)) (capacity_at one.plan i t) (capacity_at two.plan i t) r s u
+    (green_at one.plan i t) (green_at two.plan i t) gone_i (omega (arith, arrive)) (both.eased.capacity i t has before) (both.eased.green i t has before) receives
 
 -- what a cell of this kind receives
 receives_on : (kind : Kind) (a b : Cell) (g h m n q p u : ℕ) → IsSoundCell a → IsSoundCell b → IsRoomier a b → q ≤ p → g ≤ h + u →

@@ -2,6 +2,7 @@
 use Rattle.std.specs.Prelude.{◌≡◌, ℕ, ◌*◌, ◌<◌, ◌≤◌, length, slice_get, Some, true}
 use Rattle.signal_plan.specs.Capacity.{capacity_at}
 use Rattle.signal_plan.specs.Green.{green_at}
+use Rattle.signal_plan.specs.Speeds.{speed_at}
 use Rattle.network_file.specs.Network.{Network}
 use Rattle.network_file.specs.declared.cell.Cell.{Cell}
 
@@ -12,17 +13,19 @@ pub record IsRoomier (one two : Cell) : Type 0 where
   pub room : one.room ≤ two.room
   pub ratio : one.num * two.den ≤ two.num * one.den
 
--- the second network has the same links, no fewer steps, rooms, ratios and capacities no less, and green wherever the first
--- has it; nothing is said of the demands
+-- the second network has the same links, no fewer steps, rooms, ratios, capacities and speeds no less, and green wherever the
+-- first has it; nothing is said of the demands
 pub record IsEased (one two : Network) : Type 0 where
   pub steps : one.steps ≤ two.steps
   pub connectors : two.connectors ≡ one.connectors
   pub one_each : length two.cells ≡ length one.cells
   pub cells : (i : ℕ) (a b : Cell) → slice_get one.cells i ≡ Some a → slice_get two.cells i ≡ Some b → IsRoomier a b
   pub capacity : (i t : ℕ) → i < length one.cells → t < one.steps → capacity_at one.plan i t ≤ capacity_at two.plan i t
+  pub speed : (i t : ℕ) → i < length one.cells → t < one.steps →
+      (speed_at one.plan i t).0 * (speed_at two.plan i t).1 ≤ (speed_at two.plan i t).0 * (speed_at one.plan i t).1
   pub green : (i t : ℕ) → i < length one.cells → t < one.steps → green_at one.plan i t ≡ true → green_at two.plan i t ≡ true
 
--- each is eased against the other, so that steps, rooms, ratios, capacities and greens are the same
+-- each is eased against the other, so that steps, rooms, ratios, capacities, speeds and greens are the same
 pub record AreAlike (one two : Network) : Type 0 where
   pub there : IsEased one two
   pub back : IsEased two one

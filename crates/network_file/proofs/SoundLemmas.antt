@@ -117,8 +117,8 @@ still_planned cells cell planned fits = record {
       (rw (same_gate cells cell _ (gate-within cells _ gate)) gate, in_time);
   turns = fits.turns;
   speeds = λ k d h.
-      let (road, rest) = fits.speeds k d h in
-      (rw (same_road cells cell _ (road-within cells _ road)) road, rest);
+      let (road, in_time, sound) = fits.speeds k d h in
+      (rw (same_road cells cell _ (road-within cells _ road)) road, in_time, sound);
 }
 
 -- a cell without records

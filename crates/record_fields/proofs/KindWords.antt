@@ -42,9 +42,9 @@ record_kind_of-word format text kind =
     (named_by text (bytes_eq text (codes "signal")) Signal kind _ ((bytes_decides text (codes "signal")).0)
     (named_by text (bytes_eq text (codes "limit")) Limit kind _ ((bytes_decides text (codes "limit")).0)
     (named_by text (bytes_eq text (codes "demand")) Demand kind _ ((bytes_decides text (codes "demand")).0)
-    (named_by text (nat_le 2 format && bytes_eq text (codes "turn")) Turn kind _ (λ both. (bytes_decides text (codes "turn")).0 (and_parts (nat_le 2 format) (bytes_eq text (codes "turn")) both).1)
-    (named_by text (nat_le 2 format && bytes_eq text (codes "region")) Region kind _ (λ both. (bytes_decides text (codes "region")).0 (and_parts (nat_le 2 format) (bytes_eq text (codes "region")) both).1)
-    (named_by text (nat_le 3 format && bytes_eq text (codes "speed")) Speed kind _ (λ both. (bytes_decides text (codes "speed")).0 (and_parts (nat_le 3 format) (bytes_eq text (codes "speed")) both).1)
+    (named_by text (bytes_eq text (codes "turn") && nat_le 2 format) Turn kind _ (λ both. (bytes_decides text (codes "turn")).0 (and_parts (bytes_eq text (codes "turn")) (nat_le 2 format) both).0)
+    (named_by text (bytes_eq text (codes "region") && nat_le 2 format) Region kind _ (λ both. (bytes_decides text (codes "region")).0 (and_parts (bytes_eq text (codes "region")) (nat_le 2 format) both).0)
+    (named_by text (bytes_eq text (codes "speed") && nat_le 3 format) Speed kind _ (λ both. (bytes_decides text (codes "speed")).0 (and_parts (bytes_eq text (codes "speed")) (nat_le 3 format) both).0)
     (λ named. cc named))))))))))))))
 
 -- turns and regions are kinds from format 2 on, speeds of format 3
@@ -54,7 +54,7 @@ record_kind_of-Turn format text named = by (nat_le 2 format) refl (subst (λ t. 
   where
     by : (b : Bool) → nat_le 2 format ≡ b → record_kind_of format (codes "turn") ≡ Some Turn → 2 ≤ format
     by true e named = leb-true 2 format e
-    by false e named = cc (rw e at named)
+    by false e named = absurd (cc (rw e at named))
 
 pub record_kind_of-Region : (format : ℕ) (text : List ℕ) → record_kind_of format text ≡ Some Region → 2 ≤ format
 unfolding record_kind_of
@@ -62,7 +62,7 @@ record_kind_of-Region format text named = by (nat_le 2 format) refl (subst (λ t
   where
     by : (b : Bool) → nat_le 2 format ≡ b → record_kind_of format (codes "region") ≡ Some Region → 2 ≤ format
     by true e named = leb-true 2 format e
-    by false e named = cc (rw e at named)
+    by false e named = absurd (cc (rw e at named))
 
 pub record_kind_of-Speed : (format : ℕ) (text : List ℕ) → record_kind_of format text ≡ Some Speed → 3 ≤ format
 unfolding record_kind_of
@@ -70,7 +70,7 @@ record_kind_of-Speed format text named = by (nat_le 3 format) refl (subst (λ t.
   where
     by : (b : Bool) → nat_le 3 format ≡ b → record_kind_of format (codes "speed") ≡ Some Speed → 3 ≤ format
     by true e named = leb-true 3 format e
-    by false e named = cc (rw e at named)
+    by false e named = absurd (cc (rw e at named))
 
 -- the word of a kind names it in format 3
 pub record_kind_of-word_of : (kind : RecordKind) → record_kind_of 3 (word_of kind) ≡ Some kind

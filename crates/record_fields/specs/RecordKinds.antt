@@ -16,9 +16,9 @@ record_kind_of format text =
     else if bytes_eq text (codes "signal") then Some Signal
     else if bytes_eq text (codes "limit") then Some Limit
     else if bytes_eq text (codes "demand") then Some Demand
-    else if nat_le 2 format && bytes_eq text (codes "turn") then Some Turn
-    else if nat_le 2 format && bytes_eq text (codes "region") then Some Region
-    else if nat_le 3 format && bytes_eq text (codes "speed") then Some Speed
+    else if bytes_eq text (codes "turn") && nat_le 2 format then Some Turn
+    else if bytes_eq text (codes "region") && nat_le 2 format then Some Region
+    else if bytes_eq text (codes "speed") && nat_le 3 format then Some Speed
     else None
 
 -- how many fields a record has, the kind among them

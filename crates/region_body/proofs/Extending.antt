@@ -26,12 +26,12 @@ use Rattle.region_body.proofs.Links.{link-is}
 -- one connector more
 pub joined-more : (net : Network) (cells connectors : List ℕ) (j q : ℕ) → j < length connectors →
     is_joined net cells (take (j + 1) connectors) q ≡
-    (is_joined net cells (take j connectors) q || is_link cells q (connector_at net.connectors (get_or connectors j 0)))
+    (is_joined net cells (take j connectors) q || is_link net cells q (connector_at net.connectors (get_or connectors j 0)))
 unfolding is_joined
 joined-more net cells connectors j q within =
-    ap (list_any (λ k. is_link cells q (connector_at net.connectors k))) (take_more connectors j 0 within)
-    ∙ list_any-append (λ k. is_link cells q (connector_at net.connectors k)) (take j connectors) (get_or connectors j 0 ∷ [])
-    ∙ ap (λ b. is_joined net cells (take j connectors) q || b) (one (is_link cells q (connector_at net.connectors (get_or connectors j 0))))
+    ap (list_any (λ k. is_link net cells q (connector_at net.connectors k))) (take_more connectors j 0 within)
+    ∙ list_any-append (λ k. is_link net cells q (connector_at net.connectors k)) (take j connectors) (get_or connectors j 0 ∷ [])
+    ∙ ap (λ b. is_joined net cells (take j connectors) q || b) (one (is_link net cells q (connector_at net.connectors (get_or connectors j 0))))
   where
     one : (b : Bool) → (b || false) ≡ b
     one true = refl
@@ -46,12 +46,12 @@ or_false true = refl
 or_false false = refl
 
 -- a link joins one place alone
-one-place : (cells : List ℕ) (p q : ℕ) (connector : Connector) → AreDistinct cells → is_link cells p connector ≡ true → q ≢ p →
-    is_link cells q connector ≡ false
-one-place cells p q connector distinct linked other = elim (cases_Bool (is_link cells q connector)) [
+one-place : (net : Network) (cells : List ℕ) (p q : ℕ) (connector : Connector) → AreDistinct cells → is_link net cells p connector ≡ true → q ≢ p →
+    is_link net cells q connector ≡ false
+one-place net cells p q connector distinct linked other = elim (cases_Bool (is_link net cells q connector)) [
   | inl too ↦
-      let here = link-is cells p connector linked in
-      let there = link-is cells q connector too in
+      let here = link-is net cells p connector linked in
+      let there = link-is net cells q connector too in
       let within = here.within in
       let inside = there.within in
       let both : Link (slice_index cells p) (slice_index cells (p + 1)) ≡ Link (slice_index cells q) (slice_index cells (q + 1)) = sym here.is ∙ there.is in
@@ -72,7 +72,7 @@ most-same net cells first later q s same = ap (λ b. if b then most_between net.
 
 -- one that is chained
 pub extends-more : (net : Network) (cells connectors : List ℕ) (j p : ℕ) (links : List FollowedLink) → j < length connectors → AreDistinct cells →
-    is_link cells p (connector_at net.connectors (get_or connectors j 0)) ≡ true →
+    is_link net cells p (connector_at net.connectors (get_or connectors j 0)) ≡ true →
     All (λ link. is_joined net cells (take j connectors) link.place ≡ true) links →
     Extends net.plan cells p links (most_out net cells (take j connectors)) (most_out net cells (take (j + 1) connectors))
 extends-more net cells connectors j p links within distinct linked joined =
@@ -81,27 +81,27 @@ extends-more net cells connectors j p links within distinct linked joined =
       here = λ s. most-by net cells (take (j + 1) connectors) p s true
           (joined-more net cells connectors j p within ∙ ap (λ b. is_joined net cells (take j connectors) p || b) linked ∙ or_true (is_joined net cells (take j connectors) p));
       others = λ q s other. most-same net cells (take j connectors) (take (j + 1) connectors) q s
-          (joined-more net cells connectors j q within ∙ ap (λ b. is_joined net cells (take j connectors) q || b) (one-place cells p q connector distinct linked other)
+          (joined-more net cells connectors j q within ∙ ap (λ b. is_joined net cells (take j connectors) q || b) (one-place net cells p q connector distinct linked other)
           ∙ or_false (is_joined net cells (take j connectors) q));
       linked = λ k d inside s.
           let q : ℕ = (get_or links k d).place in
           let first = joined k d inside in
           most-same net cells (take j connectors) (take (j + 1) connectors) q s
-          (joined-more net cells connectors j q within ∙ ap (λ b. b || is_link cells q connector) first ∙ sym first);
+          (joined-more net cells connectors j q within ∙ ap (λ b. b || is_link net cells q connector) first ∙ sym first);
     }
 
 -- one that isn't
 pub unchained-more : (net : Network) (cells connectors : List ℕ) (j q s : ℕ) → j < length connectors →
-    is_chained cells (connector_at net.connectors (get_or connectors j 0)) ≡ false →
+    is_chained net cells (connector_at net.connectors (get_or connectors j 0)) ≡ false →
     most_out net cells (take (j + 1) connectors) q s ≡ most_out net cells (take j connectors) q s
 unchained-more net cells connectors j q s within odd =
     let connector : Connector = connector_at net.connectors (get_or connectors j 0) in
-    let none : is_link cells q connector ≡ false = elim (cases_Bool (is_link cells q connector)) [
+    let none : is_link net cells q connector ≡ false = elim (cases_Bool (is_link net cells q connector)) [
       | inl linked ↦
-          let at = link-is cells q connector linked in
+          let at = link-is net cells q connector linked in
           let inside = at.within in
-          let chained : is_chained cells connector ≡ true =
-          finds (λ m. is_link cells m connector) (range_with_len 0 (length cells)) q (range-Contains (length cells) q (omega arith)) linked in
+          let chained : is_chained net cells connector ≡ true =
+          finds (λ m. is_link net cells m connector) (range_with_len 0 (length cells)) q (range-Contains (length cells) q (omega arith)) linked in
           cc
       | inr apart ↦ apart
     ] in
@@ -137,10 +137,10 @@ followed-none net cells connectors places t none = record {
 
 -- the numbers of those that aren't chained
 pub odd-more : (net : Network) (cells connectors : List ℕ) (j : ℕ) (b : Bool) → j < length connectors →
-    is_chained cells (connector_at net.connectors (get_or connectors j 0)) ≡ b →
+    is_chained net cells (connector_at net.connectors (get_or connectors j 0)) ≡ b →
     odd_ones net cells (take (j + 1) connectors) ≡ odd_ones net cells (take j connectors) ++ (if b then [] else get_or connectors j 0 ∷ [])
 odd-more net cells connectors j b within is =
-    let odd : ℕ → Bool = λ k. not (is_chained cells (connector_at net.connectors k)) in
+    let odd : ℕ → Bool = λ k. not (is_chained net cells (connector_at net.connectors k)) in
     ap (filter odd) (take_more connectors j 0 within) ∙ filter-append odd (take j connectors) (get_or connectors j 0 ∷ [])
     ∙ ap (λ list. filter odd (take j connectors) ++ list) (one odd (get_or connectors j 0) b (ap not is))
   where
@@ -172,22 +172,22 @@ joined-none net t cells halo connectors places none = record {
 
 -- a chained connector more
 pub joined-chained : (net : Network) (t : ℕ) (cells halo connectors : List ℕ) (first places after : List Place) (links later : List FollowedLink) (ties : List Tie)
-    (j p : ℕ) → j < length connectors → AreDistinct cells → is_link cells p (connector_at net.connectors (get_or connectors j 0)) ≡ true →
+    (j p : ℕ) → j < length connectors → AreDistinct cells → is_link net cells p (connector_at net.connectors (get_or connectors j 0)) ≡ true →
     AreJoined net t cells halo (take j connectors) first places links ties → All (IsThere (length cells) t) later → IsAt p links later →
     ((q : ℕ) → place_at after q ≡ record (place_at places q) { most = (place_at after q).most }) →
     ((most next : ℕ → ℕ → ℕ) → AreFollowed most places links t → Extends net.plan cells p links most next → AreFollowed next after later t) →
     AreJoined net t cells halo (take (j + 1) connectors) first after later ties
 joined-chained net t cells halo connectors first places after links later ties j p within distinct linked has there at only follows =
     let connector : Connector = connector_at net.connectors (get_or connectors j 0) in
-    let at_link = link-is cells p connector linked in
+    let at_link = link-is net cells p connector linked in
     let inside = at_link.within in
-    let chained : is_chained cells connector ≡ true =
-    finds (λ m. is_link cells m connector) (range_with_len 0 (length cells)) p (range-Contains (length cells) p (omega arith)) linked in
+    let chained : is_chained net cells connector ≡ true =
+    finds (λ m. is_link net cells m connector) (range_with_len 0 (length cells)) p (range-Contains (length cells) p (omega arith)) linked in
     record {
       only_most = λ q. only q ∙ ap {B = Place} (λ place. record place { most = (place_at after q).most }) (has.only_most q);
       links_there = there;
       joined = at.each (is_joined net cells (take (j + 1) connectors))
-          (λ k d lt. joined-more net cells connectors j (get_or links k d).place within ∙ ap (λ b. b || is_link cells (get_or links k d).place connector) (has.joined k d lt))
+          (λ k d lt. joined-more net cells connectors j (get_or links k d).place within ∙ ap (λ b. b || is_link net cells (get_or links k d).place connector) (has.joined k d lt))
           (joined-more net cells connectors j p within ∙ ap (λ b. is_joined net cells (take j connectors) p || b) linked ∙ or_true (is_joined net cells (take j connectors) p));
       followed = follows (most_out net cells (take j connectors)) (most_out net cells (take (j + 1) connectors)) has.followed
           (extends-more net cells connectors j p links within distinct linked has.joined);
@@ -198,7 +198,7 @@ joined-chained net t cells halo connectors first places after links later ties j
 
 -- another more
 pub joined-odd : (net : Network) (t : ℕ) (cells halo connectors : List ℕ) (first places : List Place) (links : List FollowedLink) (ties : List Tie) (tie : Tie)
-    (j : ℕ) → j < length connectors → is_chained cells (connector_at net.connectors (get_or connectors j 0)) ≡ false →
+    (j : ℕ) → j < length connectors → is_chained net cells (connector_at net.connectors (get_or connectors j 0)) ≡ false →
     tie.connector ≡ get_or connectors j 0 → IsTie net cells halo tie → tie.course.step ≡ 0 →
     AreJoined net t cells halo (take j connectors) first places links ties →
     AreJoined net t cells halo (take (j + 1) connectors) first places links (ties ++ tie ∷ [])
@@ -207,7 +207,7 @@ joined-odd net t cells halo connectors first places links ties tie j within odd 
   links_there = has.links_there;
   joined = λ k d lt.
       joined-more net cells connectors j (get_or links k d).place within
-      ∙ ap (λ b. b || is_link cells (get_or links k d).place (connector_at net.connectors (get_or connectors j 0))) (has.joined k d lt);
+      ∙ ap (λ b. b || is_link net cells (get_or links k d).place (connector_at net.connectors (get_or connectors j 0))) (has.joined k d lt);
   followed = followed-same (most_out net cells (take j connectors)) (most_out net cells (take (j + 1) connectors)) places links t
       (λ q s. unchained-more net cells connectors j q s within odd) has.followed;
   numbers = map-append (λ tie. tie.connector) ties (tie ∷ []) ∙ ap (λ list. list ++ tie.connector ∷ []) has.numbers

@@ -10,70 +10,81 @@ use Rattle.network_file.specs.declared.connector.Connector.{Connector}
 use Rattle.network_file.specs.declared.connector.Connector.TheVariants.{Link, Merge, Diverge}
 use Rattle.network_file.proofs.NetworkFacts.{connector_at-sound, read_connector}
 use Rattle.region_body.specs.Limits.{limits_by}
-use Rattle.region_body.specs.Flows.{ConnectorValues, carried_by, flow_at, limits_of}
-use Rattle.region_body.specs.Following.{IsCourseOf, IsMadeOf}
+use Rattle.region_body.specs.Flows.{ConnectorValues, LimitedValues, carried_by, flow_at, limited_flow, limits_of}
+use Rattle.region_body.specs.Slowing.{slowed_by}
+use Rattle.region_body.specs.Following.{IsConnectorOf, IsCourseOf}
 use Rattle.courses.specs.Courses.{Course, value_at}
 use Rattle.region_body.specs.declared.limits.Limits.{Limits}
 use Rattle.region_body.specs.declared.rule.Rule.{Rule}
+use Rattle.region_body.specs.declared.space.Space.{Space}
 use Rattle.region_body.specs.declared.rule.Rule.TheVariants.{Linking, Merging, Diverging}
 use Rattle.region_body.proofs.Spaces.{receiving-is, sending-is}
 
 -- what is carried within the limits of a step is what the course carries then
-pub flow-within : (course : ConnectorValues) (limits : Limits) (t : ℕ) (n : List ℕ) → limits_of course t ≡ limits →
-    carried_by course.rule limits course.second_space course.third_space n ≡ flow_at course t n
-unfolding flow_at
+pub flow-within : (course : LimitedValues) (limits : Limits) (t : ℕ) (n : List ℕ) → limits_of course t ≡ limits →
+    carried_by course.rule limits course.second_space course.third_space n ≡ limited_flow course t n
+unfolding limited_flow
 flow-within course limits t n is = ap (λ one. carried_by course.rule one course.second_space course.third_space n) (sym is)
 
 -- the same limits in all steps carry the same
-pub flow-same : (old new : ConnectorValues) (t : ℕ) (n : List ℕ) → new.rule ≡ old.rule → new.second_space ≡ old.second_space →
-    new.third_space ≡ old.third_space → limits_of new t ≡ limits_of old t → flow_at new t n ≡ flow_at old t n
-unfolding flow_at
+pub flow-same : (old new : LimitedValues) (t : ℕ) (n : List ℕ) → new.rule ≡ old.rule → new.second_space ≡ old.second_space →
+    new.third_space ≡ old.third_space → limits_of new t ≡ limits_of old t → limited_flow new t n ≡ limited_flow old t n
+unfolding limited_flow
 flow-same old new t n rule second third limits = rw (rule, second, third, limits) refl
 
 flow-made : (net : Network) (rule : Rule) (cells : List ℕ) (weights : Course (ℕ × ℕ)) (course : ConnectorValues) (t : ℕ) (n : List ℕ) →
-    IsMadeOf net rule cells weights course → t < net.steps →
-    flow_at course t n ≡ carried_by rule (limits_by net.plan rule cells weights t) course.second_space course.third_space n
+    IsConnectorOf net rule cells weights course → t < net.steps →
+    flow_at course t n ≡
+    carried_by rule (limits_by net.plan rule cells weights t) course.limited.second_space course.limited.third_space (slowed_by course.slowing t n)
 unfolding flow_at
-flow-made net rule cells weights course t n made before =
-    ap (λ one. carried_by one (limits_of course t) course.second_space course.third_space n) made.rule_is
-    ∙ ap (λ limits. carried_by rule limits course.second_space course.third_space n) (made.limits t before)
+flow-made net rule cells weights course t n has before =
+    let second : Space = course.limited.second_space in
+    let third : Space = course.limited.third_space in
+    let moving : List ℕ = slowed_by course.slowing t n in
+    ap (λ one. carried_by one (limits_of course.limited t) second third moving) has.rule_is
+    ∙ ap (λ limits. carried_by rule limits second third moving) (has.made.limits t before)
 
 pub made-link : (net : Network) (up down : ℕ) (weights : Course (ℕ × ℕ)) (course : ConnectorValues) → IsNetwork net →
-    IsSoundConnector net.cells (Link up down) → IsMadeOf net Linking (up ∷ down ∷ down ∷ []) weights course → IsCourseOf net (Link up down) course
+    IsSoundConnector net.cells (Link up down) → IsConnectorOf net Linking (up ∷ down ∷ down ∷ []) weights course → IsCourseOf net (Link up down) course
 made-link net up down weights course sound connector made = record {
   rule = made.rule_is;
   flow = λ t n before held.
       let there : down < length net.cells = (connector.down 0 0 (omega arith)).0 in
       let s = sending-is net t up (slice_index n 0) in
-      let r = receiving-is net t down (slice_index n 1) course.second_space sound before there made.second (held.each 1 (omega arith)) in
-      flow-made net Linking (up ∷ down ∷ down ∷ []) weights course t n made before ∙ rw (s, r) refl;
+      let r = receiving-is net t down (slice_index n 1) course.limited.second_space sound before there made.made.second (held.each 1 (omega arith)) in
+      let moving = made.slowing in
+      flow-made net Linking (up ∷ down ∷ down ∷ []) weights course t n made before ∙ rw (moving.first t n, moving.second t n, s, r) refl;
 }
 
 pub made-merge : (net : Network) (up1 up2 down p1 p2 : ℕ) (weights : Course (ℕ × ℕ)) (course : ConnectorValues) → IsNetwork net →
     IsSoundConnector net.cells (Merge up1 up2 down p1 p2) → ((t : ℕ) → value_at weights t ≡ (p1, p2)) →
-    IsMadeOf net Merging (up1 ∷ up2 ∷ down ∷ []) weights course → IsCourseOf net (Merge up1 up2 down p1 p2) course
+    IsConnectorOf net Merging (up1 ∷ up2 ∷ down ∷ []) weights course → IsCourseOf net (Merge up1 up2 down p1 p2) course
 made-merge net up1 up2 down p1 p2 weights course sound connector are made = record {
   rule = made.rule_is;
   flow = λ t n before held.
       let there : down < length net.cells = (connector.down 0 0 (omega arith)).0 in
       let s1 = sending-is net t up1 (slice_index n 0) in
       let s2 = sending-is net t up2 (slice_index n 1) in
-      let r = receiving-is net t down (slice_index n 2) course.third_space sound before there made.third (held.each 2 (omega arith)) in
-      flow-made net Merging (up1 ∷ up2 ∷ down ∷ []) weights course t n made before ∙ rw (s1, s2, r, are t) refl;
+      let r = receiving-is net t down (slice_index n 2) course.limited.third_space sound before there made.made.third (held.each 2 (omega arith)) in
+      let moving = made.slowing in
+      flow-made net Merging (up1 ∷ up2 ∷ down ∷ []) weights course t n made before
+      ∙ rw (moving.first t n, moving.second t n, moving.third t n, s1, s2, r, are t) refl;
 }
 
 pub made-diverge : (net : Network) (up down1 down2 b1 b2 : ℕ) (weights : Course (ℕ × ℕ)) (course : ConnectorValues) → IsNetwork net →
     IsSoundConnector net.cells (Diverge up down1 down2 b1 b2) → ((t : ℕ) → value_at weights t ≡ shares_at net.plan up t (b1, b2)) →
-    IsMadeOf net Diverging (up ∷ down1 ∷ down2 ∷ []) weights course → IsCourseOf net (Diverge up down1 down2 b1 b2) course
+    IsConnectorOf net Diverging (up ∷ down1 ∷ down2 ∷ []) weights course → IsCourseOf net (Diverge up down1 down2 b1 b2) course
 made-diverge net up down1 down2 b1 b2 weights course sound connector are made = record {
   rule = made.rule_is;
   flow = λ t n before held.
       let there1 : down1 < length net.cells = (connector.down 0 0 (omega arith)).0 in
       let there2 : down2 < length net.cells = (connector.down 1 0 (omega arith)).0 in
       let s = sending-is net t up (slice_index n 0) in
-      let r1 = receiving-is net t down1 (slice_index n 1) course.second_space sound before there1 made.second (held.each 1 (omega arith)) in
-      let r2 = receiving-is net t down2 (slice_index n 2) course.third_space sound before there2 made.third (held.each 2 (omega arith)) in
-      flow-made net Diverging (up ∷ down1 ∷ down2 ∷ []) weights course t n made before ∙ rw (s, r1, r2, are t) refl;
+      let r1 = receiving-is net t down1 (slice_index n 1) course.limited.second_space sound before there1 made.made.second (held.each 1 (omega arith)) in
+      let r2 = receiving-is net t down2 (slice_index n 2) course.limited.third_space sound before there2 made.made.third (held.each 2 (omega arith)) in
+      let moving = made.slowing in
+      flow-made net Diverging (up ∷ down1 ∷ down2 ∷ []) weights course t n made before
+      ∙ rw (moving.first t n, moving.second t n, moving.third t n, s, r1, r2, are t) refl;
 }
 
 -- the cells of a merge are there, and those of a diverge

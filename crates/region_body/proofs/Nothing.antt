@@ -9,7 +9,7 @@ use Rattle.merge_rule.proofs.MergeFacts.{first_flow-room, second_flow-room}
 use Rattle.flow_model.specs.Flows.{diverge_carries, link_carries, merge_carries}
 use Rattle.flow_model.specs.declared.carried.Flow.{Flow}
 use Rattle.region_body.specs.Limits.{AreInForce, AreKept, limits_of_courses, limits_in}
-use Rattle.region_body.specs.Flows.{ConnectorValues, carried_by, flow_at, limits_of, no_flow}
+use Rattle.region_body.specs.Flows.{LimitedValues, carried_by, limited_flow, limits_of, no_flow}
 use Rattle.courses.specs.Courses.{value_at}
 use Rattle.region_body.specs.declared.limit_courses.LimitCourses.{LimitCourses}
 use Rattle.region_body.specs.declared.limits.Limits.{Limits}
@@ -43,13 +43,13 @@ kept-steady None limits step until s has from within = refl
 kept-steady (Some courses) limits step until s has from within = has.steady s from within
 
 -- where nothing bounds it otherwise in another step a connector carries the same
-pub flow-until : (course : ConnectorValues) (limits : Limits) (s t : ℕ) (n : List ℕ) → limits_of course s ≡ limits → limits_of course t ≡ limits →
-    flow_at course s n ≡ flow_at course t n
+pub flow-until : (course : LimitedValues) (limits : Limits) (s t : ℕ) (n : List ℕ) → limits_of course s ≡ limits → limits_of course t ≡ limits →
+    limited_flow course s n ≡ limited_flow course t n
 flow-until course limits s t n is was = sym (flow-within course limits s n is) ∙ flow-within course limits t n was
 
 -- so does one whose limits never change
-pub flow-stays : (course : ConnectorValues) (s t : ℕ) (n : List ℕ) → course.courses ≡ None → flow_at course s n ≡ flow_at course t n
-unfolding flow_at limits_in
+pub flow-stays : (course : LimitedValues) (s t : ℕ) (n : List ℕ) → course.courses ≡ None → limited_flow course s n ≡ limited_flow course t n
+unfolding limited_flow limits_in
 flow-stays course s t n never = rw never refl
 
 -- the weights of a step are those of its limits
@@ -61,7 +61,7 @@ pub weights-in : (courses : LimitCourses) (limits : Limits) (step until : ℕ) �
 weights-in courses limits step until has = sym (weights-of courses step) ∙ ap (λ one. one.weights) (has.steady step (omega arith) has.later)
 
 -- what a connector carries by its courses
-pub flow-some : (course : ConnectorValues) (courses : LimitCourses) (s : ℕ) (n : List ℕ) → course.courses ≡ Some courses →
-    flow_at course s n ≡ carried_by course.rule (limits_of_courses courses s) course.second_space course.third_space n
-unfolding flow_at limits_in
+pub flow-some : (course : LimitedValues) (courses : LimitCourses) (s : ℕ) (n : List ℕ) → course.courses ≡ Some courses →
+    limited_flow course s n ≡ carried_by course.rule (limits_of_courses courses s) course.second_space course.third_space n
+unfolding limited_flow limits_in
 flow-some course courses s n some = rw some refl

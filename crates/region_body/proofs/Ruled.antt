@@ -1,6 +1,10 @@
 -- What a connector takes from a place and brings to it, by each rule.
 use Rattle.std.proofs.Common.{◌≡◌, ℕ, ◌+◌, [], ◌∷◌, refl, sym, ap, ◌∙◌}
-use Rattle.region_body.specs.Flows.{ConnectorValues, flow_at}
+use Rattle.std.specs.Prelude.{Option, Some, None}
+use Rattle.region_body.specs.Flows.{ConnectorValues, carried_by, flow_at, limits_of}
+use Rattle.region_body.specs.Slowing.{SlowingValues, slowed_by}
+use Rattle.region_body.specs.declared.limits.Limits.{Limits}
+use Rattle.region_body.specs.declared.space.Space.{Space}
 use Rattle.region_body.specs.declared.rule.Rule.TheVariants.{Linking, Merging, Diverging}
 use Rattle.flow_model.specs.declared.carried.Flow.{Flow}
 use Rattle.region_body.specs.Carrying.{at_spot, brought, brought_by, carried_of, spot_at, taken, taken_by}
@@ -9,7 +13,14 @@ use Rattle.region_body.specs.declared.tie.Tie.{Tie}
 -- of a link the third cell isn't asked
 link-third : (course : ConnectorValues) (t a b c third : ℕ) → course.rule ≡ Linking → flow_at course t (a ∷ b ∷ c ∷ []) ≡ flow_at course t (a ∷ b ∷ third ∷ [])
 unfolding flow_at
-link-third course t a b c third is = rw is refl
+link-third course t a b c third is =
+    rw is (same course.slowing (limits_of course.limited t) course.limited.second_space course.limited.third_space)
+  where
+    same : (slowing : Option SlowingValues) (limits : Limits) (second_space third_space : Space) →
+        carried_by Linking limits second_space third_space (slowed_by slowing t (a ∷ b ∷ c ∷ [])) ≡
+        carried_by Linking limits second_space third_space (slowed_by slowing t (a ∷ b ∷ third ∷ []))
+    same None limits second_space third_space = refl
+    same (Some slowing) limits second_space third_space = refl
 
 pub link-moves : (t : ℕ) (held : ℕ → ℕ) (p : ℕ) (tie : Tie) (flow : Flow) (third : ℕ) → tie.course.rule ≡ Linking →
     flow ≡ flow_at tie.course t (held (spot_at tie 0) ∷ held (spot_at tie 1) ∷ third ∷ []) →

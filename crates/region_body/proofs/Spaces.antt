@@ -6,6 +6,7 @@ use Rattle.ordinary_link.specs.Sending.{sending_flow}
 use Rattle.ordinary_link.specs.declared.space.Room.{Room}
 use Rattle.signal_plan.specs.Capacity.{capacity_at}
 use Rattle.signal_plan.specs.Green.{green_at}
+use Rattle.signal_plan.specs.Speeds.{arriving, speed_at}
 use Rattle.network_file.specs.Cells.{is_exit, is_gate, is_road}
 use Rattle.network_file.specs.Network.{IsNetwork, Network}
 use Rattle.network_file.specs.declared.cell.Cell.{Cell}
@@ -21,11 +22,12 @@ use Rattle.region_body.specs.declared.space.Space.{Space}
 use Rattle.courses.specs.Cells.{most_by}
 use Rattle.region_body.specs.Flows.{received}
 
-pub sending-is : (net : Network) (t i n : ℕ) → min (most_by net.plan i true t) n ≡ sending_at net t i n
+pub sending-is : (net : Network) (t i n : ℕ) → min (most_by net.plan i true t) (arriving (speed_at net.plan i t) n) ≡ sending_at net t i n
 unfolding sending_at most_by
 sending-is net t i n = by (green_at net.plan i t)
   where
-    by : (green : Bool) → min (if green then capacity_at net.plan i t else 0) n ≡ sending_flow n (capacity_at net.plan i t) green
+    by : (green : Bool) → min (if green then capacity_at net.plan i t else 0) (arriving (speed_at net.plan i t) n) ≡
+        sending_flow (arriving (speed_at net.plan i t) n) (capacity_at net.plan i t) green
     by true = refl
     by false = omega arith
 

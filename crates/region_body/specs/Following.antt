@@ -9,7 +9,8 @@ use Rattle.flow_model.specs.Flows.{flow_between}
 use Rattle.flow_model.specs.Limits.{room_at}
 use Rattle.region_body.specs.Space.{IsSpaceOf}
 use Rattle.region_body.specs.Limits.{limits_by}
-use Rattle.region_body.specs.Flows.{ConnectorValues, flow_at, limits_of}
+use Rattle.region_body.specs.Flows.{ConnectorValues, LimitedValues, flow_at, limits_of}
+use Rattle.region_body.specs.Slowing.{IsSlowingAs}
 use Rattle.region_body.specs.declared.rule.Rule.{Rule}
 use Rattle.region_body.specs.declared.rule.Rule.TheVariants.{Linking, Merging, Diverging}
 use Rattle.courses.specs.Courses.{Course}
@@ -27,9 +28,16 @@ pub record IsCourseOf (net : Network) (connector : Connector) (course : Connecto
       flow_at course t n ≡ flow_between net t connector n
 
 -- it is made of these cells, by this rule, with these weights
-pub record IsMadeOf (net : Network) (rule : Rule) (cells : List ℕ) (weights : Course (ℕ × ℕ)) (course : ConnectorValues) : Type 0 where
+pub record IsMadeOf (net : Network) (rule : Rule) (cells : List ℕ) (weights : Course (ℕ × ℕ)) (course : LimitedValues) : Type 0 where
   pub rule_is : course.rule ≡ rule
   pub limits : (t : ℕ) → t < net.steps → limits_of course t ≡ limits_by net.plan rule cells weights t
   pub second : IsSpaceOf course.second_space (room_at net.cells (slice_index cells 1))
   pub third : IsSpaceOf course.third_space (room_at net.cells (slice_index cells 2))
+  pub step : course.step ≡ 0
+
+-- so is its limited course, and its speeds are those of these cells
+pub record IsConnectorOf (net : Network) (rule : Rule) (cells : List ℕ) (weights : Course (ℕ × ℕ)) (course : ConnectorValues) : Type 0 where
+  pub made : IsMadeOf net rule cells weights course.limited
+  pub slowing : IsSlowingAs net rule cells course.slowing
+  pub rule_is : course.rule ≡ rule
   pub step : course.step ≡ 0

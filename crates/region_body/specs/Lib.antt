@@ -6,6 +6,7 @@ pub mod Followed
 pub mod Weights
 pub mod Factors
 pub mod Limits
+pub mod Slowing
 pub mod Flows
 pub mod Following
 pub mod Chains

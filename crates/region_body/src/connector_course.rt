@@ -1,16 +1,12 @@
-ghost use Rattle.std.specs.Prelude.{◌≡◌, ◌≤◌, ◌<◌, ℕ, All, IfOk, IsTrue, List, length};
+ghost use Rattle.std.specs.Prelude.{◌≡◌, ◌≤◌, ◌<◌, ℕ, All, IfOk, List, length};
 ghost use Rattle.network_file.specs.Connectors.{connector_at};
-ghost use Rattle.region_body.specs.Following.{IsCourseOf, IsMadeOf};
+ghost use Rattle.region_body.specs.Following.{IsCourseOf, IsConnectorOf};
 ghost use Rattle.region_body.specs.Weights.{AreWeights};
 
-use crate::carrying::carried;
-use crate::cell_space::space_of;
-use crate::idling::{carries_nothing, sends_nothing};
-use crate::limit_courses::LimitCourses;
-use crate::limits::Limits;
+use crate::idling::carries_nothing;
+use crate::limited_course::LimitedCourse;
 use crate::rule::Rule;
-use crate::space::Space;
-use crate::weight_pair::WeightPair;
+use crate::slowing::{Slowing, slowing_of};
 use courses::{Timeline, shares_of};
 use flow_model::Flow;
 use network_file::{Connector, Net};
@@ -19,40 +15,31 @@ use signal_plan::MOST_STEPS;
 use std::alloc::Global;
 use std::marker::Model;
 
-/// What a connector carries in a step, followed forward from step 0.
-///
-/// Most connectors carry within the same limits in all steps. What changes of the others stands apart, so that all that a
-/// step touches lies close together.
+/// What a connector carries in a step, followed forward from step 0: within the limits of its cells, of the parts that reach
+/// the ends of those upstream.
 #[derive(Drop)]
 pub(crate) struct ConnectorCourse {
-    rule: Rule,
-    step: u64,
-    // What bounds its flow from its step on, and the first step at which that may change.
-    limits: Limits,
-    until: u64,
-    second_space: Space,
-    third_space: Space,
-    courses: Option<Box<LimitCourses>>,
+    limited: LimitedCourse,
+    // The speeds of its cells upstream, where one of these has speed records.
+    slowing: Option<Box<Slowing>>,
 }
 
 impl Model for ConnectorCourse {
     ghost use Rattle.std.specs.Option.{option_map};
-    ghost use Rattle.region_body.specs.Flows.{ConnectorValues};
-    ghost use Rattle.region_body.specs.Limits.{AreKept};
+    ghost use Rattle.region_body.specs.Flows.{ConnectorValues, until_of};
+    ghost use Rattle.region_body.specs.Slowing.{IsSlowedWith};
 
     ghost Value = { ConnectorValues };
 
     ghost view = { λ course. record {
-      rule = course.rule;
-      courses = option_map (λ own. own.value) course.courses;
-      limits = course.limits;
-      second_space = course.second_space;
-      third_space = course.third_space;
-      step = course.step;
-      until = course.until;
+      rule = course.limited.rule;
+      limited = course.limited;
+      slowing = option_map (λ own. own.value) course.slowing;
+      step = course.limited.step;
+      until = until_of course.limited (option_map (λ own. own.value) course.slowing);
     } };
 
-    ghost invariant = { λ course. AreKept (option_map (λ own. own.value) course.courses) course.limits course.step course.until };
+    ghost invariant = { λ course. IsSlowedWith course.limited.step (option_map (λ own. own.value) course.slowing) };
 }
 
 impl ConnectorCourse {
@@ -97,14 +84,18 @@ impl ConnectorCourse {
     pub(crate) fn rule(&self) -> Rule
         ensures { result ≡ self.now.rule }
     {
-        self.rule
+        self.limited.rule()
     }
 
-    /// Up to which step from its own on it carries within the same limits, `u64::MAX` where they never change.
+    /// Up to which step from its own on it carries within the same limits and at the same speeds, `u64::MAX` where they never
+    /// change.
     pub(crate) fn until(&self) -> u64
         ensures { result ≡ self.now.until }
     {
-        self.until
+        match &self.slowing {
+            None => self.limited.until(),
+            Some(slowing) => self.limited.until().min(slowing.until()),
+        }
     }
 
     /// Follows it to step `t`. Where nothing changes by then it does next to nothing.
@@ -116,30 +107,23 @@ impl ConnectorCourse {
         ensures later { t < self.new.until }
         ensures flow { (s : ℕ) (n : List ℕ) → flow_at self.new s n ≡ flow_at self.old s n }
     {
-        if self.until <= t {
-            if let Some(courses) = &mut self.courses {
-                let now = courses.move_to(t, self.limits.weights);
-                self.limits = now.value;
-                self.until = now.until;
-            }
+        self.limited.refresh(t);
+        if let Some(slowing) = &mut self.slowing {
+            slowing.move_to(t);
         }
-        self.step = t;
     }
 
-    /// What the connector carries from its step on as long as its limits stay, where its cells hold `n` parts, in the order
-    /// of the connector's fields. The place of `n` past its cells is not read.
+    /// What the connector carries from its step on as long as its limits and speeds stay, where its cells hold `n` parts, in
+    /// the order of the connector's fields. The place of `n` past its cells is not read.
     #[inline(always)]
     pub(crate) fn flow(&self, n: [u64; 3]) -> Flow
         ensures now { result ≡ flow_at self.now self.now.step n }
         ensures later { (t : ℕ) → self.now.step ≤ t → t < self.now.until → result ≡ flow_at self.now t n }
     {
-        carried(
-            self.rule,
-            self.limits,
-            self.second_space,
-            self.third_space,
-            n,
-        )
+        match &self.slowing {
+            None => self.limited.flow(n),
+            Some(slowing) => self.limited.flow(slowing.slowed(n)),
+        }
     }
 
     /// A step before which the connector carries nothing as long as its cells hold `n` parts: 0 where it carries something,
@@ -147,23 +131,12 @@ impl ConnectorCourse {
     pub(crate) fn idle_until(&self, n: [u64; 3]) -> u64
         ensures { (s : ℕ) → self.now.step ≤ s → s < result → flow_at self.now s n ≡ no_flow }
     {
-        if !carries_nothing(self.flow(n)) {
-            0
-        } else if self.stays_idle(n) {
-            u64::MAX
+        if self.slowing.is_none() {
+            self.limited.idle_until(n)
+        } else if carries_nothing(self.flow(n)) {
+            self.until()
         } else {
-            self.until
-        }
-    }
-
-    // Whether no change of its limits lets it carry something, where it carries nothing at its step.
-    fn stays_idle(&self, n: [u64; 3]) -> bool
-        requires { flow_at self.now self.now.step n ≡ no_flow }
-        ensures { IsTrue result → (s : ℕ) → flow_at self.now s n ≡ no_flow }
-    {
-        match &self.courses {
-            None => true,
-            Some(courses) => sends_nothing(self.rule, courses.least(self.limits.weights), n),
+            0
         }
     }
 }
@@ -179,30 +152,10 @@ fn made_of(
     requires cells { All (λ i. i < length net.now.cells) cells }
     requires weights { AreWeights weights }
     requires step { weights.step ≡ 0 }
-    ensures { IfOk result (IsMadeOf net.now rule cells weights) }
+    ensures { IfOk result (IsConnectorOf net.now rule cells weights) }
 {
-    let mut courses = LimitCourses::new(alloc, &net.plan, rule, cells, weights)?;
-    let now = courses.move_to(0, WeightPair::new(1, 1));
-    let [_, second, third] = cells;
-    let (second_space, third_space) = (space_of(net, second), space_of(net, third));
-    if now.until >= net.steps {
-        return Ok(ConnectorCourse {
-            rule,
-            step: 0,
-            limits: now.value,
-            until: u64::MAX,
-            second_space,
-            third_space,
-            courses: None,
-        });
-    }
     Ok(ConnectorCourse {
-        rule,
-        step: 0,
-        limits: now.value,
-        until: now.until,
-        second_space,
-        third_space,
-        courses: Some(Box::new(alloc, courses)?),
+        limited: LimitedCourse::new(alloc, net, rule, cells, weights)?,
+        slowing: slowing_of(alloc, net, rule, cells)?,
     })
 }

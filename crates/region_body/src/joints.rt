@@ -58,7 +58,7 @@ pub(crate) fn join_places(
     let mut ties = Vec::new(alloc);
     let placed = region.order.placed();
     for k in region.connectors {
-        match chained(region, net.connectors[*k as usize]) {
+        match chained(net, region, net.connectors[*k as usize]) {
             Some(p) => join_next(alloc, net, t, placed, p, places, &mut links)?,
             None => ties.push(tied(alloc, net, *k, region)?)?,
         }

@@ -1,7 +1,7 @@
 //! The rows of a region's cells, and how a step changes them.
 //!
 //! Each cell has a place, and the cells of a chain of links lie at places side by side. A link from a place to the next one
-//! is kept in the place; any other connector is a tie, which has its flow followed by itself. A step takes all places
+//! is kept in the place, where no speed record slows it; any other connector is a tie, which has its flow followed by itself. A step takes all places
 //! through the links in one loop, then each tie, then the demands of the gates.
 //!
 //! All amounts are in parts. A step takes no memory.
@@ -23,6 +23,7 @@ mod idling;
 mod joining;
 mod joints;
 mod limit_courses;
+mod limited_course;
 mod limits;
 mod movement;
 mod opening;
@@ -34,6 +35,7 @@ mod place;
 mod placed;
 mod rule;
 mod sight;
+mod slowing;
 mod space;
 mod sweep;
 mod tie;

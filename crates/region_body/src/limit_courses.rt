@@ -88,8 +88,8 @@ impl LimitCourses {
     }
 }
 
-// Whether the second of its cells sends.
-fn sends_second(rule: Rule) -> bool
+/// Whether the second cell of a connector that carries by this rule sends.
+pub(crate) fn sends_second(rule: Rule) -> bool
     ensures { result ≡ sends_second rule }
 {
     match rule {

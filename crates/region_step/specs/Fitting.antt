@@ -2,10 +2,10 @@
 use Rattle.std.specs.Prelude.{◌≡◌, ℕ, ◌+◌, ◌*◌, ◌≤◌, true, false}
 use Rattle.fixed_flow.specs.Limits.{most_parts}
 use Rattle.signal_plan.specs.Total.{demand_from}
-use Rattle.network_file.specs.Cells.{is_exit_at, is_gate_at}
+use Rattle.network_file.specs.Cells.{is_exit_at, is_gate_at, is_road_at}
 use Rattle.network_file.specs.Network.{Network}
 use Rattle.network_file.specs.Limits.{most_capacity}
-use Rattle.flow_model.specs.Bounds.{first_at, is_road_at}
+use Rattle.flow_model.specs.Bounds.{first_at}
 use Rattle.flow_model.specs.declared.row.Row.{Row}
 
 -- what came into cell i by step t

@@ -3,10 +3,10 @@ use Rattle.std.specs.Prelude.{slice_index}
 use Rattle.std.proofs.Common.{◌≡◌, ℕ, zero, suc, ◌+◌, ◌*◌, ◌<◌, ◌≤◌, true, false, List, length, refl, subst, arith}
 use Rattle.fixed_flow.specs.Limits.{most_parts}
 use Rattle.signal_plan.specs.Total.{demand_from}
-use Rattle.network_file.specs.Cells.{is_exit_at, is_gate_at}
+use Rattle.network_file.specs.Cells.{is_exit_at, is_gate_at, is_road_at}
 use Rattle.network_file.specs.Network.{Network}
 use Rattle.network_file.specs.Limits.{most_capacity}
-use Rattle.flow_model.specs.Bounds.{IsHeldInBounds, IsRowInBounds, first_at, is_road_at, room_parts_at}
+use Rattle.flow_model.specs.Bounds.{IsHeldInBounds, IsRowInBounds, first_at, room_parts_at}
 use Rattle.flow_model.specs.State.{row_at}
 use Rattle.flow_model.specs.declared.row.Row.{Row}
 use Rattle.region_cut.specs.Cuttings.{region_count}

@@ -11,7 +11,7 @@ use Rattle.std.proofs.lemmas.List.FromFn.{length-range_with_len, get_or-range_wi
 use Rattle.std.proofs.lemmas.List.Sums.{sum_by-cons, sum_by-le, get_or-le-sum_by}
 use Rattle.signal_plan.specs.Limits.{most_records, most_parts}
 use Rattle.signal_plan.specs.Records.{CellRecords, DemandRecord, PlannedCell, PlanRecords, SpeedRecord, bare_cell, in_range, planned_at, records_at}
-use Rattle.signal_plan.specs.Sound.{AreSound, IsSoundDemand, IsSoundPlan, IsSoundSpeed}
+use Rattle.signal_plan.specs.Sound.{AreSound, IsSoundDemand, IsSoundPlan}
 use Rattle.signal_plan.specs.Capacity.{capacity_at}
 use Rattle.signal_plan.specs.Demand.{brings, demand_at}
 use Rattle.signal_plan.specs.Total.{demand_from, own_demand_from, total_demand}
@@ -39,24 +39,18 @@ shares_at-all P plan cell t own fallback turns =
     find-has P (λ u. (u.b1, u.b2)) (λ u. in_range u.from u.to t) (reverse (records_at plan cell).turns) own
     (All-reverse (λ u. P (u.b1, u.b2)) (records_at plan cell).turns each) fallback
 
--- the speed records of each cell have speeds within bounds
-speeds-sound : (plan : PlanRecords) (cell : ℕ) → IsSoundPlan plan → All (λ s. IsSpeed (s.num, s.den)) (records_at plan cell).speeds
-speeds-sound plan cell sound = elim (cases_lt cell (length plan.cells)) [
-  | inl there ↦
-      All-weaker (λ (s : SpeedRecord). (s.cell ≡ cell) × IsSoundSpeed s) (λ s. IsSpeed (s.num, s.den)) (λ s fits. fits.1.bounds) (records_at plan cell).speeds (sound.records cell there).speeds
-  | inr past ↦
-      subst (λ (own : CellRecords). All (λ s. IsSpeed (s.num, s.den)) own.speeds) (sym (records_at-past plan cell past)) (All-nil (λ (s : SpeedRecord). IsSpeed (s.num, s.den)))
-]
-
 -- the road's own speed
 pub IsSpeed-own : IsSpeed (1, 1)
 IsSpeed-own = record { positive = omega arith; ratio = omega arith; small = omega arith }
 
-pub speed_at-sound : (plan : PlanRecords) (cell t : ℕ) → IsSoundPlan plan → IsSpeed (speed_at plan cell t)
+-- the speed at a step has what the road's own and those of all records have
+pub speed_at-all : (P : ℕ × ℕ → Type 0) (plan : PlanRecords) (cell t : ℕ) → P (1, 1) →
+    All (λ planned. All (λ speed. P (speed.num, speed.den)) planned.records.speeds) plan.cells → P (speed_at plan cell t)
 unfolding speed_at
-speed_at-sound plan cell t sound =
-    find-has IsSpeed (λ s. (s.num, s.den)) (λ s. in_range s.from s.to t) (reverse (records_at plan cell).speeds) (1, 1)
-    (All-reverse (λ s. IsSpeed (s.num, s.den)) (records_at plan cell).speeds (speeds-sound plan cell sound)) IsSpeed-own
+speed_at-all P plan cell t fallback speeds =
+    let each = records_at-all (λ records. All (λ speed. P (speed.num, speed.den)) records.speeds) plan cell speeds (All-nil _) in
+    find-has P (λ s. (s.num, s.den)) (λ s. in_range s.from s.to t) (reverse (records_at plan cell).speeds) (1, 1)
+    (All-reverse (λ s. P (s.num, s.den)) (records_at plan cell).speeds each) fallback
 
 -- a cell without speed records has the road's own speed
 pub speed_at-none : (plan : PlanRecords) (cell t : ℕ) → has_speeds plan cell ≡ false → speed_at plan cell t ≡ (1, 1)

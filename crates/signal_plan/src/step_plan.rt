@@ -210,8 +210,7 @@ impl Plan {
     pub fn speed(&self, cell: u32, t: u64) -> (u32, u32)
         requires has_cell { cell < length self.now.cells }
         requires in_time { t < MOST_STEPS }
-        ensures speed { result ≡ speed_at self.now cell t }
-        ensures bounds { IsSpeed result }
+        ensures { result ≡ speed_at self.now cell t }
     {
         self.cells[cell as usize].speed_at(t)
     }

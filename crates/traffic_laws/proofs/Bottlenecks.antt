@@ -6,6 +6,7 @@ use Rattle.std.proofs.lemmas.Bool.{cases_Bool, eq-eqb}
 use Rattle.std.proofs.lemmas.List.Sums.{sum_by-cons}
 use Rattle.signal_plan.specs.Capacity.{capacity_at}
 use Rattle.signal_plan.specs.Green.{green_at}
+use Rattle.signal_plan.specs.Speeds.{arriving, speed_at}
 use Rattle.signal_plan.specs.Records.{PlanRecords}
 use Rattle.signal_plan.proofs.Sums.{sum_by_range_split}
 use Rattle.network_file.specs.Connectors.{connector_at, leads_out_of}
@@ -121,8 +122,8 @@ leaves-le-capacity : (net : Network) (i s : ℕ) → IsNetwork net → leaves ne
 leaves-le-capacity net i s sound =
     omega (arith, outflow-le net s i (occupancy (state_at net s)) sound, sending_at-le-green net i s (occupancy (state_at net s) i))
 
--- a green cell that holds its capacity can send it
-sends-capacity : (net : Network) (i s n : ℕ) → green_at net.plan i s ≡ true → capacity_at net.plan i s ≤ n →
+-- a green cell to whose end its capacity comes can send it
+sends-capacity : (net : Network) (i s n : ℕ) → green_at net.plan i s ≡ true → capacity_at net.plan i s ≤ arriving (speed_at net.plan i s) n →
     sending_at net s i n ≡ capacity_at net.plan i s
 unfolding sending_at
 sends-capacity net i s n green fed = rw green (omega arith)

@@ -35,7 +35,7 @@ waited-exit net i t has exit = rw exit at (ap (λ (row : Row). row.wait) (row_at
 -- no more leaves than is there
 pub leaves-le-held : (net : Network) (i t : ℕ) → IsNetwork net → leaves net t i ≤ occupancy (state_at net t) i
 leaves-le-held net i t sound =
-    omega (arith, outflow-le net t i (occupancy (state_at net t)) sound, sending_at-le-held net t i (occupancy (state_at net t) i))
+    omega (arith, outflow-le net t i (occupancy (state_at net t)) sound, sending_at-le-held net t i (occupancy (state_at net t) i) sound)
 
 -- a step adds to the wait, and to what has gone, what is there together
 pub spent-next : (net : Network) (i t : ℕ) → IsNetwork net → i < length net.cells → is_exit_at net.cells i ≡ false →

@@ -3,6 +3,7 @@ use Rattle.std.specs.Prelude.{◌≡◌, ℕ, ◌+◌, ◌-◌, ◌*◌, ◌<◌
 use Rattle.std.specs.List.{range_with_len}
 use Rattle.signal_plan.specs.Capacity.{capacity_at}
 use Rattle.signal_plan.specs.Green.{green_at}
+use Rattle.signal_plan.specs.Speeds.{arriving, speed_at}
 use Rattle.signal_plan.specs.Records.{PlanRecords}
 use Rattle.network_file.specs.Connectors.{connector_at}
 use Rattle.network_file.specs.Network.{Network}
@@ -34,9 +35,9 @@ IsRateTimesGreenSteps net i from to most =
 abbrev pub PassesAtMost : Network → (i from to most : ℕ) → Type 0
 PassesAtMost net i from to most = departed net i to ≤ departed net i from + most
 
--- at step s the cell is at red, or holds its capacity, and the cell downstream of its link can receive that
+-- at step s the cell is at red, or its capacity reaches its end, and the cell downstream of its link can receive that
 pub record IsFedAndDrained (net : Network) (i down s : ℕ) : Type 0 where
-  pub fed : green_at net.plan i s ≡ true → capacity_at net.plan i s ≤ occupancy (state_at net s) i
+  pub fed : green_at net.plan i s ≡ true → capacity_at net.plan i s ≤ arriving (speed_at net.plan i s) (occupancy (state_at net s) i)
   pub drained : green_at net.plan i s ≡ true → capacity_at net.plan i s ≤ receiving_at net s down (occupancy (state_at net s) down)
 
 -- where it is so at each step of the range, exactly as much goes out

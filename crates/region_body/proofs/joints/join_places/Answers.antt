@@ -28,7 +28,7 @@ loop-k-preserved c =
     (c.requires.connectors j 0 within) c.index.ensures in
     elim c.match-chained.branch [
       | in-Some+in_ok-join_next-in-Some w ↦
-          let linked : is_link cells w.in-Some.p (connector_at net.connectors k) ≡ true = rw read w.in-Some.ensures in
+          let linked : is_link net cells w.in-Some.p (connector_at net.connectors k) ≡ true = rw read w.in-Some.ensures in
           let done = w.in_ok-join_next-in-Some.ensures in
           let same : length c.loop-k.places ≡ length cells = omega (arith, c.requires.one_each) in
           let there : All (IsThere (length cells) t) w.join_next.new.links.items =
@@ -37,7 +37,7 @@ loop-k-preserved c =
           (joined-chained net t cells halo connectors c.args.places.now c.loop-k.places w.join_next.new.places c.loop-k.links.items w.join_next.new.links.items
           c.loop-k.ties.items j w.in-Some.p within c.requires.distinct linked c.loop-k.invariant there done.at w.join_next.ensures.only_most (rw c.placed-placed.ensures at done.followed))
       | in-None+in_ok-tied-in-None+in_ok-push-in-None w ↦
-          let odd : is_chained cells (connector_at net.connectors k) ≡ false = rw read w.in-None.ensures in
+          let odd : is_chained net cells (connector_at net.connectors k) ≡ false = rw read w.in-None.ensures in
           rw (w.places-is, w.links-is, w.ties-is, w.in_ok-push-in-None.ensures.items)
           (joined-odd net t cells halo connectors c.args.places.now c.loop-k.places c.loop-k.links.items c.loop-k.ties.items w.in_ok-tied-in-None.field-0 j within odd
           w.in_ok-tied-in-None.ensures.connector w.in_ok-tied-in-None.ensures.tie w.in_ok-tied-in-None.ensures.step c.loop-k.invariant)

@@ -1,5 +1,6 @@
-use Rattle.std.proofs.Common.{◌≡◌, refl, rules, arith}
-use Rattle.std.specs.Prelude.{codes}
+use Rattle.std.proofs.Common.{◌≡◌, true, refl, rules, arith}
+use Rattle.std.specs.Prelude.{codes, nat_le}
+use Rattle.std.proofs.lemmas.Bool.{le-leb}
 use Rattle.std.proofs.lemmas.Slice.Eq.{text_from_reads}
 use Rattle.record_fields.specs.RecordKinds.{record_kind_of}
 use Rattle.record_fields.proofs.record_kind.RecordKind.named.Goals as goal
@@ -26,7 +27,8 @@ pub returns-in-region : goal.returns-in-region
 unfolding record_kind_of
 returns-in-region c =
     let same : c.args.text.now ≡ codes "region" = text_from_reads c.args.text.now (codes "region") (omega arith) (search rules) in
-    rw (same, c.if-format-ge2-2.true) refl
+    let late : nat_le 2 c.args.format ≡ true = le-leb 2 c.args.format (omega (arith, c.if-format-ge2-2.true)) in
+    rw (same, late) refl
 
 pub returns-in-steps : goal.returns-in-steps
 unfolding record_kind_of
@@ -74,10 +76,12 @@ pub returns-in-turn : goal.returns-in-turn
 unfolding record_kind_of
 returns-in-turn c =
     let same : c.args.text.now ≡ codes "turn" = text_from_reads c.args.text.now (codes "turn") (omega arith) (search rules) in
-    rw (same, c.if-format-ge2.true) refl
+    let late : nat_le 2 c.args.format ≡ true = le-leb 2 c.args.format (omega (arith, c.if-format-ge2.true)) in
+    rw (same, late) refl
 
 pub returns-in-speed : goal.returns-in-speed
 unfolding record_kind_of
 returns-in-speed c =
     let same : c.args.text.now ≡ codes "speed" = text_from_reads c.args.text.now (codes "speed") (omega arith) (search rules) in
-    rw (same, c.if-format-ge3.true) refl
+    let late : nat_le 3 c.args.format ≡ true = le-leb 3 c.args.format (omega (arith, c.if-format-ge3.true)) in
+    rw (same, late) refl

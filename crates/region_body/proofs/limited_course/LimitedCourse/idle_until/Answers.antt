@@ -1,5 +1,5 @@
 use Rattle.std.proofs.Common.{refl, sym, ap, ◌∙◌, arith}
-use Rattle.region_body.proofs.connector_course.ConnectorCourse.idle_until.Goals as goal
+use Rattle.region_body.proofs.limited_course.LimitedCourse.idle_until.Goals as goal
 
 pub returns-else-stays_idle : goal.returns-else-stays_idle
 returns-else-stays_idle c = λ s from before.

@@ -4,8 +4,8 @@ use Rattle.std.proofs.Common.{◌≡◌, ◌≤◌, ◌+◌, sym, ap, subst, ◌
 use Rattle.region_body.specs.Limits.{AreInForce, AreKept, limits_of_courses}
 use Rattle.region_body.specs.declared.limit_courses.LimitCourses.{LimitCourses}
 use Rattle.region_body.proofs.Nothing.{flow-some, flow-stays, weights-in, weights-of}
-use Rattle.region_body.proofs.connector_course.ConnectorCourse.stays_idle.Goals.{After-least-arg-1}
-use Rattle.region_body.proofs.connector_course.ConnectorCourse.stays_idle.Goals as goal
+use Rattle.region_body.proofs.limited_course.LimitedCourse.stays_idle.Goals.{After-least-arg-1}
+use Rattle.region_body.proofs.limited_course.LimitedCourse.stays_idle.Goals as goal
 
 pub returns-in-None : goal.returns-in-None
 returns-in-None c = λ yes s.

@@ -2,7 +2,7 @@ use Rattle.std.proofs.Common.{refl, ap, sym, subst, ◌∙◌, arith}
 use Rattle.region_body.specs.Limits.{AreInForce, limits_of_courses, limits_by, limits_in}
 use Rattle.region_body.specs.Weights.{AreWeights}
 use Rattle.region_body.proofs.Bounding.{in_force-moved, limits-moved}
-use Rattle.region_body.proofs.connector_course.made_of.Goals as goal
+use Rattle.region_body.proofs.limited_course.LimitedCourse.new.Goals as goal
 
 pub returns-then-now-net : goal.returns-then-now-net
 unfolding limits_in

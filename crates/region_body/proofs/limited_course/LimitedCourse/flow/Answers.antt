@@ -1,15 +1,15 @@
 use Rattle.std.specs.Option.{option_map}
 use Rattle.std.specs.Prelude.{Option}
 use Rattle.std.proofs.Common.{ap, ◌∙◌, arith}
-use Rattle.region_body.specs.Flows.{ConnectorValues, flow_at}
+use Rattle.region_body.specs.Flows.{LimitedValues, limited_flow}
 use Rattle.region_body.specs.declared.limit_courses.LimitCourses.{LimitCourses}
 use Rattle.region_body.proofs.Bounding.{kept-limits}
 use Rattle.region_body.proofs.Made.{flow-within}
 use Rattle.region_body.proofs.Nothing.{kept-steady}
-use Rattle.region_body.specs.declared.connector_course.ConnectorCourse.TheInside.{Inside}
-use Rattle.region_body.proofs.connector_course.ConnectorCourse.flow.Goals as goal
+use Rattle.region_body.specs.declared.limited_course.LimitedCourse.TheInside.{Inside}
+use Rattle.region_body.proofs.limited_course.LimitedCourse.flow.Goals as goal
 
-abbrev view_of : Inside → ConnectorValues
+abbrev view_of : Inside → LimitedValues
 view_of course = record {
   rule = course.rule;
   courses = option_map (λ own. own.value) course.courses;
@@ -25,7 +25,7 @@ returns-clause-now c =
     let course = c.self.inside in
     let courses : Option LimitCourses = option_map (λ own. own.value) course.courses in
     c.carried.ensures ∙ flow-within (view_of course) course.limits course.step c.args.n (kept-limits courses course.limits course.step course.until c.self.invariant)
-    ∙ ap (λ one. flow_at one one.step c.args.n) c.self.view_is
+    ∙ ap (λ one. limited_flow one one.step c.args.n) c.self.view_is
 
 pub returns-clause-later : goal.returns-clause-later
 returns-clause-later c = λ t from before.
@@ -33,4 +33,4 @@ returns-clause-later c = λ t from before.
     let courses : Option LimitCourses = option_map (λ own. own.value) course.courses in
     let steady = kept-steady courses course.limits course.step course.until t c.self.invariant
     (omega (arith, from, ap (λ one. one.step) c.self.view_is)) (omega (arith, before, ap (λ one. one.until) c.self.view_is)) in
-    c.carried.ensures ∙ flow-within (view_of course) course.limits t c.args.n steady ∙ ap (λ one. flow_at one t c.args.n) c.self.view_is
+    c.carried.ensures ∙ flow-within (view_of course) course.limits t c.args.n steady ∙ ap (λ one. limited_flow one t c.args.n) c.self.view_is

@@ -2,13 +2,13 @@ use Rattle.std.specs.Option.{option_map}
 use Rattle.std.specs.Prelude.{Option, Some}
 use Rattle.std.proofs.Common.{◌≡◌, ℕ, refl, subst, sym, ap, ◌∙◌, arith}
 use Rattle.region_body.specs.Limits.{AreInForce, AreKept, limits_in}
-use Rattle.region_body.specs.Flows.{ConnectorValues, flow_at}
+use Rattle.region_body.specs.Flows.{LimitedValues, limited_flow}
 use Rattle.region_body.specs.Weights.{AreWeights}
 use Rattle.region_body.specs.declared.limit_courses.LimitCourses.{LimitCourses}
 use Rattle.region_body.proofs.Bounding.{in_force-moved, kept-lasting, kept-later, kept-never, limits_in-moved}
 use Rattle.region_body.proofs.Made.{flow-same}
-use Rattle.region_body.proofs.connector_course.ConnectorCourse.refresh.Goals.{then-self-t+in-Some, then-self-t+in_default, else-self-t}
-use Rattle.region_body.proofs.connector_course.ConnectorCourse.refresh.Goals as goal
+use Rattle.region_body.proofs.limited_course.LimitedCourse.refresh.Goals.{then-self-t+in-Some, then-self-t+in_default, else-self-t}
+use Rattle.region_body.proofs.limited_course.LimitedCourse.refresh.Goals as goal
 
 pub invariant_of-self : goal.invariant_of-self
 invariant_of-self c =
@@ -38,7 +38,7 @@ pub returns-clause-flow : goal.returns-clause-flow
 returns-clause-flow c = λ s n.
     let course = c.self.inside in
     let courses : Option LimitCourses = option_map (λ own. own.value) course.courses in
-    let view : ConnectorValues = record {
+    let view : LimitedValues = record {
       rule = course.rule;
       courses = courses;
       limits = course.limits;
@@ -55,9 +55,9 @@ returns-clause-flow c = λ s n.
           ap (λ one. limits_in (Some one) value s) w.move_to-now.ensures.moved ∙ limits_in-moved old course.limits value c.args.t s
           ∙ ap (λ one. limits_in (Some one) course.limits s) w.deref_mut.ensures.value
           ∙ sym (ap (λ kept. limits_in (option_map (λ own. own.value) kept) course.limits s) w.in-Some.is) in
-          rw w.self-inside-is (flow-same view _ s n refl refl refl limits ∙ ap (λ one. flow_at one s n) c.self.view_is)
-      | then-self-t+in_default w ↦ rw w.self-inside-is (flow-same view _ s n refl refl refl refl ∙ ap (λ one. flow_at one s n) c.self.view_is)
-      | else-self-t w ↦ rw w.self-inside-is (flow-same view _ s n refl refl refl refl ∙ ap (λ one. flow_at one s n) c.self.view_is)
+          rw w.self-inside-is (flow-same view _ s n refl refl refl limits ∙ ap (λ one. limited_flow one s n) c.self.view_is)
+      | then-self-t+in_default w ↦ rw w.self-inside-is (flow-same view _ s n refl refl refl refl ∙ ap (λ one. limited_flow one s n) c.self.view_is)
+      | else-self-t w ↦ rw w.self-inside-is (flow-same view _ s n refl refl refl refl ∙ ap (λ one. limited_flow one s n) c.self.view_is)
     ]
 
 pub returns-clause-later : goal.returns-clause-later
