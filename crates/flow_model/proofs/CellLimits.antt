@@ -1,5 +1,5 @@
 -- What a cell can send and receive is within what it holds, its capacity and its room.
-use Rattle.std.proofs.Common.{◌≡◌, ℕ, ◌+◌, ◌<◌, ◌≤◌, true, length, arith}
+use Rattle.std.proofs.Common.{All, ◌≡◌, ℕ, ◌+◌, ◌<◌, ◌≤◌, true, length, arith}
 use Rattle.std.proofs.lemmas.List.Elements.{All-weaker}
 use Rattle.ordinary_link.specs.Receiving.{receiving_flow}
 use Rattle.ordinary_link.specs.Space.{IsRoomHolding}

@@ -14,5 +14,6 @@ mod step;
 
 pub use carried::Flow;
 pub use connector_flow::flow;
+pub use limits::arriving;
 pub use row::Row;
 pub use step::{first_rows, plain_step};

@@ -1,4 +1,5 @@
 ghost use Rattle.std.specs.Prelude.{◌≡◌, ◌<◌, length};
+ghost use Rattle.signal_plan.specs.Speeds.{IsSpeed, arriving};
 ghost use Rattle.flow_model.specs.Limits.{room_by, sending_at, receiving_at};
 ghost use Rattle.flow_model.specs.Bounds.{IsHeldInBounds};
 
@@ -20,6 +21,15 @@ fn room(cell: &Cell) -> Option<Room>
     }
 }
 
+/// Of `n` parts those that reach the end of their cell in a step, rounded down, at a speed that is this ratio of the road's.
+pub fn arriving(speed: (u32, u32), n: u64) -> u64
+    requires { IsSpeed speed }
+    ensures { result ≡ arriving speed n }
+{
+    let (num, den) = speed;
+    share_floor(n, u64::from(num), u64::from(den))
+}
+
 /// What a cell can send in step `t` where it holds `n` parts: of those that reach its end at the speed of the step.
 #[tactic(auto, unfolding(crate::specs::Limits::sending_at))]
 pub(crate) fn sending_at(net: &Net, t: u64, cell: u32, n: u64) -> u64
@@ -28,10 +38,8 @@ pub(crate) fn sending_at(net: &Net, t: u64, cell: u32, n: u64) -> u64
     ensures { result ≡ sending_at net.now t cell n }
 {
     let _steps = net.steps;
-    let (num, den) = net.plan.speed(cell, t);
-    let arriving = share_floor(n, u64::from(num), u64::from(den));
     sending(
-        arriving,
+        arriving(net.plan.speed(cell, t), n),
         net.plan.capacity(cell, t),
         net.plan.green(cell, t),
     )

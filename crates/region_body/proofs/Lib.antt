@@ -8,6 +8,7 @@ pub mod Reciprocals
 pub mod Weights
 pub mod Bounding
 pub mod Spaces
+pub mod Slowed
 pub mod Made
 pub mod Nothing
 pub mod Shares

@@ -1,6 +1,8 @@
 ghost use Rattle.std.specs.Prelude.{◌≡◌, ◌≤◌, ◌<◌, ℕ, All, IfOk, length};
+ghost use Rattle.std.specs.Option.{option_map};
+ghost use Rattle.signal_plan.specs.Speeds.{IsSpeed, arriving};
 ghost use Rattle.courses.specs.Courses.{value_at};
-ghost use Rattle.region_body.specs.Slowing.{AreSpeedsOf, IsSlowingAs, slowed};
+ghost use Rattle.region_body.specs.Slowing.{AreSpeeds, IsSlowingAs, slowed};
 
 use crate::limit_courses::sends_second;
 use crate::rule::Rule;
