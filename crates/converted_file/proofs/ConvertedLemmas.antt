@@ -1,10 +1,12 @@
 -- A converted file is the same network.
-use Rattle.std.proofs.Common.{ℕ, ◌≡◌, ◌+◌, List, [], ◌∷◌, Ok, Err, Some, None, refl, sym, ap, ◌∙◌, drop, length}
-use Rattle.std.specs.Prelude.{Option, Result, nat_le, nat_lt, ok_or}
+use Rattle.std.proofs.Common.{ℕ, ◌≡◌, ◌≤◌, ◌+◌, ◌==◌, ◌&&◌, Bool, true, false, List, [], ◌∷◌, Ok, Err, Some, None, refl, sym, ap, subst, ◌∙◌, arith, drop, length}
+use Rattle.std.specs.Prelude.{Option, Result, bytes_eq, codes, if◌then◌else◌, max, nat_le, nat_lt, ok_or}
+use Rattle.std.specs.Cmp.Lexicographic.{bytes_decides}
 use Rattle.fixed_flow.specs.Limits.{most_parts}
 use Rattle.std.proofs.lemmas.List.Elements.{All-nil}
-use Rattle.converted_file.specs.Converted.{converted}
+use Rattle.converted_file.specs.Converted.{converted, header_line}
 use Rattle.network_file.specs.Draft.{Draft, empty_draft}
+use Rattle.record_fields.specs.Fields.{field}
 use Rattle.record_fields.specs.FileRecords.{file_records_of}
 use Rattle.network_file.specs.Formats.{format_of}
 use Rattle.network_file.specs.Network.{Network, load_of}
@@ -15,13 +17,14 @@ use Rattle.network_file.specs.declared.cell.Cell.{Cell}
 use Rattle.record_fields.specs.declared.code.Code.{Code}
 use Rattle.record_fields.specs.declared.code.Code.TheVariants.{NoSteps, NoCells, TooMuch}
 use Rattle.network_file.specs.declared.fault.NetFault.{NetFault}
-use Rattle.converted_file.proofs.PlainLines.{ArePlainRecords, file_records_of-converted, header_2}
+use Rattle.converted_file.proofs.PlainLines.{AreLinesOf, ArePlainRecords, IsPlainRecord, file_records_of-converted, header_2, header_2-plain, header_3, header_3-plain, lines_in-2, lines_in-3}
 use Rattle.converted_file.proofs.PlainText.{IsPlain}
+use Rattle.network_file.proofs.NetworkFacts.{few_records}
 use Rattle.network_file.proofs.ReadingLemmas.{network_of-headed, read_records-none, read_records-taken}
 use Rattle.record_fields.proofs.CheckLemmas.{bind-as, bind-ok, must-as, must-ok}
 use Rattle.converted_file.proofs.TakenFields.{ArePlainNames}
-use Rattle.converted_file.proofs.TakenKinds.{in_format_2}
-use Rattle.converted_file.proofs.TakenRecords.{take_record-alike}
+use Rattle.converted_file.proofs.TakenKinds.{in_format}
+use Rattle.converted_file.proofs.TakenRecords.{HasAsMuch, take_record-alike}
 
 -- the same network in another format
 abbrev net_in_format : ℕ → Network → Network
@@ -39,8 +42,7 @@ network_in_all-alike other draft net made =
     let (cells, made2) = must-ok (nat_lt 0 (length draft.cells)) NoCells _ net made1 in
     let (load, made3) = must-ok (nat_le (load_of draft.cells draft.plan steps) most_parts) TooMuch _ net made2 in
     let (regions, (is_regions, made4)) = bind-ok (cutting_of_draft draft) _ net made3 in
-    let same : record { format = draft.format; steps = steps; cells = draft.cells; connectors = draft.connectors; plan = draft.plan; regions = regions } ≡ net = cc made4 in
-    (
+    let same : record { format = draft.format; steps = steps; cells = draft.cells; connectors = draft.connectors; plan = draft.plan; regions = regions } ≡ net = cc made4 in (
       bind-as (ok_or draft.steps NoSteps) _ steps _ is_steps
           (must-as (nat_lt 0 (length draft.cells)) NoCells _ _ cells
           (must-as (nat_le (load_of draft.cells draft.plan steps) most_parts) TooMuch _ _ load
@@ -121,8 +123,10 @@ named-by header format named =
   where
     second : List ℕ
     second = field header 1
+
     apart : (digit : List ℕ) → bytes_eq digit (codes "3") ≡ false → bytes_eq second digit ≡ true → bytes_eq second (codes "3") ≡ false
     apart digit other is = subst (λ text. bytes_eq text (codes "3") ≡ false) (sym ((bytes_decides second digit).0 is)) other
+
     by : (headed one two three : Bool) → bytes_eq second (codes "3") ≡ three → (one ≡ true → bytes_eq second (codes "3") ≡ false) → (two ≡ true → bytes_eq second (codes "3") ≡ false) →
         (if headed then (if one then Some 1 else if two then Some 2 else if three then Some 3 else None) else None) ≡ Some format → IsNamedBy header format
     by false one two three is first next named = cc named
@@ -139,25 +143,45 @@ named-by header format named =
         record { known = omega (arith, named_3); third = λ yes. sym named_3; older = λ no. cc (is, no) }
     by true false false false is first next named = cc named
 
+format_of-header_2 : format_of header_2 ≡ Some 2
+unfolding format_of
+format_of-header_2 = refl
+
+format_of-header_3 : format_of header_3 ≡ Some 3
+unfolding format_of
+format_of-header_3 = refl
+
+-- what a text says of which the lines are those of a file's records, behind a header in a format that has as much
+said : (bytes : List ℕ) (net : Network) (headed : IsHeaded (file_records_of bytes) net) (other : ℕ) (header : List (List ℕ)) → format_of header ≡ Some other →
+    IsPlainRecord header → AreLinesOf bytes header → HasAsMuch headed.format other → max 2 headed.format ≡ other →
+    network_of (converted bytes) ≡ Ok (record net { format = max 2 net.format })
+said bytes net headed other header named plain_header lines has greater =
+    let rest : drop 1 (file_records_of bytes) ≡ headed.rest = ap (drop 1) headed.is in
+    let (plain, (alike, same)) =
+    read_records-alike other 2 (empty_draft headed.format) net headed.rest has (All-nil (λ (cell : Cell). IsPlain cell.name)) headed.read in
+    let plain_rest : ArePlainRecords (drop 1 (file_records_of bytes)) = subst ArePlainRecords (sym rest) plain in
+    let records : file_records_of (converted bytes) ≡ header ∷ headed.rest =
+    file_records_of-converted bytes header plain_header lines plain_rest ∙ ap (λ rows. header ∷ rows) rest in
+    let format : other ≡ max 2 net.format = sym greater ∙ ap (max 2) (sym same) in
+    network_of-headed (converted bytes) header headed.rest other records named ∙ alike ∙ ap (λ format. Ok (net_in_format format net)) format
+
+said-by : (bytes : List ℕ) (net : Network) (headed : IsHeaded (file_records_of bytes) net) (three : Bool) → bytes_eq (field headed.header 1) (codes "3") ≡ three →
+    network_of (converted bytes) ≡ Ok (record net { format = max 2 net.format })
+said-by bytes net headed true is =
+    let third : headed.format ≡ 3 = (named-by headed.header headed.format headed.named).third is in
+    let line : header_line (file_records_of bytes) ≡ codes "ctm,3\n" =
+    ap header_line headed.is ∙ ap (λ b. if b then codes "ctm,3\n" else codes "ctm,2\n") is in
+    said bytes net headed 3 header_3 format_of-header_3 header_3-plain (lines_in-3 bytes line)
+    (record { later = omega (arith, third); records = few_records headed.format }) (omega (arith, third))
+said-by bytes net headed false is =
+    let older : headed.format ≤ 2 = (named-by headed.header headed.format headed.named).older is in
+    let line : header_line (file_records_of bytes) ≡ codes "ctm,2\n" =
+    ap header_line headed.is ∙ ap (λ b. if b then codes "ctm,3\n" else codes "ctm,2\n") is in
+    said bytes net headed 2 header_2 format_of-header_2 header_2-plain (lines_in-2 bytes line)
+    (record { later = older; records = few_records headed.format }) (omega (arith, older))
+
 -- the converted text of a file says the same
 pub converted-same : (bytes : List ℕ) (net : Network) → network_of bytes ≡ Ok net → SaysTheSame bytes (converted bytes)
 converted-same bytes net read =
     let headed = network_of-headed_rows bytes net read in
-    let named = named-by headed.header headed.format headed.named in
-    let rest : drop 1 (file_records_of bytes) ≡ headed.rest = ap (drop 1) headed.is in
-    let line : header_line (file_records_of bytes) ≡ header_line (headed.header ∷ headed.rest) = ap header_line headed.is in
-    (net, read, by (bytes_eq (field headed.header 1) (codes "3")) refl headed named rest line)
-  where
-    said : (other : ℕ) (header : List (List ℕ)) (headed : IsHeaded (file_records_of bytes) net) → format_of header ≡ Some other → IsPlainRecord header →
-        AreLinesOf bytes header → drop 1 (file_records_of bytes) ≡ headed.rest → HasAsMuch headed.format other → max 2 headed.format ≡ other →
-        network_of (converted bytes) ≡ Ok (record net { format = max 2 net.format })
-    said other header headed named plain_header lines rest has greater =
-        let (plain, (alike, same)) =
-        read_records-alike other 2 (empty_draft headed.format) net headed.rest has (All-nil (λ (cell : Cell). IsPlain cell.name)) headed.read in
-        let plain_rest : ArePlainRecords (drop 1 (file_records_of bytes)) = subst ArePlainRecords (sym rest) plain in
-        let records : file_records_of (converted bytes) ≡ header ∷ headed.rest =
-        file_records_of-converted bytes header plain_header lines plain_rest ∙ ap (λ rows. header ∷ rows) rest in
-        let format : other ≡ max 2 net.format = sym greater ∙ ap (max 2) (sym same) in
-        network_of-headed (converted bytes) header headed.rest other records named ∙ alike ∙ ap (λ format. Ok (net_in_format format net)) format
-    by : (three : Bool) → bytes_eq (field (network_of-headed_rows bytes net read).header 1) (codes "3") ≡ three → (headed : IsHeaded (file_records_of bytes) net) → IsNamedBy headed.header headed.format →
-        TODO
+    (net, read, said-by bytes net headed (bytes_eq (field headed.header 1) (codes "3")) refl)
