@@ -1,4 +1,4 @@
-"""The worked examples of docs/MODEL.md: the figures on the page are those that the program records."""
+"""The worked examples of docs/MODEL.md, and two more on paper: their figures are those that the program records."""
 
 import re
 from fractions import Fraction
@@ -12,19 +12,37 @@ from worked import CORRIDOR, TURN, lines
 SIGNAL = lines("ctm,1; steps,4; gate,g,1,10; exit,x,5; link,g,x; signal,g,4,3,0,2")
 LIMITS = lines("ctm,1; steps,4; gate,g,5,10; exit,x,9; link,g,x; limit,g,0,2,1; limit,g,1,3,3")
 
-# The heading of each table of steps, its network, and for columns of the table what they have of which cell. What is sent all
-# goes here, and so does as much as a limit lets through.
-TABLES = [
-    ("Links", CORRIDOR, {1: "goes in", 3: "goes a", 5: "goes in", 6: "goes a", 7: "holds in", 8: "holds a", 9: "holds out",
-                        10: "waited in"}),
-    ("A signal", SIGNAL, {3: "goes g", 4: "holds g", 5: "waits g"}),
-    ("Limits", LIMITS, {1: "goes g", 2: "goes g", 3: "holds g", 4: "waits g"}),
-    ("Turning shares", TURN, {2: "goes b", 4: "comes x", 5: "comes y", 6: "holds b", 7: "waits b"}),
-]
+# Worked on paper. Of two limits that hold the later record does; the columns are the step, the capacity, what passes, what the
+# gate then holds, and what waits in the step.
+LIMITS_ON_PAPER = """
+| 0 | 1 | 1 | 9 | 9 |
+| 1 | 3 | 3 | 6 | 6 |
+| 2 | 3 | 3 | 3 | 3 |
+"""
+# A turn gives a diverge other shares in the step 1; the columns are the step, the shares, what is sent, how many times the
+# shares pass, what enters each exit, what the road then holds, and what waits in the step.
+TURN_ON_PAPER = """
+| 0 | 1, 2 | 3 | 1 | 1 | 2 | 6 | 6 |
+| 1 | 2, 1 | 3 | 1 | 2 | 1 | 3 | 3 |
+| 2 | 1, 2 | 3 | 1 | 1 | 2 | 0 | 0 |
+
+After 3 steps `x` holds 4 and `y` 5, and the total delay is 9 vehicle-steps.
+"""
 
 
 def section(heading):
     return MODEL.split(f"\n### {heading}\n")[1].split("\n### ")[0].split("\n## ")[0]
+
+
+# The text with each table of steps, its network, and for columns of the table what they have of which cell. What is sent all
+# goes here, and so does as much as a limit lets through.
+TABLES = [
+    (section("Links"), CORRIDOR, {1: "goes in", 3: "goes a", 5: "goes in", 6: "goes a", 7: "holds in", 8: "holds a", 9: "holds out",
+                        10: "waited in"}),
+    (section("A signal"), SIGNAL, {3: "goes g", 4: "holds g", 5: "waits g"}),
+    (LIMITS_ON_PAPER, LIMITS, {1: "goes g", 2: "goes g", 3: "holds g", 4: "waits g"}),
+    (TURN_ON_PAPER, TURN, {2: "goes b", 4: "comes x", 5: "comes y", 6: "holds b", 7: "waits b"}),
+]
 
 
 def fields_of(report):
@@ -54,9 +72,9 @@ class Course:
                 "holds": self.held[step + 1]}[what]
 
 
-@pytest.mark.parametrize("heading, network, columns", TABLES, ids=[table[0] for table in TABLES])
-def test_the_steps_of_a_worked_example(heading, network, columns, recorded):
-    rows = re.findall(r"^\| (\d+ \|.*) \|$", section(heading), re.MULTILINE)
+@pytest.mark.parametrize("text, network, columns", TABLES, ids=["links", "a signal", "limits", "turning shares"])
+def test_the_steps_of_a_worked_example(text, network, columns, recorded):
+    rows = re.findall(r"^\| (\d+ \|.*) \|$", text, re.MULTILINE)
     report = recorded(network)
     assert len(rows) >= 3
     for row in rows:
@@ -66,17 +84,17 @@ def test_the_steps_of_a_worked_example(heading, network, columns, recorded):
                         for column, what in columns.items()}
 
 
-@pytest.mark.parametrize("heading, network, told", [
-    ("Links", CORRIDOR, "The total delay is {total} vehicle-steps."),
-    ("A signal", SIGNAL, "The total delay after 4 steps is {total} vehicle-steps."),
-    ("A merge", lines("ctm,1; steps,1; gate,g,3,3; gate,h,3,1; road,e,10,2,1,1,0; merge,g,h,e,1,1"),
+@pytest.mark.parametrize("text, network, told", [
+    (section("Links"), CORRIDOR, "The total delay is {total} vehicle-steps."),
+    (section("A signal"), SIGNAL, "The total delay after 4 steps is {total} vehicle-steps."),
+    (section("A merge"), lines("ctm,1; steps,1; gate,g,3,3; gate,h,3,1; road,e,10,2,1,1,0; merge,g,h,e,1,1"),
      "After one step `g` holds {g}, which have waited, `h` holds {h}, and `e` holds {e}."),
-    ("Turning shares", TURN, "After 3 steps `x` holds {x} and `y` {y}, and the total delay is {total} vehicle-steps."),
+    (TURN_ON_PAPER, TURN, "After 3 steps `x` holds {x} and `y` {y}, and the total delay is {total} vehicle-steps."),
 ], ids=["links", "signal", "merge", "turning shares"])
-def test_what_is_told_of_the_end_of_a_worked_example(heading, network, told, recorded):
+def test_what_is_told_of_the_end_of_a_worked_example(text, network, told, recorded):
     report = fields_of(recorded(network))
     held = {fields[1]: Fraction(fields[2]) for fields in report if fields[0] == "cell"}
-    assert told.format(**held, total=Fraction(report[-1][-1])) in section(heading)
+    assert told.format(**held, total=Fraction(report[-1][-1])) in text
 
 
 def shown(amount):
