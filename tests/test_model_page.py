@@ -1,4 +1,4 @@
-"""The worked examples of docs/MODEL.md, and two more on paper: their figures are those that the program records."""
+"""The worked examples of docs/MODEL.md, and three more on paper: their figures are those that the program records."""
 
 import re
 from fractions import Fraction
@@ -7,7 +7,7 @@ from math import prod
 import pytest
 from conftest import TOP
 from format_tables import MODEL, rows_of
-from worked import CORRIDOR, TURN, lines
+from worked import CORRIDOR, SPEED, TURN, lines
 
 SIGNAL = lines("ctm,1; steps,4; gate,g,1,10; exit,x,5; link,g,x; signal,g,4,3,0,2")
 LIMITS = lines("ctm,1; steps,4; gate,g,5,10; exit,x,9; link,g,x; limit,g,0,2,1; limit,g,1,3,3")
@@ -28,6 +28,16 @@ TURN_ON_PAPER = """
 
 After 3 steps `x` holds 4 and `y` 5, and the total delay is 9 vehicle-steps.
 """
+# Of two speeds that hold the later record does; the columns are the step, the speed, what comes to the end of the road, what
+# is sent, what the road then holds, and what waits in the step.
+SPEED_ON_PAPER = """
+| 0 | 1/2 | 6.5 | 5 | 8 | 8 |
+| 1 | 1/4 | 2 | 2 | 6 | 6 |
+| 2 | 1/2 | 3 | 3 | 3 | 3 |
+| 3 | 1/1 | 3 | 3 | 0 | 0 |
+
+After 4 steps `x` holds 13, and the total delay is 17 vehicle-steps.
+"""
 
 
 def section(heading):
@@ -42,6 +52,7 @@ TABLES = [
     (section("A signal"), SIGNAL, {3: "goes g", 4: "holds g", 5: "waits g"}),
     (LIMITS_ON_PAPER, LIMITS, {1: "goes g", 2: "goes g", 3: "holds g", 4: "waits g"}),
     (TURN_ON_PAPER, TURN, {2: "goes b", 4: "comes x", 5: "comes y", 6: "holds b", 7: "waits b"}),
+    (SPEED_ON_PAPER, SPEED, {3: "goes a", 4: "holds a", 5: "waits a"}),
 ]
 
 
@@ -72,7 +83,7 @@ class Course:
                 "holds": self.held[step + 1]}[what]
 
 
-@pytest.mark.parametrize("text, network, columns", TABLES, ids=["links", "a signal", "limits", "turning shares"])
+@pytest.mark.parametrize("text, network, columns", TABLES, ids=["links", "a signal", "limits", "turning shares", "speeds"])
 def test_the_steps_of_a_worked_example(text, network, columns, recorded):
     rows = re.findall(r"^\| (\d+ \|.*) \|$", text, re.MULTILINE)
     report = recorded(network)
@@ -90,7 +101,8 @@ def test_the_steps_of_a_worked_example(text, network, columns, recorded):
     (section("A merge"), lines("ctm,1; steps,1; gate,g,3,3; gate,h,3,1; road,e,10,2,1,1,0; merge,g,h,e,1,1"),
      "After one step `g` holds {g}, which have waited, `h` holds {h}, and `e` holds {e}."),
     (TURN_ON_PAPER, TURN, "After 3 steps `x` holds {x} and `y` {y}, and the total delay is {total} vehicle-steps."),
-], ids=["links", "signal", "merge", "turning shares"])
+    (SPEED_ON_PAPER, SPEED, "After 4 steps `x` holds {x}, and the total delay is {total} vehicle-steps."),
+], ids=["links", "signal", "merge", "turning shares", "speeds"])
 def test_what_is_told_of_the_end_of_a_worked_example(text, network, told, recorded):
     report = fields_of(recorded(network))
     held = {fields[1]: Fraction(fields[2]) for fields in report if fields[0] == "cell"}
