@@ -212,11 +212,6 @@ def test_the_limits_of_what_options_ask_for_are_those_of_the_crates(text, known)
     ("Else it is {}·W,", constant("workerless_call/src/used_regions.rt", "EACH")),
     ("the number of cells divided by {},", constant("workerless_call/src/used_regions.rt", "FEWEST_OF_A_REGION")),
     ("A *number* is 1 to {} ASCII digits", constant("saved_run/src/number.rt", "MOST_DIGITS")),
-    ("and `come` at most `s` times {} vehicles |", constant("network_file/src/limits.rt", "MOST_CAPACITY") // 1_000_000),
-    ("still to come are together at most {} vehicles,", constant("fixed_flow/src/amount.rt", "MOST_PARTS") // 1_000_000),
-    ("| an exit | `n` is at most `s` times {} vehicles,", constant("network_file/src/limits.rt", "MOST_CAPACITY") // 1_000_000),
-    ("| each cell | `gone` is at most `s` times {} vehicles,", constant("network_file/src/limits.rt", "MOST_CAPACITY") // 1_000_000),
-    ("and `wait` at most `s` times {} |", constant("fixed_flow/src/amount.rt", "MOST_PARTS") // 1_000_000),
 ], ids=lambda it: it if isinstance(it, str) else "")
 def test_the_limits_of_the_page_are_those_of_the_crates(text, known):
     assert text.format(known if ":d" in text else f"{known:,}") in FORMAT

@@ -162,17 +162,11 @@ def test_the_books_of_a_gate_and_a_road_at_other_steps(gate, road, told, recorde
     assert told.format(**figures) in MODEL.split("\n## Flights and books\n")[1].split("\n## ")[0]
 
 
-def test_a_wider_ramp_adds_to_the_delay(recorded):
-    numbers = map(int, re.search(
-        r"A gate from which (\d+) vehicles can go in a step holds (\d+)\. A second one, a ramp, from which (\d+) can go holds (\d+)\. "
-        r"Both lead, by the priorities (\d+) to (\d+), into a road that is full \(`N = (\d+)`, `Q = (\d+)`, `A/B = (\d+)/(\d+)`\)\. "
-        r"After (\d+) steps the delay is (\d+)\. If (\d+) can go from the ramp, the delay is (\d+) ", MODEL).groups())
-    gate, waits, ramp, stand, first, second, room, capacity, slow, fast, steps, delay, wider, more = numbers
-    assert wider > ramp and more > delay
-    for out, told in (ramp, delay), (wider, more):
-        report = recorded(lines(f"ctm,1; steps,{steps}; gate,g,{gate},{waits}; gate,r,{out},{stand}; "
-                                f"road,m,{room},{capacity},{slow},{fast},{room}; exit,x,{capacity}; merge,g,r,m,{first},{second}; link,m,x"))
-        assert Fraction(fields_of(report)[-1][-1]) == told
+@pytest.mark.parametrize("ramp, delay", [(1, 52), (2, 53)])
+def test_a_wider_ramp_adds_to_the_delay(ramp, delay, recorded):
+    """A paradox, on paper in examples/README.md: one vehicle more can go from the ramp in a step, and one more waits in four steps."""
+    report = recorded(lines(f"ctm,1; steps,4; gate,g,2,10; gate,r,{ramp},3; road,m,12,4,1,2,12; exit,x,4; merge,g,r,m,1,3; link,m,x"))
+    assert Fraction(fields_of(report)[-1][-1]) == delay
 
 
 def test_the_amounts_of_the_lane_drop_are_worked_out_of_an_engineer_s_words():
