@@ -9,7 +9,7 @@ import tempfile
 from chains import TOP, corridor, lines_of
 
 sys.path.append(os.path.join(TOP, "tests"))
-from made_networks import made_network
+from made_networks import made_network, with_speeds
 
 SECONDS = 120  # of a run
 MOST = 2_000  # cells, and steps
@@ -77,8 +77,10 @@ def in_other_forms(draw, text):
     return b"".join(made)
 
 
-def changing_case(seed):
-    """A network of changing size, density, format and forms, and the words by which it is recorded."""
+def changing_case(seed, slowed=False):
+    """A network of changing size, density, format and forms, and the words by which it is recorded; or the same network in
+    format 3 with speeds in a changing share of its roads.
+    """
     draw = random.Random(f"changing {seed}")
     if draw.random() < 0.2:
         size = some(draw, MOST // 4)
@@ -96,6 +98,9 @@ def changing_case(seed):
         records = with_overlaps(draw, records, steps)
     if draw.random() < 0.5:
         records = (refined(draw, record) for record in records)
+    if slowed:
+        own = random.Random(f"slowed {seed}")
+        records = with_speeds(own, list(records), steps, own.choice((0.1, 0.5, 1)))
     text = lines_of(records).encode()
     return in_other_forms(draw, text) if draw.random() < 0.2 else text, some_every(draw, steps)
 
@@ -114,11 +119,11 @@ class Tally:
         self.runs = self.networks = self.differ = 0
         self.kept = None
 
-    def differs(self, seed, network, words, got):
+    def differs(self, name, network, words, got):
         """Keeps the network and tells the words."""
         self.differ += 1
         self.kept = self.kept or tempfile.mkdtemp(prefix="ctm-differs-")
-        path = os.path.join(self.kept, f"network-{seed}.csv")
+        path = os.path.join(self.kept, f"network-{name}.csv")
         with open(path, "wb") as out:
             out.write(network)
         print(f"differs: {' '.join(words)} < {path}: {got[0]} {got[2].decode(errors='replace').strip()}", flush=True)

@@ -38,6 +38,7 @@ struct Cell<'a> {
     limits: Timed<u64>,
     demands: Timed<u64>,
     turns: Timed<[u64; 2]>,
+    speeds: Timed<[u64; 2]>,
     n: u64,
     come: u64,
     gone: u64,
@@ -49,9 +50,15 @@ impl Cell<'_> {
         at(&self.limits, t).next_back().unwrap_or(self.capacity)
     }
 
+    /// What comes to the end of the cell in a step.
+    fn arriving(&self, t: u32) -> u64 {
+        let [num, den] = at(&self.speeds, t).next_back().unwrap_or([1, 1]);
+        self.n * num / den
+    }
+
     fn sending(&self, t: u32) -> u64 {
         let is_green = |[cycle, offset, from, to]: [u32; 4]| (from..to).contains(&((t + offset) % cycle));
-        if self.signal.is_none_or(is_green) { self.capacity(t).min(self.n) } else { 0 }
+        if self.signal.is_none_or(is_green) { self.capacity(t).min(self.arriving(t)) } else { 0 }
     }
 
     fn receiving(&self, t: u32) -> u64 {
@@ -112,14 +119,18 @@ impl<'a> Network<'a> {
             ["limit", name, t0, t1, q] => self.cell(name).limits.push((whole(t0)..whole(t1), amount(q))),
             ["demand", name, t0, t1, n] => self.cell(name).demands.push((whole(t0)..whole(t1), amount(n))),
             ["turn", name, t0, t1, b1, b2] => self.cell(name).turns.push((whole(t0)..whole(t1), [b1, b2].map(whole))),
+            ["speed", name, t0, t1, num, den] => {
+                self.cell(name).speeds.push((whole(t0)..whole(t1), [num, den].map(whole)))
+            }
             _ => panic!("no record: {fields:?}"),
         }
     }
 
     fn add(&mut self, name: &'a str, kind: Kind, capacity: u64, n: u64) {
-        let (signal, limits, demands, turns) = (None, vec![], vec![], vec![]);
+        let (signal, limits, demands, turns, speeds) = (None, vec![], vec![], vec![], vec![]);
+        let (come, gone, wait) = (0, 0, 0);
         self.places.insert(name, self.cells.len());
-        self.cells.push(Cell { name, kind, capacity, signal, limits, demands, turns, n, come: 0, gone: 0, wait: 0 });
+        self.cells.push(Cell { name, kind, capacity, signal, limits, demands, turns, speeds, n, come, gone, wait });
     }
 
     fn cell(&mut self, name: &str) -> &mut Cell<'a> {

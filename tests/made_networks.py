@@ -3,7 +3,7 @@
 import random
 
 
-def made_network(seed, cells, steps, parts=1, regions=0, filled=1):
+def made_network(seed, cells, steps, parts=1, regions=0, filled=1, speeds=0):
     """A network file, as bytes, of about so many cells in so many parts that nothing joins, with lots of junctions.
 
     Each part grows from a gate by links, merges and diverges, some of which lead back to roads that stand before them
@@ -11,12 +11,44 @@ def made_network(seed, cells, steps, parts=1, regions=0, filled=1):
     turns, and amounts that don't come out even. The cells stand in the file in an order of their own. Where `regions`
     isn't 0, the file deals the cells out to as many regions, or to as many as there are cells. Where `filled` is below 1,
     only so many of the roads and gates, of 1, hold something at first, and only so many of the demands bring anything.
+    Where `speeds` isn't 0 it is the same network in format 3, in which so many of the roads, of 1, have speeds.
     """
     draw = random.Random(seed)
     made = Making(draw, steps, filled)
     for part in range(parts):
         made.grow(cells * (part + 1) // parts)
-    return made.text(regions)
+    records = made.records(regions)
+    if speeds:
+        records = with_speeds(random.Random(f"speeds {seed}"), records, steps, speeds)
+    return "\n".join(records).encode() + b"\n"
+
+
+def some_range(draw, steps):
+    """The first step of a range of steps and the one past its last."""
+    first = draw.randrange(steps)
+    return f"{first},{first + draw.randint(1, steps)}"
+
+
+def some_speed(draw):
+    """A ratio of at most 1: of small numbers, of large ones, or so small that little comes to the end of a road."""
+    most = draw.choice((7, 1_000))
+    slow = draw.randint(1, most)
+    return draw.choice((f"{slow},{draw.randint(slow, most)}", f"1,{draw.choice((2, 100, 1_000))}"))
+
+
+def with_speeds(draw, records, steps, share):
+    """The records in format 3, with up to three speeds in so many of the roads, of 1: behind the road or at the end."""
+    yield "ctm,3"
+    later = []
+    for record in records[1:]:
+        yield record
+        kind, name, *_ = record.split(",")
+        if kind == "road" and draw.random() < share:
+            speeds = [f"speed,{name},{some_range(draw, steps)},{some_speed(draw)}" for _ in range(draw.randint(1, 3))]
+            count = draw.randint(0, len(speeds))
+            yield from speeds[:count]
+            later += speeds[count:]
+    yield from later
 
 
 class Making:
@@ -41,9 +73,7 @@ class Making:
         return self.amount(most) if self.filled == 1 or self.draw.random() < self.filled else "0"
 
     def range(self):
-        """The first step of a range of steps and the one past its last."""
-        first = self.draw.randrange(self.steps)
-        return f"{first},{first + self.draw.randint(1, self.steps)}"
+        return some_range(self.draw, self.steps)
 
     def shares(self):
         return f"{self.draw.randint(1, 5)},{self.draw.randint(1, 5)}"
@@ -108,7 +138,7 @@ class Making:
     def one_of(self, ends):
         return ends.pop(self.draw.randrange(len(ends)))
 
-    def text(self, regions):
+    def records(self, regions):
         names = [record.split(",")[1] for record in self.cells]
         self.draw.shuffle(self.cells)
         lines = ["ctm,2", f"steps,{self.steps}", *self.cells, *self.connectors, *self.behind]
@@ -116,4 +146,4 @@ class Making:
             self.draw.shuffle(names)
             many = min(regions, len(names))
             lines += (f"region,{name},{i if i < many else self.draw.randrange(many)}" for i, name in enumerate(names))
-        return "\n".join(lines).encode() + b"\n"
+        return lines

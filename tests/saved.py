@@ -31,22 +31,24 @@ def kinds_of(content):
 
 def of_the_other_future(content, begin, draw):
     """A network of the same cells and connectors that is the same before a step, and another from it on: some of its limits,
-    demands and turns that begin then are gone, others are there, and it has other steps, but no fewer than that step.
+    demands, turns and speeds that begin then are gone, others are there, and it has other steps, but no fewer than that step.
     """
     header, (_, steps), *records = records_of(content)
     others = [header, ["steps", str(max(begin, int(steps) + draw.choice([-3, 0, 5])))]]
     others += (record for record in records if not (begins_from(record, begin) and draw.random() < 0.5))
-    others += (map(str, record) for record in new_records(records, begin, draw))
+    others += (map(str, record) for record in new_records(records, begin, draw, has_speeds=header == ["ctm", "3"]))
     return "".join(",".join(record) + "\n" for record in others).encode()
 
 
 def begins_from(record, begin):
     """Whether a record says something of single steps, and only of such as come then or later."""
-    return record[0] in ("limit", "demand", "turn") and int(record[2]) >= begin
+    return record[0] in ("limit", "demand", "turn", "speed") and int(record[2]) >= begin
 
 
-def new_records(records, begin, draw):
-    """A limit on every third cell, a demand at each gate and a turn at each diverge, from a step on."""
+def new_records(records, begin, draw, has_speeds):
+    """A limit on every third cell, a demand at each gate, a turn at each diverge and, where there may be any, a speed on every
+    second road, from a step on.
+    """
     end = begin + draw.randint(1, 9)
     for kind, name, *_ in records:
         if kind in ("road", "gate", "exit") and draw.random() < 0.3:
@@ -55,3 +57,5 @@ def new_records(records, begin, draw):
             yield "demand", name, begin, end, draw.choice(["0.75", "1.333333", "3"])
         if kind == "diverge":
             yield "turn", name, begin, end, draw.randint(1, 5), draw.randint(1, 5)
+        if has_speeds and kind == "road" and draw.random() < 0.5:
+            yield "speed", name, begin, end, draw.randint(1, 5), draw.choice([5, 9, 1_000])

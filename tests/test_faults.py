@@ -35,8 +35,30 @@ def test_the_example_of_a_fault(given, told, run):
 FORK = "ctm,2; gate,g,1,0; exit,x,2; exit,y,2; diverge,g,x,y,1,1"
 CORRIDOR_IN_FORMAT_2 = CORRIDOR.decode().replace("ctm,1", "ctm,2").rstrip().replace("\n", "; ")
 
+SLOWED = "ctm,3; road,a,6,2,1,1,0; speed,"
+
 # The name of each case, its file and what is told of it.
 CASES = [
+    ("a format that is none", "ctm,4", "1 code 1 NoHeader"),
+    ("the number of format 3 with a zero", "ctm,03", "1 code 1 NoHeader"),
+    ("a first record of format 3 with a field too many", "ctm,3,", "1 code 1 NoHeader"),
+    ("a turn in format 1", "ctm,1; turn,p,0,1,1,1", "2 code 2 BadKind"),
+    ("a ratio above 1", "ctm,1; road,a,6,2,2,1,0", "2 code 6 OutOfRange"),
+    ("a limit of no step", "ctm,1; exit,x,2; limit,x,5,5,1", "3 code 6 OutOfRange"),
+    ("a green past the cycle", "ctm,1; gate,g,1,0; signal,g,4,0,2,5", "3 code 6 OutOfRange"),
+    ("a merge with a priority of 0", "ctm,1; gate,g,1,0; gate,h,1,0; exit,x,2; merge,g,h,x,0,1", "5 code 6 OutOfRange"),
+    ("a diverge with a share too great", "ctm,1; gate,g,1,0; exit,x,2; exit,y,2; diverge,g,x,y,1,1001", "5 code 6 OutOfRange"),
+    ("a turn with a share of 0", FORK + "; turn,g,0,1,0,1", "6 code 6 OutOfRange"),
+    ("a region number too great", "ctm,2; exit,x,2; region,x,512", "3 code 6 OutOfRange"),
+    ("a second signal", "ctm,1; gate,g,1,0; signal,g,4,0,0,2; signal,g,4,0,0,2", "4 code 7 Repeated"),
+    ("a second region", "ctm,2; exit,x,2; region,x,0; region,x,0", "4 code 7 Repeated"),
+    ("a signal of an unknown cell", "ctm,1; signal,p,4,0,0,2", "2 code 8 Unknown"),
+    ("a limit of an unknown cell", "ctm,1; limit,p,0,1,1", "2 code 8 Unknown"),
+    ("a turn of an unknown cell", "ctm,2; turn,p,0,1,1,1", "2 code 8 Unknown"),
+    ("a region of an unknown cell", "ctm,2; region,p,0", "2 code 8 Unknown"),
+    ("a merge into a gate", "ctm,1; gate,g,1,0; gate,h,1,0; merge,g,h,g,1,1", "4 code 9 WrongKind"),
+    ("a diverge out of an exit", "ctm,1; exit,x,2; exit,y,2; diverge,x,x,y,1,1", "4 code 9 WrongKind"),
+    ("a signal at an exit", "ctm,1; exit,x,2; signal,x,4,0,0,2", "3 code 9 WrongKind"),
     ("a first record of format 2 with a field too many", "ctm,2,", "1 code 1 NoHeader"),
     ("the number of a format with a zero", "ctm,02", "1 code 1 NoHeader"),
     ("a first record that is another kind", "steps,3; ctm,1", "1 code 1 NoHeader"),
@@ -76,9 +98,33 @@ CASES = [
     ("a region alone, with the greatest number", "ctm,2; steps,1; exit,x,2; region,x,511", "5 code 17 RegionGap"),
     ("a corridor without the region 1", CORRIDOR_IN_FORMAT_2 + "; region,in,0; region,a,2; region,out,2",
      "12 code 17 RegionGap"),
+    # what is told of speeds
+    ("a speed in format 1", SLOWED.replace("ctm,3", "ctm,1") + "a,0,1,1,2", "3 code 2 BadKind"),
+    ("a speed in format 2", SLOWED.replace("ctm,3", "ctm,2") + "a,0,1,1,2", "3 code 2 BadKind"),
+    ("a speed in upper case", SLOWED.replace("speed", "Speed") + "a,0,1,1,2", "3 code 2 BadKind"),
+    ("a speed of an unknown road", SLOWED + "p,0,1,1,2", "3 code 8 Unknown"),
+    ("a speed of a road before its record", "ctm,3; speed,a,0,1,1,2; road,a,6,2,1,1,0", "2 code 8 Unknown"),
+    ("a speed of a name that is none", SLOWED + "a a,0,1,1,2", "3 code 8 Unknown"),
+    ("a speed of a gate", "ctm,3; gate,g,1,0; speed,g,0,1,1,2", "3 code 9 WrongKind"),
+    ("a speed of an exit", "ctm,3; exit,x,1; speed,x,0,1,1,2", "3 code 9 WrongKind"),
+    ("a speed whose first step isn't whole", SLOWED + "a,0.0,1,1,2", "3 code 5 BadNumber"),
+    ("a speed whose last step has a sign", SLOWED + "a,0,+1,1,2", "3 code 5 BadNumber"),
+    ("a speed of a decimal", SLOWED + "a,0,1,0.5,1", "3 code 5 BadNumber"),
+    ("a speed by no number", SLOWED + "a,0,1,1,", "3 code 5 BadNumber"),
+    ("a speed of no step", SLOWED + "a,5,5,1,2", "3 code 6 OutOfRange"),
+    ("a speed of 0", SLOWED + "a,0,1,0,1", "3 code 6 OutOfRange"),
+    ("a speed above the road's own", SLOWED + "a,0,1,2,1", "3 code 6 OutOfRange"),
+    ("a speed by a number too great", SLOWED + "a,0,1,1,1001", "3 code 6 OutOfRange"),
+    ("a region that a road with a speed hasn't", "ctm,3; steps,1; exit,x,1; road,a,6,2,1,1,0; region,x,0; speed,a,0,1,1,2", "7 code 16 NoRegion"),
+    ("a road that isn't known before a number of a speed", SLOWED + "p,x,x,x,x", "3 code 8 Unknown"),
+    ("a gate before a number of a speed", "ctm,3; gate,g,1,0; speed,g,x,1,1,2", "3 code 9 WrongKind"),
+    ("the first step of a speed before its last", SLOWED + "a,100000,x,1,2", "3 code 6 OutOfRange"),
+    ("the last step of a speed before its first number", SLOWED + "a,1,1,x,2", "3 code 6 OutOfRange"),
+    ("the first number of a speed before its second", SLOWED + "a,0,1,1001,x", "3 code 6 OutOfRange"),
+    ("a speed with a fault behind one without", SLOWED + "a,0,1,1,2; speed,a,0,1,1,0", "4 code 6 OutOfRange"),
     # which of two faults is told
     ("the fault of the first record", "ctm,1; lane,x; exit,x", "2 code 2 BadKind"),
-    ("the first record before all others", "ctm,3; lane,x", "1 code 1 NoHeader"),
+    ("the first record before all others", "ctm,4; lane,x", "1 code 1 NoHeader"),
     ("the number of fields before a second number of steps", "ctm,1; steps,3; steps", "3 code 3 BadCount"),
     ("a second number of steps before its spelling", "ctm,1; steps,3; steps,x", "3 code 7 Repeated"),
     ("the leftmost field", "ctm,1; exit,a b,x", "2 code 4 BadName"),
@@ -105,14 +151,16 @@ FULL_RECORDS = ["steps,1", "road,a,6,2,1,1,0", "gate,g,1,0", "exit,x,1", "link,p
                 "signal,p,4,0,0,2", "limit,p,0,1,1", "demand,p,0,1,1", "turn,p,0,1,1,1", "region,p,0"]
 
 
-@pytest.mark.parametrize("record", FULL_RECORDS)
-def test_a_field_too_few_and_one_too_many(record, run):
+@pytest.mark.parametrize("form, record", [*((form, record) for form in (2, 3) for record in FULL_RECORDS), (3, "speed,p,0,1,1,1")])
+def test_a_field_too_few_and_one_too_many(form, record, run):
     for other in (record.rpartition(",")[0], record + ",1", record + ","):
-        hold((3, b"", fault("2 code 3 BadCount")), run(["run"], input=lines("ctm,2; " + other)))
+        hold((3, b"", fault("2 code 3 BadCount")), run(["run"], input=lines(f"ctm,{form}; {other}")))
 
 
-@pytest.mark.parametrize("words", [["run"], ["run", "--regions", "3", "--workers", "2"], ["watch"], ["check"], ["convert"]])
-@pytest.mark.parametrize("given, told", [(b"", "1 code 1 NoHeader"), (lines("ctm,1; steps,3"), "3 code 13 NoCells")])
+@pytest.mark.parametrize("words", [["run"], ["run", "--regions", "3", "--workers", "2"], ["watch"], ["save"], ["recut"], ["cut"],
+                                   ["check"], ["convert"]], ids=" ".join)
+@pytest.mark.parametrize("given, told", [
+    (b"", "1 code 1 NoHeader"), (lines("ctm,1; steps,3"), "3 code 13 NoCells"), (lines(SLOWED + "a,0,1,2,1"), "3 code 6 OutOfRange")])
 def test_a_fault_is_told_in_each_mode(words, given, told, run):
     hold((3, b"", fault(told)), run(words, input=given))
 

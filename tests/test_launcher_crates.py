@@ -194,6 +194,12 @@ def test_the_limits_of_what_options_ask_for_are_those_of_the_crates(text, known)
      constant("network_file/src/limits.rt", "MOST_RECORDS_OF_FORMAT_1")),
     (" of each | {} of each |", constant("signal_plan/src/bounds.rt", "MOST_RECORDS")),
     ("| Most turns | none | {} |", constant("signal_plan/src/bounds.rt", "MOST_RECORDS")),
+    ("`T`: whole 1 to {:d} |", constant("signal_plan/src/bounds.rt", "MOST_STEPS")),
+    ("`cycle`: whole 1 to {:d};", constant("signal_plan/src/bounds.rt", "MOST_STEPS")),
+    ("`A`: whole 1 to {:d}; `B`: whole `A` to", constant("ordinary_link/src/space.rt", "MOST_RATIO")),
+    ("; `P1`: whole 1 to {:d};", constant("signal_plan/src/bounds.rt", "MOST_RATIO")),
+    ("; `B1`: whole 1 to {:d};", constant("signal_plan/src/bounds.rt", "MOST_RATIO")),
+    ("; capacity: amount to {:d} |", constant("network_file/src/limits.rt", "MOST_CAPACITY") // 1_000_000),
     ("`N`: amount to {:d};", constant("network_file/src/limits.rt", "MOST_ROOM") // 1_000_000),
     ("`Q`: amount to {:d};", constant("network_file/src/limits.rt", "MOST_CAPACITY") // 1_000_000),
     ("together at most {} vehicles", constant("fixed_flow/src/amount.rt", "MOST_PARTS") // 1_000_000),
@@ -206,30 +212,9 @@ def test_the_limits_of_what_options_ask_for_are_those_of_the_crates(text, known)
     ("Else it is {}·W,", constant("workerless_call/src/used_regions.rt", "EACH")),
     ("the number of cells divided by {},", constant("workerless_call/src/used_regions.rt", "FEWEST_OF_A_REGION")),
     ("A *number* is 1 to {} ASCII digits", constant("saved_run/src/number.rt", "MOST_DIGITS")),
-    ("and `come` at most `s` times {} vehicles |", constant("network_file/src/limits.rt", "MOST_CAPACITY") // 1_000_000),
-    ("still to come are together at most {} vehicles,", constant("fixed_flow/src/amount.rt", "MOST_PARTS") // 1_000_000),
-    ("| an exit | `n` is at most `s` times {} vehicles,", constant("network_file/src/limits.rt", "MOST_CAPACITY") // 1_000_000),
-    ("| each cell | `gone` is at most `s` times {} vehicles,", constant("network_file/src/limits.rt", "MOST_CAPACITY") // 1_000_000),
-    ("and `wait` at most `s` times {} |", constant("fixed_flow/src/amount.rt", "MOST_PARTS") // 1_000_000),
 ], ids=lambda it: it if isinstance(it, str) else "")
 def test_the_limits_of_the_page_are_those_of_the_crates(text, known):
     assert text.format(known if ":d" in text else f"{known:,}") in FORMAT
-
-
-@pytest.mark.parametrize("text, known", [
-    ("| input | {} bytes;", constant("network_file/src/limits.rt", "MOST_BYTES")),
-    ("a saved text that is gone on from, {} |", constant("workerless_call/src/input.rt", "MOST_SAVED_BYTES")),
-    ("in a file of format 1 | {} of each |", constant("network_file/src/limits.rt", "MOST_RECORDS_OF_FORMAT_1")),
-    ("in a file of format 2 | {} of each |", constant("signal_plan/src/bounds.rt", "MOST_RECORDS")),
-    ("| steps `T`, the cycle of a signal | 1 to {} |", constant("signal_plan/src/bounds.rt", "MOST_STEPS")),
-    ("the capacity of a limit record | 0 to {} vehicles |", constant("network_file/src/limits.rt", "MOST_ROOM") // 1_000_000),
-    ("| `A`, `B` | 1 to {}, `A` at most `B` |", constant("ordinary_link/src/space.rt", "MOST_RATIO")),
-    ("in a turn record too | 1 to {} |", constant("signal_plan/src/bounds.rt", "MOST_RATIO")),
-    ("together | {} vehicles |", constant("fixed_flow/src/amount.rt", "MOST_PARTS") // 1_000_000),
-    ("| name of a cell | 1 to {} bytes |", constant("record_fields/src/name.rt", "LONGEST")),
-], ids=lambda it: it if isinstance(it, str) else "")
-def test_the_limits_of_the_model_are_those_of_the_crates(text, known):
-    assert text.format(f"{known:,}") in MODEL.partition("\n## Limits\n")[2]
 
 
 def test_the_bounds_of_a_row_in_the_model_are_of_the_limits_of_the_crates():

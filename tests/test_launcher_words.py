@@ -130,7 +130,10 @@ OTHER_WORDS = [["--regions", "2", "run"], ["--regions=2", "run"], ["--", "run"],
                ["run", "--regions=-5"], ["run", "--regions", "-"], ["run", "--regions", "--workers", "2"],
                ["run", "--regions="], ["run", "--=3"], ["run", "-"], ["run", "--", "--"], ["run", "---"], [""],
                ["run", ""], ["run", "--regions", "２"], ["run", "--regions", "1 "], ["run", "--regions=1=1"],
-               ["run", "--regions", "3", "--regions", "3"], ["run", "-regions", "3"], ["run", "--Regions", "3"]]
+               ["run", "--regions", "3", "--regions", "3"], ["run", "-regions", "3"], ["run", "--Regions", "3"],
+               ["run", "run"], ["check", "--workers", "2"], ["run", "--until", "1"], ["choose", "--workers", "4"],
+               ["cut", "--workers", "2"], ["convert", "--seed=1"], ["run", "--regions", "513"], ["run", "--regions", "+3"],
+               ["watch", "--shots", "65"], ["recut", "--parts", "65"], ["run", "--cut", "Grown"], ["run", "-r", "3"]]
 
 
 OWN_WORDS = {*TABLE.own_spellings("./ctm")}

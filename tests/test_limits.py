@@ -28,7 +28,9 @@ turn,a,{turn_from},{turn_to},{turn_1},{turn_2}
 USUAL = {"steps": 9, "gate_capacity": 5, "gate_first": 9, "room": 20, "capacity": 6, "slow": 1, "fast": 2, "first": 4,
          "exit_capacity": 5, "priority_1": 2, "priority_2": 1, "share_1": 1, "share_2": 2, "cycle": 3, "offset": 1,
          "green_from": 0, "green_to": 2, "limit_from": 1, "limit_to": 4, "limit": 2, "demand_from": 0, "demand_to": 6,
-         "demand": 1.5, "turn_from": 2, "turn_to": 5, "turn_1": 2, "turn_2": 1}
+         "demand": 1.5, "turn_from": 2, "turn_to": 5, "turn_1": 2, "turn_2": 1, "speed_from": 3, "speed_to": 7, "num": 1, "den": 2}
+# The same network in format 3, with a speed.
+FIELDS_3 = FIELDS.replace("ctm,2", "ctm,3") + "speed,a,{speed_from},{speed_to},{num},{den}\n"
 AMOUNT = (["0", "100000"], ["100000.000001"])
 RATIO = (["1", "1000"], ["0", "1001"])
 FIRST_STEP = (["0", "99999"], ["100000"])
@@ -69,26 +71,42 @@ LIMITS = [
     ("turn_1", *RATIO, {}),
     ("turn_2", *RATIO, {}),
 ]
+# The same of the fields that format 3 alone has.
+LIMITS_3 = [
+    ("speed_from", *FIRST_STEP, {"speed_to": 100_000}),
+    ("speed_to", ["4", "100000"], ["3", "100001"], {}),
+    ("num", *RATIO, {"den": 1000}),
+    ("den", *RATIO, {}),
+    ("den", ["7", "1000"], ["6"], {"num": 7}),
+]
+TRIED = [(FIELDS, *limit) for limit in LIMITS] + [(FIELDS_3, *limit) for limit in LIMITS + LIMITS_3]
 
 
-def network_with(field, value, others):
-    return FIELDS.format(**{**USUAL, **others, field: value}).encode()
+def network_with(fields, field, value, others):
+    return fields.format(**{**USUAL, **others, field: value}).encode()
 
 
-def record_of(field):
-    return 1 + next(i for i, line in enumerate(FIELDS.splitlines()) if f"{{{field}}}" in line)
+def record_of(fields, field):
+    return 1 + next(i for i, line in enumerate(fields.splitlines()) if f"{{{field}}}" in line)
 
 
-@pytest.mark.parametrize("field, value, others", [(field, value, others) for field, at, _, others in LIMITS for value in at])
-def test_a_number_at_its_limit(field, value, others, run):
-    network = network_with(field, value, others)
+def each(side):
+    """The cases of the values of one side of each limit, which have the number of their format in their names."""
+    for fields, field, *sides, others in TRIED:
+        for value in sides[side]:
+            yield pytest.param(fields, field, value, others, id=f"{fields[4]}: {field} {value}")
+
+
+@pytest.mark.parametrize("fields, field, value, others", each(0))
+def test_a_number_at_its_limit(fields, field, value, others, run):
+    network = network_with(fields, field, value, others)
     hold((0, plain_report(network), b""), run(["run"], input=network))
 
 
-@pytest.mark.parametrize("field, value, others", [(field, value, others) for field, _, past, others in LIMITS for value in past])
-def test_a_number_past_its_limit(field, value, others, run):
-    told = f"{record_of(field)} code 6 OutOfRange"
-    hold((3, b"", fault(told)), run(["run"], input=network_with(field, value, others)))
+@pytest.mark.parametrize("fields, field, value, others", each(1))
+def test_a_number_past_its_limit(fields, field, value, others, run):
+    told = f"{record_of(fields, field)} code 6 OutOfRange"
+    hold((3, b"", fault(told)), run(["run"], input=network_with(fields, field, value, others)))
 
 
 # A file, a spelling of its field that is taken, one that is longer than any that is, and what is told of it.

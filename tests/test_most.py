@@ -29,6 +29,17 @@ MOST = [
      "network2,3,1,3,0,0,200000,0"),
     ("turns", "ctm,2; steps,3; " + FORK, 6, lambda i: f"turn,g,{i % 1000},100000,1,2", 200_000,
      "network2,3,1,3,0,0,0,200000"),
+    ("cells of format 3", "ctm,3; steps,3", 2, lambda i: f"exit,x{i},1", 200_000, "network3,200000,0,3,0,0,0,0,0"),
+    ("connectors of format 3", "ctm,3; steps,3; " + ROADS[200_000], 200_002, lambda i: f"link,x{i},x{i}", 200_000,
+     "network3,200000,200000,3,0,0,0,0,0"),
+    ("limits of format 3", "ctm,3; steps,3; " + FORK, 6, lambda i: f"limit,g,{i % 1000},100000,1", 200_000,
+     "network3,3,1,3,0,200000,0,0,0"),
+    ("demands of format 3", "ctm,3; steps,3; " + FORK, 6, lambda i: f"demand,g,{i % 1000},100000,1", 200_000,
+     "network3,3,1,3,0,0,200000,0,0"),
+    ("turns of format 3", "ctm,3; steps,3; " + FORK, 6, lambda i: f"turn,g,{i % 1000},100000,1,2", 200_000,
+     "network3,3,1,3,0,0,0,200000,0"),
+    ("speeds", "ctm,3; steps,3; road,a,6,2,1,1,0", 3, lambda i: f"speed,a,{i % 1000},100000,1,2", 200_000,
+     "network3,1,0,3,0,0,0,0,200000"),
 ]
 
 

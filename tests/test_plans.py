@@ -77,6 +77,8 @@ FAULTS = [
     ("a base with a fault", with_plans(TIMINGS, lines("ctm,1; lane,x")), "plan 0 record 2 code 2 BadKind"),
     ("a base that lacks what the first plan has", with_plans(["steps,4", ""], QUEUE.replace(b"steps,4\n", b"")),
      "plan 1 record 5 code 12 NoSteps"),
+    ("a speed in a plan of a base in format 1", with_plans(["", "speed,g,0,1,1,2"]), "plan 1 record 6 code 2 BadKind"),
+    ("a speed of a gate in a plan", with_plans(["speed,g,0,1,1,2"], QUEUE.replace(b"ctm,1", b"ctm,3")), "plan 0 record 6 code 9 WrongKind"),
     ("no base", b"==\n" + QUEUE + b"==\n", "plan 1 record 1 code 1 NoHeader"),
     ("a separator in a quoted field", lines('ctm,1; steps,4; gate,g,1,10; exit,"x; ==; y",5'), "plan 0 record 4 code 4 BadName"),
 ]

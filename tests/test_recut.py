@@ -36,9 +36,10 @@ def test_an_example_in_parts(path, run):
         hold(whole, run(words, input=content))
 
 
-@pytest.mark.parametrize("seed", range(300))
+@pytest.mark.parametrize("seed", range(400))
 def test_a_made_network_in_parts(seed, run):
-    content = made_network(3000 + seed, 5 + seed % 40, 5 + seed % 30, regions=seed % 2 * 3)
+    """The last hundred have speeds."""
+    content = made_network(3000 + seed, 5 + seed % 40, 5 + seed % 30, regions=seed % 2 * 3, speeds=seed // 300 / 2)
     words = ["recut", "--parts", str(1 + seed % 9), "--regions", str(1 + seed % 6), "--workers", str(1 + seed % 3)]
     hold((0, plain_report(content), b""), run(words, input=content))
 

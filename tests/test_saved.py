@@ -96,6 +96,7 @@ OTHERS = {
     "two roads": (TWO_ROADS, 4),
     "a merge, dealt out by the file": (cut(NETWORKS["a merge into too little room"], "3120"), 1),
     "a diverge whose shares change": (NETWORKS["a diverge whose shares change"], 4),
+    "a pause that ends as a speed rises": (NETWORKS["a pause that ends as a speed rises"], 4),
 }
 
 
@@ -112,15 +113,17 @@ KINDS = {"road", "gate", "exit", "link", "merge", "diverge", "signal", "limit", 
 
 @functools.cache
 def made_networks():
-    """200 made networks that have each kind of record. Every third has no regions of its own, and every other holds little at
-    first, so that for a while nothing moves in some of its regions.
+    """200 made networks that have each kind of record, and 100 of other seeds with speeds too. Every third has no regions of
+    its own, and every other holds little at first, so that for a while nothing moves in some of its regions.
     """
-    made = (made_network(seed, 30 + seed % 30, 20 + seed % 21, regions=seed % 3 * 4, filled=(1, 0.2)[seed % 2])
-            for seed in itertools.count())
-    return list(itertools.islice((content for content in made if kinds_of(content) >= KINDS), 200))
+    def made(begin, count, speeds):
+        made = (made_network(seed, 30 + seed % 30, 20 + seed % 21, regions=seed % 3 * 4, filled=(1, 0.2)[seed % 2], speeds=speeds)
+                for seed in itertools.count(begin))
+        return itertools.islice((content for content in made if kinds_of(content) >= KINDS), count)
+    return [*made(0, 200, speeds=0), *made(1_000, 100, speeds=0.5)]
 
 
-@pytest.mark.parametrize("number", range(200))
+@pytest.mark.parametrize("number", range(300))
 def test_a_made_network_saved_and_gone_on_with_twice(number, save, run):
     """It is saved at the first step, at the last one, and at two between."""
     content = made_networks()[number]
@@ -131,7 +134,11 @@ def test_a_made_network_saved_and_gone_on_with_twice(number, save, run):
 
 
 def test_most_made_networks_have_regions_too():
-    assert sum(kinds_of(content) >= KINDS | {"region"} for content in made_networks()) > 100
+    assert sum(kinds_of(content) >= KINDS | {"region"} for content in made_networks()) > 150
+
+
+def test_a_hundred_made_networks_have_speeds_too():
+    assert [kinds_of(content) >= KINDS | {"speed"} for content in made_networks()] == [False] * 200 + [True] * 100
 
 
 def test_what_is_changed_from_the_saved_step_on_is_another_run(save, run):
@@ -143,9 +150,9 @@ def test_what_is_changed_from_the_saved_step_on_is_another_run(save, run):
     hold((0, plainly(content), b""), run(["resume"], input=text.replace(CITY, content)))
 
 
-@pytest.mark.parametrize("number", range(50))
+@pytest.mark.parametrize("number", [*range(50), *range(200, 250)])
 def test_another_future_is_the_whole_run_of_another_network(number, save, run):
-    """From the greatest saved step on other limits, demands, turns and another number of steps."""
+    """From the greatest saved step on other limits, demands, turns and speeds, and another number of steps."""
     content, draw = made_networks()[number], random.Random(number)
     text = save(content, network_of(content).steps // 3, 6, 4)
     saved = Saved(text)

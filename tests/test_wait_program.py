@@ -9,7 +9,7 @@ from conftest import TOP, ended, hold
 from made_networks import made_network
 from messages import READ_FAULT, TOO_LARGE, WORDS, WRITE_FAULT, fault
 from plain_model import report as plain_report
-from worked import CITY, CORRIDOR, REPORT, TURN, TWO_ROADS, TWO_ROADS_REPORT, lines
+from worked import CITY, CORRIDOR, REPORT, SPEED, TURN, TWO_ROADS, TWO_ROADS_REPORT, lines
 
 WORKERS = pytest.mark.parametrize("workers", ["1", "4"])
 EXAMPLES = sorted(path.stem for path in (TOP / "examples").glob("*.csv"))
@@ -41,8 +41,10 @@ def test_a_report_that_was_worked_on_paper(given, report, workers, wait):
 
 
 @WORKERS
-@pytest.mark.parametrize("given", [made_network(5, 65, 30), made_network(6, 150, 20, regions=100), CITY, TURN],
-                         ids=["one cell more than regions", "a hundred regions in the file", "each kind of record", "turns"])
+@pytest.mark.parametrize("given", [made_network(5, 65, 30), made_network(6, 150, 20, regions=100), CITY, TURN, SPEED,
+                                   made_network(7, 150, 20, regions=100, speeds=0.5)],
+                         ids=["one cell more than regions", "a hundred regions in the file", "each kind of record", "turns", "speeds",
+                              "speeds in a hundred regions"])
 def test_the_report_is_that_of_the_plain_recurrences(given, workers, wait):
     hold((0, plain_report(given), b""), wait([workers], input=given))
 

@@ -9,6 +9,8 @@ from plain_model import report as plain_report
 from shots import Network, faults_of_watch
 from test_cuttings import CHAIN, NETWORKS, cut
 from test_regions_and_workers import JUNCTIONS, PARTS, dealt_out
+from test_speeds import CHAIN as SLOW_CHAIN
+from test_speeds import PAUSES
 from worked import FULL_REPORT, FULL_ROAD, FULL_SHOT, FULL_SHOT_AFTER, RAMPS, TWO_ROADS, TWO_ROADS_REPORT, lines
 
 # A shot of the two roads, cut into four regions, of which the gate is a step ahead of the others.
@@ -105,6 +107,9 @@ def test_shots_of_junctions_by_other_numbers(workers, regions, check_watch):
     pytest.param(TWO_ROADS, {"workers": 2, "regions": 4, "shots": 64, "every": 1}, id="more shots than steps"),
     pytest.param(TWO_ROADS, {}, id="not said how many"),
     pytest.param(RAMPS, {"workers": 4, "regions": 127, "shots": 30}, id="ramps, signals and an incident"),
+    pytest.param(SLOW_CHAIN, {"workers": 4, "regions": 7, "shots": 30}, id="a chain that is held up, each cell a region"),
+    pytest.param(PAUSES, {"workers": 4, "shots": 64, "every": 40}, id="pauses that nothing joins"),
+    pytest.param(made_network(7, 60, 100, regions=9, speeds=0.5), {"workers": 4, "shots": 16, "every": 7}, id="junctions with speeds"),
 ])
 def test_shots_of_other_networks(content, options, check_watch):
     check_watch(content, **options)

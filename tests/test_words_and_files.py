@@ -9,7 +9,7 @@ from format_tables import rows_of
 from plain_model import records_of
 from plain_model import report as plain_report
 from worked import (CITY, CORRIDOR, QUEUE_CHOICE, QUEUE_PLANS, RAMPS, RAMPS_TOTALS, RECORDED, REPORT, SAVED, SAVED_LAST,
-                    TURN, TWO_ROADS, lines)
+                    SPEED, TURN, TWO_ROADS, lines)
 
 CONVERTED = CORRIDOR.replace(b"ctm,1", b"ctm,2")
 FIRST_AND_LAST = b"".join(line for line in RECORDED.splitlines(True) if not line.startswith(b"at,2,"))
@@ -20,6 +20,9 @@ OTHER_FORMS = b"\xef\xbb\xbf# a corridor\r\n\r\n" + CORRIDOR.replace(b"gate,in",
 SPELLED_LONG = lines("ctm,1; steps,003; gate,in,2.0,0; road,a,06,000000000002.000000,1,02,0; exit,out,2; link,in,a; "
                      "link,a,out; demand,in,0,000000001,4")
 SPELLED_LONG_IN_FORMAT_2 = SPELLED_LONG.replace(b"ctm,1", b"ctm,2")
+# The city in format 3, with speeds of two of its roads, and the same in other forms.
+SLOW_CITY = CITY.replace(b"ctm,2", b"ctm,3") + lines("speed,m1,1,4,2,3; speed,m5,0,3,1,2; speed,m5,2,3,3,4; speed,m5,0,1,01,0002")
+SLOW_CITY_IN_OTHER_FORMS = b"\xef\xbb\xbf# a city\r\n\r\n" + SLOW_CITY.replace(b"speed,m1", b'"speed","m1"').replace(b"\n", b"\r\n")[:-2]
 
 MADE = lines("sample,100,7,127,101,240") + RAMPS_TOTALS
 LARGE_MADE = lines("sample,2000,5,2502,2001,4040; total,0.000472,1523.105380,1523.104908,3175.878756")
@@ -83,6 +86,14 @@ CASES = [
     ("every option of recut", EVERY_OPTION["recut"], CORRIDOR, REPORT),
     ("every option of cut", EVERY_OPTION["cut"], CORRIDOR, lines("cut,3,2,2; cell,in,0; cell,a,1; cell,out,2")),
     ("check with turns in the file", ["check"], TURN, b"network2,3,1,3,0,0,0,1\n"),
+    ("check with speeds in the file", ["check"], SPEED, b"network3,2,1,4,0,0,0,0,2\n"),
+    ("check of format 3 without speeds", ["check"], CORRIDOR.replace(b"ctm,1", b"ctm,3"), b"network3,3,2,3,0,0,1,0,0\n"),
+    ("run of format 3 without speeds", ["run"], CORRIDOR.replace(b"ctm,1", b"ctm,3"), REPORT),
+    ("run of format 3 with regions", ["run"], REGIONS.replace(b"ctm,2", b"ctm,3"), REPORT),
+    ("convert of format 3 without speeds", ["convert"], CORRIDOR.replace(b"ctm,1", b"ctm,3"), CORRIDOR.replace(b"ctm,1", b"ctm,3")),
+    ("convert of speeds, which are kept as they are spelled", ["convert"], SLOW_CITY, SLOW_CITY),
+    ("convert of speeds in other forms", ["convert"], SLOW_CITY_IN_OTHER_FORMS, SLOW_CITY),
+    ("run of speeds in other forms", ["run"], SLOW_CITY_IN_OTHER_FORMS, plain_report(SLOW_CITY)),
     ("recorded every other step", ["run", "--every", "2"], CORRIDOR, RECORDED),
     ("recorded in three regions", ["run", "--every", "2", "--regions", "3"], CORRIDOR, RECORDED),
     ("recorded at the last step alone and at 0", ["run", "--every", "3"], CORRIDOR, FIRST_AND_LAST),
@@ -108,13 +119,13 @@ def test_words_and_files(words, given, text, run):
 
 
 COUNTED = {"cells": ("road", "gate", "exit"), "connectors": ("link", "merge", "diverge"), "signals": ("signal",),
-           "limits": ("limit",), "demands": ("demand",), "turns": ("turn",)}
+           "limits": ("limit",), "demands": ("demand",), "turns": ("turn",), "speeds": ("speed",)}
 
 
 @pytest.mark.parametrize("row", rows_of("Format | Line"))
 def test_the_counts_are_those_that_the_page_names(row, run):
     form, line = row.strip("| ").split(" | ")
-    network = {"1": CORRIDOR, "2": CITY}[form]
+    network = {"1": CORRIDOR, "2": CITY, "3": SLOW_CITY}[form]
     begin, *names = line.strip("`").split(",")
     header, (_, steps), *records = records_of(network)
     counts = [steps if name == "T" else sum(record[0] in COUNTED[name] for record in records) for name in names]

@@ -1,6 +1,7 @@
 """Files that were worked on paper and what is written of them: a corridor of three cells, its report, that in which every
 other step is recorded, and two saved texts of it; a full road, the two shots of it and its report; two roads and their
-report; a road whose vehicles turn; a queue with four plans; a city; and a larger network with its totals.
+report; a road whose vehicles turn; a road whose speed changes; a queue with four plans; a city; and a larger network with its
+totals.
 """
 
 from pathlib import Path
@@ -49,6 +50,8 @@ RAMPS_TOTALS = lines("total,0.000026,103.403700,103.403674,155.661787")
 # A road whose vehicles turn otherwise in the second of three steps, and a network that has each kind of record three times
 # or more.
 TURN = lines("ctm,2; steps,3; road,b,10,3,1,1,9; exit,x,10; exit,y,10; diverge,b,x,y,1,2; turn,b,1,2,2,1")
+# A road at half its speed in three of four steps, and at a quarter in the second of these.
+SPEED = lines("ctm,3; steps,4; road,a,13,5,1,1,13; exit,x,9; link,a,x; speed,a,0,3,1,2; speed,a,1,2,1,4")
 CITY = lines("ctm,2; steps,5; gate,g1,3,3; gate,g2,3,2; gate,g3,2,4; gate,g4,2,1; gate,g5,4,2; road,m1,10,4,1,2,4; "
              "road,m2,8,4,1,2,3; road,m3,8,4,1,1,7; road,m4,9,5,1,1,5; road,m5,9,5,1,2,6; road,m6,5,2,1,1,1; "
              "road,m7,5,2,1,1,5; exit,x1,2; exit,x2,2; exit,x3,1; exit,x4,3; exit,x5,2; merge,g1,g2,m1,1,1; "

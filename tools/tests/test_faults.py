@@ -21,7 +21,21 @@ def rows_of_faults():
         yield found[3], code, int(found[4])
 
 
-@pytest.mark.parametrize("file, code, record", rows_of_faults())
+# Faults in other fields and kinds than those of the table.
+MORE = [
+    ("ctm,3", "NoHeader", 1), ("ctm,1; turn,p,0,1,1,1", "BadKind", 2), ("ctm,1; road,a,6,2,2,1,0", "OutOfRange", 2),
+    ("ctm,1; exit,x,2; limit,x,5,5,1", "OutOfRange", 3), ("ctm,1; gate,g,1,0; signal,g,4,0,2,5", "OutOfRange", 3),
+    ("ctm,1; gate,g,1,0; gate,h,1,0; exit,x,2; merge,g,h,x,0,1", "OutOfRange", 5),
+    ("ctm,1; gate,g,1,0; exit,x,2; exit,y,2; diverge,g,x,y,1,1001", "OutOfRange", 5),
+    ("ctm,2; gate,g,1,0; exit,x,2; exit,y,2; diverge,g,x,y,1,1; turn,g,0,1,0,1", "OutOfRange", 6),
+    ("ctm,2; exit,x,2; region,x,512", "OutOfRange", 3), ("ctm,1; gate,g,1,0; signal,g,4,0,0,2; signal,g,4,0,0,2", "Repeated", 4),
+    ("ctm,2; exit,x,2; region,x,0; region,x,0", "Repeated", 4), ("ctm,1; signal,p,4,0,0,2", "Unknown", 2),
+    ("ctm,1; limit,p,0,1,1", "Unknown", 2), ("ctm,2; turn,p,0,1,1,1", "Unknown", 2), ("ctm,2; region,p,0", "Unknown", 2),
+    ("ctm,1; gate,g,1,0; gate,h,1,0; merge,g,h,g,1,1", "WrongKind", 4), ("ctm,1; exit,x,2; exit,y,2; diverge,x,x,y,1,1", "WrongKind", 4),
+    ("ctm,1; exit,x,2; signal,x,4,0,0,2", "WrongKind", 3)]
+
+
+@pytest.mark.parametrize("file, code, record", [*rows_of_faults(), *MORE])
 def test_the_table_of_faults(file, code, record):
     fault = first_fault(read_records(file.replace("; ", "\n").encode() + b"\n"))
     assert (fault.code, fault.record) == (code, record)
