@@ -213,26 +213,23 @@ def test_the_example_of_the_first_page_is_the_file_and_its_report(top, recording
     assert f"in {len(read('examples/bottleneck.toml').splitlines())} lines" in read("README.md")
 
 
-def check_times():
-    """The rows of the file of check times: of each crate its functions, the seconds of its proof and of its tests, and its edits."""
-    return {crate: figures for crate, *figures in (row.split(",") for row in read("launcher/check_times.csv").splitlines()[1:])}
-
-
-def test_the_must_fail_edits_and_the_tests_of_the_check_times_are_those_that_stand():
+def test_the_must_fail_edits_and_the_tests_of_the_map_are_those_that_stand():
+    page = read("docs/inside/MAP.md").split("## Check times")[1].split("\n## ")[0]
+    rows = re.findall(r"^\| `(\w+)` \| \w+ \| \w+ \| (\w+) \| (\w+) \|$", page, re.MULTILINE)
     counts = [line.split() for line in read(".ci/counts.txt").splitlines()]
-    rows = check_times()
-    assert [*rows] == [words[1] for words in counts if words[0] == "crate"]
-    for crate, (_, _, tests, edits) in rows.items():
+    assert [crate for crate, _, _ in rows] == [words[1] for words in counts if words[0] == "crate"]
+    for crate, tests, edits in rows:
         stand = sum(words[:2] == ["edit", crate] for words in counts)
         assert edits == (str(stand) if stand else "none"), crate
         assert (tests == "none") == (["test", crate] not in [words[:2] for words in counts]), crate
-    assert f"The {sum(words[0] == 'edit' for words in counts)} edits" in read("docs/inside/MAP.md")
+    assert f"The {sum(words[0] == 'edit' for words in counts)} edits" in page
 
 
 def test_the_times_of_the_map_add_up():
     page = read("docs/inside/MAP.md").split("## Check times")[1].split("\n## ")[0]
-    proofs = {crate: int(proof) for crate, (_, proof, _, _) in check_times().items()}
-    tests = sum(int(seconds) for _, _, seconds, _ in check_times().values() if seconds != "none")
+    rows = re.findall(r"^\| `(\w+)` \| \w+ \| (\d+) \| (\w+) \| \w+ \|$", page, re.MULTILINE)
+    proofs = {crate: int(seconds) for crate, seconds, _ in rows}
+    tests = sum(int(seconds) for _, _, seconds in rows if seconds != "none")
     assert f"some {sum(proofs.values()) / 60:.0f} processor-minutes of proofs and {tests / 60:.0f} of tests" in page
     edits, each, minutes = map(int, re.search(r"The (\d+) edits take some (\d+) s each, in all some (\d+) minutes", page).groups())
     assert round(edits * each / 60) == minutes
