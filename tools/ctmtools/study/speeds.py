@@ -51,17 +51,18 @@ class Speeds:
     def idle(self) -> Iterator[str]:
         """The speed limits that do nothing, since the road is no faster itself."""
         for limit in self.study.speed_limits:
-            own = sorted({section.free_flow_speed for section, _ in self._sections(limit)})
-            if limit.speed >= own[-1]:
+            sections = [section for section, _ in self._sections(limit)]
+            own = sorted({section.free_flow_speed for section in sections})
+            if all(_part(section, limit.speed) == 1 for section in sections):
                 yield (f"{limit.part.place}: road {limit.part.road} has {' and '.join(rounded_text(speed) for speed in own)} km/h "
                        f"there itself, so a limit of {rounded_text(limit.speed)} km/h does nothing")
 
     def _put(self, limit: SpeedLimit) -> None:
         part, span = limit.part, self.scale.span(limit.part.place, limit.part.start, limit.part.end)
         for section, cells in self._sections(limit):
-            if limit.speed >= section.free_flow_speed:
-                continue
             ratio = _part(section, limit.speed)
+            if ratio == 1:
+                continue
             if ratio == 0:
                 raise Problem(f"{part.place}.speed: is less than a thousandth of the free-flow speed")
             self.scale.rounding.note(f"{part.place} on road {part.road} from km {rounded_text(cells[0].start)}", limit.speed,
@@ -94,8 +95,8 @@ def _least(holding: Sequence[Change]) -> Fraction:
 
 
 def _part(section: Section, speed: Fraction) -> Fraction:
-    """The part of a section's own speed that a record says of a speed below it."""
-    return (speed / section.free_flow_speed).limit_denominator(FINEST)
+    """The part of a section's own speed that a limit leaves, in numbers that a record can have."""
+    return min(Fraction(1), speed / section.free_flow_speed).limit_denominator(FINEST)
 
 
 def _lasting(section: Section, speed: Fraction) -> Fraction:
