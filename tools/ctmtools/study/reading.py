@@ -26,12 +26,11 @@ from .times import Times
 from .trips import put_demand, read_trips
 
 LANE = ("free_flow_speed", "wave_speed", "jam_density", "saturation_flow")
-BY_TIME = ("speed limits by time are out of the model's reach: a cell is as long as the way of a step at the free-flow speed, "
-           "so a road has one speed at all times; say a number, and note the limits as [[speed_limits]]")
+BY_TIME = "a road has one free-flow speed of its own; say a number, and lower speeds by time as [[speed_limits]]"
 
 
 def _free_flow_speed(value: Any, key: str) -> Fraction:
-    """A free-flow speed, which can't change with time."""
+    """A free-flow speed, which is one for all times."""
     if isinstance(value, (list, dict)):
         raise Problem(f"{key}: {BY_TIME}")
     return speed(value, key)
@@ -346,6 +345,8 @@ def _opening(table: Entries, times: Times) -> Opening:
 def _speed_limit(table: Entries, times: Times) -> SpeedLimit:
     limit = SpeedLimit(_part(table, times), table.take("speed", speed))
     table.done()
+    if limit.speed == 0:
+        raise Problem(f"{table.key('speed')}: must be above 0; a closure lets nobody through")
     return limit
 
 
