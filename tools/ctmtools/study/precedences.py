@@ -54,11 +54,10 @@ def _check_others(table: Entries, found: Crossing, way: Way, others: list[Way]) 
 
 def _check_keys(table: Entries, found: Crossing) -> None:
     """Refuses what is of signs where there is a signal, and the other way round."""
-    if found.cycle is not None:
-        strange, why = OF_SIGNS, "is of junctions without a signal; in a permitted green nobody waits in a median"
-    else:
-        strange, why = OF_GREENS, "are of permitted greens, and this junction has no signal"
-    for name in strange:
+    signal = found.cycle is not None
+    why = "is of junctions without a signal; in a permitted green nobody waits in a median" if signal else \
+        "are of permitted greens, and this junction has no signal"
+    for name in OF_SIGNS if signal else OF_GREENS:
         if table.has(name):
             raise Problem(f"{table.key(name)}: {why}")
     if table.has("stage_gap") and not table.has("median"):

@@ -31,9 +31,10 @@ def number(value: Any, key: str) -> Fraction:
     """The exact fraction of a number of the study file."""
     if isinstance(value, bool) or not isinstance(value, (int, Fraction)):
         raise Problem(f"{key}: expected a number, found {shown(value)}")
-    if abs(value) > MOST_NUMBER:
+    result = Fraction(value)
+    if abs(result) > MOST_NUMBER:
         raise Problem(f"{key}: expected a number, found one beyond 1e300")
-    return Fraction(value)
+    return result
 
 
 def not_negative(what: str) -> Callable[[Any, str], Fraction]:
