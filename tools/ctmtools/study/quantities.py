@@ -12,6 +12,7 @@ from typing import Any
 from ..problem import Problem
 
 MILE = Fraction("1.609344")  # km
+MOST_NUMBER = 10 ** 300  # what no unit makes more than a floating-point number holds
 
 # For each sort of quantity the unit of a bare number, and what each unit is of it.
 UNITS = {
@@ -30,7 +31,10 @@ def number(value: Any, key: str) -> Fraction:
     """The exact fraction of a number of the study file."""
     if isinstance(value, bool) or not isinstance(value, (int, Fraction)):
         raise Problem(f"{key}: expected a number, found {shown(value)}")
-    return Fraction(value)
+    result = Fraction(value)
+    if abs(result) > MOST_NUMBER:
+        raise Problem(f"{key}: expected a number, found one beyond 1e300")
+    return result
 
 
 def not_negative(what: str) -> Callable[[Any, str], Fraction]:

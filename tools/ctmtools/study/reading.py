@@ -101,6 +101,7 @@ def _study(entries: Entries, path: Path) -> Study:
     study.yield_interval = entries.take("yield_interval", duration, Study.yield_interval)
     if study.yield_interval < study.step:
         raise Problem("yield_interval: must be a step or more")
+    study.yield_interval = min(study.yield_interval, max(study.duration, study.step))
     entries.done()
     if not study.roads and not study.gates:
         raise Problem("roads: is missing")
