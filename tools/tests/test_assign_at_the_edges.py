@@ -153,7 +153,8 @@ def test_the_study_says_who_is_informed_where_the_call_does_not(opened, tmp_path
 
 @pytest.mark.parametrize("output, told", [("s.toml", "s.toml: is the study that is assigned"),
                                           ("od.toml", "od.csv: stands there and wasn't made by ctm-tools"),
-                                          ("od.csv", "od.csv: a study's name ends with .toml")])
+                                          ("od.csv", "od.csv: a study's name ends with .toml"),
+                                          ("none/x.toml", "none/x.toml: there is no folder none")])
 def test_nothing_that_a_user_made_is_written_over(tool, tmp_path, recording_program, output, told):
     (tmp_path / "s.toml").write_text(TWO_PAIRS)
     (tmp_path / "od.csv").write_text("from,to,start,end,vehicles\n")
@@ -187,3 +188,38 @@ def test_more_drivers_than_before_part_as_they_did(opened, tmp_path):
     frame = assign(tmp_path / "s.toml", tmp_path / "more.toml", earlier=opened, informed=0)
     assert frame.vehicles.sum() == pytest.approx(1900)
     assert {row.roads for row in read_ways(tmp_path / "more.ways.csv")} == {("a", "short", "b")}
+
+
+@pytest.mark.parametrize("words, told", [
+    (("-o", "open.toml"), "open.toml: is the assignment whose ways the drivers have; name another file with -o"),
+    (("--informed", "0,1", "-o", "od.csv"), "od.csv: stands there and isn't a table of several shares; name another file with -o"),
+    (("--informed", "0,1", "-o", "none/t.csv"), "none/t.csv: there is no folder none"),
+    (("--informed", "1", "--dask", "localhost:8786"), "--dask: a cluster makes several assignments")])
+def test_a_place_or_a_cluster_that_cannot_be_is_refused_before_the_rounds(tool, opened, tmp_path, words, told):
+    kept = {path.name: path.read_bytes() for path in opened.parent.iterdir()} | {"od.csv": b"from,to\n"}
+    for name, content in kept.items():
+        (tmp_path / name).write_bytes(content)
+    status, out, err = tool("assign", "s.toml", "--from", "open.toml", *words)
+    assert status == 2 and told in err and out == "" and err.count("\n") == 1
+    assert {path.name: path.read_bytes() for path in tmp_path.iterdir()} == kept
+
+
+def test_a_table_of_several_shares_is_written_over_an_earlier_one(tool, opened, tmp_path):
+    (tmp_path / "s.toml").write_text(TWO_WAYS.replace("3000]]", "1800]]"))
+    for parts in ("0,1", "0,0.5,1"):
+        status, _, err = tool("assign", "s.toml", "--from", opened, "--informed", parts, "-o", "t.csv", "--iterations", "1")
+        assert status == 0, err
+    assert len((tmp_path / "t.csv").read_text().splitlines()) == 4
+
+
+@pytest.mark.parametrize("column, value", [(2, "xx"), (2, "07:00 + "), (3, "one"), (4, "nan"), (4, "-1"), (4, "1e400"), (5, "inf"), (6, None),
+                                           (0, "x" * 140_000)])
+def test_a_row_of_ways_that_assign_did_not_write_is_refused(opened, tmp_path, column, value):
+    (tmp_path / "open.toml").write_bytes(opened.read_bytes())
+    (tmp_path / "s.toml").write_text(TWO_WAYS.replace("3000]]", "1800]]"))
+    head, first, *others = (opened.parent / "open.ways.csv").read_text().splitlines()
+    fields = first.split(",")
+    fields[column:column + 1] = [] if value is None else [value]
+    (tmp_path / "open.ways.csv").write_text("\n".join([head, ",".join(fields), *others]))
+    with pytest.raises(Problem, match="open.ways.csv: line 2 isn't one that `ctm-tools assign` writes"):
+        assign(tmp_path / "s.toml", earlier=tmp_path / "open.toml", informed=1)

@@ -105,6 +105,8 @@ def read_bytes(path: str | Path) -> bytes:
         return Path(path).read_bytes()
     except OSError as error:
         raise Problem(f"{path}: {reason(error)}") from None
+    except ValueError:  # a zero byte in its name
+        raise Problem(f"{str(path)!r}: no file has such a name") from None
 
 
 def network_of(content: bytes, name: str = "the network") -> Network:

@@ -20,7 +20,7 @@ from .following import put_actuated_signals
 from .plan import (Closure, Diverge, Exit, Flow, Gate, Merge, Meter, Opening, Road, RoadPart, Section, Signal, SpeedLimit,
                    Study, Turn)
 from .precedences import put_merges, take_precedence
-from .quantities import clock, density, duration, flow, lanes, length, number, shown, speed, title, whole, word
+from .quantities import clock, density, duration, exact, flow, lanes, length, number, shown, speed, title, whole, word
 from .slips import slip_hint
 from .times import Times
 from .trips import put_demand, read_trips
@@ -44,16 +44,11 @@ def read_values(path: str | Path) -> dict[str, Any]:
     """The values of a study file as TOML has them, with each decimal number as an exact fraction."""
     content = read_as(path, "a study")
     try:
-        return tomllib.loads(content.decode("utf-8-sig"), parse_float=_decimal)
+        return tomllib.loads(content.decode("utf-8-sig"), parse_float=exact)
     except UnicodeDecodeError:
         raise Problem(f"{path}: a study file is UTF-8; save it so") from None
     except (tomllib.TOMLDecodeError, ValueError) as error:
         raise Problem(f"{path}: {one_line(error)}{slip_hint(content, str(error))}") from None
-
-
-def _decimal(text: str) -> Fraction | float:
-    """A decimal number of TOML as an exact fraction; `nan` and `inf` as they are, so that their keys refuse them."""
-    return float(text) if text.strip("+-") in ("nan", "inf") else Fraction(text)
 
 
 def read_study(path: str | Path) -> Study:
