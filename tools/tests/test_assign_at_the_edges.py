@@ -2,14 +2,18 @@
 
 from types import SimpleNamespace
 
+import numpy
 import pytest
 
 from ctmtools import Problem, assign, read_report
 from ctmtools.assignment.assigning import Round
-from ctmtools.assignment.messages import settled_lines
+from ctmtools.assignment.messages import not_settled, pair_lines, settled_lines
+from ctmtools.assignment.passing import _queued
+from ctmtools.assignment.task import measures
 from ctmtools.assignment.times import Gap
-from ctmtools.assignment.ways_file import read_ways
+from ctmtools.assignment.ways_file import WayRow, read_ways
 from ctmtools.study.reading import read_values
+from ctmtools.units import Units
 
 from .test_assign import assigned
 from .trips import HEAD, TWO_PAIRS, TWO_WAYS
@@ -223,3 +227,33 @@ def test_a_row_of_ways_that_assign_did_not_write_is_refused(opened, tmp_path, co
     (tmp_path / "open.ways.csv").write_text("\n".join([head, ",".join(fields), *others]))
     with pytest.raises(Problem, match="open.ways.csv: line 2 isn't one that `ctm-tools assign` writes"):
         assign(tmp_path / "s.toml", earlier=tmp_path / "open.toml", informed=1)
+
+
+def test_a_queue_that_is_left_goes_on_as_at_the_end_of_a_run_of_few_records():
+    # 10 leave in each minute, so the 30th leaves a minute after the end; a queue of which nobody leaves waits for a run more.
+    for gone, left in (((0, 10, 20), 180), ((0, 0, 0), 240)):
+        assert _queued(numpy.array([0.0, 60, 120]), numpy.array([[30.0]]), numpy.array([gone], dtype=float)) == pytest.approx(left, abs=0.1)
+
+
+def test_times_on_the_ways_are_in_hours_of_all_and_minutes_of_each():
+    own = SimpleNamespace(departures=SimpleNamespace(vehicles=numpy.array([[15.0, 5.0]])),
+                          report=SimpleNamespace(units=Units(step=5), total=SimpleNamespace(left=18, inside=2)))
+    found = measures(own, Round(3, Gap(0, 0, 720_000), 0, 7, 0))
+    # 720,000 vehicle-steps of 5 s are 1,000 vehicle-hours, of 20 vehicles.
+    assert (found["travel_vehicle_hours"], found["mean_minutes"], found["delay_vehicle_hours"]) == pytest.approx((1000, 3000, 7), rel=1e-6)
+    assert (found["rounds"], found["served_vehicles"], found["inside_vehicles"]) == (3, 18, 2)
+
+
+@pytest.mark.parametrize("gap, moved, limits, told", [
+    (0.02, 0, 0, "the gap is 0.0200, above 0.01;"), (0, 0.02, 0, "2.00% of what comes to branches still moves between them, above 0.01;"),
+    (0, 0, 0.2, "what passes of those who give way still moves by 20.0%;")])
+def test_what_has_not_settled_is_told_with_what_it_is_above(gap, moved, limits, told):
+    own = SimpleNamespace(choices=[], departures=SimpleNamespace(by_interval=[]), times=[], crowded=set(),
+                          report=SimpleNamespace(total=SimpleNamespace(inside=0)))
+    line, = not_settled(own, [Round(2, Gap(100 + 100 * gap, 100, 500), moved, 0, 0, limits)], 0.01)
+    assert line.startswith(f"warning: after 2 rounds {told} it still falls") and Round(2, Gap(100, 100, 500), 0, 0, 0).settled(0.01)
+
+
+def test_of_the_roads_of_a_way_sixty_letters_are_told():
+    rows = [WayRow("a", "b", "07:00:00", number, 5.0, 3.0, (letters,)) for number, letters in ((1, 60 * "x"), (2, 61 * "y"))]
+    assert [line.split()[-1] for line in list(pair_lines(rows))[-2:]] == [60 * "x", 58 * "y" + ".."]

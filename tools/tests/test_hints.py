@@ -24,9 +24,11 @@ HEADERS = {
     "steps,9\n\nctm,1\n": "The record ctm,1 is in line 3; it must stand before all others.",
     "kind,name\nctm,2\n": "The record ctm,2 is in line 2; a row of column names stands before it.",
     "kind\nctm,2\n": "The record ctm,2 is in line 2; it must stand before all others.",
+    "steps,9\nctm,1,\n": "The record ctm,1 is in line 2; it must stand before all others.",
     "gate,on,18,0\n": "The record ctm,1, ctm,2 or ctm,3 is missing; put it before all others.",
     "kind,name (of cell)\n": "A row of column names stands there; this file has none. Put ctm,1, ctm,2 or ctm,3 in its place.",
     "1,2\n": "The first record of a network file is ctm,1, ctm,2 or ctm,3.",
+    '""\n': "The first record of a network file is ctm,1, ctm,2 or ctm,3.",
     "a\rctm,1\r": "The lines end with carriage returns alone, so a comment doesn't end; save the file with line feeds."}
 RECORDS = {
     "ctm,2": "The header stands once, at the top of the file; are two files joined here?",

@@ -6,6 +6,7 @@ import plain_model
 import pytest
 
 from ctmtools import Problem, build, read_study
+from ctmtools.commands.importing import seconds
 from ctmtools.imports import sumo_net, sumolib_net
 from ctmtools.imports.sumo import joined, read_network, streets_of
 from ctmtools.imports.sumo_trips import read_trips
@@ -181,6 +182,15 @@ def test_mistakes_in_the_words(tool, files):
     assert "--step: must be 0.1 s or more" in tool("import", "sumo", "town.net.xml", "--step", "0", "-o", "t.toml")[2]
     (files / "late.rou.xml").write_text('<routes><vehicle depart="9000"><route edges="a d"/></vehicle></routes>')
     assert "no vehicle comes in the first 1 h" in tool("import", "sumo", "town.net.xml", "--routes", "late.rou.xml")[2]
+    (files / "none.rou.xml").write_text("<routes/>")
+    told = tool("import", "sumo", "town.net.xml", "--routes", "late.rou.xml", "--routes", "none.rou.xml")[2]
+    assert told == "ctm-tools: late.rou.xml: no vehicle comes in the first 1 h\n"
+
+
+@pytest.mark.parametrize("words", [["--trips", "--matrix", "m.od"], ["--trips", "--taz", "t.xml"], ["--taz", "t.xml", "--matrix", "m.od"]])
+def test_matrices_need_trips_and_districts(tool, files, words):
+    status, _, err = tool("import", "sumo", "town.net.xml", *words)
+    assert status == 2 and "matrices are taken with --trips and --taz, the file of their districts" in err
 
 
 SIGNS = """<additional>
@@ -300,3 +310,7 @@ def test_the_study_is_the_same_with_sumolib_and_without(tool, files, monkeypatch
     for text, wanted in (("<net>", "no XML"), ("<routes/>", "expected <net>, found <routes>")):
         (files / "x.net.xml").write_text(text)
         assert wanted in tool("import", "sumo", "x.net.xml")[2]
+
+
+def test_the_least_length_of_time_is_taken():
+    assert seconds("0", "--after", least=0) == 0 and seconds("0.1 s", "--step") == 0.1
