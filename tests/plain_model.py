@@ -25,7 +25,7 @@ class Plain:
 
     def __init__(self, content):
         self.names, self.kind, self.room, self.most, self.ratio = [], {}, {}, {}, {}
-        self.joints, self.limits, self.demands, self.turns, self.speeds, self.signals = [], {}, {}, {}, {}, {}
+        self.joints, self.limits, self.demands, self.turns, self.signals, self.speeds = [], {}, {}, {}, {}, {}
         self.n = {}
         for record in records_of(content)[1:]:
             self.take(*record)
@@ -54,10 +54,9 @@ class Plain:
             self.limits.setdefault(values[0], []).append((int(values[1]), int(values[2]), parts_of(values[3])))
         elif kind == "demand":
             self.demands.setdefault(values[0], []).append((int(values[1]), int(values[2]), parts_of(values[3])))
-        elif kind == "turn":
-            self.turns.setdefault(values[0], []).append(tuple(map(int, values[1:])))
-        elif kind == "speed":
-            self.speeds.setdefault(values[0], []).append(tuple(map(int, values[1:])))
+        elif kind in ("turn", "speed"):
+            ranges = {"turn": self.turns, "speed": self.speeds}[kind]
+            ranges.setdefault(values[0], []).append(tuple(map(int, values[1:])))
 
     def last(self, ranges, otherwise):
         for begin, end, *value in reversed(ranges):
@@ -68,17 +67,13 @@ class Plain:
     def capacity(self, name):
         return self.last(self.limits.get(name, []), self.most[name])
 
-    def arriving(self, name):
-        """What comes to the end of a cell in a step."""
-        num, den = self.last(self.speeds.get(name, []), (1, 1))
-        return self.n[name] * num // den
-
     def sending(self, name):
         if name in self.signals:
             cycle, offset, begin, end = self.signals[name]
             if not begin <= (self.time + offset) % cycle < end:
                 return 0
-        return min(self.capacity(name), self.arriving(name))
+        num, den = self.last(self.speeds.get(name, []), (1, 1))
+        return min(self.capacity(name), self.n[name] * num // den)
 
     def receiving(self, name):
         if self.kind[name] == "exit":

@@ -135,15 +135,21 @@ def test_the_codes_of_faults_are_those_of_the_crates():
     assert [row[2].rpartition(", ")[2] for row in of_saved if not row[1]] == [f"with status {network}"]
 
 
+def first_format(text):
+    """The first format that has a kind of record, by what is told of it."""
+    told = re.search(r"in format (\d)", text)
+    return told[1] if told else "1"
+
+
 def test_the_kinds_of_records_have_as_many_fields_as_in_the_crate():
     path = "record_fields/src/record_kind.rt"
     counts = arms(function(path, "field_count"))
-    known = {word: (counts[variant], bool(guard)) for word, guard, variant in re.findall(
-        r'b"(\w+)"( if format == 2)? => Some\(RecordKind::(\w+)\)', source(path))}
+    known = {word: (counts[variant], first or "1") for word, first, variant in re.findall(
+        r'b"(\w+)"(?: if format >= (\d))? => Some\(RecordKind::(\w+)\)', source(path))}
     rows = [cells(row) for row in rows_of("Kind | Fields behind the kind | Fields in all | Example")]
-    assert {re.search(r"`(\w+)`", row[0])[1]: (row[2], "in format 2" in row[0]) for row in rows} == known
+    assert {re.search(r"`(\w+)`", row[0])[1]: (row[2], first_format(row[0])) for row in rows} == known
     in_manual = re.findall(r"^\\fB(\w+),\\fR(.*)$", MANUAL.partition(".SH FILES")[2].partition("The report has")[0], re.MULTILINE)
-    assert {kind: (str(1 + len(re.findall(r"\\fI", fields))), "in format 2" in fields) for kind, fields in in_manual} == known
+    assert {kind: (str(1 + len(re.findall(r"\\fI", fields))), first_format(fields)) for kind, fields in in_manual} == known
 
 
 @pytest.mark.parametrize("text, known", [
@@ -160,9 +166,9 @@ def test_the_limits_of_the_manual_are_those_of_the_crates(text, known):
 def test_the_formats_have_their_first_record_and_the_begin_of_their_counts():
     heads, *rows = [cells(row) for row in FORMAT.partition("\n## The formats\n")[2].split("\n\n")[1].splitlines() if "---" not in row]
     told = {name: formats for name, *formats in rows}
-    assert heads == ["", "Format 1", "Format 2"]
-    assert told["First record"] == ["`ctm,1`", "`ctm,2`"]
-    assert told["The line of counts begins with"] == ["`network,`", "`network2,`"]
+    assert heads == ["", "Format 1", "Format 2", "Format 3"]
+    assert told["First record"] == ["`ctm,1`", "`ctm,2`", "`ctm,3`"]
+    assert told["The line of counts begins with"] == ["`network,`", "`network2,`", "`network3,`"]
 
 
 def test_the_most_plans_are_those_of_the_crate_wherever_they_are_told():
@@ -194,6 +200,8 @@ def test_the_limits_of_what_options_ask_for_are_those_of_the_crates(text, known)
      constant("network_file/src/limits.rt", "MOST_RECORDS_OF_FORMAT_1")),
     (" of each | {} of each |", constant("signal_plan/src/bounds.rt", "MOST_RECORDS")),
     ("| Most turns | none | {} |", constant("signal_plan/src/bounds.rt", "MOST_RECORDS")),
+    ("| Most speeds | none | none | {} |", constant("signal_plan/src/bounds.rt", "MOST_RECORDS")),
+    ("; `NUM`: whole 1 to {:d};", constant("signal_plan/src/bounds.rt", "MOST_RATIO")),
     ("`T`: whole 1 to {:d} |", constant("signal_plan/src/bounds.rt", "MOST_STEPS")),
     ("`cycle`: whole 1 to {:d};", constant("signal_plan/src/bounds.rt", "MOST_STEPS")),
     ("`A`: whole 1 to {:d}; `B`: whole `A` to", constant("ordinary_link/src/space.rt", "MOST_RATIO")),
