@@ -1,6 +1,7 @@
 """Networks of SUMO as studies: streets, lanes for cars, junctions, signals, and traffic by its routes, worked out on paper."""
 
 from fractions import Fraction
+from math import inf
 
 import plain_model
 import pytest
@@ -9,6 +10,8 @@ from ctmtools import Problem, build, read_study
 from ctmtools.commands.importing import seconds
 from ctmtools.imports import sumo_net, sumolib_net
 from ctmtools.imports.sumo import joined, read_network, streets_of
+from ctmtools.imports.speed_limits import RoadLimit, limits_on
+from ctmtools.imports.streets import SpeedSpan, Street
 from ctmtools.imports.sumo_trips import read_trips
 from ctmtools.report.reading import report_of
 
@@ -234,17 +237,25 @@ def test_variable_speed_signs_are_speed_limits(tool, files):
     ('<variableSpeedSign id="v" lanes="d_0" vTypes="lorry"><step time="5000" speed="5"/></variableSpeedSign>', [("d", 0, None, 5000, 5400, 18)],
      "1 variable speed signs are for some types of vehicles, and hold for all here"),
     ('<variableSpeedSign id="v" lanes="d_0" file="steps.xml"/>', [("d", 0, None, 900, 5400, 18)], ""),
-    # c and e, 125 m each, are one road; at 12 s one step of 2 s is left of what lasts 1 s, and none of what lasts less.
+    # Of two signs of a lane the later step holds.
     ('<variableSpeedSign id="v" edges="c e"><step time="60" speed="5"/><step time="120" speed="10"/></variableSpeedSign>'
      '<variableSpeedSign id="w" edges="e"><step time="300" speed="4"/></variableSpeedSign>',
-     [("c", 0, None, 60, 120, 18), ("c", 0, None, 120, 300, 36), ("c", 0, Fraction("0.125"), 300, 5400, 36),
-      ("c", Fraction("0.125"), None, 300, 5400, Fraction("14.4"))], "")])
+     [("c", 0, None, 60, 120, 18), ("c", 0, None, 120, 5400, 36), ("e", 0, None, 60, 120, 18), ("e", 0, None, 120, 300, 36),
+      ("e", 0, None, 300, 5400, Fraction("14.4"))], "")])
 def test_what_signs_say(tool, files, signs, limits, note):
     (files / "town.add.xml").write_text(f"<additional>{signs}</additional>")
     (files / "steps.xml").write_text('<vss><step time="900" speed="5"/></vss>')
     out = tool("import", "sumo", "town.net.xml", "--routes", "town.rou.xml", "--additional", "town.add.xml", "-o", "town.toml")[1]
-    assert sorted(limits_in("town.toml"), key=str) == sorted(limits, key=str)
+    assert limits_in("town.toml") == limits
     assert f"  {note}\n" in out if note else "speed sign" not in out
+
+
+def test_limits_of_streets_of_one_road():
+    """Two streets of 125 m: alike limits are one, and what is shorter than half a step of 2 s is none."""
+    streets = [Street(name, "1", "2", 0.125, 1, 50.0) for name in "ce"]
+    limits = {"c": [SpeedSpan("c", 60, 120, 18), SpeedSpan("c", 200, 200.6, 18)], "e": [SpeedSpan("e", 60, 120, 18), SpeedSpan("e", 120, inf, 14.4)]}
+    assert list(limits_on(streets, limits, 0, 600, 2)) == [RoadLimit(0, None, 60, 120, 18), RoadLimit(0.125, None, 120, 600, 14.4)]
+    assert list(limits_on(streets, {"c": limits["c"]}, 0, 600, 2)) == [RoadLimit(0, 0.125, 60, 120, 18)]
 
 
 @pytest.mark.parametrize("steps, told", [
