@@ -322,4 +322,4 @@ def test_a_decision_is_told_in_80_words():
 
 def test_the_book_for_who_carries_the_project_on_stays_short():
     words = [word for page in [*INSIDE, "CONTRIBUTING.md"] for word in read(page).split() if re.search(r"\w", word)]
-    assert len(words) <= 16_000
+    assert len(words) <= 12_500
