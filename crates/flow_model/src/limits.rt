@@ -21,7 +21,7 @@ fn room(cell: &Cell) -> Option<Room>
     }
 }
 
-/// Of `n` parts those that reach the end of their cell in a step, rounded down, at a speed that is this ratio of the road's.
+/// Of `n` parts those that reach the end of their cell in a step, rounded down, at this ratio (A, B) of its road's speed.
 pub fn arriving(speed: (u32, u32), n: u64) -> u64
     requires { IsSpeed speed }
     ensures { result ≡ arriving speed n }

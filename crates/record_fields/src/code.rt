@@ -4,7 +4,7 @@ ghost use Rattle.record_fields.specs.FaultCode.{code_name, code_number};
 /// Why a record, or the file as a whole, is no network. docs/FORMAT.md says when each comes.
 #[derive(Clone, Copy, Debug, PartialEq, Eq)]
 pub enum Code {
-    /// The first record isn't the two fields `ctm` and `1`, or `ctm` and `2`, or there is none.
+    /// The first record isn't the two fields `ctm` and `1`, `2` or `3`, or there is none.
     NoHeader,
     /// The first field of a later record is no kind of the file's format.
     BadKind,
@@ -30,7 +30,7 @@ pub enum Code {
     NoSteps,
     /// The file has no cell.
     NoCells,
-    /// One cell, connector, limit, demand or turn more than the greatest number of them.
+    /// One cell, connector, limit, demand, turn or speed more than the greatest number of them.
     TooMany,
     /// First occupancies and demand together are more than 10,000,000 vehicles.
     TooMuch,

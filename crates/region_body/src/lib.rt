@@ -1,8 +1,8 @@
 //! The rows of a region's cells, and how a step changes them.
 //!
 //! Each cell has a place, and the cells of a chain of links lie at places side by side. A link from a place to the next one
-//! is kept in the place, where no speed record slows it; any other connector is a tie, which has its flow followed by itself. A step takes all places
-//! through the links in one loop, then each tie, then the demands of the gates.
+//! is kept in the place, where no speed record slows it; any other connector is a tie, which has its flow followed by
+//! itself. A step takes all places through the links in one loop, then each tie, then the demands of the gates.
 //!
 //! All amounts are in parts. A step takes no memory.
 #![tactic(auto)]

@@ -10,5 +10,5 @@ pub const MOST_PARTS: u64 = 10_000_000_000_000;
 /// How many steps a network may have, and the longest cycle of a signal.
 pub const MOST_STEPS: u32 = 100_000;
 
-/// The greatest turning share and priority, and the greatest numerator and denominator of a road's ratio.
+/// The greatest turning share and priority, and the greatest numerator and denominator of a road's ratio and of a speed.
 pub const MOST_RATIO: u32 = 1_000;

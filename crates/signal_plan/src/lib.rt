@@ -2,8 +2,8 @@
 //!
 //! A plan has a list of cells, each with its capacity and its signal, limits, demand records, turn
 //! records and speed records. It is asked for the capacity, the light, the demand, the turning shares
-//! and the speed of a cell at a step, or for all their changes in the order of the steps. Amounts are in parts, millionths of a
-//! vehicle; cells are numbered from 0 in the order in which they were put.
+//! and the speed of a cell at a step, or for all their changes in the order of the steps. Amounts are
+//! in parts, millionths of a vehicle; cells are numbered from 0 in the order in which they were put.
 //!
 //! - The plan is in `step_plan`; what it says of one cell in `cell_plan`, over its `cell_records`; the
 //!   records in `signal`, `limit`, `demand`, `turn` and `speed`.

@@ -23,7 +23,7 @@ pub fn most_passed(net: &Net, cell: u32, from: u64, to: u64) -> u64
     ensures green_rate { IsRateTimesGreenSteps net.now cell from to result }
 
     // By the recurrences no more goes out of the cell at these steps; and exactly as much where it has a link out of it and,
-    // at each of them that is green, holds as much as it can pass, and the cell downstream can receive that.
+    // at each of them that is green, as much as it can pass comes to its end, and the cell downstream can receive that.
     ensures most { PassesAtMost net.now cell from to result }
     ensures all { PassesAllWhereFed net.now cell from to result }
 {
