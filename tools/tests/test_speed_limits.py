@@ -12,6 +12,7 @@ import pytest
 
 from ctmtools import Problem, build, read_study
 from ctmtools.assignment.assigning import Assignment
+from ctmtools.exports.geojson import _spans
 from ctmtools.moments.agreement import difference
 from ctmtools.moments.metering import critical, gauge_of
 from ctmtools.moments.runner import Runner
@@ -123,13 +124,24 @@ def test_driving_at_a_limit_is_delay_and_no_queue(tmp_path):
     read = reported(corridor(tmp_path, SIXTY, demand=1080))
     assert read.occupancy.loc[300, ["m1", "m2", "m3", "m4"]].tolist() == pytest.approx([4.5] * 4, abs=1e-4)
     frame = states(read)
-    assert frame[(frame.step == 300) & (frame.cell == "m3")].speed.item() == pytest.approx(60, abs=0.01)
+    row = frame[(frame.step == 300) & (frame.cell == "m3")]
+    assert row.speed.item() == pytest.approx(60, abs=0.01) and row.speed_limit.item() == pytest.approx(60)
+    assert frame.attrs["units"]["speed_limit"] == "km/h" and frame[frame.cell == "g"].speed_limit.isna().all()
     assert not standing(read).to_numpy().any() and queues_in(read) == []
     # Each who has left a cell has lost half a step there.
     assert read.slowed.to_numpy().sum() == pytest.approx(read.cells.gone[["m1", "m2", "m3", "m4"]].sum() / 2, abs=0.01)
     assert read.cells.wait[["m1", "m2", "m3", "m4"]].sum() == pytest.approx(read.slowed.to_numpy().sum(), rel=1e-4)
     hours = read.units.hours(read.slowed.to_numpy().sum())
     assert f"          {hours:,.2f} of these by driving at the speed limits, and not in queues" in list(page(read))
+
+
+def test_the_limit_of_a_time_in_a_table_and_for_a_map(tmp_path):
+    read = reported(corridor(tmp_path, PART, demand=1080))
+    own = states(read)[lambda frame: frame.cell == "m3"].set_index("step").speed_limit
+    assert own[60] == pytest.approx(60) and own[239] == pytest.approx(60) and own[[59, 240]].isna().all()
+    spans = [terms["speed_limit"] for terms in _spans(read, "m3", 1200)]
+    assert spans == [75, 60, None]  # the mean of 10 min at 90 and 10 at 60 km/h
+    assert "speed_limit" not in states(reported(corridor(tmp_path)))
 
 
 def test_without_a_limit_the_page_has_no_such_line(tmp_path):
