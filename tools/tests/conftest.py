@@ -7,7 +7,7 @@ import pytest
 
 from ctmtools import read_report
 from ctmtools.command_line import main
-from ctmtools.program import program_path, takes
+from ctmtools.program import ask, program_path, takes
 
 from .examples import save_report
 
@@ -23,6 +23,14 @@ def recording_program(program):
     """The path of the built program, where it records."""
     if not takes("--every"):
         pytest.skip("the built program takes no --every")
+    return program
+
+
+@pytest.fixture(scope="session")
+def speed_program(program):
+    """The path of the built program, where it knows speed records."""
+    if ask(("check",), b"ctm,3\nsteps,1\nexit,x,0\n").status:
+        pytest.skip("the built program takes no format 3")
     return program
 
 

@@ -4,22 +4,40 @@ The corridor has four cells of 250 m and steps of 10 s; a lane drives 90 km/h, s
 12 vehicles pass in a step. 1,080 vehicles/h are 3 in a step: 3 in a cell at 90 km/h, and 4.5 at 60.
 """
 
+import csv
+
 import numpy
+import plain_model
 import pytest
 
 from ctmtools import Problem, build, read_study
+from ctmtools.assignment.assigning import Assignment
+from ctmtools.exports.geojson import _spans
+from ctmtools.moments.agreement import difference
+from ctmtools.moments.metering import critical, gauge_of
+from ctmtools.moments.runner import Runner
+from ctmtools.network_file.faults import first_fault
+from ctmtools.network_file.kinds import NUMBERS
+from ctmtools.network_file.naming import Naming
 from ctmtools.network_file.network import network_of
 from ctmtools.network_file.pace import pace_of
+from ctmtools.network_file.records import read_records
 from ctmtools.plots import roadside, time_space, travel
 from ctmtools.pages.limits import speed_limits
+from ctmtools.program import ask
 from ctmtools.report.comparability import other_lanes_and_speeds
 from ctmtools.report.queues import queues_in, standing
 from ctmtools.report.states import states
 from ctmtools.report.summary import page
 from ctmtools.report.travel import road_times, travel_times
+from ctmtools.running import opened
+from ctmtools.study.plan import Meter
+from ctmtools.units import Units
 
 from .corridor import corridor, corridor_text
 from .plain_reports import reported
+from .test_actuated import settled_greens, write
+from .trips import TWO_WAYS
 
 LIMIT = '[[speed_limits]]\nroad = "m"\nspeed = {}\n'
 SIXTY = LIMIT.format(60)
@@ -106,13 +124,24 @@ def test_driving_at_a_limit_is_delay_and_no_queue(tmp_path):
     read = reported(corridor(tmp_path, SIXTY, demand=1080))
     assert read.occupancy.loc[300, ["m1", "m2", "m3", "m4"]].tolist() == pytest.approx([4.5] * 4, abs=1e-4)
     frame = states(read)
-    assert frame[(frame.step == 300) & (frame.cell == "m3")].speed.item() == pytest.approx(60, abs=0.01)
+    row = frame[(frame.step == 300) & (frame.cell == "m3")]
+    assert row.speed.item() == pytest.approx(60, abs=0.01) and row.speed_limit.item() == pytest.approx(60)
+    assert frame.attrs["units"]["speed_limit"] == "km/h" and frame[frame.cell == "g"].speed_limit.isna().all()
     assert not standing(read).to_numpy().any() and queues_in(read) == []
     # Each who has left a cell has lost half a step there.
     assert read.slowed.to_numpy().sum() == pytest.approx(read.cells.gone[["m1", "m2", "m3", "m4"]].sum() / 2, abs=0.01)
     assert read.cells.wait[["m1", "m2", "m3", "m4"]].sum() == pytest.approx(read.slowed.to_numpy().sum(), rel=1e-4)
     hours = read.units.hours(read.slowed.to_numpy().sum())
     assert f"          {hours:,.2f} of these by driving at the speed limits, and not in queues" in list(page(read))
+
+
+def test_the_limit_of_a_time_in_a_table_and_for_a_map(tmp_path):
+    read = reported(corridor(tmp_path, PART, demand=1080))
+    own = states(read)[lambda frame: frame.cell == "m3"].set_index("step").speed_limit
+    assert own[60] == pytest.approx(60) and own[239] == pytest.approx(60) and own[[59, 240]].isna().all()
+    spans = [terms["speed_limit"] for terms in _spans(read, "m3", 1200)]
+    assert spans == [75, 60, None]  # the mean of 10 min at 90 and 10 at 60 km/h
+    assert "speed_limit" not in states(reported(corridor(tmp_path)))
 
 
 def test_without_a_limit_the_page_has_no_such_line(tmp_path):
@@ -181,3 +210,126 @@ def test_reports_of_other_limits_are_told_apart(tmp_path):
     assert list(other_lanes_and_speeds(without, with_it)) == [
         "1 cell has other speed limits in A and in B, as m3: none in A, 60 km/h from 06:10 to 06:40 in B"]
     assert list(other_lanes_and_speeds(with_it, with_it)) == []
+
+
+NET = """ctm,3
+steps,60
+gate,g,5,0
+road,a,12,3,1,5,0
+road,b,12,3,1,5,0
+exit,x,4
+link,g,a
+link,a,b
+link,b,x
+demand,g,0,60,2
+speed,a,10,20,3,5
+"""
+
+
+@pytest.mark.parametrize("new, step, told", [
+    ("speed,a,10,20,6,10", None, None), ("speed,a,10,20,3,5\nspeed,a,40,60,1,2", None, None), ("speed,a,10,15,3,5\nspeed,a,15,20,3,5", None, None),
+    ("speed,a,10,20,1,2", 10, "the speed limit of the road a is 1/2 of its own, and 3/5 of its own in the saved one"),
+    ("speed,a,10,30,3,5", 20, "is 3/5 of its own, and its own in the saved one"), ("speed,a,12,20,3,5", 10, "is its own, and 3/5 of its own"),
+    ("speed,a,10,20,3,5\nspeed,b,39,60,2,4", 39, "the speed limit of the road b is 1/2 of its own, and its own in the saved one")])
+def test_where_two_networks_differ_in_speeds_below_step_40(new, step, told):
+    other = network_of(NET.replace("speed,a,10,20,3,5", new).encode())
+    found = difference(network_of(NET.encode()), other, 40, Naming(other))
+    assert (found and found.step) == step and (told is None or told in found.told)
+
+
+def test_a_difference_in_the_units_of_a_study():
+    units = Units(step=10, start=0, cells={"a": {"road": "m", "from_km": 0, "to_km": 0.25, "lanes": 1, "free_flow_kmh": 90}})
+    other = network_of(NET.replace("3,5\n", "1,2\n").encode())
+    assert difference(network_of(NET.encode()), other, 40, Naming(other, units)).told == \
+        "the speed limit of road m from km 0 to 0.25 is 45 km/h, and 54 km/h in the saved one"
+
+
+def assigned(folder, limit):
+    (folder / "s.toml").write_text(TWO_WAYS + limit)
+    made = Assignment(read_study(folder / "s.toml"))
+    made.start()
+    return made
+
+
+def test_first_ways_are_those_at_the_speed_limits(tmp_path):
+    """The short way has 60 steps, 48 of them on a road that takes 96 at 45 km/h; the long one has 90."""
+    limit = '[[speed_limits]]\nroad = "short"\nspeed = 45\n'
+    for text, road, steps in (("", "short01", 60), (limit, "long01", 90)):
+        legs = assigned(tmp_path, text).legs
+        way, = legs.free_ways("home", "work", 5)
+        assert road in legs.cells(way) and sum(map(legs.steps, way)) == steps
+    # For half of the run, two hours, it takes by the mean speed, 3/4 of its own, 64 steps.
+    legs = assigned(tmp_path, limit + 'end = "08:00"\n').legs
+    assert sum(map(legs.steps, legs.free_ways("home", "work", 5)[0])) == 60 + 16
+
+
+def test_who_drives_while_a_limit_holds_takes_longer(tmp_path):
+    """From step 120 to 300 the 48 steps of the short road are 72. A gate and 4 cells lie before it."""
+    made = assigned(tmp_path, '[[speed_limits]]\nroad = "short"\nspeed = 60\nstart = "07:20"\nend = "07:50"\n')
+    way = made.legs.free_ways("home", "work", 5)[0]
+    moments = begins = numpy.array([[10.0, 91, 130, 276, 310]])
+    for leg in way:
+        moments = made.passing.through(numpy.array([leg]), moments)
+    # Who sets out at 91 has driven 24 cells at 120, and the other 24 take 36; at 276 it is 12.67 cells at the limit, in 19 steps.
+    assert (moments - begins)[0] == pytest.approx([60, 72, 84, 12 + 19 + 48 - 38 / 3, 60], abs=0.6)
+
+
+@pytest.mark.parametrize("part, wanted", [(1, 100 / 6), (2 / 3, 100 * 36 / (1 + 10 / 3) / 36), (1 / 3, 100 / (1 + 5 / 3))])
+def test_a_meter_aims_at_the_capacity_at_the_limit(tmp_path, part, wanted):
+    """A lane of 36 with waves of a fifth of its speed: n·u = (36 - n)/5, and at its own speed 6."""
+    network = corridor(tmp_path, lanes=1).network
+    assert critical(network.cells.loc["m1"], part) == pytest.approx(wanted)
+
+
+def test_a_meter_s_set_point_goes_by_the_interval(tmp_path):
+    ramp = '[gates.r]\ncapacity = 2160\n[[on_ramps]]\nroad = "m"\nat = 0.5\nramp = "r"\npriorities = [1, 1]\n'
+    made = corridor(tmp_path, ramp + PART.replace("from = 0.5\nto = 0.75\n", ""), lanes=1)
+    gauge = gauge_of(Meter("r"), made.network, made.units)
+    assert gauge.detector == "m3" and gauge.wanted == pytest.approx(100 / 6)
+    assert [gauge.limited(*span) for span in ((0, 6), (60, 66), (57, 63), (240, 246))] == pytest.approx(
+        [100 / 6, 300 / 13, 100 / (1 + 25 / 6), 100 / 6])  # 2/3 of its speed, and in the mean of both 5/6
+    assert gauge_of(Meter("r", occupancy=20), made.network, made.units).limited is None
+
+
+def test_a_sweep_varies_a_limit(tool, tmp_path, plain):
+    """1,080 vehicles lose 5 s in each of four cells at 60 km/h, 6 vehicle-hours, but for those who are there at the end."""
+    (tmp_path / "s.toml").write_text(corridor_text(SIXTY, demand=1080))
+    status, out, err = tool("sweep", "s.toml", "--vary", "speed_limits.speed=60,90", "-j", "1")
+    assert status == 0, err
+    with open("s.sweep/results.csv") as file:
+        delays = {row["speed_limits.speed"]: float(row["delay_vehicle_hours"]) for row in csv.DictReader(file)}
+    assert delays["60"] - delays["90"] == pytest.approx(6, abs=0.1)
+
+
+def test_the_program_runs_them_as_the_plain_recurrences_do(tmp_path, speed_program):
+    for parts in (SIXTY, PART + '[[closures]]\nroad = "m"\nfrom = 0.75\nto = 1\nlanes = 1.5\n'):
+        text = corridor(tmp_path, parts, demand=3000).text.encode()
+        assert ask(("run", "--every", "7"), text).out == plain_model.report(text, 7)
+        runner = Runner("s", 2)
+        assert runner.report(runner.moment(text, 100)) == plain_model.report(text)
+    assert ask(("check",), NET.encode()).out == b"network3,4,3,60,0,0,1,0,1\n"
+
+
+SPOILT = ["speed,g,0,1,1,2", "speed,x,0,1,1,2", "speed,q,0,1,1,2", "speed,a,0,1,2,1", "speed,a,5,5,1,2", "speed,a,0,1,1", "speed,a,0,1,0,1",
+          "speed,a,0,1,1,1001", "speed,a,0,100001,1,2", "speed,a,0,1,x,2"]
+
+
+@pytest.mark.parametrize("record", SPOILT)
+def test_the_program_finds_the_same_fault(record, speed_program):
+    for form in "123":
+        content = NET.replace("ctm,3", f"ctm,{form}").replace("speed,a,10,20,3,5", record).encode()
+        fault = first_fault(read_records(content))
+        assert ask(("check",), content).line == f"ctm: network: record {fault.record} code {NUMBERS[fault.code]} {fault.code}"
+
+
+def test_choose_takes_the_limit_with_the_least_delay(tool, tmp_path, speed_program):
+    (tmp_path / "s.toml").write_text(corridor_text(SIXTY, demand=1080))
+    status, out, err = tool("choose", "s.toml", "--vary", "speed_limits.speed=45,60,90")
+    assert status == 0 and "90" in out, err
+
+
+def test_greens_that_follow_traffic_don_t_wait_for_who_drives_at_a_limit(tmp_path, speed_program):
+    """At 30 of 36 km/h a lane passes 30·18/48·160 = 1,800 vehicles/h as before, so the greens on paper are as without a limit."""
+    path = write(tmp_path, more='[[speed_limits]]\nroad = "a"\nspeed = 30\n[[speed_limits]]\nroad = "b"\nspeed = 30\n')
+    *greens, cycle = settled_greens(opened(path))
+    assert greens == pytest.approx([11.2, 8.8], abs=1.2) and cycle == pytest.approx(28, abs=2.4)

@@ -14,7 +14,7 @@ from ctmtools.report.reading import report_of
 from ctmtools.study.reading import read_values, study_of
 
 from .examples import EXAMPLES
-from .kinematic_waves import LaneDrop
+from .kinematic_waves import LaneDrop, SpeedLimit
 
 DEMAND = [(0, 0.5, 2160), (0.5, 1, 3600), (1, 1.5, 5040), (1.5, 2, 4500), (2, 2.5, 3780), (2.5, 3, 2880),
           (3, 3 + 8 / 9, 2160)]
@@ -125,6 +125,26 @@ def test_off_ramp():
     assert hours(report, motorway) == pytest.approx(345.38, abs=0.01)
     assert hours(report, ["r1", "r2"]) == pytest.approx(48.66, abs=0.01)
     assert queues_in(report)[0].reach == pytest.approx(4.25)
+
+
+LIMIT = SpeedLimit(100, 60, 20, 120, 1900, 6, 7, 0.15)
+
+
+def test_theory_of_the_speed_limit():
+    assert (LIMIT.left, LIMIT.queued, LIMIT.most, LIMIT.tail) == (1800, 30, 2000, pytest.approx(-100 / 11))
+    assert LIMIT.met == pytest.approx(0.15 + 13 / 60) and 6 + LIMIT.tail * LIMIT.met == pytest.approx(6 - 10 / 3)
+    # Each who stands or drives slower than 100 km/h loses time: 30 less 18 in a km, and 19 less 11.4 of those who were in the stretch.
+    places, times = numpy.linspace(0.005, 9.995, 1000), numpy.linspace(0.0005, 0.4995, 500)
+    held = numpy.array([[LIMIT.density(place, time) for place in places] for time in times])
+    first = (places[None, :] > 6) & (places[None, :] < 7) & (times[:, None] < 1 / 60) & (held == 19)
+    assert (12 * (held == 30) + 7.6 * first).sum() * 0.01 * 0.001 == pytest.approx(6.063, abs=0.01)
+
+
+@pytest.mark.parametrize("step, delay", [(9, 5.87), (Fraction(9, 2), 5.97), (Fraction(9, 4), 6.02)])
+def test_speed_limit_over_the_length_of_cells(step, delay):
+    report = run("validation/speed-limit", step=Fraction(step))
+    assert hours(report, report.cells.index) == pytest.approx(delay, abs=0.005)
+    assert 6.0633 - hours(report, report.cells.index) == pytest.approx(0.19 * step / 9, rel=0.05)  # half the error with half the length
 
 
 def test_staggered_hours():

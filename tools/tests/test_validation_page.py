@@ -2,6 +2,7 @@
 
 import re
 from fractions import Fraction
+from functools import lru_cache
 
 import pytest
 
@@ -9,7 +10,7 @@ from ctmtools.report.queues import queues_in
 
 from . import test_validation
 from .examples import TOOLS
-from .test_validation import clocks, hours, run
+from .test_validation import LIMIT, clocks, hours, run
 from .validation_tables import PAGE, rows_under
 
 FIRST_PAGE = (TOOLS.parent / "README.md").read_text()
@@ -28,6 +29,29 @@ def delay(report, cells=slice(None)):
 def longest(queue, without=0.0):
     """In hundredths of a km, of which a half is rounded up."""
     return f"{queue.reach - without + 1e-9:.2f} km"
+
+
+@lru_cache
+def limited(step):
+    return run("validation/speed-limit", step=Fraction(step))
+
+
+def density(step, seconds, first):
+    """The vehicles/km on 250 m from a kilometre on, so long after 08:00."""
+    report = limited(step)
+    own = [cell for cell, row in report.units.cells.items() if first - 1e-9 <= row["from_km"] and row["to_km"] <= first + 0.25 + 1e-9]
+    return report.occupancy.loc[round((540 + seconds) / step), own].sum() / 0.25
+
+
+@pytest.mark.parametrize("clock, place, theory, coarse, fine", rows_under("Time | From km, 250 m | Vehicles/km by theory | Cells of 250 m | Cells of 62.5 m"))
+def test_densities_at_a_speed_limit(clock, place, theory, coarse, fine):
+    seconds, first = 60 * int(clock[3:5]) + int(clock[6:]), float(place)
+    assert [f"{value:.1f}" for value in (LIMIT.held([first, first + 0.25], seconds / 3600)[0], density(9, seconds, first),
+                                         density(2.25, seconds, first))] == [theory, coarse, fine]
+
+
+def test_the_table_of_densities_has_twelve_rows():
+    assert len(rows_under("Time | From km, 250 m | Vehicles/km by theory | Cells of 250 m | Cells of 62.5 m")) == 12
 
 
 def cases():
@@ -49,6 +73,7 @@ def cases():
     yield "longest queues, cells of 125 m", f"{of_road.reach:.2f} and {longest(of_slip)}"
     yield "full off-ramp", f"{delay(ramp, ramp.units.roads['m'][:24])} and {delay(ramp, slip)}"
     yield "longest queue on the motorway", longest(of_ramp, without=0.5)  # the off-ramp's two cells
+    yield "speed limit", delay(limited(9))
 
 
 # What test_yield.py and test_assign.py hold beside the figures on paper.

@@ -95,6 +95,9 @@ def _spans(report: Report, cell: str, every: float) -> Iterator[dict[str, Any]]:
         if kind == "road":
             terms["density"] = round(stood / steps / (length or 1), 3)
             terms["speed"] = round(min(1.0, went / stood) * (length * hour if length else 1), 3) if stood > 0 else None
+        if kind == "road" and report.need_network().paces:
+            part = float((report.free_parts[cell].to_numpy()[own] * lasting[own]).sum()) / steps
+            terms["speed_limit"] = round(part * (length * hour if length else 1), 3) if part < 1 else None
         yield terms
 
 

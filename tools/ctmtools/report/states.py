@@ -28,7 +28,8 @@ def states(report: Report) -> pandas.DataFrame:
     lacking at the last: what leaves the cell, in vehicles/h, what it holds, in vehicles/km, and the mean speed, in
     km/h. The time is a datetime of 1 January 1900, on which a study begins. Where the units aren't known, time is the
     step, flow is in vehicles a step, density in vehicles a cell and speed in cells a step, and no road, from_km, to_km
-    and lanes are given. Gates and exits have no density and no speed. `frame.attrs["units"]` names the units.
+    and lanes are given. Gates and exits have no density and no speed. Where the network has speed limits, `speed_limit` is the
+    one in force, in the unit of speed and lacking where none holds. `frame.attrs["units"]` names the units.
     """
     report.need_records()
     units, cells = report.units, list(report.cells.index)
@@ -45,9 +46,13 @@ def states(report: Report) -> pandas.DataFrame:
         "speed": _padded(speed).ravel(),
         "step": numpy.repeat(report.times, len(cells)),
     })
+    if report.network is not None and report.network.paces:
+        parts = report.free_parts.to_numpy()
+        frame.insert(6, "speed_limit", _padded(numpy.where(parts < 1, parts, numpy.nan) * scale[:, 2]).ravel().round(DIGITS))
     places = numpy.tile(numpy.arange(len(cells)), len(report.times))
     frame = frame.join(_places(units, cells).take(places).reset_index(drop=True))
-    frame.attrs["units"] = dict(KNOWN if units.known else UNKNOWN)
+    named = dict(KNOWN if units.known else UNKNOWN)
+    frame.attrs["units"] = {**named, **({"speed_limit": named["speed"]} if "speed_limit" in frame else {})}
     return frame
 
 
