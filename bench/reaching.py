@@ -10,6 +10,7 @@ import hashlib
 import itertools
 import json
 import os
+import resource
 import signal
 import sys
 import time
@@ -19,6 +20,7 @@ from typing import NamedTuple
 RUNNING = "CTM_TEST"  # the variable that names the test to the processes that it starts
 FIRST = 20  # so many tests are run first
 NO_TESTS = 5  # the status of pytest where there are none, as where their names have the folder in them
+SLOWED = 10  # so many times longer by the clock a busy machine lets a test take
 COVERAGE = """[run]
 source = {tools}/ctmtools
 data_file = {data}
@@ -30,7 +32,7 @@ IN_OTHER_PROCESSES = "import coverage\ncoverage.process_startup()\n"
 
 
 class EachTest:
-    """A plugin of pytest that tells coverage which test runs, and notes how long it takes and whether it passes."""
+    """A plugin of pytest that tells coverage which test runs, and notes its processor time and whether it passes."""
 
     def __init__(self, cover):
         self.cover, self.tests, self.others, self.begun = cover, {}, set(), 0.0
@@ -38,25 +40,26 @@ class EachTest:
     def pytest_runtest_logstart(self, nodeid, location):
         os.environ[RUNNING] = nodeid
         self.cover.switch_context(nodeid)
-        self.begun = time.monotonic()
+        self.begun = processor_seconds()
 
     def pytest_runtest_logreport(self, report):
         if not report.passed:
             self.others.add(report.nodeid)
 
     def pytest_runtest_logfinish(self, nodeid, location):
-        self.tests[nodeid] = {"seconds": time.monotonic() - self.begun, "passes": nodeid not in self.others}
+        self.tests[nodeid] = {"seconds": processor_seconds() - self.begun, "passes": nodeid not in self.others}
         self.cover.switch_context("")
 
 
 class Chosen:
-    """A plugin of pytest that runs some tests alone, and ends the process where one takes far longer than before.
+    """A plugin of pytest that runs some tests alone, and ends the process where one takes far more processor time than before.
 
-    The tests of a file stay together, so that what they share is made once.
+    That of each process counts for itself, so a busy machine makes none take more; what only waits ends by the clock, far
+    later. The tests of a file stay together, so that what they share is made once. A file has the name of the last one begun.
     """
 
-    def __init__(self, seconds):
-        self.seconds = seconds
+    def __init__(self, seconds, running):
+        self.seconds, self.running = seconds, running
         files = list(dict.fromkeys(name.split("::")[0] for name in seconds))
         self.places = {name: (files.index(name.split("::")[0]), place) for place, name in enumerate(seconds)}
 
@@ -64,13 +67,23 @@ class Chosen:
         items[:] = sorted((item for item in items if item.nodeid in self.places), key=lambda item: self.places[item.nodeid])
 
     def pytest_runtest_logstart(self, nodeid, location):
+        self.running.write_text(nodeid)
+        allowed = 20 + 5 * int(self.seconds[nodeid])
+        most = resource.getrlimit(resource.RLIMIT_CPU)[1]
+        resource.setrlimit(resource.RLIMIT_CPU, (int(time.process_time()) + allowed, most))
         signal.signal(signal.SIGALRM, signal.SIG_DFL)
-        signal.alarm(20 + 5 * int(self.seconds[nodeid]))
+        signal.alarm(SLOWED * allowed)
+
+
+def processor_seconds():
+    """The processor time of this process so far, and of those that it started and that ended."""
+    return sum(os.times()[:4])
 
 
 def in_folder(tools, output):
-    """Has this process go on in a folder of the tools, with what it says in a file."""
+    """Has this process go on in a folder of the tools, with nothing to read, and what it says in a file."""
     os.chdir(tools)
+    os.dup2(os.open(os.devnull, os.O_RDONLY), 0)
     said = os.open(output, os.O_WRONLY | os.O_CREAT | os.O_TRUNC)
     os.dup2(said, 1)
     os.dup2(said, 2)
@@ -88,20 +101,27 @@ def pytest_ends(tools, words, plugin):
 def fails(tools, seconds):
     """Whether one of some tests fails in a folder of the tools; for a process of its own."""
     in_folder(tools, tools.parent / "said")
+    running = running_of(tools)
     names, begin = list(seconds), 0
     while begin < len(names):
+        running.unlink(missing_ok=True)
         # Most changes are noticed soon, and to find all tests takes longer than to run the first.
         end = max(FIRST, 5 * begin)
         chosen = {name: seconds[name] for name in names[begin:end]}
         files = dict.fromkeys(name.split("::")[0] for name in chosen)
-        if pytest_ends(tools, ["-x", *files], Chosen(chosen)) not in (0, NO_TESTS):
+        if pytest_ends(tools, ["-x", *files], Chosen(chosen, running)) not in (0, NO_TESTS):
             return True
         begin = end
     return False
 
 
+def running_of(tools):
+    """The file with the name of the test that a folder of the tools runs or ran last; it isn't there before the first."""
+    return tools.parent / "running"
+
+
 def measure(tools, test_file, kept):
-    """Runs the tests of a file, and keeps what each reaches and how long it takes; for a process of its own."""
+    """Runs the tests of a file, and keeps what each reaches and its processor time; for a process of its own."""
     from coverage import Coverage
 
     config, data = tools.parent / "coverage.ini", tools.parent / "coverage" / "data"
@@ -132,15 +152,32 @@ def lines_of(data, names):
             for path in data.measured_files()}
 
 
-def key_of(tools, test_file):
-    """What changes where a test may reach something else than before: the tools, what tests share, and the file itself."""
+def key_of(tools, test_file, test=""):
+    """What changes where a test may reach something else than before: the tools, what tests share, and the file itself.
+
+    Of a single test that is named its file without the others.
+    """
+    own = tools / "tests" / test_file
+    text = _without_others(own.read_text(), test).encode() if test else own.read_bytes()
+    return hashlib.sha256(b"\0".join([*_shared(tools), text])).hexdigest()
+
+
+@functools.cache
+def _shared(tools):
     shared = [path for path in tools.glob("tests/*.py") if not path.name.startswith("test_")]
-    files = [*tools.glob("ctmtools/**/*.py"), *shared, tools / "tests" / test_file]
-    return hashlib.sha256(b"\0".join(path.read_bytes() for path in sorted(files))).hexdigest()
+    return [path.read_bytes() for path in sorted([*tools.glob("ctmtools/**/*.py"), *shared])]
+
+
+def _without_others(text, name):
+    """A test file without the tests that have another name."""
+    tree = ast.parse(text)
+    tree.body = [node for node in tree.body
+                 if not (isinstance(node, ast.FunctionDef) and node.name.startswith("test_") and node.name != name)]
+    return ast.unparse(tree)
 
 
 class Test(NamedTuple):
-    """A test that passes: its file, its seconds, and what its file imports."""
+    """A test that passes: its file, its seconds of processor time, and what its file imports."""
 
     file: str
     seconds: float

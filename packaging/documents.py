@@ -1,6 +1,7 @@
 """tools/documents [--check] [PAGE..] writes what pages have from elsewhere, or with --check says which have something else."""
 
 import argparse
+import csv
 import re
 import sys
 from functools import partial
@@ -14,8 +15,16 @@ from figures.field import field_picture
 from figures.user_book import PICTURES
 
 # The heads of the tables that are written here.
+CHECK_TIMES = "| Crate | Functions | Proof | Tests | Must-fail edits |\n|---|---|---|---|---|\n"
 MODES = "| Mode | Begin with | Definitions | Files | Files not read yet |\n|---|---|---|---|---|\n"
 FILES_OF_RUN = "| Crate | Files of `specs` |\n|---|---|\n"
+
+
+def map_page() -> str:
+    """docs/inside/MAP.md with the check times of launcher/check_times.csv."""
+    with open(TOP / "launcher/check_times.csv", newline="") as file:
+        rows = [[f"`{row[0]}`", *row[1:]] for row in list(csv.reader(file))[1:]]
+    return with_table((TOP / "docs/inside/MAP.md").read_text(), CHECK_TIMES, rows)
 
 
 def proved_page() -> str:
@@ -54,7 +63,7 @@ def completion(shell: str) -> str:
     return tools_completion(shell)
 
 
-PAGES = {"docs/inside/PROVED.md": proved_page,
+PAGES = {"docs/inside/MAP.md": map_page, "docs/inside/PROVED.md": proved_page,
          "docs/inside/pictures/crates.svg": partial(crates_picture, TOP),
          "docs/inside/pictures/field.svg": partial(field_picture, TOP), "docs/ctm-tools.1": tools_page,
          **{f"docs/pictures/{name}.svg": PICTURES[name] for name in sorted(PICTURES)},

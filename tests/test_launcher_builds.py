@@ -6,6 +6,7 @@ import re
 import shutil
 import signal
 import subprocess
+import sys
 import time
 
 import pytest
@@ -148,3 +149,8 @@ def test_each_crate_of_the_program_has_a_check_time():
             "print(*{*crates.names} - {*proof_times('launcher/check_times.csv')})")
     lacking = subprocess.run(["python3", "-B", "-c", asks], cwd=TOP, stdout=subprocess.PIPE, check=True).stdout
     assert lacking.split() == []
+
+
+def test_the_map_has_the_check_times_of_the_file():
+    """tools/documents writes them into it."""
+    subprocess.run([sys.executable, "-B", TOP / "packaging/documents.py", "--check", "docs/inside/MAP.md"], check=True)

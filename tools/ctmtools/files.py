@@ -36,6 +36,12 @@ def guard_report(path: Path) -> None:
         raise Problem(f"{path}: stands there and wasn't made by ctm-tools; name another file with -o")
 
 
+def guard_folder(path: Path) -> None:
+    """Refuses a place in a folder that isn't there, before what is to stand in it is worked out."""
+    if not path.parent.is_dir():
+        raise Problem(f"{path}: there is no folder {path.parent}")
+
+
 def write_network(built: Built, target: Path) -> None:
     """Writes a built network, and its units beside it, which keep what the old ones say of the report and the ways there."""
     path, units = units_path(target), built.units

@@ -76,7 +76,7 @@ class Prepared:
     """A network file that is to be run: its path, its bytes, the network in them, and its units as the report has them.
 
     `told` are the lines that are told before the results: what `build` tells of a study, or the warnings of a network.
-    `built` is what was built of a study.
+    `built` is what was built of a study, and `settled` what runs settled of it.
     """
 
     path: Path
@@ -85,6 +85,7 @@ class Prepared:
     units: Units
     told: list[str]
     built: Built | None = None
+    settled: Settled | None = None
 
 
 def opened(source: str | Path | Study, shown: Shown | None = None, kept: Path | None = None) -> Prepared:
@@ -96,8 +97,9 @@ def opened(source: str | Path | Study, shown: Shown | None = None, kept: Path | 
     if isinstance(source, Study) or is_study(source):
         study = source if isinstance(source, Study) else read_study(source)
         count = MOST_RUNS if study.yields else round(study.duration / study.step) if study.actuated else 0
-        built = settled_by_runs(study, done=shown(count) if shown and count else None, kept=kept).built
-        return Prepared(study.path, built.text.encode(), built.network, built.units, list(built_lines(built)), built)
+        found = settled_by_runs(study, done=shown(count) if shown and count else None, kept=kept)
+        built = found.built
+        return Prepared(study.path, built.text.encode(), built.network, built.units, list(built_lines(built)), built, found)
     path = Path(source)
     content = read_as(path, "a network")
     network = network_of(content, str(path))

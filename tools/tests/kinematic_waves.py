@@ -35,3 +35,47 @@ class LaneDrop:
         """The vehicles between neighbouring places, a row for each time."""
         passed = self.passed(numpy.asarray(bounds)[None, :], numpy.asarray(times)[:, None])
         return -numpy.diff(passed, axis=1)
+
+
+class SpeedLimit:
+    """The densities on a road with a steady flow of which a stretch has a lower free-flow speed for some time.
+
+    The wave speed w and the jam density stay. The flow is above what the stretch passes at the lower speed u, the top of its
+    triangle, and the front of that has come through the stretch before the limit ends. Between `first` and `last` km the limit
+    holds from the time 0 to `end`.
+    """
+
+    def __init__(self, v, u, w, jam, flow, first, last, end):
+        self.v, self.u, self.w, self.jam, self.flow, self.first, self.last, self.end = v, u, w, jam, flow, first, last, end
+        self.free = flow / v
+        self.left = jam * w * u / (u + w)  # what passes the stretch for long
+        self.queued = jam - self.left / w  # before the stretch, and at the speed u within it
+        self.most = jam * w * v / (v + w)  # what the queue lets go after the end
+        self.tail = (flow - self.left) / (self.free - self.queued)
+        self.met = end + (last - first - self.tail * end) / (self.w + self.tail)  # when the release reaches the tail
+
+    def density(self, place, time):
+        """The density at a place and a time."""
+        if time < 0:
+            return self.free
+        behind = place - self.last
+        if time >= self.end and behind < self.v * (time - self.end) and behind > -self.w * (min(time, self.met) - self.end) + \
+                self.v * max(0, time - self.met):
+            return self.most / self.v
+        if place >= self.last:
+            return self._beyond(behind, time)
+        if place >= self.first and time < self.end and place - self.first >= self.u * time:
+            return self.free  # who stood in the stretch at the time 0 drives on at the speed u
+        return self.queued if time < self.met and place >= self.first + self.tail * time else self.free
+
+    def _beyond(self, behind, time):
+        """The density behind the stretch: first what it lets go of those who were in it, then what passes it for long."""
+        if behind >= self.v * time:
+            return self.free
+        since = time - (self.last - self.first) / self.u
+        return self.left / self.v if behind < self.v * since else self.free * self.u / self.v
+
+    def held(self, bounds, time, points=200):
+        """The mean densities between neighbouring places at a time."""
+        return [numpy.mean([self.density(begin + (i + 0.5) / points * (end - begin), time) for i in range(points)])
+                for begin, end in zip(bounds, bounds[1:])]

@@ -1,10 +1,13 @@
 """Signals whose greens follow traffic: the cycle that they settle at, worked out on paper, and what a study can't mean."""
 
 import re
+from types import SimpleNamespace
 
 import pytest
 
 from ctmtools import Problem, read_study
+from ctmtools.amounts import PARTS
+from ctmtools.moments.actuated_signals import ActuatedSignals
 from ctmtools.program import ask
 from ctmtools.running import opened
 
@@ -226,3 +229,12 @@ def test_greens_follow_traffic_in_each_run_that_settles_who_gives_way(tmp_path, 
     status, _, _ = tool("run", "study.toml")
     again = ask(("run", "--every", "1"), (tmp_path / "study.csv").read_bytes())
     assert status == 0 and again.out == (tmp_path / "study.report").read_bytes()
+
+
+@pytest.mark.parametrize("waiting, come, steps", [(0, 0, 0), (4, 0, 8), (4, 3, 18.5), (4, 6, 100)])
+def test_when_a_queue_is_gone(waiting, come, steps):
+    # One passes in two steps. Where 3 came in 10 steps, 0.3 of the 4 who stand there drive, and 0.3 come in each step that 0.5 leave.
+    moment = SimpleNamespace(rows=[SimpleNamespace(n=waiting * PARTS, come=come * PARTS)])
+    own = SimpleNamespace(moment=moment, places={"a": 0}, seen={"a": (0, 0)},
+                          network=SimpleNamespace(cells=SimpleNamespace(Q={"a": 0.5}), steps=100))
+    assert ActuatedSignals._clearing(own, ["a"], 10) == pytest.approx(steps)

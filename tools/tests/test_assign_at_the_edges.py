@@ -2,14 +2,18 @@
 
 from types import SimpleNamespace
 
+import numpy
 import pytest
 
 from ctmtools import Problem, assign, read_report
 from ctmtools.assignment.assigning import Round
-from ctmtools.assignment.messages import settled_lines
+from ctmtools.assignment.messages import not_settled, pair_lines, settled_lines
+from ctmtools.assignment.passing import _queued
+from ctmtools.assignment.task import measures
 from ctmtools.assignment.times import Gap
-from ctmtools.assignment.ways_file import read_ways
+from ctmtools.assignment.ways_file import WayRow, read_ways
 from ctmtools.study.reading import read_values
+from ctmtools.units import Units
 
 from .test_assign import assigned
 from .trips import HEAD, TWO_PAIRS, TWO_WAYS
@@ -153,7 +157,8 @@ def test_the_study_says_who_is_informed_where_the_call_does_not(opened, tmp_path
 
 @pytest.mark.parametrize("output, told", [("s.toml", "s.toml: is the study that is assigned"),
                                           ("od.toml", "od.csv: stands there and wasn't made by ctm-tools"),
-                                          ("od.csv", "od.csv: a study's name ends with .toml")])
+                                          ("od.csv", "od.csv: a study's name ends with .toml"),
+                                          ("none/x.toml", "none/x.toml: there is no folder none")])
 def test_nothing_that_a_user_made_is_written_over(tool, tmp_path, recording_program, output, told):
     (tmp_path / "s.toml").write_text(TWO_PAIRS)
     (tmp_path / "od.csv").write_text("from,to,start,end,vehicles\n")
@@ -187,3 +192,68 @@ def test_more_drivers_than_before_part_as_they_did(opened, tmp_path):
     frame = assign(tmp_path / "s.toml", tmp_path / "more.toml", earlier=opened, informed=0)
     assert frame.vehicles.sum() == pytest.approx(1900)
     assert {row.roads for row in read_ways(tmp_path / "more.ways.csv")} == {("a", "short", "b")}
+
+
+@pytest.mark.parametrize("words, told", [
+    (("-o", "open.toml"), "open.toml: is the assignment whose ways the drivers have; name another file with -o"),
+    (("--informed", "0,1", "-o", "od.csv"), "od.csv: stands there and isn't a table of several shares; name another file with -o"),
+    (("--informed", "0,1", "-o", "none/t.csv"), "none/t.csv: there is no folder none"),
+    (("--informed", "1", "--dask", "localhost:8786"), "--dask: a cluster makes several assignments")])
+def test_a_place_or_a_cluster_that_cannot_be_is_refused_before_the_rounds(tool, opened, tmp_path, words, told):
+    kept = {path.name: path.read_bytes() for path in opened.parent.iterdir()} | {"od.csv": b"from,to\n"}
+    for name, content in kept.items():
+        (tmp_path / name).write_bytes(content)
+    status, out, err = tool("assign", "s.toml", "--from", "open.toml", *words)
+    assert status == 2 and told in err and out == "" and err.count("\n") == 1
+    assert {path.name: path.read_bytes() for path in tmp_path.iterdir()} == kept
+
+
+def test_a_table_of_several_shares_is_written_over_an_earlier_one(tool, opened, tmp_path):
+    (tmp_path / "s.toml").write_text(TWO_WAYS.replace("3000]]", "1800]]"))
+    for parts in ("0,1", "0,0.5,1"):
+        status, _, err = tool("assign", "s.toml", "--from", opened, "--informed", parts, "-o", "t.csv", "--iterations", "1")
+        assert status == 0, err
+    assert len((tmp_path / "t.csv").read_text().splitlines()) == 4
+
+
+@pytest.mark.parametrize("column, value", [(2, "xx"), (2, "07:00 + "), (3, "one"), (4, "nan"), (4, "-1"), (4, "1e400"), (5, "inf"), (6, None),
+                                           (0, "x" * 140_000)])
+def test_a_row_of_ways_that_assign_did_not_write_is_refused(opened, tmp_path, column, value):
+    (tmp_path / "open.toml").write_bytes(opened.read_bytes())
+    (tmp_path / "s.toml").write_text(TWO_WAYS.replace("3000]]", "1800]]"))
+    head, first, *others = (opened.parent / "open.ways.csv").read_text().splitlines()
+    fields = first.split(",")
+    fields[column:column + 1] = [] if value is None else [value]
+    (tmp_path / "open.ways.csv").write_text("\n".join([head, ",".join(fields), *others]))
+    with pytest.raises(Problem, match="open.ways.csv: line 2 isn't one that `ctm-tools assign` writes"):
+        assign(tmp_path / "s.toml", earlier=tmp_path / "open.toml", informed=1)
+
+
+def test_a_queue_that_is_left_goes_on_as_at_the_end_of_a_run_of_few_records():
+    # 10 leave in each minute, so the 30th leaves a minute after the end; a queue of which nobody leaves waits for a run more.
+    for gone, left in (((0, 10, 20), 180), ((0, 0, 0), 240)):
+        assert _queued(numpy.array([0.0, 60, 120]), numpy.array([[30.0]]), numpy.array([gone], dtype=float)) == pytest.approx(left, abs=0.1)
+
+
+def test_times_on_the_ways_are_in_hours_of_all_and_minutes_of_each():
+    own = SimpleNamespace(departures=SimpleNamespace(vehicles=numpy.array([[15.0, 5.0]])),
+                          report=SimpleNamespace(units=Units(step=5), total=SimpleNamespace(left=18, inside=2)))
+    found = measures(own, Round(3, Gap(0, 0, 720_000), 0, 7, 0))
+    # 720,000 vehicle-steps of 5 s are 1,000 vehicle-hours, of 20 vehicles.
+    assert (found["travel_vehicle_hours"], found["mean_minutes"], found["delay_vehicle_hours"]) == pytest.approx((1000, 3000, 7), rel=1e-6)
+    assert (found["rounds"], found["served_vehicles"], found["inside_vehicles"]) == (3, 18, 2)
+
+
+@pytest.mark.parametrize("gap, moved, limits, told", [
+    (0.02, 0, 0, "the gap is 0.0200, above 0.01;"), (0, 0.02, 0, "2.00% of what comes to branches still moves between them, above 0.01;"),
+    (0, 0, 0.2, "what passes of those who give way still moves by 20.0%;")])
+def test_what_has_not_settled_is_told_with_what_it_is_above(gap, moved, limits, told):
+    own = SimpleNamespace(choices=[], departures=SimpleNamespace(by_interval=[]), times=[], crowded=set(),
+                          report=SimpleNamespace(total=SimpleNamespace(inside=0)))
+    line, = not_settled(own, [Round(2, Gap(100 + 100 * gap, 100, 500), moved, 0, 0, limits)], 0.01)
+    assert line.startswith(f"warning: after 2 rounds {told} it still falls") and Round(2, Gap(100, 100, 500), 0, 0, 0).settled(0.01)
+
+
+def test_of_the_roads_of_a_way_sixty_letters_are_told():
+    rows = [WayRow("a", "b", "07:00:00", number, 5.0, 3.0, (letters,)) for number, letters in ((1, 60 * "x"), (2, 61 * "y"))]
+    assert [line.split()[-1] for line in list(pair_lines(rows))[-2:]] == [60 * "x", 58 * "y" + ".."]

@@ -91,6 +91,8 @@ def test_a_search_leaves_the_valley_that_it_begins_in(keys):
 def test_the_starts_are_valleys_of_the_grid_that_lie_apart():
     grid = around(1, 16)
     assert starts(grid, valleys, 3) == [(0.96875,), (0.46875,)] and len(starts(grid, valleys, 1)) == 1
+    # The points of 16 are a sixteenth apart, those of a quarter in each of two ranges a half.
+    assert (width_of(grid), width_of(around(2, 4)), width_of(around(2, 3))) == (1 / 32, 1 / 4, 0.3)
 
 
 def test_how_far_a_value_does_as_well_is_halved():

@@ -5,11 +5,14 @@ import signal
 import subprocess
 import sys
 import time
+from contextlib import contextmanager
+from types import SimpleNamespace
 
 import plain_model
 import pytest
 
 from ctmtools import build, read_study
+from ctmtools.commands import run
 from ctmtools.moments.moment import read_moment
 from ctmtools.moments.stretches import stretch_of
 from ctmtools.network_file.editing import with_steps
@@ -44,6 +47,21 @@ def started(program, code="from ctmtools.command_line import main"):
     return subprocess.Popen([sys.executable, "-c", f"{code}\nmain({words!r})"], env={**ENV, "CTM_PROGRAM": program},
                             stdout=subprocess.PIPE, stderr=subprocess.STDOUT, text=True,
                             preexec_fn=heeds_an_interrupt)
+
+
+@pytest.mark.parametrize("reached, begun", [(None, (0, "at 00:00")), (720, (2, "at 02:00"))])
+def test_the_bar_begins_behind_the_stretches_that_were_kept(monkeypatch, tmp_path, reached, begun):
+    shown = []
+
+    @contextmanager
+    def bar(count, what):
+        shown.append((count, what))
+        yield lambda more=1, text="": shown.append((more, text))
+    monkeypatch.setattr(run, "bar", bar)
+    monkeypatch.setattr(run, "run_in_stretches", lambda *given: given[-1](1080))
+    prepared = SimpleNamespace(units=Units(step=10, start=0), network=SimpleNamespace(steps=1440))
+    run._in_stretches(tmp_path / "a.report", prepared, 360, reached and SimpleNamespace(last=reached), None)
+    assert shown == [(4, "stretches"), begun, (1, "at 03:00"), (1, "")]
 
 
 def heeds_an_interrupt():

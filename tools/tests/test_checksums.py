@@ -79,6 +79,8 @@ def test_a_network_edited_by_hand_after_its_run_is_run_again_first(tool, program
         status, out, err = tool(*words)
         assert (status, out) == (2, "") and err == ("ctm-tools: s.report: is of another network than s.csv, which was changed after it; "
                                                     "run the network again, or build the study as it was\n")
+    by_hand(tmp_path)  # which is of the network as it is now
+    assert read_report(tmp_path / "s.report").network is not None
     assert tool("run", "s.csv")[0] == 0 and tool("table", "s.report", "--totals")[0] == 0
     tool("run", "s.toml")
     assert (tmp_path / "s.csv").read_bytes() == whole and tool("table", "s.report", "--totals")[0] == 0

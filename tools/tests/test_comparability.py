@@ -57,3 +57,14 @@ def test_other_lanes_and_speeds_are_told(tool, saved):
 
 def test_nothing_is_told_of_reports_that_are_alike(tool, saved):
     assert not warnings(tool("compare", saved("one"), saved("other", lanes=3))[1])
+
+
+def test_reports_of_one_title_are_named_by_their_files(tool, saved, tmp_path):
+    head = 'title = "The ring road"' + HEAD
+    one, other = saved("one", head=head), saved("other", head=head)
+    assert tool("compare", one, other)[1].splitlines()[:2] == [f"A  one ({one})", f"B  other ({other})"]
+    (tmp_path / "later").mkdir()
+    later = saved("later/one", head=head)
+    assert tool("compare", one, later)[1].splitlines()[:2] == [f"A  {one}", f"B  {later}"]
+    wide = saved("wide", head=head.replace("ring", "wide"))
+    assert tool("compare", one, wide)[1].splitlines()[:2] == [f"A  The ring road ({one})", f"B  The wide road ({wide})"]

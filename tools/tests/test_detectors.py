@@ -299,6 +299,11 @@ def test_the_station_in_the_name_of_a_column(name, wanted):
 HEAD = "station,time,count\n"
 
 
+def test_rows_from_second_to_second(tmp_path):
+    (tmp_path / "d.csv").write_text(HEAD + "a,06:00:00,1\na,06:00:01,0\n")
+    assert read_detectors(tmp_path / "d.csv").flow.tolist() == [3600, 0]
+
+
 @pytest.mark.parametrize("content, told", [
     ("", "is empty"), (HEAD, "has no rows"), ("\n\n", "no column of times"), ("a,b\n1,2\n", "line 1 has no column of times (time, timestamp, datetime, date time, ..), it has a, b"),
     ("station,time,speed (mph)\na,06:00,5\n", "line 1 has no column of flows or counts (flow (vehicles/h), count, ..), it has station, time, speed (mph)"),
@@ -323,7 +328,7 @@ def test_files_that_are_refused(tmp_path, content, told):
 
 @pytest.mark.parametrize("content, told", [
     (gzip.compress(counts().encode())[:-20], "is packed by gzip, and isn't whole"), (b"PK\x03\x04rest", "is a zip archive or a workbook"),
-    ("time,n\n".encode("utf-16")[:-1], "begins as UTF-16, and isn't whole"), (b"station,time,count\na,06:00,\0\n5", "has a zero byte")])
+    ("time,n\n".encode("utf-16")[:-1], "begins as UTF-16, and isn't whole"), (b"station,time,count\na,06:00,\0\n5", "line 2 has a zero byte")])
 def test_files_that_are_no_text(tmp_path, content, told):
     (tmp_path / "d.csv").write_bytes(content)
     assert told in problem(read_detectors, tmp_path / "d.csv")

@@ -12,7 +12,7 @@ from .examples import TOOLS
 TOP = TOOLS.parent
 COMMANDS_IN = {"docs/TUTORIAL.md": 9, "docs/how-to/signals.md": 2, "docs/how-to/closures.md": 4, "docs/how-to/sumo.md": 3,
                "docs/how-to/detectors.md": 3, "docs/how-to/how-sure.md": 1, "docs/how-to/other-ways.md": 2,
-               "docs/how-to/fast.md": 1, "README.md": 17, "tools/README.md": 7, "examples/README.md": 18, "tools/docs/measures.md": 6,
+               "docs/how-to/fast.md": 1, "README.md": 14, "tools/README.md": 7, "examples/README.md": 18, "tools/docs/measures.md": 6,
                "tools/docs/networks.md": 1, "tools/docs/calibration.md": 0, "tools/docs/saved.md": 6,
                "tools/docs/plans.md": 2, "tools/docs/pages.md": 3, "tools/docs/counts.md": 0, "tools/docs/detectors.md": 1, "tools/docs/queues.md": 0, "tools/docs/sweeps.md": 1,
                "tools/docs/python.md": 0, "tools/docs/units.md": 0, "tools/docs/uncertainty.md": 1, "tools/docs/routes.md": 2,
@@ -190,7 +190,7 @@ def test_the_excerpts_of_the_examples_are_what_the_commands_above_them_write(top
             continue
         excerpts += 1
         assert any(stand_in_order(lines, text) for text in texts_shown(top, recording_program, before, calls)), lines
-    assert excerpts == 22
+    assert excerpts == 21
 
 
 def test_the_tutorial_shows_what_its_commands_print(top, recording_program):
@@ -213,26 +213,23 @@ def test_the_example_of_the_first_page_is_the_file_and_its_report(top, recording
     assert f"in {len(read('examples/bottleneck.toml').splitlines())} lines" in read("README.md")
 
 
-def check_times():
-    """The rows of the file of check times: of each crate its functions, the seconds of its proof and of its tests, and its edits."""
-    return {crate: figures for crate, *figures in (row.split(",") for row in read("launcher/check_times.csv").splitlines()[1:])}
-
-
-def test_the_must_fail_edits_and_the_tests_of_the_check_times_are_those_that_stand():
+def test_the_must_fail_edits_and_the_tests_of_the_map_are_those_that_stand():
+    page = read("docs/inside/MAP.md").split("## Check times")[1].split("\n## ")[0]
+    rows = re.findall(r"^\| `(\w+)` \| \w+ \| \w+ \| (\w+) \| (\w+) \|$", page, re.MULTILINE)
     counts = [line.split() for line in read(".ci/counts.txt").splitlines()]
-    rows = check_times()
-    assert [*rows] == [words[1] for words in counts if words[0] == "crate"]
-    for crate, (_, _, tests, edits) in rows.items():
+    assert [crate for crate, _, _ in rows] == [words[1] for words in counts if words[0] == "crate"]
+    for crate, tests, edits in rows:
         stand = sum(words[:2] == ["edit", crate] for words in counts)
         assert edits == (str(stand) if stand else "none"), crate
         assert (tests == "none") == (["test", crate] not in [words[:2] for words in counts]), crate
-    assert f"The {sum(words[0] == 'edit' for words in counts)} edits" in read("docs/inside/MAP.md")
+    assert f"The {sum(words[0] == 'edit' for words in counts)} edits" in page
 
 
 def test_the_times_of_the_map_add_up():
     page = read("docs/inside/MAP.md").split("## Check times")[1].split("\n## ")[0]
-    proofs = {crate: int(proof) for crate, (_, proof, _, _) in check_times().items()}
-    tests = sum(int(seconds) for _, _, seconds, _ in check_times().values() if seconds != "none")
+    rows = re.findall(r"^\| `(\w+)` \| \w+ \| (\d+) \| (\w+) \| \w+ \|$", page, re.MULTILINE)
+    proofs = {crate: int(seconds) for crate, seconds, _ in rows}
+    tests = sum(int(seconds) for _, _, seconds in rows if seconds != "none")
     assert f"some {sum(proofs.values()) / 60:.0f} processor-minutes of proofs and {tests / 60:.0f} of tests" in page
     edits, each, minutes = map(int, re.search(r"The (\d+) edits take some (\d+) s each, in all some (\d+) minutes", page).groups())
     assert round(edits * each / 60) == minutes
@@ -325,4 +322,4 @@ def test_a_decision_is_told_in_80_words():
 
 def test_the_book_for_who_carries_the_project_on_stays_short():
     words = [word for page in [*INSIDE, "CONTRIBUTING.md"] for word in read(page).split() if re.search(r"\w", word)]
-    assert len(words) <= 16_000
+    assert len(words) <= 12_500

@@ -6,7 +6,7 @@ import pytest
 from matplotlib.transforms import Bbox
 
 from ctmtools import Problem, build, read_study
-from ctmtools.plots import curves, delay, difference, figure, fundamental, labels, lines, network_map, queue, rates, roadside, time_space
+from ctmtools.plots import curves, delay, difference, figure, fundamental, labels, lines, network_map, queue, rates, roadside, sweep, time_space
 from ctmtools.plots.layout import _at, _between, _beyond, lay_out
 from ctmtools.plots.unplaced_joints import middles
 from ctmtools.report.queues import queues_in
@@ -284,3 +284,12 @@ def test_points_along_a_line_are_close_together():
 
 def test_the_first_day_of_times_without_a_date():
     assert DAY_ZERO == pandas.Timestamp("1900-01-01")
+
+
+@pytest.mark.parametrize("values, shown", [(["1.1", "0.9", "1"], [0.9, 1, 1.1]), (["c", "a", "b"], ["a", "b", "c"])])
+def test_a_sweep_is_drawn_over_numbers_or_texts(values, shown):
+    frame = pandas.DataFrame({"demand": values, "delay_vehicle_hours": [3.0, 1, 2], "longest_queue_km": [0.3, 0.1, 0.2],
+                              "waiting_upstream_vehicles": [5, 0, 0], "error": ""})
+    above, below = sweep.draw(frame, ["demand"], "light").axes
+    assert list(above.lines[0].get_xdata()) == shown and above.lines[0].get_ydata().tolist() == [1, 2, 3]
+    assert list(below.lines[1].get_xdata()) == shown[2:] and below.lines[1].get_ydata().tolist() == [0.3]

@@ -14,10 +14,11 @@ from ctmtools.study.network_text import _is_large
 from .examples import TOOLS
 
 FORMAT = (TOOLS.parent / "docs/FORMAT.md").read_text()
-ROW = re.compile(r"\| `(?P<kind>\w+)`(?P<form>, in format 2)? \| (?P<terms>[^|]*) \| (?P<count>\d) \| `(?P<example>[^`]*)` \|")
+ROW = re.compile(r"\| `(?P<kind>\w+)`(?P<form>, in format [23])? \| (?P<terms>[^|]*) \| (?P<count>\d) \| `(?P<example>[^`]*)` \|")
 ROWS = {found["kind"]: found for found in map(ROW.fullmatch, FORMAT.splitlines()) if found}
-EXAMPLE = ("ctm,2", "steps,9", "gate,g,18,2.5", "road,a,108,12,1,5,7.25", "road,b,60.5,9,2,3,0", "road,c,60,9,1,1,0", "exit,x,12.5", "exit,y,3",
-           "link,g,a", "diverge,a,b,c,3,4", "merge,b,c,x,5,6", "signal,a,8,7,2,5", "limit,b,1,4,2.5", "demand,g,0,3,1.25", "turn,a,2,5,8,9")
+EXAMPLE = ("ctm,3", "steps,9", "gate,g,18,2.5", "road,a,108,12,1,5,7.25", "road,b,60.5,9,2,3,0", "road,c,60,9,1,1,0", "exit,x,12.5", "exit,y,3",
+           "link,g,a", "diverge,a,b,c,3,4", "merge,b,c,x,5,6", "signal,a,8,7,2,5", "limit,b,1,4,2.5", "demand,g,0,3,1.25", "turn,a,2,5,8,9",
+           "speed,b,1,6,3,5")
 
 
 def terms_of(kind):
@@ -34,7 +35,8 @@ def sort_of(term, kind):
 
 
 def test_the_kinds_and_their_fields_are_those_of_the_table():
-    assert kinds_of(2) == tuple(KINDS) == tuple(ROWS)
+    assert kinds_of(3) == tuple(KINDS) == tuple(ROWS)
+    assert kinds_of(2) == tuple(kind for kind, row in ROWS.items() if row["form"] != ", in format 3")
     assert kinds_of(1) == tuple(kind for kind, row in ROWS.items() if not row["form"])
     for kind, row in ROWS.items():
         assert len(KINDS[kind].fields) + 1 == int(row["count"]) == len(terms_of(kind)) + 1
@@ -61,12 +63,14 @@ def test_a_record_is_written_as_it_is_read(kind):
 
 
 def test_so_many_records_are_counted_as_the_table_of_formats_says():
-    (sorts, *most), (more, no, most_turns) = re.findall(r"\| Most ([^|]*) \| ([^|]*) \| ([^|]*) \|", FORMAT)
-    assert COUNTED == (*re.split(", | and ", sorts), more) and no == "none"
-    assert [f"{count:,} of each" for count in MOST_RECORDS.values()] == most and f"{MOST_RECORDS[2]:,}" == most_turns
+    (sorts, *most), (turns, *most_turns), (speeds, *most_speeds) = re.findall(r"\| Most ([^|]*) \| ([^|]*) \| ([^|]*) \| ([^|]*) \|", FORMAT)
+    assert COUNTED == (*re.split(", | and ", sorts), turns, speeds)
+    assert [f"{count:,} of each" for count in MOST_RECORDS.values()] == most
+    assert most_turns == ["none", *(f"{MOST_RECORDS[form]:,}" for form in (2, 3))] and most_speeds == ["none", "none", f"{MOST_RECORDS[3]:,}"]
 
 
 def test_a_built_network_says_the_fields_of_its_records():
+    assert headings("speed") == "speed,cell,from,to,NUM,DEN"
     assert headings("road") == "road,name,N,Q,A,B,first" and headings("demand") == "demand,gate,from,to,vehicles in a step"
     assert headings("link", "merge", "diverge") == "link,up,down; merge,first up,second up,down,P1,P2; diverge,up,first down,second down,B1,B2"
 
@@ -82,7 +86,9 @@ def test_a_built_network_says_the_fields_of_its_records():
     ("limit,x,99999,100000,100000", None), ("limit,x,100000,100000,1", 2), ("limit,x,5,5,1", 3), ("limit,x,5,100001,1", 3), ("limit,x,0,1,0", None),
     ("limit,x,0,1,100000.000001", 4), ("demand,g,99999,100000,10000000", None), ("demand,g,0,1,10000000.000001", 4), ("demand,g,0,0,1", 3),
     ("turn,a,99999,100000,1,1000", None), ("turn,a,0,1,0,1", 4), ("turn,a,0,1,1,0", 5), ("turn,a,0,1,1001,1", 4), ("turn,a,0,1,1,1001", 5),
-    ("turn,a,6,6,1,1", 3), ("region,x,511", None), ("region,x,512", 2)])
+    ("turn,a,6,6,1,1", 3), ("speed,b,99999,100000,1,1000", None), ("speed,b,100000,100000,1,2", 2), ("speed,b,5,5,1,2", 3),
+    ("speed,b,5,100001,1,2", 3), ("speed,b,0,1,0,1", 4), ("speed,b,0,1,1001,1001", 4), ("speed,b,0,1,1000,1000", None),
+    ("speed,b,0,1,2,1", 5), ("speed,b,0,1,2,2", None), ("speed,b,0,1,1,1001", 5), ("region,x,511", None), ("region,x,512", 2)])
 def test_ranges_to_their_edges(record, fault):
     found = first_fault(read_records("\n".join([*EXAMPLE, record, ""]).encode()))
     if fault is None:
@@ -115,13 +121,14 @@ def test_the_frames_of_a_network():
                                              ["b", "x", "merge", 5, 11], ["c", "x", "merge", 6, 11]]
     assert network.signals.values.tolist() == [["a", 8, 7, 2, 5, 12]] and network.limits.values.tolist() == [["b", 1, 4, 2.5, 13]]
     assert network.demands.values.tolist() == [["g", 0, 3, 1.25, 14]] and network.turns.values.tolist() == [["a", 2, 5, 8, 9, 15]]
+    assert network.speeds.values.tolist() == [["b", 1, 6, 3, 5, 16]]
 
 
 @pytest.mark.parametrize("text, line", [
     (b"ctm,1\nexit,x,1,2\n", "line 2, `exit,x,1,2`: BadCount; expected 3 fields: exit,name,Q. Is a decimal comma meant? Write 1,2 with a point."),
     (b"ctm,1\nexit,x,y\n", "line 2, field 3 (Q), `y`: BadNumber; expected vehicles in a step, 0 to 100000, with a point and at most six decimals."),
     (b"ctm,1\nsteps,1\n", "the whole file: NoCells; expected at least one road, gate or exit."),
-    (b"", "line 1: NoHeader; expected `ctm,1` or `ctm,2` and nothing more. The file is empty.")])
+    (b"", "line 1: NoHeader; expected `ctm,1`, `ctm,2` or `ctm,3` and nothing more. The file is empty.")])
 def test_a_fault_in_one_line(text, line):
     records = read_records(text)
     assert fault_line(text, records, first_fault(records)) == line

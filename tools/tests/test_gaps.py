@@ -44,6 +44,23 @@ def test_a_median_of_one_vehicle_by_hand():
     assert in_two_stages(1, 500, 500, 300) == pytest.approx(365.1, abs=0.1)
 
 
+def test_a_median_of_many_passes_what_the_narrower_stage_does():
+    # 1 - 0.32·exp(-1.3·sqrt(20)) = 0.99904 of the lesser stage, however great the power of y is, here 1e16 to the 20th.
+    barely = 300.0000000000001
+    assert in_two_stages(20, 1000, barely, 300) == pytest.approx(299.713, abs=0.01)
+    assert in_two_stages(20, barely, 1000, 300) == pytest.approx(299.713, abs=0.01)
+    assert in_two_stages(20, 500, 900, 300) == pytest.approx(499.52, abs=0.01)
+
+
+def test_a_stage_that_passes_no_more_than_both_at_once_adds_nothing():
+    assert in_two_stages(1, 200, 900, 300) == 300 and in_two_stages(1, 900, 200, 300) == 300
+
+
+def test_hardly_anybody_with_priority_leaves_what_follows_at_the_follow_up_gap():
+    # As v goes to 0, v/(1 - exp(-v·t_f/3600)) goes to 3600/t_f.
+    assert harders(1e-13, 6.2, 3.3) == pytest.approx(3600 / 3.3)
+
+
 def test_who_stops_follows_at_a_distance_where_nobody_comes_and_who_gives_way_is_unbounded():
     stops = Gaps(Fraction(62, 10), Fraction(33, 10), "harders")
     assert passing(0, stops) == pytest.approx(3600 / 3.3)

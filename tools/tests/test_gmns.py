@@ -8,6 +8,8 @@ import pytest
 from ctmtools import Problem, build, read_study
 from ctmtools.imports.gmns import phase_spans, read_folder
 from ctmtools.imports.gmns_tables import Row
+from ctmtools.imports.speed_limits import limits_on
+from ctmtools.imports.streets import SpeedSpan, Street
 from ctmtools.report.reading import report_of
 
 TABLES = {
@@ -49,15 +51,37 @@ def test_links_in_miles(folder):
     assert "signal J: plan night is left out, since the first one is kept for the whole time" in found.notes
 
 
-def test_speed_limits_by_time_are_told_as_out_of_reach(folder):
-    (folder / "link_tod.csv").write_text("link_tod_id,link_id,time_day,free_speed,lanes,capacity\n1,a,01111100_0600_0900,30,,\n"
-                                         "2,c,01111100_0600_0900,30,1,1400\n3,e,01111100_0600_0900,3,,\n")
-    found = read_folder(folder)
-    assert found.notes[-3:] == [
-        "speed limits by time are out of the model's reach, since a cell is as long as the way of a step at free flow: 2 of "
-        "link_tod.csv at links a, c are left out", "link_tod.csv: 1 rows with lanes by time are left out",
-        "link_tod.csv: 1 rows with capacity by time are left out"]
-    assert found.streets["a"].speed == pytest.approx(72.42048)
+LINK_TOD = """link_tod_id,link_id,time_day,free_speed,lanes,capacity
+1,a,01111100_0600_0900,30,,
+2,c,11111111_2200_0200,20,1,1400
+3,c,10000010_0600_0900,30,,
+4,b,01111100_0600_0900,50,,
+5,e,01111100_0600_0900,3,,
+"""
+
+
+def test_speeds_of_working_days_are_speed_limits(tool, folder):
+    """30 mph are 48.28 km/h and 20 are 32.19; c's at weekends is left out, and b's, which is above its 45 mph."""
+    (folder / "link_tod.csv").write_text(LINK_TOD)
+    (folder / "segment_tod.csv").write_text("segment_tod_id,segment_id,time_day,free_speed\n1,s,01111100_0600_0900,30\n")
+    status, out, err = tool("import", "gmns", folder, "-o", "town.toml", "--start", "05:30", "--until", "17 h")
+    assert status == 0
+    assert [(limit.part.road, limit.part.start / 3600, limit.part.end / 3600, float(limit.speed)) for limit in
+            read_study("town.toml").speed_limits] == [("a", 0.5, 3.5, pytest.approx(48.28032)), ("c", 16.5, 17, pytest.approx(32.18688))]
+    for note in ("link_tod.csv: 2 speeds by time at links c, b are left out; of links those are kept that hold from Monday to Friday and are "
+                 "below the link's own", "segment_tod.csv: 1 speeds by time are left out; of links those are kept that hold from Monday to Friday and "
+                 "are below the link's own", "link_tod.csv: 1 rows with lanes by time are left out", "link_tod.csv: 1 rows with capacity by time are "
+                 "left out"):
+        assert f"  {note}\n" in out, out
+    assert read_folder(folder).streets["a"].speed == pytest.approx(72.42048)
+
+
+@pytest.mark.parametrize("start, spans", [("23:00", [(0, 3)]), ("00:00", [(0, 2), (22, 24)]), ("12:00", [(10, 14)])])
+def test_a_limit_over_midnight(start, spans):
+    limit = SpeedSpan("a", 22 * 3600, 26 * 3600, 20, by_clock=True)
+    street = Street("a", "1", "2", 1.0, 1, 50.0)
+    found = limits_on([street], {"a": [limit]}, 3600 * int(start[:2]), 24 * 3600 if start != "23:00" else 3 * 3600, 2)
+    assert [(one.begin / 3600, one.end / 3600) for one in found] == spans
 
 
 def test_rings_wait_for_each_other_at_a_barrier():

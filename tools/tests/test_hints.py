@@ -6,26 +6,29 @@ from ctmtools.network_file.faults import first_fault
 from ctmtools.network_file.hints import hint_of
 from ctmtools.network_file.records import read_records
 
-HEAD = "ctm,2\nsteps,9\ngate,on,18,0\nroad,m01,108,18,1,5,0\nroad,m02,108,18,1,5,0\nexit,off,12\n"
+HEAD = "ctm,3\nsteps,9\ngate,on,18,0\nroad,m01,108,18,1,5,0\nroad,m02,108,18,1,5,0\nexit,off,12\n"
 COMMENT = "A comment stands on a line of its own; # behind a record is part of it."
 SPACES = "Take the spaces away."
 COMMAS = "Commas trail behind the record, as Excel writes them; take them away."
 
 HEADERS = {
     " \n ": "The file is empty.",
-    "# a\n": "There are only comments and blank lines; the first record must be ctm,1 or ctm,2.",
+    "# a\n": "There are only comments and blank lines; the first record must be ctm,1, ctm,2 or ctm,3.",
     ",,\nctm,1\n": "Commas stand in empty rows, as Excel writes them; take them away, and those behind records too.",
     "ctm;2;;\n": "Semicolons stand between the fields; put commas there, in the whole file.",
     "ctm 1\n": "Tabs or spaces stand between the fields; put commas there, in the whole file.",
+    "ctm;3\n": "Semicolons stand between the fields; put commas there, in the whole file.",
     "ctm,2,,\n": "Commas trail behind the record, as Excel writes them; take them away, in the whole file.",
-    "CTM, 1\n": "The header has capitals or spaces; write it as ctm,1 or ctm,2.",
-    "ctm,1,a\n": "There are the formats 1 and 2 alone: write ctm,1 or ctm,2.",
+    "CTM, 1\n": "The header has capitals or spaces; write it as ctm,1, ctm,2 or ctm,3.",
+    "ctm,1,a\n": "There are the formats 1 to 3 alone: write ctm,1, ctm,2 or ctm,3.",
     "steps,9\n\nctm,1\n": "The record ctm,1 is in line 3; it must stand before all others.",
     "kind,name\nctm,2\n": "The record ctm,2 is in line 2; a row of column names stands before it.",
     "kind\nctm,2\n": "The record ctm,2 is in line 2; it must stand before all others.",
-    "gate,on,18,0\n": "The record ctm,1 or ctm,2 is missing; put it before all others.",
-    "kind,name (of cell)\n": "A row of column names stands there; this file has none. Put ctm,1 or ctm,2 in its place.",
-    "1,2\n": "The first record of a network file is ctm,1 or ctm,2.",
+    "steps,9\nctm,1,\n": "The record ctm,1 is in line 2; it must stand before all others.",
+    "gate,on,18,0\n": "The record ctm,1, ctm,2 or ctm,3 is missing; put it before all others.",
+    "kind,name (of cell)\n": "A row of column names stands there; this file has none. Put ctm,1, ctm,2 or ctm,3 in its place.",
+    "1,2\n": "The first record of a network file is ctm,1, ctm,2 or ctm,3.",
+    '""\n': "The first record of a network file is ctm,1, ctm,2 or ctm,3.",
     "a\rctm,1\r": "The lines end with carriage returns alone, so a comment doesn't end; save the file with line feeds."}
 RECORDS = {
     "ctm,2": "The header stands once, at the top of the file; are two files joined here?",
@@ -74,6 +77,7 @@ RECORDS = {
     "diverge,m01,m02,off,0,1": "A share is at least 1; a closed branch gets 1 against 1000.",
     "exit,c,100001": "Q is vehicles in a step, not in an hour.", "demand,on,100000,5,1": "",
     "road,c,108,18,0,5,0": "",
+    "speed,m01,0,9,5,3": "NUM/DEN is a part of the road's own free-flow speed, at most 1; are NUM and DEN exchanged?", "speed,m01,0,9,0,3": "",
     # What stands there already, or doesn't.
     "steps,9": "Line 2 has steps,9.", "exit,off,1": "off stands in line 6 too.",
     "signal,m01,9,0,0,4\nsignal,m01,9,0,0,5": "The signal of m01 stands in line 7.",
@@ -86,6 +90,8 @@ RECORDS = {
     "signal,off,9,0,0,4": "off is an exit (line 6); an exit has no signal.",
     "demand,m01,0,1,1": "m01 is a road (line 4); demand comes at gates alone.",
     "turn,m01,0,1,1,1": "m01 is a road (line 4); no diverge above leads out of it.",
+    "speed,on,0,1,3,5": "on is a gate (line 3); a road alone has a free-flow speed.",
+    "speed,off,0,1,3,5": "off is an exit (line 6); a road alone has a free-flow speed.",
     "link,on,m01\nlink,on,m01": "The same record stands in line 7.",
     "link,on,m01\nlink,m02,m01": "link,on,m01 in line 7 leads into m01 already. A merge joins two cells into one.",
     "link,on,m01\nlink,on,m02": "link,on,m01 in line 7 leads out of on already. A diverge parts one cell into two.",
@@ -116,7 +122,8 @@ def test_hints_on_a_file_that_ends_too_soon():
         "A demand is vehicles in each step; is one written in vehicles per hour?"
 
 
-def test_a_kind_of_format_2_in_format_1():
-    for record in ("turn,on,0,1,1,1", "region,on,0"):
-        kind = record.split(",")[0]
-        assert hint("ctm,1\ngate,on,1,0\n" + record) == f"A {kind} is of format 2 alone: write ctm,2 in the first record."
+@pytest.mark.parametrize("record, forms, form", [("turn,on,0,1,1,1", "1", 2), ("region,on,0", "1", 2), ("speed,on,0,1,3,5", "12", 3)])
+def test_a_kind_of_a_later_format(record, forms, form):
+    kind = record.split(",")[0]
+    for own in forms:
+        assert hint(f"ctm,{own}\ngate,on,1,0\n{record}") == f"A {kind} is of no format before {form}: write ctm,{form} in the first record."

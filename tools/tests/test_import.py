@@ -1,12 +1,17 @@
 """Networks of SUMO as studies: streets, lanes for cars, junctions, signals, and traffic by its routes, worked out on paper."""
 
+from fractions import Fraction
+from math import inf
 
 import plain_model
 import pytest
 
 from ctmtools import Problem, build, read_study
+from ctmtools.commands.importing import seconds
 from ctmtools.imports import sumo_net, sumolib_net
 from ctmtools.imports.sumo import joined, read_network, streets_of
+from ctmtools.imports.speed_limits import RoadLimit, limits_on
+from ctmtools.imports.streets import SpeedSpan, Street
 from ctmtools.imports.sumo_trips import read_trips
 from ctmtools.report.reading import report_of
 
@@ -180,6 +185,15 @@ def test_mistakes_in_the_words(tool, files):
     assert "--step: must be 0.1 s or more" in tool("import", "sumo", "town.net.xml", "--step", "0", "-o", "t.toml")[2]
     (files / "late.rou.xml").write_text('<routes><vehicle depart="9000"><route edges="a d"/></vehicle></routes>')
     assert "no vehicle comes in the first 1 h" in tool("import", "sumo", "town.net.xml", "--routes", "late.rou.xml")[2]
+    (files / "none.rou.xml").write_text("<routes/>")
+    told = tool("import", "sumo", "town.net.xml", "--routes", "late.rou.xml", "--routes", "none.rou.xml")[2]
+    assert told == "ctm-tools: late.rou.xml: no vehicle comes in the first 1 h\n"
+
+
+@pytest.mark.parametrize("words", [["--trips", "--matrix", "m.od"], ["--trips", "--taz", "t.xml"], ["--taz", "t.xml", "--matrix", "m.od"]])
+def test_matrices_need_trips_and_districts(tool, files, words):
+    status, _, err = tool("import", "sumo", "town.net.xml", *words)
+    assert status == 2 and "matrices are taken with --trips and --taz, the file of their districts" in err
 
 
 SIGNS = """<additional>
@@ -191,18 +205,66 @@ SIGNS = """<additional>
 """
 
 
-def test_speed_limits_by_time_are_told_as_out_of_reach(tool, files, recording_program):
+def limits_in(path):
+    """The speed limits of a study: road, from and to in km, from and to in s, and km/h."""
+    return [(limit.part.road, limit.part.start_km, limit.part.end_km, limit.part.start, limit.part.end, limit.speed)
+            for limit in read_study(path).speed_limits]
+
+
+def test_variable_speed_signs_are_speed_limits(tool, files):
     (files / "town.add.xml").write_text(SIGNS)
     words = ["import", "sumo", "town.net.xml", "--routes", "town.rou.xml", "-o", "town.toml"]
-    told = ("speed limits by time are out of the model's reach, since a cell is as long as the way of a step at free flow: 2 variable "
-            "speed signs are left out; a, d keep their speeds at all times")
-    assert told not in tool(*words)[1]
-    out = tool(*words, "--additional", "town.add.xml")[1]
-    assert f"  {told}\n" in out and "town.add.xml: 1 elements rerouter aren't read" in out and "inductionLoop" not in out
-    # What is told by the import is told by each run too, before its results.
-    status, out, err = tool("run", "town.toml", "--every", "0")
-    assert status == 0 and out.index(told) < out.index("Vehicles")
+    assert tool(*words)[0] == 0 and limits_in("town.toml") == []
+    status, out, err = tool(*words, "--additional", "town.add.xml")
+    # 8.3 m/s are 29.88 km/h; from 1,800 s on a has its own 12.5 m/s again, and d has its limit to the end of the study, 5,400 s.
+    assert status == 0 and limits_in("town.toml") == [("a", 0, None, 0, 1800, Fraction("29.88")), ("d", 0, None, 600, 5400, Fraction("29.88"))]
+    assert "town.add.xml: 1 elements rerouter aren't read" in out and "speed sign" not in out
+    made = build(read_study("town.toml"))
+    assert [line for line in made.text.splitlines() if line.startswith("speed,a01,")] == ["speed,a01,0,900,83,125"]
     assert "expected <routes> or <additional> or <add> or <trips> or <flows>, found <net>" in tool(*words, "--additional", "town.net.xml")[2]
+
+
+@pytest.mark.parametrize("signs, limits, note", [
+    # One of both lanes for cars: the mean of 8.3 and 12.5 m/s, 37.44 km/h.
+    ('<variableSpeedSign id="v" lanes="a_1"><step time="600" speed="8.3"/></variableSpeedSign>', [("a", 0, None, 600, 5400, Fraction("37.44"))], ""),
+    # A speed of -1, or none, is the lane's own.
+    ('<variableSpeedSign id="v" edges="d"><step time="60" speed="5"/><step time="120" speed="-1"/><step time="180" speed="5"/>'
+     '<step time="00:04:00"/></variableSpeedSign>', [("d", 0, None, 60, 120, 18), ("d", 0, None, 180, 240, 18)], ""),
+    ('<variableSpeedSign id="v" lanes="d_0"><step time="0" speed="20"/></variableSpeedSign>', [],
+     "1 speeds of variable speed signs are above the streets' own, which hold then (d)"),
+    ('<variableSpeedSign id="v" lanes="a_0 x_0"><step time="0" speed="5"/></variableSpeedSign>', [],
+     "2 lanes of variable speed signs aren't for cars here, or aren't there (a_0, x_0)"),
+    ('<variableSpeedSign id="v" lanes="d_0" vTypes="lorry"><step time="5000" speed="5"/></variableSpeedSign>', [("d", 0, None, 5000, 5400, 18)],
+     "1 variable speed signs are for some types of vehicles, and hold for all here"),
+    ('<variableSpeedSign id="v" lanes="d_0" file="steps.xml"/>', [("d", 0, None, 900, 5400, 18)], ""),
+    # Of two signs of a lane the later step holds.
+    ('<variableSpeedSign id="v" edges="c e"><step time="60" speed="5"/><step time="120" speed="10"/></variableSpeedSign>'
+     '<variableSpeedSign id="w" edges="e"><step time="300" speed="4"/></variableSpeedSign>',
+     [("c", 0, None, 60, 120, 18), ("c", 0, None, 120, 5400, 36), ("e", 0, None, 60, 120, 18), ("e", 0, None, 120, 300, 36),
+      ("e", 0, None, 300, 5400, Fraction("14.4"))], "")])
+def test_what_signs_say(tool, files, signs, limits, note):
+    (files / "town.add.xml").write_text(f"<additional>{signs}</additional>")
+    (files / "steps.xml").write_text('<vss><step time="900" speed="5"/></vss>')
+    out = tool("import", "sumo", "town.net.xml", "--routes", "town.rou.xml", "--additional", "town.add.xml", "-o", "town.toml")[1]
+    assert limits_in("town.toml") == limits
+    assert f"  {note}\n" in out if note else "speed sign" not in out
+
+
+def test_limits_of_streets_of_one_road():
+    """Two streets of 125 m: alike limits are one, and what is shorter than half a step of 2 s is none."""
+    streets = [Street(name, "1", "2", 0.125, 1, 50.0) for name in "ce"]
+    limits = {"c": [SpeedSpan("c", 60, 120, 18), SpeedSpan("c", 200, 200.6, 18)], "e": [SpeedSpan("e", 60, 120, 18), SpeedSpan("e", 120, inf, 14.4)]}
+    assert list(limits_on(streets, limits, 0, 600, 2)) == [RoadLimit(0, None, 60, 120, 18), RoadLimit(0.125, None, 120, 600, 14.4)]
+    assert list(limits_on(streets, {"c": limits["c"]}, 0, 600, 2)) == [RoadLimit(0, 0.125, 60, 120, 18)]
+
+
+@pytest.mark.parametrize("steps, told", [
+    ('<step time="x" speed="5"/>', 'town.add.xml: variableSpeedSign v, time: expected seconds or a clock time such as 00:30:00, found "x"'),
+    ('<step time="0" speed="fast"/>', 'town.add.xml: variableSpeedSign v, speed: expected a speed in m/s, found "fast"')])
+def test_signs_that_are_refused(tool, files, steps, told):
+    (files / "town.add.xml").write_text(f'<additional><variableSpeedSign id="v" lanes="d_0">{steps}</variableSpeedSign></additional>')
+    status, out, err = tool("import", "sumo", "town.net.xml", "--routes", "town.rou.xml", "--additional", "town.add.xml")
+    assert status == 2 and told in err
 
 
 UTM = "+proj=utm +zone=33 +ellps=WGS84 +datum=WGS84 +units=m +no_defs"
@@ -223,7 +285,7 @@ def test_streets_lie_where_the_projection_has_them(tool, files, monkeypatch, the
 
 def test_a_file_of_routes_may_have_speed_signs(tool, files):
     (files / "town.rou.xml").write_text(ROUTES.replace("</routes>", SIGNS.split("\n", 1)[1].replace("</additional>", "</routes>")))
-    assert "2 variable speed signs are left out" in tool("import", "sumo", "town.net.xml", "--routes", "town.rou.xml")[1]
+    assert tool("import", "sumo", "town.net.xml", "--routes", "town.rou.xml", "-o", "town.toml")[0] == 0 and len(limits_in("town.toml")) == 2
 
 
 def test_a_network_that_sumolib_can_not_read_is_read_by_its_xml(files):
@@ -259,3 +321,7 @@ def test_the_study_is_the_same_with_sumolib_and_without(tool, files, monkeypatch
     for text, wanted in (("<net>", "no XML"), ("<routes/>", "expected <net>, found <routes>")):
         (files / "x.net.xml").write_text(text)
         assert wanted in tool("import", "sumo", "x.net.xml")[2]
+
+
+def test_the_least_length_of_time_is_taken():
+    assert seconds("0", "--after", least=0) == 0 and seconds("0.1 s", "--step") == 0.1

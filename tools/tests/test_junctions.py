@@ -53,6 +53,12 @@ def test_phases_that_are_green_together_by_their_starts_are_told(tmp_path):
     assert not told[1] and "both green for 15 s" in told[2][0]
 
 
+def test_movements_of_one_approach_may_be_green_together(tmp_path):
+    phases = ('cycle = 60\nphases = [{ start = 0, green = 30, movements = [["n", "x"], ["n", "y"]] }, '
+              '{ start = 20, green = 20, movements = [["n", "z"]] }, { start = 40, green = 20, from = ["e", "w"] }]\n')
+    assert not built(tmp_path, THREE + phases).warnings
+
+
 def test_many_ways_out_of_a_street_with_a_long_name(tmp_path):
     street, outs = "street-of-many-ways-out", "abcdef"
     text = HEAD.format(end="07:00") + "[roads]\n" + "".join(f'{road} = {{ length = 1, lanes = 2 }}\n' for road in (street, *outs))

@@ -7,9 +7,11 @@ from ctmtools.command_line import COMMANDS, tools
 
 # For each option with a number its default, and the least and the most that is taken.
 NUMBERS = {
+    "assign --iterations": (50, 1, 10_000), "assign --jobs": (None, 1, 256), "assign --workers": (None, 1, 16),
     "branch --jobs": (None, 1, 256), "branch --value-of-time": (None, 0, None), "calibrate --first": (16, 1, 10_000),
     "calibrate --jobs": (1, 1, 256), "calibrate --runs": (80, 2, 10_000), "calibrate --starts": (3, 1, 100), "choose --rows": (20, 1, None), "compare --rows": (10, 0, None),
     "compare --value-of-time": (None, 0, None), "diagram --lanes": (None, 0.1, None), "diagram --vehicle-length": (None, 0.1, 100), "detectors --lanes": (None, 0.1, None), "meter --value-of-time": (None, 0, None),
+    "draw --runs": (100, 1, 1_000_000), "draw --seed": (1, 0, None),
     "optimise --generations": (30, 1, 100_000), "optimise --population": (48, 5, 10_000), "optimise --seed": (1, 0, 2**32 - 1),
     "run --every": (None, 0, 100_000), "run --workers": (None, 1, 16), "sweep --every": (None, 1, 100_000), "sweep --jobs": (None, 1, 256),
     "sweep --rows": (20, 1, None), "table --value-of-time": (None, 0, None)}

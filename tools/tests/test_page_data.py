@@ -7,8 +7,8 @@ import pytest
 from ctmtools import Problem
 from ctmtools.network_file.network import network_of
 from ctmtools.pages import frames
-from ctmtools.pages.content import data_of
-from ctmtools.pages.frames import bounds_of
+from ctmtools.pages.content import data_of, opening
+from ctmtools.pages.frames import Frames, bounds_of
 from ctmtools.pages.html_page import page_of
 from ctmtools.pages.tables import table_of
 from ctmtools.report.reading import report_of
@@ -59,6 +59,17 @@ def test_means_of_records_that_stand_apart():
     # Held are 4, 8 and 4 in the mean, and 1, 3 and 1 go out in a step.
     assert decoded(data, "density")["c"] == pytest.approx([4, 8, 4], abs=0.001)
     assert decoded(data, "flow")["c"] == pytest.approx([1, 3, 1], abs=0.001)
+
+
+def test_of_times_of_one_density_the_page_opens_at_that_with_most_vehicles():
+    rows = ((0, "a", 10, 0), (0, "b", 0, 0), (1, "a", 0, 10), (1, "b", 50, 0), (2, "a", 0, 10), (2, "b", 0, 50))
+    report = report_of(b"report,2,2\n" + b"".join(b"at,%d,%s,%d,%d\n" % (step, cell.encode(), *row) for step, cell, *row in rows) +
+                       b"cell,a,0,10,10,0\ncell,b,0,50,50,0\ntotal,0,60,60,0\n", "c")
+    report.network = network_of(b"ctm,1\nsteps,2\nroad,a,60,9,1,5,0\nroad,b,60,9,1,5,0\n")
+    report.units = Units(step=10, start=0, roads={"m": ["a", "b"]}, cells={"a": {"road": "m", "from_km": 0, "to_km": 0.1},
+                                                                           "b": {"road": "m", "from_km": 0.1, "to_km": 0.6}})
+    # First 10 vehicles on the 100 m of a, then 50 on the 500 m of b: 100 vehicles/km each time.
+    assert opening([Frames(report, [0, 1, 2], True)])["frame"] == 1
 
 
 def test_two_reports_side_by_side():

@@ -130,6 +130,9 @@ def test_bars_that_are_left_out_are_told(report):
     roads = [road for road, cells in read.units.roads.items() if read.cells.wait[cells].sum() >= 0.0005 * read.total.delay]
     assert f"{28 - len(roads)} roads with less than 0.05% of the delay are left out" in texts(plot(read, "delay"))
     assert "others are left out" in texts(plot(many_roads(160), "delay"))
+    free = many_roads(61)
+    free.cells.wait = 0.0
+    assert "60 roads with less than 0.05% of the delay are left out" in texts(plot(free, "delay"))
 
 
 def test_each_red_light_is_drawn(report):

@@ -6,7 +6,7 @@ import time
 
 import pytest
 
-from ctmtools import Problem, program, progress
+from ctmtools import Problem, program, progress, running
 from ctmtools.command_line import main
 from ctmtools.moments import runner
 
@@ -32,6 +32,11 @@ def test_a_run_is_recorded_as_often_as_the_program_allows(steps, cells):
 def test_regions_for_workers_where_the_program_takes_no_word_for_it(monkeypatch, workers, regions):
     monkeypatch.setattr(program, "takes", lambda *_: False)
     assert program.regions_for(workers) == regions
+
+
+def test_from_a_thousand_cells_on_there_are_as_many_threads_as_are_said(monkeypatch):
+    monkeypatch.setattr(running, "processors", lambda: 6)
+    assert [running.many_workers(*given) for given in ((999, 3), (1000, 3), (1000, None))] == [1, 3, 6]
 
 
 class Terminal(io.StringIO):

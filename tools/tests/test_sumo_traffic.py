@@ -168,6 +168,9 @@ def test_parts_of_vehicles_are_told_in_tenths():
     found = Streets("n")
     found.said.append(Said("car", 0.0, 3600.0, 10.0, 10.0))
     assert tally(found, 900, 3600, lambda time: f"{time:g}")[-1].split() == ["2700", "to", "3600", "2.5", "2.5"]
+    # Of more than eight spans two are a row.
+    for interval, begin in ((450, "3150"), (400, "3200")):
+        assert tally(found, interval, 3600, lambda time: f"{time:g}")[-1].split()[:3] == [begin, "to", "3600"]
 
 
 def test_vehicles_that_sumo_leaves_out_for_their_order_are_kept_and_told(imported):

@@ -71,7 +71,7 @@ def test_a_fingerprint_tells_studies_apart(plain):
 def test_a_sweep_goes_on_where_it_was_stopped(tool, plain):
     words = ["sweep", STUDY, "--vary", "signals.offset=0:50:10", "--vary", "demand=1,x", "-j", "1"]
     status, out, err = tool(*words)
-    assert status == 0 and "6 of 12 runs failed" in out and "failed: " in out
+    assert status == 0 and "6 of 12 runs failed" in out and "failed: " in out and "stand in" not in out
     rows = open("arterial-0.sweep/results.csv").read().splitlines(keepends=True)
     assert os.path.getsize("arterial-0.sweep/plot.png") and rows[0].startswith("signals.offset,demand,delay")
     with open("arterial-0.sweep/results.csv", "w") as file:  # stopped in the middle of a row

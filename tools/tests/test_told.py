@@ -41,9 +41,8 @@ SLIPS = {
                              "warning: gates.g.demand: nobody comes from 06:20 to 06:30, a hole between its rows; is a row missing?"),
     "a road shorter than was meant": (STUDY.replace("length = 1\n", "length = 0.9\n"),
                                       "rounded: length of road m: 0.9 km asked, 1 km modelled"),
-    "a speed limit by time": (STUDY + '[[speed_limits]]\nroad = "m"\nfrom = 0.5\nstart = "06:15"\nend = "06:45"\nspeed = 60\n',
-                              "speed_limits[1]: speed limits by time are out of the model's reach, since a cell is as long as "
-                              "the way of a step at the free-flow speed; road m has 90 km/h at all times, and not 60 for a time"),
+    "a speed limit that does nothing": (STUDY + '[[speed_limits]]\nroad = "m"\nfrom = 0.5\nstart = "06:15"\nend = "06:45"\nspeed = 100\n',
+                                        "speed_limits[1]: road m has 90 km/h there itself, so a limit of 100 km/h does nothing"),
     "closures that overlap": (STUDY + 2 * '[[closures]]\nroad = "m"\nlanes = 1\n',
                               "closures[1] and closures[2] overlap on road m from km 0 to 1, 06:00 to 07:00: 0 of 2 lanes"),
 }
@@ -107,10 +106,10 @@ def test_another_file_than_is_wanted_is_named(tool, words, told):
 @pytest.mark.parametrize("old, new, key", [
     ("free_flow_speed = 90", 'free_flow_speed = [["06:00", "06:30", 60]]', "lane.free_flow_speed"),
     ("lanes = 2\n", 'lanes = 2\nfree_flow_speed = { start = "06:00", end = "06:30", speed = 60 }\n', "roads.m.free_flow_speed")])
-def test_a_speed_by_time_is_refused_as_out_of_reach(tool, tmp_path, old, new, key):
+def test_a_free_flow_speed_by_time_is_refused(tool, tmp_path, old, new, key):
     (tmp_path / "s.toml").write_text(STUDY.replace(old, new, 1))
     status, out, err = tool("run", "s.toml")
-    assert status == 2 and f"{key}: speed limits by time are out of the model's reach" in err and not out
+    assert status == 2 and f"{key}: a road has one free-flow speed of its own; say a number, and lower speeds by time as [[speed_limits]]" in err and not out
 
 
 def test_a_study_under_another_name_is_a_study(tool, tmp_path):

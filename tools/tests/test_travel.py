@@ -1,5 +1,7 @@
 """Travel times, worked out on paper: at free flow, at a red light, before a lane drop, and along routes."""
 
+import warnings
+
 import numpy
 import plain_model
 import pytest
@@ -7,7 +9,7 @@ import pytest
 from ctmtools import Problem, read_report
 from ctmtools.report.comparing import travel
 from ctmtools.report.summary import page
-from ctmtools.report.travel import chain_of, road_times, travel_times, trips
+from ctmtools.report.travel import Trips, chain_of, road_times, travel_times, trips
 
 from .corridor import corridor
 from .examples import save_report
@@ -39,6 +41,12 @@ def test_who_has_not_arrived_by_the_end_has_no_time():
     assert numpy.isnan(trips(report, ["a"]).steps).tolist() == [False, True]
     frame = travel_times(report, ["a"], every=20)
     assert frame["mean"][0] == 1 and numpy.isnan(frame["mean"][1]) and frame.attrs["units"]["mean"] == "steps"
+
+
+def test_of_nobody_there_is_no_mean_time():
+    with warnings.catch_warnings():
+        warnings.simplefilter("error")
+        assert numpy.isnan(Trips(*[numpy.empty(0)] * 3).mean)
 
 
 def test_spans_of_a_single_step():

@@ -46,19 +46,24 @@ def test_a_list_and_matrices_say_the_same(tmp_path):
     ('[trips]\nmatrices = [{ file = "minus.csv" }]\n', "minus.csv: line 2, x: a number of vehicles isn't negative"),
     ('[trips]\nmatrices = [{ file = "word.csv" }]\n', "word.csv: line 2, y: expected a number of vehicles"),
     ('[trips]\nfile = "short.csv"\n', "short.csv: line 1 has no column from"),
+    ('[trips]\nfile = "twice.csv"\n', "twice.csv: line 1 has 2 columns to; it has from, to, start, end, vehicles, to"),
+    ('[trips]\nfile = "a\\u0000b"\n', "a\\x00b': no file has such a name"),
+    ('[[trips]]\nfrom = "g"\nto = "x"\ndemand = { counts = "a\\u0000b" }\n', "a\\x00b': no file has such a name"),
+    (f'[[trips]]\nfrom = "g"\nto = "x"\ndemand = {{ counts = "{"a" * 300}" }}\n', "a: file name too long"),
     ('[[routes]]\nfrom = "g"\nto = "x"\nroads = ["m"]\n', "routes: there are no trips"),
     ('[[trips]]\nfrom = "g"\nto = "x"\ndemand = 1\n[[routes]]\nfrom = "g"\nto = "y"\nroads = ["m"]\n',
      "routes[1]: there are no trips from g to y")])
 def test_trips_that_cannot_be_are_refused(tmp_path, text, told):
     with pytest.raises(Problem) as found:
-        study_of(tmp_path, ROADS + text, short=",x,y\ng,1\n", minus=",x,y\ng,-1,0\n", word=",x,y\ng,1,two\n")
+        study_of(tmp_path, ROADS + text, short=",x,y\ng,1\n", twice="from,to,start,end,vehicles,to\n", minus=",x,y\ng,-1,0\n", word=",x,y\ng,1,two\n")
     assert told in str(found.value)
 
 
 @pytest.mark.parametrize("row, told", [
     ("g,x,07:00,07:10,-1", "line 2, vehicles: a number of vehicles isn't negative, found \"-1\""),
     *((f"g,x,07:00,07:10,{text}", f'line 2, vehicles: expected a number of vehicles, found "{text}"')
-      for text in ("ten", "nan", "inf", "1e400", "1_0", "1/2", "")),
+      for text in ("ten", "nan", "inf", "1e400", "1_0", "1/2", "", "9" * 5000)),
+    ("x" * 140_000 + ",x,07:00,07:10,1", "line 2: field larger than field limit"),
     ("g,x,07:10,07:00,1", "line 2, end: the end isn't after the start"),
     ("g,x,7,07:10,1", "line 2, start: expected a clock time"),
     ("h,x,07:00,07:10,1", "line 2: from h: is no gate of the study, which has g"),
@@ -129,6 +134,7 @@ def route(roads, more=""):
     (route('["lane"]'), "routes[1].roads: there is no road lane"), (route("[]"), "routes[1].roads: expected the roads of the way"),
     (route('["b", "short"]'), "routes[1].roads: no way leads from b1 to road short"),
     (route('["short"]', "share = -1\n"), "routes[1].share: a share isn't negative"),
+    (route('["short"]', "share = []\n"), "routes[1].share: expected a number or rows of [start, end, share], found none"),
     (route('["short"]', "share = 1\n") + route('["long"]'), "routes[1].share: either all routes from home to work have shares or none"),
     (route('["short"]', 'share = [["07:30", "09:00", 1]]\n'),
      "routes[1].share: no route from home to work has a share at 07:02:30, when drivers set out")])

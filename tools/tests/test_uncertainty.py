@@ -96,6 +96,7 @@ NORMAL = 'factor = "normal"\nmean = 1\ndeviation = 0.1'
     ('key = "demand"\nfactor = "lognormal"\nmean = 0\ndeviation = 1', r"uncertain\[1\].mean: must be above 0"),
     ('key = "demand"\nfactor = "given"\nvalues = []', r"uncertain\[1\].values: has no values"),
     ('key = "demand"\nfactor = "given"\nvalues = [1, 2]\nweights = [0, 0]', r"uncertain\[1\].weights: expected numbers"),
+    ('key = "demand"\nfactor = "given"\nvalues = [1, 2]\nweights = [3, -1]', r"uncertain\[1\].weights: expected numbers"),
     (f'key = "demand"\n{NORMAL}\n[[uncertain]]\nkey = "demand"\n{NORMAL}', r"uncertain\[2\].key: demand varies already"),
     ('keys = ["demand", "demand.on"]\ncorrelation = 0.5', r"uncertain: demand has a correlation and doesn't vary"),
     ('keys = ["a", "b"]\ncorrelation = 1.5', r"uncertain\[1\].correlation: no values vary together like this"),
@@ -123,6 +124,8 @@ def test_intervals_of_textbooks():
     # Of the median of 100 values the 40th and the 61st (Conover, Practical Nonparametric Statistics, binomial table).
     assert of_percentile(list(range(1, 101)), 50) == (40, 61)
     assert within("2%").is_reached([100.0, 100.1, 99.9]) and not within("0.01").is_reached([100.0, 100.1, 99.9])
+    # Of 2 degrees of freedom it is 4.303, so the half width of these is 0.2484.
+    assert within("0.249").is_reached([100.0, 100.1, 99.9]) and not within("0.248").is_reached([100.0, 100.1, 99.9])
     for text in ("0", "-1", "2 vehicles", ""):
         with pytest.raises(Problem, match="--until-within"):
             within(text)

@@ -33,6 +33,10 @@ CASES = {
     "turns that overlap": (HEAD.replace("ctm,1", "ctm,2") + "exit,x,9\ndiverge,m02,off,x,1,1\n"
                            + LINKS.replace("link,m02,off\n", "") + DEMAND + "turn,m02,0,4,1,2\nturn,m02,2,9,2,1\n",
                            ["line 13: the turns of m02 overlap from step 2 on, with line 12; the last one in the file"]),
+    "speeds that overlap": (HEAD.replace("ctm,1", "ctm,3") + LINKS + DEMAND + "speed,m01,0,4,3,5\nspeed,m01,2,9,1,2\nspeed,m02,0,4,3,5\n",
+                            ["line 12: the speeds of m01 overlap from step 2 on, with line 11; the last one in the file holds there"]),
+    "a speed behind the end": (HEAD.replace("ctm,1", "ctm,3") + LINKS + DEMAND + "speed,m01,9,12,3,5\n",
+                               ["line 11: this speed begins behind the last step, 8, so it does nothing"]),
     "a limit that the room doesn't allow for long": (
         HEAD + LINKS + DEMAND + "limit,m01,2,4,24\n",
         ["line 11: the limit of m01 from step 2 on, 24 vehicles a step, is above the 18 vehicles a step that it can"]),

@@ -2,7 +2,9 @@
 
 from fractions import Fraction
 from math import exp
+from types import SimpleNamespace
 
+import numpy
 import pytest
 
 from ctmtools import Problem, read_study
@@ -10,6 +12,7 @@ from ctmtools.program import ask
 from ctmtools.report.queues import queues_in
 from ctmtools.running import run, settled_by_runs
 from ctmtools.yielding.conflicts import flow_of
+from ctmtools.yielding.yielding import Yielding
 
 from .examples import EXAMPLES
 from .validation_tables import figures_of, number, rows_under
@@ -332,3 +335,9 @@ def test_what_passes_is_the_same_by_other_steps(tmp_path, recording_program, ste
     text = SIDE.format(main=600, low=400, high=600).replace("step = 2", f"step = {step}")
     found = settled_by_runs(read_study(write(tmp_path, text)))
     assert last_limits(found) == {"side": pytest.approx(504.6, rel=0.005)}
+
+
+@pytest.mark.parametrize("more, moved", [(0.9, 0), (2, 0.02)])
+def test_a_move_is_that_of_the_steps_in_which_one_gives_way(more, moved):
+    own = SimpleNamespace(green=SimpleNamespace(permitted=numpy.array([True, True, False])), rates=numpy.array([[100.0, 100, 900]]))
+    assert Yielding.move(own, own.rates + numpy.array([more, more, 500])) == pytest.approx(moved)

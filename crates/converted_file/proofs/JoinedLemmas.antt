@@ -3,7 +3,7 @@ use Rattle.std.proofs.Common.{ℕ, ◌≡◌, ◌<◌, ◌≤◌, ◌+◌, zero,
 use Rattle.std.specs.Prelude.{codes}
 use Rattle.std.proofs.lemmas.List.{append-nil}
 use Rattle.std.specs.List.{flat_map}
-use Rattle.converted_file.specs.Converted.{converted, joined, record_line}
+use Rattle.converted_file.specs.Converted.{converted, header_line, joined, record_line}
 use Rattle.record_fields.specs.FileRecords.{file_records_of}
 
 -- the first field
@@ -36,6 +36,6 @@ line-more text before after fields (suc i) later there so_far comma =
 
 -- a converted file, by the file's records
 pub converted-by : (bytes : List ℕ) (records : List (List (List ℕ))) → records ≡ file_records_of bytes
-    → converted bytes ≡ codes "ctm,2\n" ++ flat_map record_line (drop 1 records)
+    → converted bytes ≡ header_line records ++ flat_map record_line (drop 1 records)
 unfolding converted
 converted-by bytes records same = rw same refl

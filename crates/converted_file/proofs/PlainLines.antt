@@ -8,7 +8,7 @@ use Rattle.csv.specs.Machine.{next_record}
 use Rattle.csv.specs.Reading.{records_from, strip_bom}
 use Rattle.csv.specs.declared.parser.State.TheVariants as st
 use Rattle.record_fields.specs.CellName.{allowed_in_name}
-use Rattle.converted_file.specs.Converted.{converted, joined, record_line}
+use Rattle.converted_file.specs.Converted.{converted, header_line, joined, record_line}
 use Rattle.record_fields.specs.FileRecords.{config, file_records_of}
 use Rattle.converted_file.proofs.PlainText.{IsPlain}
 
@@ -122,19 +122,35 @@ length-lines [] = omega arith
 length-lines (fields ∷ rest) =
     omega (arith, length-lines rest, length-append (record_line fields) (flat_map record_line rest), length-append (joined fields) (10 ∷ []))
 
--- the header of format 2
+-- the headers of formats 2 and 3
 abbrev pub header_2 : List (List ℕ)
 header_2 = codes "ctm" ∷ codes "2" ∷ []
 
-converted-no_mark : (bytes : List ℕ) → strip_bom (converted bytes) ≡ flat_map record_line (header_2 ∷ drop 1 (file_records_of bytes))
-unfolding strip_bom converted
-converted-no_mark bytes = refl
+abbrev pub header_3 : List (List ℕ)
+header_3 = codes "ctm" ∷ codes "3" ∷ []
 
--- the records of a converted file: the header of format 2, and then the file's own records behind its header
-pub file_records_of-converted : (bytes : List ℕ) → ArePlainRecords (drop 1 (file_records_of bytes))
-    → file_records_of (converted bytes) ≡ header_2 ∷ drop 1 (file_records_of bytes)
-file_records_of-converted bytes plain =
-    let rows = header_2 ∷ drop 1 (file_records_of bytes) in
+-- the lines of a converted file: its header, and then the file's own records behind its header
+abbrev pub AreLinesOf : (bytes : List ℕ) → (header : List (List ℕ)) → Type 0
+AreLinesOf bytes header = strip_bom (converted bytes) ≡ flat_map record_line (header ∷ drop 1 (file_records_of bytes))
+
+pub lines_in-2 : (bytes : List ℕ) → header_line (file_records_of bytes) ≡ codes "ctm,2\n" → AreLinesOf bytes header_2
+unfolding strip_bom converted
+lines_in-2 bytes is = rw is refl
+
+pub lines_in-3 : (bytes : List ℕ) → header_line (file_records_of bytes) ≡ codes "ctm,3\n" → AreLinesOf bytes header_3
+unfolding strip_bom converted
+lines_in-3 bytes is = rw is refl
+
+pub header_2-plain : IsPlainRecord header_2
+header_2-plain = record { some = omega arith; each = (record { some = omega arith; bytes = refl }, (record { some = omega arith; bytes = refl }, tt)) }
+
+pub header_3-plain : IsPlainRecord header_3
+header_3-plain = record { some = omega arith; each = (record { some = omega arith; bytes = refl }, (record { some = omega arith; bytes = refl }, tt)) }
+
+-- the records of a converted file
+pub file_records_of-converted : (bytes : List ℕ) (header : List (List ℕ)) → IsPlainRecord header → AreLinesOf bytes header → ArePlainRecords (drop 1 (file_records_of bytes)) →
+    file_records_of (converted bytes) ≡ header ∷ drop 1 (file_records_of bytes)
+file_records_of-converted bytes header headed lines plain =
+    let rows = header ∷ drop 1 (file_records_of bytes) in
     let text = flat_map record_line rows in
-    let headed : IsPlainRecord header_2 = record { some = omega arith; each = (record { some = omega arith; bytes = refl }, (record { some = omega arith; bytes = refl }, tt)) } in
-    rw (converted-no_mark bytes) (lines-read (length text + 1) rows (omega (arith, length-lines rows)) (headed, plain))
+    rw lines (lines-read (length text + 1) rows (omega (arith, length-lines rows)) (headed, plain))

@@ -1,7 +1,7 @@
 -- The words of the kinds of record are plain.
 use Rattle.std.proofs.Common.{arith, refl}
 use Rattle.record_fields.specs.declared.record_kind.RecordKind.{RecordKind}
-use Rattle.record_fields.specs.declared.record_kind.RecordKind.TheVariants.{Steps, Road, Gate, Exit, Link, Merge, Diverge, Signal, Limit, Demand, Turn, Region}
+use Rattle.record_fields.specs.declared.record_kind.RecordKind.TheVariants.{Steps, Road, Gate, Exit, Link, Merge, Diverge, Signal, Limit, Demand, Turn, Region, Speed}
 use Rattle.record_fields.proofs.KindWords.{word_of}
 use Rattle.converted_file.proofs.PlainText.{IsPlain}
 
@@ -19,3 +19,4 @@ word_of-plain Limit = record { some = omega arith; bytes = refl }
 word_of-plain Demand = record { some = omega arith; bytes = refl }
 word_of-plain Turn = record { some = omega arith; bytes = refl }
 word_of-plain Region = record { some = omega arith; bytes = refl }
+word_of-plain Speed = record { some = omega arith; bytes = refl }

@@ -6,7 +6,7 @@ use Rattle.signal_plan.specs.Records.{PlanRecords}
 use Rattle.record_fields.specs.CellName.{is_name}
 use Rattle.network_file.specs.Cells.{cell_named}
 use Rattle.record_fields.specs.Fields.{whole_within, range_within, ratio, weights, amount_within}
-use Rattle.network_file.specs.CellFields.{new_name, known_cell, upstream, downstream, signal_cell, demand_gate, turn_cell, region_cell}
+use Rattle.network_file.specs.CellFields.{new_name, known_cell, upstream, downstream, signal_cell, demand_gate, turn_cell, speed_road, region_cell}
 use Rattle.network_file.specs.declared.cell.Cell.{Cell}
 use Rattle.record_fields.specs.declared.code.Code.TheVariants.{BadName, BadNumber, Repeated, Unknown}
 use Rattle.network_file.specs.declared.connector.Connector.{Connector}
@@ -85,6 +85,12 @@ signal_cell-plain cells plan text i names taken =
 pub demand_gate-plain : (cells : List Cell) (text : List ℕ) (i : ℕ) → ArePlainNames cells → demand_gate cells text ≡ Ok i → IsPlain text
 unfolding demand_gate
 demand_gate-plain cells text i names taken =
+    let (cell, (known, rest)) = bind-ok (known_cell cells text) _ i taken in
+    known_cell-plain cells text cell names known
+
+pub speed_road-plain : (cells : List Cell) (text : List ℕ) (i : ℕ) → ArePlainNames cells → speed_road cells text ≡ Ok i → IsPlain text
+unfolding speed_road
+speed_road-plain cells text i names taken =
     let (cell, (known, rest)) = bind-ok (known_cell cells text) _ i taken in
     known_cell-plain cells text cell names known
 

@@ -1,5 +1,5 @@
--- A record that is taken has plain fields, and is taken alike in format 2.
-use Rattle.std.proofs.Common.{ℕ, zero, suc, ◌≡◌, ◌==◌, ◌<◌, true, List, [], ◌∷◌, Ok, refl, sym, subst, ap, ◌∙◌, arith, length}
+-- A record that is taken has plain fields, and is taken alike in any format that has as much.
+use Rattle.std.proofs.Common.{ℕ, zero, suc, ◌≡◌, ◌==◌, ◌<◌, ◌≤◌, true, Some, List, [], ◌∷◌, Ok, refl, sym, subst, ap, ◌∙◌, arith, length}
 use Rattle.std.specs.Prelude.{nat_lt, ok_or}
 use Rattle.std.proofs.lemmas.Bool.{eqb-true, lt-ltb, ltb-true}
 use Rattle.network_file.specs.Draft.{Draft}
@@ -9,15 +9,14 @@ use Rattle.record_fields.specs.RecordKinds.{field_count, record_kind_of}
 use Rattle.network_file.specs.Taking.{take_kind, take_record, taken_before}
 use Rattle.record_fields.specs.declared.code.Code.TheVariants.{BadKind, BadCount, TooMany}
 use Rattle.record_fields.specs.declared.record_kind.RecordKind.{RecordKind}
-use Rattle.record_fields.specs.declared.record_kind.RecordKind.TheVariants.{Steps, Road, Gate, Exit, Link, Merge, Diverge, Signal, Limit, Demand, Turn, Region}
-use Rattle.record_fields.proofs.KindWords.{record_kind_of-word, record_kind_of-word_of, word_of}
+use Rattle.record_fields.specs.declared.record_kind.RecordKind.TheVariants.{Steps, Road, Gate, Exit, Link, Merge, Diverge, Signal, Limit, Demand, Turn, Region, Speed}
+use Rattle.record_fields.proofs.KindWords.{record_kind_of-later, record_kind_of-word, word_of}
 use Rattle.converted_file.proofs.PlainWords.{word_of-plain}
 use Rattle.converted_file.proofs.PlainLines.{ArePlain, IsPlainRecord}
 use Rattle.converted_file.proofs.PlainText.{IsPlain}
 use Rattle.record_fields.proofs.CheckLemmas.{bind-as, bind-ok, must-as, must-ok, ok_or-some}
-use Rattle.network_file.proofs.NetworkFacts.{few_records}
 use Rattle.converted_file.proofs.TakenFields.{ArePlainNames}
-use Rattle.converted_file.proofs.TakenKinds.{IsTakenAlike, fields_from, in_format_2, take_demand-alike, take_diverge-alike, take_exit-alike, take_gate-alike, take_limit-alike, take_link-alike, take_merge-alike, take_region-alike, take_road-alike, take_signal-alike, take_steps-alike, take_turn-alike}
+use Rattle.converted_file.proofs.TakenKinds.{IsTakenAlike, fields_from, StaysPlain, in_format, take_demand-alike, take_diverge-alike, take_exit-alike, take_gate-alike, take_limit-alike, take_link-alike, take_merge-alike, take_region-alike, take_road-alike, take_signal-alike, take_speed-alike, take_steps-alike, take_turn-alike}
 
 -- how many fields stand behind the kind
 abbrev later_count : RecordKind → ℕ
@@ -33,6 +32,7 @@ later_count Limit = 4
 later_count Demand = 4
 later_count Turn = 5
 later_count Region = 2
+later_count Speed = 5
 
 field_count-later : (kind : RecordKind) → field_count kind ≡ suc (later_count kind)
 field_count-later Steps = refl
@@ -47,9 +47,10 @@ field_count-later Limit = refl
 field_count-later Demand = refl
 field_count-later Turn = refl
 field_count-later Region = refl
+field_count-later Speed = refl
 
-take_kind-alike : (kind : RecordKind) (draft more : Draft) (fields : List (List ℕ)) → ArePlainNames draft.cells → take_kind kind draft fields ≡ Ok more
-    → IsTakenAlike (take_kind kind) (later_count kind) draft fields more
+take_kind-alike : (kind : RecordKind) (other : ℕ) (draft more : Draft) (fields : List (List ℕ)) → ArePlainNames draft.cells → take_kind kind draft fields ≡ Ok more
+    → IsTakenAlike other (take_kind kind) (later_count kind) draft fields more
 take_kind-alike Steps = take_steps-alike
 take_kind-alike Road = take_road-alike
 take_kind-alike Gate = take_gate-alike
@@ -62,27 +63,33 @@ take_kind-alike Limit = take_limit-alike
 take_kind-alike Demand = take_demand-alike
 take_kind-alike Turn = take_turn-alike
 take_kind-alike Region = take_region-alike
+take_kind-alike Speed = take_speed-alike
 
--- the counts that a format limits are those of the draft in format 2
-taken_before-in_format_2 : (kind : RecordKind) (draft : Draft) → taken_before kind (in_format_2 draft) ≡ taken_before kind draft
-taken_before-in_format_2 Steps draft = refl
-taken_before-in_format_2 Road draft = refl
-taken_before-in_format_2 Gate draft = refl
-taken_before-in_format_2 Exit draft = refl
-taken_before-in_format_2 Link draft = refl
-taken_before-in_format_2 Merge draft = refl
-taken_before-in_format_2 Diverge draft = refl
-taken_before-in_format_2 Signal draft = refl
-taken_before-in_format_2 Limit draft = refl
-taken_before-in_format_2 Demand draft = refl
-taken_before-in_format_2 Turn draft = refl
-taken_before-in_format_2 Region draft = refl
+-- the counts that a format limits are those of the draft in another format
+taken_before-in_format : (kind : RecordKind) (other : ℕ) (draft : Draft) → taken_before kind (in_format other draft) ≡ taken_before kind draft
+taken_before-in_format Steps other draft = refl
+taken_before-in_format Road other draft = refl
+taken_before-in_format Gate other draft = refl
+taken_before-in_format Exit other draft = refl
+taken_before-in_format Link other draft = refl
+taken_before-in_format Merge other draft = refl
+taken_before-in_format Diverge other draft = refl
+taken_before-in_format Signal other draft = refl
+taken_before-in_format Limit other draft = refl
+taken_before-in_format Demand other draft = refl
+taken_before-in_format Turn other draft = refl
+taken_before-in_format Region other draft = refl
+taken_before-in_format Speed other draft = refl
 
--- what is within the limit of a format is within that of format 2
-room-in_format_2 : (taken format : ℕ) → nat_lt taken (most_records format) ≡ true → nat_lt taken (most_records 2) ≡ true
-room-in_format_2 taken format room =
+-- another format has all kinds of record that a format has, and as many records of each
+pub record HasAsMuch (format other : ℕ) : Type 0 where
+  pub later : format ≤ other
+  pub records : most_records format ≤ most_records other
+
+room-in_format : (taken format other : ℕ) → HasAsMuch format other → nat_lt taken (most_records format) ≡ true → nat_lt taken (most_records other) ≡ true
+room-in_format taken format other has room =
     let less : taken < most_records format = ltb-true taken (most_records format) room in
-    lt-ltb taken (most_records 2) (omega (arith, less, few_records format))
+    lt-ltb taken (most_records other) (omega (arith, less, has.records))
 
 fields_from-tail : (first : List ℕ) (rest : List (List ℕ)) (place count : ℕ) → fields_from (first ∷ rest) (suc place) count ≡ fields_from rest place count
 fields_from-tail first rest place zero = refl
@@ -100,27 +107,30 @@ plain-by_places fields later count first rest =
     record { some = omega (arith, count); each = subst ArePlain all each }
 
 -- what is known of a record that is taken
-abbrev pub IsRecordTakenAlike : Draft → List (List ℕ) → Draft → Type 0
-IsRecordTakenAlike draft fields more = IsPlainRecord fields × ((take_record (in_format_2 draft) fields ≡ Ok (in_format_2 more)) × ArePlainNames more.cells)
+abbrev pub IsRecordTakenAlike : (other : ℕ) → Draft → List (List ℕ) → Draft → Type 0
+IsRecordTakenAlike other draft fields more =
+    IsPlainRecord fields × ((take_record (in_format other draft) fields ≡ Ok (in_format other more)) × StaysPlain draft.format more)
 
-pub take_record-alike : (draft more : Draft) (fields : List (List ℕ)) → ArePlainNames draft.cells → take_record draft fields ≡ Ok more → IsRecordTakenAlike draft fields more
+pub take_record-alike : (other : ℕ) (draft more : Draft) (fields : List (List ℕ)) → HasAsMuch draft.format other → ArePlainNames draft.cells →
+    take_record draft fields ≡ Ok more → IsRecordTakenAlike other draft fields more
 unfolding take_record
-take_record-alike draft more fields names taken =
+take_record-alike other draft more fields has names taken =
     let (kind, (is_kind, taken1)) = bind-ok (ok_or (record_kind_of draft.format (field fields 0)) BadKind) _ more taken in
     let (counted, taken2) = must-ok (length fields == field_count kind) BadCount _ more taken1 in
     let (room, taken3) = must-ok (nat_lt (taken_before kind draft) (most_records draft.format)) TooMany _ more taken2 in
-    let (plain, (alike, new_names)) = take_kind-alike kind draft more fields names taken3 in
-    let named : field fields 0 ≡ word_of kind =
-    record_kind_of-word draft.format (field fields 0) kind (ok_or-some (record_kind_of draft.format (field fields 0)) BadKind kind is_kind) in
+    let (plain, (alike, new_names)) = take_kind-alike kind other draft more fields names taken3 in
+    let is : record_kind_of draft.format (field fields 0) ≡ Some kind = ok_or-some (record_kind_of draft.format (field fields 0)) BadKind kind is_kind in
+    let named : field fields 0 ≡ word_of kind = record_kind_of-word draft.format (field fields 0) kind is in
     let count : length fields ≡ suc (later_count kind) = eqb-true (length fields) (field_count kind) counted ∙ field_count-later kind in
-    let kind_2 : ok_or (record_kind_of 2 (field fields 0)) BadKind ≡ Ok kind = ap (λ text. ok_or (record_kind_of 2 text) BadKind) named ∙ ap (λ o. ok_or o BadKind) (record_kind_of-word_of kind) in
-    let room_2 : nat_lt (taken_before kind (in_format_2 draft)) (most_records 2) ≡ true =
-    ap (λ n. nat_lt n (most_records 2)) (taken_before-in_format_2 kind draft) ∙ room-in_format_2 (taken_before kind draft) draft.format room in (
+    let kind_too : ok_or (record_kind_of other (field fields 0)) BadKind ≡ Ok kind =
+    ap (λ o. ok_or o BadKind) (record_kind_of-later draft.format other (field fields 0) kind has.later is) in
+    let room_too : nat_lt (taken_before kind (in_format other draft)) (most_records other) ≡ true =
+    ap (λ n. nat_lt n (most_records other)) (taken_before-in_format kind other draft) ∙ room-in_format (taken_before kind draft) draft.format other has room in (
       plain-by_places fields (later_count kind) count (subst IsPlain (sym named) (word_of-plain kind)) plain,
       (
-        bind-as (ok_or (record_kind_of 2 (field fields 0)) BadKind) _ kind _ kind_2
+        bind-as (ok_or (record_kind_of other (field fields 0)) BadKind) _ kind _ kind_too
             (must-as (length fields == field_count kind) BadCount _ _ counted
-            (must-as (nat_lt (taken_before kind (in_format_2 draft)) (most_records 2)) TooMany _ _ room_2 alike)),
+            (must-as (nat_lt (taken_before kind (in_format other draft)) (most_records other)) TooMany _ _ room_too alike)),
         new_names,
       ),
     )

@@ -1,6 +1,7 @@
--- A file in format 2 that says the same.
-use Rattle.std.specs.Prelude.{ℕ, List, [], ◌∷◌, ◌++◌, codes, drop}
+-- A file in the newest format that its records need, which says the same.
+use Rattle.std.specs.Prelude.{ℕ, List, [], ◌∷◌, ◌++◌, bytes_eq, codes, drop, if◌then◌else◌}
 use Rattle.std.specs.List.{flat_map}
+use Rattle.record_fields.specs.Fields.{field}
 use Rattle.record_fields.specs.FileRecords.{file_records_of}
 
 -- fields with commas between them
@@ -13,6 +14,11 @@ joined (field ∷ more ∷ rest) = field ++ (codes "," ++ joined (more ∷ rest)
 abbrev pub record_line : List (List ℕ) → List ℕ
 record_line fields = joined fields ++ codes "\n"
 
--- the header of format 2, and then each later record of the file as a line
+-- the header of these records written again: that of format 3 where they have it, and else that of format 2
+abbrev pub header_line : List (List (List ℕ)) → List ℕ
+header_line [] = codes "ctm,2\n"
+header_line (header ∷ rest) = if bytes_eq (field header 1) (codes "3") then codes "ctm,3\n" else codes "ctm,2\n"
+
+-- that header, and then each later record of the file as a line
 unfoldable pub converted : List ℕ → List ℕ
-converted bytes = codes "ctm,2\n" ++ flat_map record_line (drop 1 (file_records_of bytes))
+converted bytes = header_line (file_records_of bytes) ++ flat_map record_line (drop 1 (file_records_of bytes))

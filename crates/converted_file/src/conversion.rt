@@ -1,6 +1,6 @@
-ghost use Rattle.std.specs.Prelude.{◌≡◌, ◌≤◌, ◌++◌, IfErr, IfOk, codes, drop, length};
+ghost use Rattle.std.specs.Prelude.{◌≡◌, ◌≤◌, ◌++◌, IfErr, IfOk, codes, drop, if◌then◌else◌, length};
 ghost use Rattle.std.specs.List.{flat_map};
-ghost use Rattle.converted_file.specs.Converted.{converted, record_line};
+ghost use Rattle.converted_file.specs.Converted.{converted, header_line, record_line};
 ghost use Rattle.record_fields.specs.FileRecords.{IsReading, records_left};
 ghost use Rattle.network_file.specs.Reading.{network_of};
 ghost use Rattle.network_file.specs.Refused.{IsRefusal};
@@ -12,7 +12,8 @@ use no_memory::NoMemory;
 use record_fields::{FileRecord, next_record, open_records};
 use std::alloc::Global;
 
-/// The text of a file in format 2, of the same network, without comments, blank lines and quotes.
+/// The text of a file of the same network, without comments, blank lines and quotes: in format 3 where the file is, and
+/// else in format 2.
 pub fn convert(alloc: Global, bytes: &[u8]) -> Result<Vec<u8>, NetRefusal>
     requires { length bytes.now ≤ MOST_BYTES }
     ensures text { IfOk result (λ text. text.items ≡ converted bytes.now) }
@@ -23,7 +24,7 @@ pub fn convert(alloc: Global, bytes: &[u8]) -> Result<Vec<u8>, NetRefusal>
     Ok(text_of_records(alloc, bytes)?)
 }
 
-/// The header of format 2, and then the later records of a file as lines.
+/// The header, and then the later records of a file as lines.
 fn text_of_records(alloc: Global, bytes: &[u8]) -> Result<Vec<u8>, NoMemory>
     ensures { IfOk result (λ text. text.items ≡ converted bytes.now) }
 {
@@ -32,29 +33,32 @@ fn text_of_records(alloc: Global, bytes: &[u8]) -> Result<Vec<u8>, NoMemory>
     text_read(alloc, &mut reader, &mut row)
 }
 
-/// The header of format 2, and then the records that a reader has left, without the first, as lines.
+/// The header, by the first of the records that a reader has left, and then the others as lines.
 fn text_read(
     alloc: Global,
     reader: &mut Reader<&[u8]>,
     row: &mut FileRecord,
 ) -> Result<Vec<u8>, NoMemory>
     requires { IsReading reader.old }
-    ensures { IfOk result (λ text. text.items ≡ codes "ctm,2\n" ++ flat_map record_line (drop 1 (records_left reader.old))) }
+    ensures { IfOk result (λ text. text.items ≡ header_line (records_left reader.old) ++ flat_map record_line (drop 1 (records_left reader.old))) }
 {
-    let text = header(alloc)?;
-    if next_record(reader, row)? {
-        with_lines(text, reader, row)
-    } else {
-        Ok(text)
+    if !next_record(reader, row)? {
+        return header(alloc, false);
     }
+    let text = header(alloc, row.field(1) == b"3".as_slice())?;
+    with_lines(text, reader, row)
 }
 
-/// The header of format 2.
-fn header(alloc: Global) -> Result<Vec<u8>, NoMemory>
-    ensures { IfOk result (λ text. text.items ≡ codes "ctm,2\n") }
+/// The header of format 3, or that of format 2.
+fn header(alloc: Global, third: bool) -> Result<Vec<u8>, NoMemory>
+    ensures { IfOk result (λ text. text.items ≡ (if third then codes "ctm,3\n" else codes "ctm,2\n")) }
 {
     let mut text = Vec::new(alloc);
-    text.extend_from_slice(b"ctm,2\n")?;
+    if third {
+        text.extend_from_slice(b"ctm,3\n")?;
+    } else {
+        text.extend_from_slice(b"ctm,2\n")?;
+    }
     Ok(text)
 }
 
@@ -76,7 +80,7 @@ fn with_lines(
 
 /// A text with a record as one more line.
 fn with_line(text: Vec<u8>, row: &FileRecord) -> Result<Vec<u8>, NoMemory>
-    ensures { IfOk result (λ more. more.items ≡ text.items ++ record_line (row.now)) }
+    ensures { IfOk result (λ more. more.items ≡ text.items ++ record_line row.now) }
 {
     let mut text = text;
     for i in 0..row.len() {

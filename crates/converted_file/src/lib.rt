@@ -1,4 +1,5 @@
-//! Writes a network file again in format 2, without comments, blank lines and quotes. The network stays the same.
+//! Writes a network file again without comments, blank lines and quotes, in format 3 where it is in format 3 and else in
+//! format 2. The network stays the same.
 #![tactic(auto)]
 
 mod conversion;

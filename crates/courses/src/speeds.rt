@@ -8,11 +8,7 @@ use signal_plan::Plan;
 use std::alloc::Global;
 
 /// The speed in a cell as a ratio to the road's, at step 0; 1/1 where no speed record speaks.
-pub fn speed_of(
-    alloc: Global,
-    plan: &Plan,
-    cell: u32,
-) -> Result<Timeline<(u32, u32)>, NoMemory>
+pub fn speed_of(alloc: Global, plan: &Plan, cell: u32) -> Result<Timeline<(u32, u32)>, NoMemory>
     requires has_cell { cell < length plan.now.cells }
     ensures speed { IfOk result (λ line. (t : ℕ) → value_at line t ≡ speed_at plan.now cell t) }
     ensures step { IfOk result (λ line. line.step ≡ 0) }

@@ -1,8 +1,8 @@
--- The word of each kind of record: a kind that is named is named by its word, and is one of format 3.
-use Rattle.std.proofs.Common.{ℕ, ◌≡◌, ◌≤◌, ◌&&◌, Bool, true, false, List, Some, cond, refl, ap, subst, ◌∙◌}
+-- The word of each kind of record: a kind that is named is named by its word, and is one of each later format.
+use Rattle.std.proofs.Common.{ℕ, ◌≡◌, ◌≤◌, ◌&&◌, Bool, true, false, List, Some, cond, refl, sym, ap, subst, ◌∙◌, arith}
 use Rattle.std.specs.Prelude.{bytes_eq, codes, nat_le, Option}
 use Rattle.std.specs.Cmp.Lexicographic.{bytes_decides}
-use Rattle.std.proofs.lemmas.Bool.{and_parts, leb-true}
+use Rattle.std.proofs.lemmas.Bool.{and_parts, le-leb, leb-true}
 use Rattle.record_fields.specs.RecordKinds.{record_kind_of}
 use Rattle.record_fields.specs.declared.record_kind.RecordKind.{RecordKind}
 use Rattle.record_fields.specs.declared.record_kind.RecordKind.TheVariants.{Steps, Road, Gate, Exit, Link, Merge, Diverge, Signal, Limit, Demand, Turn, Region, Speed}
@@ -72,19 +72,24 @@ record_kind_of-Speed format text named = by (nat_le 3 format) refl (subst (λ t.
     by true e named = leb-true 3 format e
     by false e named = absurd (cc (rw e at named))
 
--- the word of a kind names it in format 3
-pub record_kind_of-word_of : (kind : RecordKind) → record_kind_of 3 (word_of kind) ≡ Some kind
+-- a later format has each kind that a format has
+pub record_kind_of-later : (format other : ℕ) (text : List ℕ) (kind : RecordKind) → format ≤ other → record_kind_of format text ≡ Some kind →
+    record_kind_of other text ≡ Some kind
 unfolding record_kind_of
-record_kind_of-word_of Steps = refl
-record_kind_of-word_of Road = refl
-record_kind_of-word_of Gate = refl
-record_kind_of-word_of Exit = refl
-record_kind_of-word_of Link = refl
-record_kind_of-word_of Merge = refl
-record_kind_of-word_of Diverge = refl
-record_kind_of-word_of Signal = refl
-record_kind_of-word_of Limit = refl
-record_kind_of-word_of Demand = refl
-record_kind_of-word_of Turn = refl
-record_kind_of-word_of Region = refl
-record_kind_of-word_of Speed = refl
+record_kind_of-later format other text kind later named =
+    subst (λ t. record_kind_of other t ≡ Some kind) (sym (record_kind_of-word format text kind named)) (by kind named)
+  where
+    by : (kind : RecordKind) → record_kind_of format text ≡ Some kind → record_kind_of other (word_of kind) ≡ Some kind
+    by Steps named = refl
+    by Road named = refl
+    by Gate named = refl
+    by Exit named = refl
+    by Link named = refl
+    by Merge named = refl
+    by Diverge named = refl
+    by Signal named = refl
+    by Limit named = refl
+    by Demand named = refl
+    by Turn named = let late : nat_le 2 other ≡ true = le-leb 2 other (omega (arith, later, record_kind_of-Turn format text named)) in rw late refl
+    by Region named = let late : nat_le 2 other ≡ true = le-leb 2 other (omega (arith, later, record_kind_of-Region format text named)) in rw late refl
+    by Speed named = let late : nat_le 3 other ≡ true = le-leb 3 other (omega (arith, later, record_kind_of-Speed format text named)) in rw late refl

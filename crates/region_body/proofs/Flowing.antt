@@ -60,7 +60,7 @@ pub record IsJoin (net : Network) (cells connectors : List ℕ) (p : ℕ) : Type
   pub number : ℕ
   pub there : number < length net.connectors
   pub chained : is_chained net cells (connector_at net.connectors number) ≡ true
-  pub at : IsLinkAt cells p (connector_at net.connectors number)
+  pub at : IsLinkAt net cells p (connector_at net.connectors number)
 
 -- so one of the region's connectors does
 join : (net : Network) (cells connectors : List ℕ) (p : ℕ) → AreAround net cells connectors → is_joined net cells connectors p ≡ true →

@@ -1,5 +1,5 @@
 -- Speeds that are followed forward.
-use Rattle.std.specs.Prelude.{All, Option, Some, None, not, ◌&&◌, slice_index, if◌then◌else◌}
+use Rattle.std.specs.Prelude.{All, Option, Some, None, is_some, not, ◌&&◌, slice_index, if◌then◌else◌}
 use Rattle.std.proofs.Common.{◌≡◌, ℕ, ◌<◌, ◌≤◌, Bool, true, false, List, refl, sym, ap, ◌∙◌, subst, length, arith}
 use Rattle.std.proofs.lemmas.List.Elements.{All-weaker}
 use Rattle.signal_plan.specs.Limits.{most_steps}
@@ -8,8 +8,9 @@ use Rattle.signal_plan.proofs.Laws.{arriving-own, speed_at-none}
 use Rattle.network_file.specs.Network.{IsNetwork, Network}
 use Rattle.flow_model.proofs.CellLimits.{speed_at-sound}
 use Rattle.courses.specs.Courses.{Course, IsSteady, value_at}
+use Rattle.region_body.specs.Flows.{ConnectorValues, flow_at, limited_flow}
 use Rattle.region_body.specs.Limits.{sends_second}
-use Rattle.region_body.specs.Slowing.{AreSpeeds, IsSlowedWith, IsSlowing, IsSlowingAs, SlowingValues, sent_in, slowed, slowed_by}
+use Rattle.region_body.specs.Slowing.{AreSpeeds, AreSpeedsIn, IsSlowedWith, IsSlowing, IsSlowingAs, SlowingValues, sent_in, slowed, slowed_by}
 use Rattle.region_body.specs.declared.rule.Rule.{Rule}
 use Rattle.region_body.specs.declared.rule.Rule.TheVariants.{Linking, Merging, Diverging}
 
@@ -36,10 +37,6 @@ no-slowing net rule cells first second = record {
     by true none t n = none-slowed net (slice_index cells 1) t (slice_index n 1) (none refl)
     by false none t n = refl
 
--- these are the speeds in a cell, where it sends
-abbrev pub AreSpeedsIn : Network → (sends : Bool) → (cell : ℕ) → Course (ℕ × ℕ) → Type 0
-AreSpeedsIn net sends cell course = (t : ℕ) → value_at course t ≡ (if sends then speed_at net.plan cell t else (1, 1))
-
 pub speeds-sound : (net : Network) (sends : Bool) (cell : ℕ) (course : Course (ℕ × ℕ)) → IsNetwork net → AreSpeedsIn net sends cell course → AreSpeeds course
 speeds-sound net true cell course sound are = λ t. subst IsSpeed (sym (are t)) (speed_at-sound net cell t sound)
 speeds-sound net false cell course sound are = λ t. subst IsSpeed (sym (are t)) (record { positive = omega arith; ratio = omega arith; small = omega arith })
@@ -58,3 +55,19 @@ some-slowing net rule cells slowing first second step is = record {
     by : (sends : Bool) (t n : ℕ) → arriving (if sends then speed_at net.plan (slice_index cells 1) t else (1, 1)) n ≡ sent_in net sends t (slice_index cells 1) n
     by true t n = refl
     by false t n = arriving-own n
+
+-- what a connector carries in which nothing is slowed
+pub flow-unslowed : (course : ConnectorValues) (t : ℕ) (n : List ℕ) → course.rule ≡ course.limited.rule → course.slowing ≡ None →
+    flow_at course t n ≡ limited_flow course.limited t n
+unfolding flow_at limited_flow
+flow-unslowed course t n rule none = rw (rule, none) refl
+
+-- and at these speeds
+pub flow-slowed : (course : ConnectorValues) (slowing : SlowingValues) (t : ℕ) (n : List ℕ) → course.rule ≡ course.limited.rule → course.slowing ≡ Some slowing →
+    flow_at course t n ≡ limited_flow course.limited t (slowed (value_at slowing.first t) (value_at slowing.second t) n)
+unfolding flow_at limited_flow
+flow-slowed course slowing t n rule some = rw (rule, some) refl
+
+pub none_of : {X : Type 0} (o : Option X) → is_some o ≡ false → o ≡ None
+none_of None none = refl
+none_of (Some x) none = cc none

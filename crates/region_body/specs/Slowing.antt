@@ -43,6 +43,10 @@ slowed_by (Some slowing) t n = slowed (value_at slowing.first t) (value_at slowi
 abbrev pub sent_in : Network → (sends : Bool) → (t cell n : ℕ) → ℕ
 sent_in net sends t cell n = if sends then arriving (speed_at net.plan cell t) n else n
 
+-- these are the speeds in a cell, where it sends
+abbrev pub AreSpeedsIn : Network → (sends : Bool) → (cell : ℕ) → Course (ℕ × ℕ) → Type 0
+AreSpeedsIn net sends cell course = (t : ℕ) → value_at course t ≡ (if sends then speed_at net.plan cell t else (1, 1))
+
 -- they are the speeds of the cells of a connector with this rule
 pub record IsSlowingAs (net : Network) (rule : Rule) (cells : List ℕ) (slowing : Option SlowingValues) : Type 0 where
   pub first : (t : ℕ) (n : List ℕ) → slice_index (slowed_by slowing t n) 0 ≡ arriving (speed_at net.plan (slice_index cells 0) t) (slice_index n 0)

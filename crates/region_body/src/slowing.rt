@@ -1,13 +1,13 @@
-ghost use Rattle.std.specs.Prelude.{◌≡◌, ◌≤◌, ◌<◌, ℕ, All, IfOk, length};
+ghost use Rattle.std.specs.Prelude.{◌≡◌, ◌≤◌, ◌<◌, ◌&&◌, ℕ, All, IfOk, length};
+ghost use Rattle.signal_plan.specs.Speeds.{has_speeds};
 ghost use Rattle.std.specs.Option.{option_map};
-ghost use Rattle.signal_plan.specs.Speeds.{IsSpeed, arriving};
 ghost use Rattle.courses.specs.Courses.{value_at};
-ghost use Rattle.region_body.specs.Slowing.{AreSpeeds, IsSlowingAs, slowed};
+ghost use Rattle.region_body.specs.Slowing.{AreSpeeds, AreSpeedsIn, IsSlowingAs, slowed};
 
 use crate::limit_courses::sends_second;
 use crate::rule::Rule;
 use courses::{Timeline, speed_of};
-use fixed_flow::share_floor;
+use flow_model::arriving;
 use network_file::Net;
 use no_memory::NoMemory;
 use signal_plan::MOST_STEPS;
@@ -35,6 +35,8 @@ impl Model for Slowing {
 }
 
 impl Slowing {
+    ghost use Rattle.region_body.specs.Slowing.{IsSlowing};
+
     // These speeds, from their step on.
     fn of(first: Timeline<(u32, u32)>, second: Timeline<(u32, u32)>) -> Slowing
         requires first { AreSpeeds first }
@@ -43,6 +45,7 @@ impl Slowing {
         requires in_time { first.step ≤ MOST_STEPS }
         ensures first { result.first ≡ first }
         ensures second { result.second ≡ second }
+        ensures lasts { IsSlowing result }
     {
         let until = first.now().until.min(second.now().until);
         Slowing {
@@ -66,6 +69,7 @@ impl Slowing {
         ensures first { self.new.first ≡ record self.old.first { step = t } }
         ensures second { self.new.second ≡ record self.old.second { step = t } }
         ensures later { t < self.new.until }
+        ensures lasts { IsSlowing self.new }
     {
         self.first.move_to(t);
         self.second.move_to(t);
@@ -85,15 +89,6 @@ impl Slowing {
     }
 }
 
-// Of so many parts those that reach the end of their cell at a speed.
-fn arriving(speed: (u32, u32), n: u64) -> u64
-    requires { IsSpeed speed }
-    ensures { result ≡ arriving speed n }
-{
-    let (num, den) = speed;
-    share_floor(n, u64::from(num), u64::from(den))
-}
-
 /// The speeds of a connector of these cells that carries by this rule, at step 0; none where no cell out of which it leads has
 /// speed records.
 pub(crate) fn slowing_of(
@@ -107,14 +102,39 @@ pub(crate) fn slowing_of(
 {
     let [first, second, _] = cells;
     let sends = sends_second(rule);
-    if !net.plan.has_speeds(first) && !(sends && net.plan.has_speeds(second)) {
+    let second_slowed = is_slowed(net, sends, second);
+    if !net.plan.has_speeds(first) && !second_slowed {
         return Ok(None);
     }
-    let first = speed_of(alloc, &net.plan, first)?;
-    let second = if sends {
-        speed_of(alloc, &net.plan, second)?
-    } else {
-        Timeline::constant(alloc, (1, 1))
-    };
+    let first = speeds_in(alloc, net, true, first)?;
+    let second = speeds_in(alloc, net, sends, second)?;
     Ok(Some(Box::new(alloc, Slowing::of(first, second))?))
+}
+
+// Whether speed records slow what a cell sends.
+fn is_slowed(net: &Net, sends: bool, cell: u32) -> bool
+    requires { cell < length net.now.cells }
+    ensures { result ≡ (sends && has_speeds net.now.plan cell) }
+{
+    let _steps = net.steps;
+    sends && net.plan.has_speeds(cell)
+}
+
+// The speed in a cell that sends; 1/1 in one that receives.
+fn speeds_in(
+    alloc: Global,
+    net: &Net,
+    sends: bool,
+    cell: u32,
+) -> Result<Timeline<(u32, u32)>, NoMemory>
+    requires { cell < length net.now.cells }
+    ensures speeds { IfOk result (AreSpeedsIn net.now sends cell) }
+    ensures step { IfOk result (λ line. line.step ≡ 0) }
+{
+    let _steps = net.steps;
+    if sends {
+        speed_of(alloc, &net.plan, cell)
+    } else {
+        Ok(Timeline::constant(alloc, (1, 1)))
+    }
 }

@@ -32,7 +32,11 @@ use Rattle.saved_run.proofs.Starts.{held_before, shot-has_true_start}
 module _ (net other : Network) (u : ℕ) (agree : AgreeBelow net other u) where
   sending-same : (t i n : ℕ) → t < u → sending_at other t i n ≡ sending_at net t i n
   unfolding sending_at
-  sending-same t i n below = let capacity = agree.capacities i t below in let light = agree.lights i t below in rw (capacity, light) refl
+  sending-same t i n below =
+      let capacity = agree.capacities i t below in
+      let light = agree.lights i t below in
+      let speed = agree.speeds i t below in
+      rw (capacity, light, speed) refl
 
   receiving-same : (t i n : ℕ) → t < u → receiving_at other t i n ≡ receiving_at net t i n
   unfolding receiving_at

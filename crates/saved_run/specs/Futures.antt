@@ -3,6 +3,7 @@ use Rattle.std.specs.Prelude.{◌≡◌, ℕ, ◌+◌, ◌<◌, ◌≤◌, All, 
 use Rattle.signal_plan.specs.Capacity.{capacity_at}
 use Rattle.signal_plan.specs.Demand.{demand_at}
 use Rattle.signal_plan.specs.Green.{green_at}
+use Rattle.signal_plan.specs.Speeds.{speed_at}
 use Rattle.signal_plan.specs.Turning.{shares_at}
 use Rattle.network_file.specs.Network.{IsNetwork, Network}
 use Rattle.network_file.specs.Reading.{network_of}
@@ -12,12 +13,13 @@ use Rattle.region_step.specs.Start.{StartLists, start_of}
 use Rattle.saved_run.specs.Content.{Content}
 use Rattle.saved_run.specs.Loading.{cutting_in, start_in}
 
--- they have the same cells and connectors, and the same capacities, lights, demands and shares at all steps below u
+-- they have the same cells and connectors, and the same capacities, lights, speeds, demands and shares at all steps below u
 pub record AgreeBelow (net other : Network) (u : ℕ) : Type 0 where
   pub cells : other.cells ≡ net.cells
   pub connectors : other.connectors ≡ net.connectors
   pub capacities : (i t : ℕ) → t < u → capacity_at other.plan i t ≡ capacity_at net.plan i t
   pub lights : (i t : ℕ) → t < u → green_at other.plan i t ≡ green_at net.plan i t
+  pub speeds : (i t : ℕ) → t < u → speed_at other.plan i t ≡ speed_at net.plan i t
   pub demands : (i t : ℕ) → t < u → demand_at other.plan i t ≡ demand_at net.plan i t
   pub shares : (i t : ℕ) (own : ℕ × ℕ) → t < u → shares_at other.plan i t own ≡ shares_at net.plan i t own
 

@@ -60,6 +60,7 @@ speed_at-none plan cell t none = by (records_at plan cell).speeds (eqb-true (len
     is_zero : (b : Bool) → not b ≡ false → b ≡ true
     is_zero true e = refl
     is_zero false e = cc e
+
     by : (speeds : List SpeedRecord) → length speeds ≡ 0 → ◌≡◌ {A = ℕ × ℕ} (option_map_or (λ speed. (speed.num, speed.den)) (last_speed speeds t) (1, 1)) (1, 1)
     by [] e = refl
     by (speed ∷ speeds) e = absurd (omega (arith, e))

@@ -1,9 +1,9 @@
-ghost use Rattle.std.specs.Prelude.{◌≡◌, ◌≤◌, ◌++◌, ◌==◌, [], codes, if◌then◌else◌, length, IfErr, IfOk, None, OnOk};
-ghost use Rattle.signal_plan.specs.Counts.{turn_count};
+ghost use Rattle.std.specs.Prelude.{◌≡◌, ◌≤◌, ◌++◌, [], if◌then◌else◌, length, nat_le, IfErr, IfOk, None, OnOk};
+ghost use Rattle.signal_plan.specs.Counts.{speed_count, turn_count};
 ghost use Rattle.network_file.specs.declared.limits.TheConstants.{MOST_BYTES};
 ghost use Rattle.line_fields.specs.Fields.{count_field};
 ghost use Rattle.call_ending.specs.Refusing.{IsRefusalOf};
-ghost use Rattle.workerless_call.specs.CheckMode.{IsCheckText, check_refused, counts_line};
+ghost use Rattle.workerless_call.specs.CheckMode.{IsCheckText, check_refused, counts_line, format_word};
 
 use crate::network_input::network_in;
 use call_ending::Refusal;
@@ -39,28 +39,41 @@ fn counts(alloc: Global, net: &Net) -> Result<Vec<u8>, NoMemory>
     put_count(&mut text, planned.limits as u64)?;
     put_count(&mut text, planned.demands as u64)?;
     put_turns(&mut text, net)?;
+    put_speeds(&mut text, net)?;
     text.extend_from_slice(b"\n")?;
     Ok(text)
 }
 
 // The first word of the line, by the format.
 fn put_name(text: &mut Vec<u8>, net: &Net) -> Result<(), NoMemory>
-    ensures { OnOk result (text.new.items ≡ text.old.items ++ (if net.now.format == 2 then codes "network2" else codes "network")) }
+    ensures { OnOk result (text.new.items ≡ text.old.items ++ format_word net.now.format) }
 {
-    if net.format == 2 {
+    if net.format == 1 {
+        text.extend_from_slice(b"network")?;
+    } else if net.format == 2 {
         text.extend_from_slice(b"network2")?;
     } else {
-        text.extend_from_slice(b"network")?;
+        text.extend_from_slice(b"network3")?;
     }
     Ok(())
 }
 
-// The number of turns, which format 2 has.
+// The number of turns, which format 1 hasn't.
 fn put_turns(text: &mut Vec<u8>, net: &Net) -> Result<(), NoMemory>
-    ensures { OnOk result (text.new.items ≡ text.old.items ++ (if net.now.format == 2 then count_field (turn_count net.now.plan) else [])) }
+    ensures { OnOk result (text.new.items ≡ text.old.items ++ (if nat_le 2 net.now.format then count_field (turn_count net.now.plan) else [])) }
 {
-    if net.format == 2 {
+    if net.format >= 2 {
         put_count(text, net.plan.counts().turns as u64)?;
+    }
+    Ok(())
+}
+
+// The number of speeds, which format 3 has.
+fn put_speeds(text: &mut Vec<u8>, net: &Net) -> Result<(), NoMemory>
+    ensures { OnOk result (text.new.items ≡ text.old.items ++ (if nat_le 3 net.now.format then count_field (speed_count net.now.plan) else [])) }
+{
+    if net.format >= 3 {
+        put_count(text, net.plan.counts().speeds as u64)?;
     }
     Ok(())
 }

@@ -89,7 +89,7 @@ def exits_ahead(legs: Legs, exits: Sequence[str]) -> Numbers:
     back = legs.graph.reverse(copy=False)
     targets = {(END, name) for name in exits} & set(back)
     found = networkx.multi_source_dijkstra_path_length(back, targets, weight="steps") if targets else {}
-    return numpy.array([found.get(number, numpy.inf) for number in range(len(legs.legs))])
+    return numpy.array([float(found.get(number, numpy.inf)) for number in range(len(legs.legs))])
 
 
 def parts_of(fork: Fork, counts: Numbers, ahead: Numbers) -> Numbers:

@@ -8,13 +8,16 @@ from __future__ import annotations
 
 from collections.abc import Sequence
 from dataclasses import dataclass, field
+from fractions import Fraction
 from functools import cached_property
 from itertools import islice
 
 import networkx
+import numpy
 
 from ..network_file.network import Network
 
+FINEST = 1_000_000  # of the steps of a cell with a speed limit
 END = "end"  # before the name of an exit among the nodes of the graph
 
 
@@ -97,9 +100,16 @@ class Legs:
         diverges = set(self.diverges)
         return self.gates[cells[0]], *(self.of_start[down] for up, down in zip(cells, cells[1:]) if up in diverges)
 
-    def steps(self, leg: int) -> int:
-        """The steps that a leg takes at free flow, one for each cell."""
-        return sum(len(self.chains[chain]) for chain in self.legs[leg].chains)
+    def steps(self, leg: int) -> Fraction:
+        """The steps that a leg takes at free flow: one for each cell, or more by the mean of its speed limits over the run."""
+        cells = [cell for chain in self.legs[leg].chains for cell in self.chains[chain]]
+        return sum((self._slow[cell] for cell in cells if cell in self._slow), Fraction(sum(cell not in self._slow for cell in cells)))
+
+    @cached_property
+    def _slow(self) -> dict[str, Fraction]:
+        """The steps at free flow of each cell that has a speed limit at some time, exact enough that ways alike stay alike."""
+        run = numpy.array([0.0, self.network.steps])
+        return {cell: Fraction(1 / pace.mean(run)[0]).limit_denominator(FINEST) for cell, pace in self.network.paces.items()}
 
     @cached_property
     def graph(self) -> networkx.DiGraph:
@@ -109,7 +119,7 @@ class Legs:
         for number, leg in enumerate(self.legs):
             if leg.end is not None:
                 behind = leg.follows or ((END, leg.end),)
-                graph.add_edges_from(((number, node) for node in behind), steps=max(1, self.steps(number)))
+                graph.add_edges_from(((number, node) for node in behind), steps=max(Fraction(1), self.steps(number)))
         return graph
 
     def free_ways(self, source: str, into: str, most: int) -> list[Way]:

@@ -1,4 +1,4 @@
-"""When who enters a leg leaves it: at free flow, or by the cumulative curves of a run.
+"""When who enters a leg leaves it: at free flow, by the speed limits in force, or by the cumulative curves of a run.
 
 A chain is left in the order in which it was entered: who enters it as the N-th leaves it when N have left. So two curves
 tell all of it, that of who comes to its first cell, behind those who stand in the chain at the start, and that of who leaves
@@ -79,6 +79,7 @@ class Passings:
         self.begins = numpy.cumsum([0, *self.lengths[:-1]])  # of the chains among these
         closed = {number: list(self._closed(chain)) for number, chain in enumerate(legs.chains)}
         self.closed = {number: own for number, own in closed.items() if own}
+        self.slow = {number for number, chain in enumerate(legs.chains) if not legs.network.paces.keys().isdisjoint(chain)}
 
     def _closed(self, chain: Iterable[str]) -> Iterable[tuple[int, int, int]]:
         """For a chain's cells that let nobody through for some time: the place in it, and the steps from and to."""
@@ -104,17 +105,23 @@ class Passings:
         return Passing(self.legs, grid, numpy.maximum(left, self._soonest(grid)))
 
     def _soonest(self, entered: Numbers) -> Numbers:
-        """When who enters each chain leaves it at the soonest: a step in each cell, and the wait at closed ones."""
+        """When who enters each chain leaves it at the soonest: at free flow, but for the wait at closed cells."""
         left = entered + self.lengths[:, None]
-        for chain, closed in self.closed.items():
+        for chain in self.closed.keys() | self.slow:
             moments, place = entered, 0
-            for cell, begin, end in closed:
-                moments = moments + (cell - place)
+            for cell, begin, end in self.closed.get(chain, ()):
+                moments = self._freely(chain, place, cell, moments)
                 moments = numpy.where((moments - 1 >= begin) & (moments - 1 < end), end + 1, moments)
                 moments = numpy.where((moments >= begin) & (moments < end), end, moments)
                 place = cell
-            left[chain] = moments + (self.lengths[chain] - place)
+            left[chain] = self._freely(chain, place, self.lengths[chain], moments)
         return left
+
+    def _freely(self, chain: int, first: int, last: int, moments: Numbers) -> Numbers:
+        """When who comes to a place in a chain at some moments comes to a later one at free flow."""
+        if chain not in self.slow:
+            return moments + (last - first)
+        return self.legs.network.left_freely(self.legs.chains[chain][first:last], moments)
 
 
 def _finer(recorded: Numbers) -> Numbers:

@@ -34,7 +34,7 @@ class SharedNetwork:
                 lines[number] = ",".join([*lines[number].split(",")[:4], *map(str, pairs[0])])
                 turns += [f"turn,{cell},{begin},{end},{pair[0]},{pair[1]}" for begin, end, pair in spans(pairs, bounds)
                           if pair != pairs[0]]
-        if turns:
+        if turns and lines[self.header] == "ctm,1":
             lines[self.header] = "ctm,2"
         return ("\n".join([*lines[:-1], *turns]) + "\n").encode()
 

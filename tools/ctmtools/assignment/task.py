@@ -69,7 +69,7 @@ def assigned_frame(source: str | Path, output: str | Path | None, earlier: str |
                       step_of(after, study), gap, iterations)
     places = None if output is None else Places(Path(output))
     if places:
-        places.guard(Path(source), named=True)
+        places.guard(Path(source), Path(earlier) if earlier else None, named=True)
     assignment = begun(task)
     *_, last = assignment.rounds(gap, iterations)
     if places:

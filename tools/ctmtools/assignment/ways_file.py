@@ -23,6 +23,7 @@ from .legs import Legs, Way
 COLUMNS = ("from", "to", "start", "way", "vehicles", "minutes", "roads")
 THEN = " > "  # between two roads
 LEAST = 5e-7  # vehicles; fewer aren't written
+MOST = 1e300  # vehicles and minutes are below
 
 Numbers = numpy.ndarray
 
@@ -85,17 +86,21 @@ def read_ways(path: Path) -> list[WayRow]:
 
 def rows_in(content: bytes, path: Path) -> list[WayRow]:
     """The rows in the bytes of a file."""
-    reader = csv.DictReader(content.decode("utf-8", "replace").splitlines())
-    if tuple(reader.fieldnames or ()) != COLUMNS:
-        raise Problem(f"{path}: expected the columns {','.join(COLUMNS)}; `ctm-tools assign` writes such a file")
-    rows = []
-    for row in reader:
-        try:
-            rows.append(WayRow(row["from"], row["to"], row["start"], int(row["way"]), float(row["vehicles"]),
-                               float(row["minutes"]), tuple(row["roads"].split(THEN)) if row["roads"] else ()))
-        except (TypeError, ValueError):
-            raise Problem(f"{path}: line {reader.line_num} isn't one that `ctm-tools assign` writes") from None
-    return rows
+    reader = csv.reader(content.decode("utf-8", "replace").splitlines())
+    try:
+        if tuple(next(reader, ())) != COLUMNS:
+            raise Problem(f"{path}: expected the columns {','.join(COLUMNS)}; `ctm-tools assign` writes such a file")
+        return [_row(*row) for row in reader if row]
+    except (IndexError, TypeError, ValueError, csv.Error):
+        raise Problem(f"{path}: line {reader.line_num} isn't one that `ctm-tools assign` writes") from None
+
+
+def _row(source: str, into: str, start: str, way: str, vehicles: str, minutes: str, roads: str) -> WayRow:
+    """The row of a line's fields, or a ValueError."""
+    row = WayRow(source, into, start, int(way), float(vehicles), float(minutes), tuple(roads.split(THEN)) if roads else ())
+    if not (0 <= row.vehicles < MOST and 0 <= row.minutes < MOST and row.seconds >= 0):
+        raise ValueError(row)
+    return row
 
 
 def ways_path(report: Path) -> Path:

@@ -7,7 +7,7 @@ from dataclasses import dataclass
 from pathlib import Path
 from typing import Any
 
-from ..files import guard_network, guard_report, write, write_units
+from ..files import guard_folder, guard_network, guard_report, write, write_units
 from ..plans.searching import moved_to
 from ..problem import Problem
 from ..report.reading import Report
@@ -41,12 +41,17 @@ class Places:
         """The pictures of the gap and of the ways."""
         return self.study.with_suffix(".gap.png"), self.study.with_suffix(".ways.png")
 
-    def guard(self, source: Path, named: bool) -> None:
-        """Refuses to write over the study that is assigned, or over what these tools haven't made, but for a report that is named."""
+    def guard(self, source: Path, earlier: Path | None, named: bool) -> None:
+        """Refuses to write over the study that is assigned or the earlier one, or over what these tools haven't made.
+
+        A report that is named may be any.
+        """
         if self.study.suffix != ".toml":
             raise Problem(f"{self.study}: a study's name ends with .toml")
-        if self.study.resolve() == source.resolve():
-            raise Problem(f"{self.study}: is the study that is assigned; name another file with -o")
+        guard_folder(self.study)
+        for study, what in ((source, "is the study that is assigned"), (earlier, "is the assignment whose ways the drivers have")):
+            if study is not None and self.study.resolve() == study.resolve():
+                raise Problem(f"{self.study}: {what}; name another file with -o")
         guard_network(self.report.with_suffix(".csv"))
         if not named:
             guard_report(self.report)

@@ -4,7 +4,6 @@ from __future__ import annotations
 
 from collections.abc import Iterator, Sequence
 from contextlib import closing
-from fractions import Fraction
 from pathlib import Path
 from typing import Any
 
@@ -16,11 +15,13 @@ from ..assignment.diversion import ways_of_study
 from ..assignment.task import MEASURES, AssignTask, begun, measure_assigned, measures, step_of
 from ..assignment.messages import not_settled, pair_lines, rounded_lines, settled_lines
 from ..assignment.writing import drawn, places_of, written
-from ..files import write
+from ..files import guard_folder, write
+from ..network_file.network import read_bytes
 from ..problem import Problem
 from ..program import program_path
 from ..report.summary import number_text
 from ..running import processors
+from ..study.quantities import exact
 from ..study.reading import read_values, study_of
 from ..study.messages import built_lines as told_of_study
 from ..study.trips import part_of_drivers
@@ -28,6 +29,8 @@ from ..sweeps.workers import beside, cluster, here
 from ..progress import bar
 from ..text_table import table
 from .finite import Finite
+
+COLUMNS = ("informed", *MEASURES, "error")  # of the table of several shares
 
 EPILOG = """\b
 Examples:
@@ -68,8 +71,10 @@ def command(source: str, earlier: str | None, informed: str | None, after: str |
     if len(tasks) > 1:
         _tell_table(tasks, _done(tasks, jobs, address), output)
         return
+    if address is not None:
+        raise click.UsageError("--dask: a cluster makes several assignments, as for --informed 0,0.3,1; this is one")
     places = places_of(source, output)
-    places.guard(Path(source), output is not None)
+    places.guard(Path(source), Path(earlier) if earlier else None, output is not None)
     assignment = begun(tasks[0], workers)
     for line in told_of_study(assignment.shared.built):
         click.echo(line)
@@ -89,8 +94,8 @@ def _parts(text: str | None) -> list[float | None]:
     found: list[float | None] = []
     for one in text.split(","):
         try:
-            value: Any = Fraction(one.strip())
-        except (ValueError, ZeroDivisionError):
+            value: Any = exact(one.strip())
+        except ValueError:
             value = one
         found.append(float(part_of_drivers(value, "--informed")))
     return found
@@ -134,10 +139,19 @@ def _done(tasks: Sequence[AssignTask], jobs: int | None, address: str | None) ->
             yield one
 
 
+def _guard_table(path: Path) -> None:
+    """Refuses a place for the table where it is no CSV file, or one that isn't such a table."""
+    if path.suffix != ".csv":
+        raise Problem(f"{path}: the table of several shares is a CSV file, whose name ends with .csv")
+    guard_folder(path)
+    if path.exists() and not read_bytes(path).startswith(",".join(COLUMNS).encode() + b"\n"):
+        raise Problem(f"{path}: stands there and isn't a table of several shares; name another file with -o")
+
+
 def _tell_table(tasks: Sequence[AssignTask], done: Iterator[tuple[int, dict[str, Any]]], output: str | None) -> None:
     """Tells a row for each share of informed drivers."""
-    if output is not None and Path(output).suffix != ".csv":
-        raise Problem(f"{output}: the table of several shares is a CSV file, whose name ends with .csv")
+    if output is not None:
+        _guard_table(Path(output))
     found = dict(done)
     frame = pandas.DataFrame([{"informed": tasks[i].informed, **found[i]} for i in sorted(found)])
     lines: list[tuple[str, ...]] = [("informed", "rounds", "gap", "delay (vehicle-hours)", "all time (vehicle-hours)",

@@ -10,6 +10,7 @@ import pandas
 from ..assignment.comparing import pair_changes
 from ..files import write
 from ..report.comparing import compare, part_of, totals, travel
+from ..report.names import names_of
 from ..report.summary import number_text
 from ..report.reading import read_report
 from ..report.comparability import mismatches, other_lanes_and_speeds
@@ -49,7 +50,8 @@ def command(first: str, second: str, rows: int, output: str | None, picture: str
     one, two = read_report(first, units, network), read_report(second, units, network)
     frame, sums = compare(one, two), totals(one, two, value_of_time)
     unit = frame.attrs["units"]["delay"]
-    click.echo(f"A  {one.title} ({first})\nB  {two.title} ({second})")
+    for letter, name, path in zip("AB", names_of((one, two)), (first, second)):
+        click.echo(f"{letter}  {name}" + (f" ({path})" if name != path else ""))
     for line in mismatches(one, two):
         click.echo(f"warning: {line}")
     for line in other_lanes_and_speeds(one, two):

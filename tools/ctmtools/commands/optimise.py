@@ -13,7 +13,7 @@ from ..plans.timing import Point
 from ..problem import Interrupted, Problem
 from ..report.comparing import LEAST_WHOLE
 from ..report.summary import kilometre, number_text
-from ..study.quantities import duration
+from ..study.quantities import duration, exact
 from ..study.reading import read_values
 from ..sweeps.task import Task, measure
 from ..progress import bar
@@ -61,8 +61,8 @@ def command(source: str, signals: bool, generations: int, population: int, seed:
 
 def _least(text: str) -> Fraction:
     try:
-        value: Any = Fraction(text)
-    except (ValueError, ZeroDivisionError):
+        value: Any = exact(text)
+    except ValueError:
         value = text
     return duration(value, "--least-green")
 

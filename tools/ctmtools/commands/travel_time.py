@@ -83,8 +83,15 @@ def told_times(report: Report, cells: list[str], frame: pandas.DataFrame) -> lis
     for row in frame.itertuples():
         clock = report.units.clock(row.step) if report.units.known else f"{row.step:g}"
         rows.append((clock, number_text(row.vehicles), *map(_figure, (row.mean, row.least, row.most, row.speed))))
-    free = f"{number_text(frame['free'].iloc[0])} {unit} at free flow, {len(cells)} steps"
-    return [f"{head}, {free}", "", *table(rows, right=range(1, 6))] + _late(frame)
+    return [f"{head}, {_free(report, cells, frame)}", "", *table(rows, right=range(1, 6))] + _late(frame)
+
+
+def _free(report: Report, cells: list[str], frame: pandas.DataFrame) -> str:
+    """The travel time at free flow; where speed limits hold it may be another in each row."""
+    unit, bounds = frame.attrs["units"]["mean"], [number_text(bound) for bound in (frame["free"].min(), frame["free"].max())]
+    if report.network is None or not any(cell in report.network.paces for cell in cells):
+        return f"{bounds[0]} {unit} at free flow, {len(cells)} steps"
+    return f"{' to '.join(dict.fromkeys(bounds))} {unit} at free flow by the speed limits in force, {len(cells)} cells"
 
 
 def _figure(value: float) -> str:

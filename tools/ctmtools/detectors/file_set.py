@@ -4,6 +4,7 @@ from __future__ import annotations
 
 import datetime
 import glob
+import os
 import re
 from collections.abc import Iterable, Sequence
 from dataclasses import replace
@@ -29,9 +30,9 @@ def paths_of(names: str | Path | Iterable[str | Path]) -> list[Path]:
     found: list[Path] = []
     for name in [names] if isinstance(names, (str, Path)) else names:
         path = Path(name)
-        if path.is_dir():
+        if os.path.isdir(path):
             inside = sorted(one for one in path.iterdir() if one.is_file() and not one.name.startswith("."))
-        elif not path.exists() and re.search(r"[*?\[]", str(name)):
+        elif not os.path.exists(path) and re.search(r"[*?\[]", str(name)):
             inside = [Path(one) for one in sorted(glob.glob(str(name)))]
         else:
             inside = [path]

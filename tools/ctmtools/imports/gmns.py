@@ -12,7 +12,8 @@ from ..problem import Problem
 from ..study.quantities import MILE
 from .gmns_places import Places
 from .gmns_tables import ZONAL, Row, once, read_table
-from .streets import ALL_STOP, BY_TIME, GIVE_WAY, STOP, Movement, Program, Said, Span, Street, Streets, Way, grouped
+from .speed_limits import DAY
+from .streets import ALL_STOP, GIVE_WAY, STOP, Movement, Program, Said, Span, SpeedSpan, Street, Streets, Way, grouped
 from .sumo import always, joined
 from .turning import meet, turn_of
 
@@ -22,6 +23,8 @@ KILOMETRES = {"km": 1.0, "kilometer": 1.0, "kilometers": 1.0, "kilometre": 1.0, 
 SPEEDS = {"kph": 1.0, "km/h": 1.0, "kmh": 1.0, "mph": float(MILE), "m/s": 3.6}
 CARS = re.compile(r"(?i)auto|car|all|motor|^\s*$|vehicle")
 CONTROLS = {"": "", "no_control": "", "signal": "", "yield": GIVE_WAY, "stop": STOP, "stop_2_way": STOP, "stop_4_way": ALL_STOP}
+# The days of the week from Sunday on, and perhaps holidays; from when to when.
+TIME_DAY = re.compile(r"(?P<days>[01]{7,8})_(?P<h1>\d\d)(?P<m1>\d\d)_(?P<h2>\d\d)(?P<m2>\d\d)")
 USUAL = 50.0  # km/h, of a link that doesn't say its speed
 BACK = "_back"  # behind the name of the street against the direction of a link that isn't directed
 MOVED = ("mvmt_id", "ib_link_id", "ob_link_id")
@@ -266,19 +269,33 @@ class Reader:
             self.found.said.append(Said("all", start, end, vehicles, vehicles * kept))
 
     def by_time(self) -> None:
-        """Notes what the tables of links by time of day say, which isn't kept."""
+        """The speeds of links by time of a working day; notes what else the tables of links by time of day say, which isn't kept."""
         known = {"", *self.found.streets}
         for name in ("link_tod", "segment_tod"):
             rows = [row for row in read_table(self.folder, name) if row.text("link_id") in known]
             limits = [row for row in rows if row.text("free_speed")]
-            if limits:
-                links = dict.fromkeys(row.text("link_id") for row in limits if row.text("link_id"))
+            left = [row for row in limits if name != "link_tod" or not self._limit(row)]
+            if left:
+                links = dict.fromkeys(row.text("link_id") for row in left if row.text("link_id"))
                 where = f" at links {first_few(links)}" if links else ""
-                self.found.notes.append(f"{BY_TIME}: {len(limits)} of {name}.csv{where} are left out")
+                self.found.notes.append(f"{name}.csv: {len(left)} speeds by time{where} are left out; of links those are kept that hold "
+                                        "from Monday to Friday and are below the link's own")
             for column in ("lanes", "capacity"):
                 count = sum(bool(row.text(column)) for row in rows)
                 if count:
                     self.found.notes.append(f"{name}.csv: {count} rows with {column} by time are left out")
+
+    def _limit(self, row: Row) -> bool:
+        """Puts a speed by time among the speed limits, where it holds on working days and is below the link's own."""
+        times = TIME_DAY.fullmatch(row.text("time_day"))
+        speed = row.number("free_speed", least=0.0) * self.speed
+        streets = [self.found.streets[name] for name in (row.text("link_id"), row.text("link_id") + BACK) if name in self.found.streets]
+        if not times or times["days"][1:6] != "11111" or not streets or not 0 < speed < streets[0].speed:
+            return False
+        begin, end = (3600 * int(times[hour]) + 60 * int(times[minute]) for hour, minute in (("h1", "m1"), ("h2", "m2")))
+        end += DAY if end <= begin else 0
+        self.found.limits += [SpeedSpan(street.name, begin, end, speed, by_clock=True) for street in streets]
+        return True
 
 
 def _unit(config: Row, column: str, units: dict[str, float]) -> float | None:

@@ -12,7 +12,6 @@ import networkx
 Movement = tuple[str, str]  # a street and the one that it leads into
 Span = tuple[float, float]  # from and to, in seconds
 CARS = frozenset({"passenger"})  # the classes of vehicles that may use a street or a movement, where no others are known
-BY_TIME = "speed limits by time are out of the model's reach, since a cell is as long as the way of a step at free flow"
 
 
 @dataclass
@@ -21,6 +20,7 @@ class Street:
 
     These are in km, or in the coordinate system of the network. `capacity` is that of all lanes in vehicles/h, where it
     is known; `classes` are those of the vehicles that may use it; `title` is what it is called on the map, where it is.
+    `by_lane` has the speed of each lane that counts, where the lanes are known.
     """
 
     name: str
@@ -33,6 +33,7 @@ class Street:
     capacity: float | None = None
     classes: frozenset[str] = CARS
     title: str = ""
+    by_lane: dict[str, float] = field(default_factory=dict)
 
     @property
     def seconds(self) -> float:
@@ -102,6 +103,17 @@ class Trip:
 
 
 @dataclass(frozen=True)
+class SpeedSpan:
+    """A speed limit of a street in km/h between two times in s: of the network, or `by_clock` after midnight of each day."""
+
+    street: str
+    begin: float
+    end: float
+    speed: float
+    by_clock: bool = False
+
+
+@dataclass(frozen=True)
 class Said:
     """Vehicles that a file says: their class, from when to when in s they come, and how many of them are kept.
 
@@ -133,6 +145,7 @@ class Streets:
     gates: dict[str, list[tuple[float, float, float]]] = field(default_factory=dict)  # from, to, vehicles/h, with them
     said: list[Said] = field(default_factory=list)
     crs: str | None = None
+    limits: list[SpeedSpan] = field(default_factory=list)
 
 
 Item = TypeVar("Item")

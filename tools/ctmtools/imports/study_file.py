@@ -18,6 +18,7 @@ from ..study.writing import quoted
 from .giving_way import GivingWay
 from .greens import Following, kept_green, stages, stages_of
 from .road_names import LONGEST_NAME, apart, heading, short_name
+from .speed_limits import limits_on
 from .streets import Movement, Program, Stage, Street, Streets, Way, grouped
 from .traffic import EXIT, GATE, Traffic
 
@@ -106,6 +107,24 @@ class Writer:
         yield from self._ends()
         for comes, leaves in self.joints:
             yield from self._node(comes, leaves)
+        yield from self._speed_limits()
+
+    def _speed_limits(self) -> Iterator[str]:
+        """The speed limits by time of the roads."""
+        limits, terms = grouped(self.found.limits, lambda limit: limit.street), self.terms
+        for chain in self.chains:
+            streets = [self.found.streets[street] for street in chain]
+            for limit in limits_on(streets, limits, float(clock(terms.start, "start")), terms.duration, terms.step):
+                yield "[[speed_limits]]"
+                yield f"road = {quoted(self.names[chain[0]])}"
+                if limit.start_km:
+                    yield f"from = {limit.start_km:.6g}"
+                if limit.end_km is not None:
+                    yield f"to = {limit.end_km:.6g}"
+                yield f"start = {self._time(limit.begin)}"
+                yield f"end = {self._time(limit.end)}"
+                yield f"speed = {limit.speed:.6g}  # km/h"
+                yield ""
 
     def _joints(self) -> list[tuple[list[str], list[str]]]:
         """What comes and what leaves where movements meet or part, in the order of the network."""

@@ -56,7 +56,8 @@ def _edges(net: Net, found: Streets) -> None:
         speed = sum(lane.speed for lane in lanes) / len(lanes)
         found.streets[edge.name] = Street(edge.name, edge.start, edge.end, max(length, 0.1) / 1000, len(lanes),
                                           max(speed, 0.1) * 3.6, [(x / 1000, y / 1000) for x, y in edge.shape],
-                                          classes=frozenset().union(*(lane.classes for lane in edge.lanes)))
+                                          classes=frozenset().union(*(lane.classes for lane in edge.lanes)),
+                                          by_lane={f"{edge.name}_{lane.index}": max(lane.speed, 0.1) * 3.6 for lane in lanes})
     if left:
         found.notes.append(f"{left} edges that cars may not use are left out")
 

@@ -6,13 +6,13 @@ from collections import Counter
 from collections.abc import Iterator, Sequence
 from pathlib import Path
 
-from ..first_few import first_few
 from ..problem import Problem
-from .streets import BY_TIME, Said, Streets, Trip
+from .streets import Said, Streets, Trip
 from .sumo_departures import Departing, Stretch
 from .sumo_kinds import Kinds, parts_of
 from .sumo_net import MOTOR, Element, read_xml
 from .sumo_routes import ANY_STREET, Routes, Weighted
+from .sumo_signs import read_signs
 
 ROOTS = ("routes", "additional", "add", "trips", "flows")
 VEHICLES = ("vehicle", "trip", "flow")
@@ -20,7 +20,7 @@ CHANGING = ("calibrator", "rerouter", "tlLogic", "WAUT", "taz", "person", "perso
 
 
 def read_trips(found: Streets, routes: Sequence[str | Path], additional: Sequence[str | Path], until: float) -> None:
-    """Puts the trips of files, until a time, among those of the streets.
+    """Puts the trips of files, until a time, among those of the streets, and their variable speed signs among the speed limits.
 
     What the additional files have is read first, as by SUMO.
     """
@@ -41,7 +41,7 @@ def read_trips(found: Streets, routes: Sequence[str | Path], additional: Sequenc
     reader.tell()
     _note_changing(found, roots)
     _note_lengths(found, reader.kinds)
-    note_signs(found, [element for _, element in roots])
+    read_signs(found, roots)
 
 
 def elements(path: str | Path, around: tuple[Path, ...] = ()) -> Iterator[Element]:
@@ -54,17 +54,6 @@ def elements(path: str | Path, around: tuple[Path, ...] = ()) -> Iterator[Elemen
             yield from elements(inner, (*around, Path(path).resolve()))
         else:
             yield element
-
-
-def note_signs(found: Streets, roots: Sequence[Element]) -> None:
-    """Notes the speed limits by time, which a study can't have: the streets have one speed at all times."""
-    signs = [element for element in roots if element.tag == "variableSpeedSign"]
-    lanes = {lane for sign in signs for lane in [*sign.get("lanes", "").split(), *sign.get("edges", "").split()]}
-    streets = sorted({street for lane in lanes for street in (lane, lane.rpartition("_")[0]) if street in found.streets})
-    if signs:
-        where = f"; {first_few(streets)} {'keep their speeds' if len(streets) > 1 else 'keeps its speed'} at all times" \
-            if streets else ""
-        found.notes.append(f"{BY_TIME}: {len(signs)} variable speed signs are left out{where}")
 
 
 def _note_changing(found: Streets, roots: Sequence[tuple[str, Element]]) -> None:

@@ -2,7 +2,7 @@
 
 When a phase begins its green is set by what waits and comes: with `n` who wait, `q` who come and `s` who pass it lasts
 `n/(s - q)`, until those who waited are gone, and a gap longer, between a least and a most. `n` are the vehicles on an approach
-beyond those that drive there at free flow where `q` come. Its reds are limits of 0 in the network that comes out.
+beyond those that drive there at free flow, or at the speed limits in force, where `q` come. Its reds are limits of 0 in the network that comes out.
 
 With a file what was reached is kept there every few seconds and at an interrupt, and is taken up again.
 """
@@ -15,6 +15,8 @@ from fractions import Fraction
 from math import ceil
 from pathlib import Path
 from time import monotonic
+
+import numpy
 
 from ..amounts import PARTS
 from ..files import write
@@ -187,7 +189,9 @@ class ActuatedSignals:
         before, had_come = self.seen.get(cells[-1], (0, 0))
         self.seen[cells[-1]] = now, come
         coming = (come - had_come) / PARTS / (now - before) if now > before else 0.0
-        waiting = sum(row.n for row in rows) / PARTS - coming * len(cells)
+        paces, moment = self.network.paces, numpy.array([now, now + 1.0])
+        steps = sum(1 / paces[cell].mean(moment)[0] if cell in paces else 1 for cell in cells)  # at free flow
+        waiting = sum(row.n for row in rows) / PARTS - coming * steps
         passing = float(self.network.cells.Q[cells[-1]])
         return max(0.0, waiting) / (passing - coming) if coming < passing else float(self.network.steps)
 

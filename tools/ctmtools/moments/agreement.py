@@ -1,6 +1,6 @@
 """Whether two networks have a moment in common: the same cells and connectors, and below a step the same of all else.
 
-That is capacity, green, demand and turning shares. Such networks have the same states up to the step, so a saved moment of
+That is capacity, green, demand, turning shares and speed. Such networks have the same states up to the step, so a saved moment of
 the one, at which no region is past it, is one of the other.
 """
 
@@ -8,6 +8,7 @@ from __future__ import annotations
 
 from collections.abc import Callable, Iterator, Sequence
 from dataclasses import dataclass, field
+from fractions import Fraction
 from itertools import zip_longest
 from typing import Any
 
@@ -27,7 +28,7 @@ Values = tuple[Any, ...]  # of a record: its kind, and what its fields hold, amo
 class Plan:
     """What a network says: its cells and connectors in their order, and for each cell what it says of single steps.
 
-    Capacities and demands are in parts, turning shares are one number for both.
+    Capacities and demands are in parts; turning shares are one number for both, and so is a speed, a part of the road's own.
     """
 
     cells: list[Values] = field(default_factory=list)
@@ -38,6 +39,7 @@ class Plan:
     limits: dict[str, Spans] = field(default_factory=dict)
     demands: dict[str, Spans] = field(default_factory=dict)
     turns: dict[str, Spans] = field(default_factory=dict)
+    speeds: dict[str, Spans] = field(default_factory=dict)
 
 
 @dataclass(frozen=True)
@@ -55,7 +57,7 @@ def difference(saved: Network, other: Network, until: int, naming: Naming) -> Di
     if unlike:
         return Difference(0, unlike)
     found = (*_capacities(one, two, until, naming), *_lights(one, two, until, naming), *_demands(one, two, until, naming),
-             *_shares(one, two, until, naming))
+             *_shares(one, two, until, naming), *_speeds(one, two, until, naming))
     differences = [first for first in found if first is not None]
     return min(differences, key=lambda first: first.step) if differences else None
 
@@ -75,16 +77,19 @@ def plan_of(network: Network) -> Plan:
         elif kind == "signal":
             cell, *rest = values.values()
             plan.signals[cell] = tuple(rest)
-        elif kind in ("limit", "demand", "turn"):
-            spans = {"limit": plan.limits, "demand": plan.demands, "turn": plan.turns}[kind]
+        elif kind in ("limit", "demand", "turn", "speed"):
+            spans = {"limit": plan.limits, "demand": plan.demands, "turn": plan.turns, "speed": plan.speeds}[kind]
             cell, begin, end, *rest = values.values()
-            spans.setdefault(cell, []).append((begin, end, _pair(*rest) if kind == "turn" else rest[0]))
+            spans.setdefault(cell, []).append((begin, end, _pair(*rest) if len(rest) > 1 else rest[0]))
     return plan
 
 
 def _pair(first: int, second: int) -> int:
-    """Two shares, each at most 1,000, as one number."""
+    """Two numbers, each at most 1,000, as one."""
     return first * 1001 + second
+
+
+OWN = _pair(1, 1)  # a road's own speed
 
 
 def _unlike(saved: Plan, other: Plan) -> str:
@@ -126,6 +131,18 @@ def _shares(saved: Plan, other: Plan, until: int, naming: Naming) -> Iterator[Di
     for cell, own in saved.shares.items():
         yield _first(saved.turns.get(cell, []), other.turns.get(cell, []), lambda spans: last_of(spans, own, until),
                      f"the ratio of turning shares behind {naming.cell(cell)}", lambda value: "{} to {}".format(*divmod(value, 1001)))
+
+
+def _speeds(saved: Plan, other: Plan, until: int, naming: Naming) -> Iterator[Difference | None]:
+    for cell in {**saved.speeds, **other.speeds}:
+        one, two = _lowest(saved.speeds.get(cell, [])), _lowest(other.speeds.get(cell, []))
+        yield _first(one, two, lambda spans: last_of(spans, OWN, until),
+                     f"the speed limit of {naming.cell(cell)}", lambda value: naming.speed(cell, *divmod(value, 1001)))
+
+
+def _lowest(spans: Spans) -> Spans:
+    """Speeds in lowest terms, so that those that are alike are one number."""
+    return [(begin, end, _pair(*Fraction(*divmod(value, 1001)).as_integer_ratio())) for begin, end, value in spans]
 
 
 def _lights(saved: Plan, other: Plan, until: int, naming: Naming) -> Iterator[Difference | None]:

@@ -10,11 +10,12 @@ feedback control law for on-ramp metering", Transportation Research Record 1320,
 from __future__ import annotations
 
 from collections.abc import Callable, Iterator, Sequence
-from dataclasses import dataclass, replace
+from dataclasses import dataclass, field, replace
 from fractions import Fraction
 from itertools import groupby
 from pathlib import Path
 
+import numpy
 import pandas
 
 from ..amounts import PARTS, rounded_parts
@@ -22,6 +23,7 @@ from ..files import write
 from ..network_file.editing import with_records
 from ..network_file.kinds import record_text
 from ..network_file.network import Network
+from ..network_file.pace import Pace
 from ..problem import Problem
 from ..study.network_text import Built
 from ..study.plan import Meter
@@ -40,7 +42,8 @@ class Gauge:
     """A meter on a network: the cell whose capacity it sets, that of its detector, and its figures.
 
     `wanted` is the set point in per cent of the jam density; `rate`, `least` and `most` are in vehicles/h; it runs from
-    the step `begin` to the step `end`.
+    the step `begin` to the step `end`. Where a speed limit holds at the detector, a set point that the study doesn't say is
+    the occupancy of its capacity at the limit.
     """
 
     meter: Meter
@@ -52,10 +55,12 @@ class Gauge:
     rate: float
     begin: int
     end: int
+    limited: Callable[[int, int], float] | None = field(default=None, repr=False)  # the set point between two steps
 
-    def adjust(self, occupancy: float) -> None:
-        """Sets the rate by the occupancy, in per cent, that the detector saw in the last interval."""
-        self.rate = alinea(self.rate, float(self.meter.gain), self.wanted, occupancy, self.least, self.most)
+    def adjust(self, occupancy: float, begin: int, end: int) -> None:
+        """Sets the rate by the occupancy, in per cent, that the detector saw in the last interval, between two steps."""
+        wanted = self.limited(begin, end) if self.limited else self.wanted
+        self.rate = alinea(self.rate, float(self.meter.gain), wanted, occupancy, self.least, self.most)
 
 
 def alinea(rate: float, gain: float, wanted: float, occupancy: float, least: float, most: float) -> float:
@@ -72,14 +77,24 @@ def gauge_of(meter: Meter, network: Network, units: Units) -> Gauge:
     detector = _detector(meter, cell, network, units)
     step, row = units.step or 1.0, network.cells.loc[detector]
     most = float(meter.most) if meter.most is not None else float(network.cells.Q[cell]) * HOUR / step
-    critical = min(row.Q, row.N * row.A / (row.A + row.B))
-    wanted = float(meter.occupancy) if meter.occupancy is not None else 100 * critical / row.N
+    wanted = float(meter.occupancy) if meter.occupancy is not None else critical(row)
     if not 0 < wanted < 100:
         raise Problem(f"{place}.occupancy: must be above 0 and below 100 % of the jam density")
     if float(meter.least) > most:
         raise Problem(f"{place}.least: is above the most, {most:g} vehicles/h")
     end = network.steps if meter.end is None else min(network.steps, round(float(meter.end) / step))
-    return Gauge(meter, cell, detector, wanted, float(meter.least), most, most, round(float(meter.start) / step), end)
+    limited = _limited(row, network.paces.get(detector)) if meter.occupancy is None else None
+    return Gauge(meter, cell, detector, wanted, float(meter.least), most, most, round(float(meter.start) / step), end, limited)
+
+
+def _limited(road: pandas.Series, pace: Pace | None) -> Callable[[int, int], float] | None:
+    """The set point of a road with speed limits between two steps, by the mean of its speed."""
+    return None if pace is None else lambda first, last: critical(road, float(pace.mean(numpy.array([first, last]))[0]))
+
+
+def critical(road: pandas.Series, part: float = 1.0) -> float:
+    """The occupancy of a road's capacity in per cent, at a part of its own free-flow speed."""
+    return float(100 * min(road.Q / part, road.N * road.A / (road.A + part * road.B)) / road.N)
 
 
 def _detector(meter: Meter, cell: str, network: Network, units: Units) -> str:
@@ -203,7 +218,7 @@ class Metering:
     def _set(self, gauge: Gauge, time: int, until: int, occupancy: float | None) -> None:
         """Sets the rate of a meter for an interval."""
         if occupancy is not None:
-            gauge.adjust(occupancy)
+            gauge.adjust(occupancy, time - self.times.step, time)
         self.limits += self._records(gauge, time, until)
         self.rows.append((time, gauge.meter.ramp, float("nan") if occupancy is None else occupancy, gauge.rate))
 

@@ -70,8 +70,9 @@ def first_fault(records: Sequence[Record]) -> Fault | None:
 
 
 def _check_header(records: Sequence[Record], draft: Draft) -> None:
-    if not records or records[0].fields not in (("ctm", "1"), ("ctm", "2")):
-        raise FaultFound(1, "NoHeader", expected="`ctm,1` or `ctm,2` and nothing more")
+    if not records or records[0].fields not in kinds.HEADERS:
+        headers = kinds.or_text(f"`{','.join(header)}`" for header in kinds.HEADERS)
+        raise FaultFound(1, "NoHeader", expected=f"{headers} and nothing more")
     draft.form = int(records[0].fields[1])
 
 
@@ -132,7 +133,7 @@ def _check_name(record: Record, place: int, term: Field, draft: Draft, values: M
         raise FaultFound(number, "Unknown", place, term.expected)
     kind = draft.kinds[text]
     barred = {"up": kind == "exit", "down": kind == "gate", "signal": kind == "exit", "demand": kind != "gate",
-              "turn": text not in draft.diverges}.get(term.sort, False)
+              "turn": text not in draft.diverges, "speed": kind != "road"}.get(term.sort, False)
     if barred:
         raise FaultFound(number, "WrongKind", place, term.expected, draft.cells[text])
     earlier = {"up": draft.taken_out, "down": draft.taken_in, "signal": draft.signals,

@@ -8,10 +8,11 @@ from collections.abc import Callable, Sequence
 
 from . import kinds
 from .faults import Fault
-from .kinds import KINDS, Field
+from .kinds import HEADERS, KINDS, Field
 from .records import Record, line_of
 
-HEADERS = (("ctm", "1"), ("ctm", "2"))
+FORMS = "".join(form for _, form in kinds.HEADERS)
+WRITTEN = kinds.or_text(",".join(header) for header in kinds.HEADERS)  # what the first record may be
 DECIMAL_COMMA = re.compile(r"[0-9]+,[0-9]+")
 
 # Makes a hint of the file's bytes, its records, the one with the fault, and the fault.
@@ -59,35 +60,35 @@ def _header_hint(content: bytes, records: Sequence[Record]) -> str:
     if content.startswith((b"\xff\xfe", b"\xfe\xff")) or b"\x00" in content[:200]:
         return "The bytes are UTF-16, as Excel's \"Unicode text\" is; save the file as CSV in UTF-8."
     if not records:
-        return "There are only comments and blank lines; the first record must be ctm,1 or ctm,2."
+        return f"There are only comments and blank lines; the first record must be {WRITTEN}."
     if b"\r" in content and b"\n" not in content:
         return "The lines end with carriage returns alone, so a comment doesn't end; save the file with line feeds."
     fields = records[0].fields
     joined = ",".join(fields)
     if len(fields) > 1 and not any(fields):
         return "Commas stand in empty rows, as Excel writes them; take them away, and those behind records too."
-    if re.fullmatch(r"ctm;[12];*", joined, re.IGNORECASE):
+    if re.fullmatch(rf"ctm;[{FORMS}];*", joined, re.IGNORECASE):
         return "Semicolons stand between the fields; put commas there, in the whole file."
-    if re.fullmatch(r"ctm[\t ]+[12]\s*", joined, re.IGNORECASE):
+    if re.fullmatch(rf"ctm[\t ]+[{FORMS}]\s*", joined, re.IGNORECASE):
         return "Tabs or spaces stand between the fields; put commas there, in the whole file."
     if fields[:2] in HEADERS and not any(fields[2:]):
         return "Commas trail behind the record, as Excel writes them; take them away, in the whole file."
     if tuple(field.strip().lower() for field in fields) in HEADERS:
-        return "The header has capitals or spaces; write it as ctm,1 or ctm,2."
+        return f"The header has capitals or spaces; write it as {WRITTEN}."
     if joined.startswith("\\xef\\xbb\\xbf"):
         return "The byte order mark stands twice; take one away."
     if re.fullmatch(r"ctm,.*", joined):
-        return "There are the formats 1 and 2 alone: write ctm,1 or ctm,2."
+        return f"There are the formats 1 to {FORMS[-1]} alone: write {WRITTEN}."
     later = next((record for record in records if record.fields[:2] in HEADERS), None)
     if later is not None:
         names = _looks_like_names(fields)
         what = "a row of column names stands before it" if names else "it must stand before all others"
         return f"The record {','.join(later.fields[:2])} is in line {line_of(content, later.place)}; {what}."
     if fields[0] in KINDS:
-        return "The record ctm,1 or ctm,2 is missing; put it before all others."
+        return f"The record {WRITTEN} is missing; put it before all others."
     if _looks_like_names(fields):
-        return "A row of column names stands there; this file has none. Put ctm,1 or ctm,2 in its place."
-    return "The first record of a network file is ctm,1 or ctm,2."
+        return f"A row of column names stands there; this file has none. Put {WRITTEN} in its place."
+    return f"The first record of a network file is {WRITTEN}."
 
 
 def _looks_like_names(fields: Sequence[str]) -> bool:
@@ -99,7 +100,8 @@ def _kind_hint(content: bytes, records: Sequence[Record], record: Record, fault:
     kind = record.kind
     joined = ",".join(record.fields)
     if kind in KINDS and KINDS[kind].form > form:
-        return f"A {kind} is of format 2 alone: write ctm,2 in the first record."
+        needed = KINDS[kind].form
+        return f"A {kind} is of no format before {needed}: write ctm,{needed} in the first record."
     if record.fields in HEADERS:
         return "The header stands once, at the top of the file; are two files joined here?"
     if not any(record.fields):
@@ -217,6 +219,8 @@ def _range_hint(content: bytes, records: Sequence[Record], record: Record, fault
                 "offset can shift it.")
     if name == "to":
         return "The range is of the steps from <= t < to, so `to` is above `from`."
+    if record.kind == "speed":
+        return "NUM/DEN is a part of the road's own free-flow speed, at most 1; are NUM and DEN exchanged?" if name == "DEN" else ""
     if record.kind == "turn" or record.kind == "diverge":
         return "A share is at least 1; a closed branch gets 1 against 1000."
     if name == "Q":
@@ -272,7 +276,8 @@ def _wrong_kind_hint(content: bytes, records: Sequence[Record], record: Record, 
     line = line_of(content, _earlier(records, fault).place)
     sort = _term(record, fault).sort
     why = {"up": "nothing leads out of an exit", "down": "nothing leads into a gate", "signal": "an exit has no signal",
-           "demand": "demand comes at gates alone", "turn": "no diverge above leads out of it"}[sort]
+           "demand": "demand comes at gates alone", "turn": "no diverge above leads out of it",
+           "speed": "a road alone has a free-flow speed"}[sort]
     return f"{name} is {'an exit' if kind == 'exit' else 'a ' + kind} (line {line}); {why}."
 
 

@@ -2,7 +2,7 @@
 
 from __future__ import annotations
 
-from collections.abc import Mapping
+from collections.abc import Iterable, Mapping
 from dataclasses import dataclass
 from typing import Any
 
@@ -37,7 +37,7 @@ class Field:
     """
 
     name: str
-    sort: str  # new, up, down, signal, limit, demand, turn, region, whole or amount
+    sort: str  # new, up, down, signal, limit, demand, turn, speed, region, whole or amount
     expected: str
     least: Edge = Edge()
     most: Edge = Edge()
@@ -62,7 +62,7 @@ class Field:
 class Kind:
     """A kind of record: what its records are counted among, its fields, and the first format that has it."""
 
-    sort: str  # steps, cells, connectors, signals, limits, demands, turns or regions
+    sort: str  # steps, cells, connectors, signals, limits, demands, turns, speeds or regions
     fields: tuple[Field, ...]
     form: int = 1
 
@@ -105,6 +105,7 @@ NEW = Field("name", "new", "a new name: " + NAME_RULE)
 SPAN = (_whole("from", 0, 99_999), _whole("to", "from + 1", 100_000))
 CAPACITY = _amount("Q", 100_000, "vehicles in a step")
 SHARES = (_whole("B1", 1, 1000), _whole("B2", 1, 1000))
+PART = (_whole("NUM", 1, 1000), _whole("DEN", "NUM", 1000))  # of a road's own free-flow speed
 
 KINDS = {
     "steps": Kind("steps", (_whole("T", 1, 100_000),)),
@@ -124,19 +125,21 @@ KINDS = {
     "turn": Kind("turns", (Field("cell", "turn", "a cell that a diverge above leads out of"), *SPAN, *SHARES), form=2),
     "region": Kind("regions", (Field("cell", "region", "a cell that stands above and has no region yet"),
                                _whole("region", 0, 511)), form=2),
+    "speed": Kind("speeds", (Field("cell", "speed", "a road that stands above"), *SPAN, *PART), form=3),
 }
 CELLS, CONNECTORS = (tuple(name for name, kind in KINDS.items() if kind.sort == sort) for sort in ("cells", "connectors"))
-COUNTED = ("cells", "connectors", "limits", "demands", "turns")  # the sorts of which a file has so many records at most
-MOST_RECORDS = {1: 100_000, 2: 200_000}
+COUNTED = ("cells", "connectors", "limits", "demands", "turns", "speeds")  # the sorts of which a file has so many records at most
+MOST_RECORDS = {1: 100_000, 2: 200_000, 3: 200_000}
 
 CODES = {1: "NoHeader", 2: "BadKind", 3: "BadCount", 4: "BadName", 5: "BadNumber", 6: "OutOfRange", 7: "Repeated",
          8: "Unknown", 9: "WrongKind", 10: "InTaken", 11: "OutTaken", 12: "NoSteps", 13: "NoCells", 14: "TooMany",
          15: "TooMuch", 16: "NoRegion", 17: "RegionGap"}
 NUMBERS = {name: number for number, name in CODES.items()}
+HEADERS = tuple(("ctm", str(form)) for form in MOST_RECORDS)  # of each format the first record
 
 
 def kinds_of(form: int) -> tuple[str, ...]:
-    """The kinds of records that a file of format 1 or 2 may have."""
+    """The kinds of records that a file of a format may have."""
     return tuple(name for name, kind in KINDS.items() if kind.form <= form)
 
 
@@ -148,3 +151,9 @@ def record_text(kind: str, *values: str | int) -> str:
 def headings(*kinds: str) -> str:
     """What the comment of a built network says of some kinds of records: their fields."""
     return "; ".join(",".join([kind, *(field.heading for field in KINDS[kind].fields)]) for kind in kinds)
+
+
+def or_text(words: Iterable[str]) -> str:
+    """Words of which one is chosen, as a sentence has them: `a, b or c`."""
+    *first, last = words
+    return f"{', '.join(first)} or {last}"

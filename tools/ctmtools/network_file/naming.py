@@ -44,6 +44,12 @@ class Naming:
             return f"{vehicles:.6g} vehicles a step"
         return f"{vehicles * 3600 / self._seconds:,.6g} vehicles/h"
 
+    def speed(self, cell: str, above: int, below: int) -> str:
+        """A part of a road's own free-flow speed, or the speed."""
+        place = self.place(cell)
+        own = f"{above}/{below} of its own" if above < below else "its own"
+        return own if place is None else f"{place['free_flow_kmh'] * above / below:.6g} km/h"
+
     @property
     def _seconds(self) -> float | None:
         """The seconds of a step, where the network is of a study."""

@@ -3,7 +3,7 @@
 from __future__ import annotations
 
 from bisect import bisect_right
-from collections.abc import Iterator, Sequence
+from collections.abc import Iterable, Iterator, Sequence
 from dataclasses import dataclass, field
 from functools import cached_property
 from itertools import product
@@ -11,6 +11,7 @@ from pathlib import Path
 from typing import Any
 
 import networkx
+import numpy
 import pandas
 
 from ..amounts import PARTS
@@ -18,11 +19,12 @@ from ..problem import Problem, reason
 from .faults import Fault, first_fault
 from .hints import hint_of
 from .kinds import CELLS, CONNECTORS, KINDS
+from .pace import Pace, pace_of
 from .records import Record, ends_of_lines, line_of, read_records
 
 CELL_TERMS = KINDS["road"].names[1:]  # a road has all that any cell has
 COLUMNS = {"cells": ["cell", "kind", *CELL_TERMS, "record"], "links": ["up", "down", "kind", "weight", "record"],
-           **{KINDS[kind].sort: [*KINDS[kind].names, "record"] for kind in ("signal", "limit", "demand", "turn")}}
+           **{KINDS[kind].sort: [*KINDS[kind].names, "record"] for kind in ("signal", "limit", "demand", "turn", "speed")}}
 
 
 @dataclass
@@ -31,7 +33,7 @@ class Network:
 
     `cells` is indexed by name and has kind, N, Q, A, B, first and record; `links` has up, down, kind, weight and
     record, one row for each pair of cells that a connector joins (weight is the priority or the share, 1 in a link).
-    `signals`, `limits`, `demands` and `turns` have the fields of their records and the record's number.
+    `signals`, `limits`, `demands`, `turns` and `speeds` have the fields of their records and the record's number.
     """
 
     steps: int
@@ -41,6 +43,7 @@ class Network:
     limits: pandas.DataFrame
     demands: pandas.DataFrame
     turns: pandas.DataFrame
+    speeds: pandas.DataFrame
     records: list[Record] = field(repr=False, default_factory=list)
     content: bytes = field(repr=False, default=b"")
 
@@ -67,6 +70,21 @@ class Network:
         return found
 
     @cached_property
+    def paces(self) -> dict[str, Pace]:
+        """How fast one drives at free flow on each road that has a speed limit at some time."""
+        found: dict[str, list[tuple[int, int, float]]] = {}
+        for cell, begin, end, above, below in zip(*(self.speeds[name] for name in ("cell", "from", "to", "NUM", "DEN"))):
+            found.setdefault(cell, []).append((int(begin), int(end), int(above) / int(below)))
+        return {cell: pace_of(own, self.steps) for cell, own in found.items()}
+
+    def left_freely(self, cells: Iterable[str], entered: numpy.ndarray) -> numpy.ndarray:
+        """When those who enter the first of some cells at some moments leave the last one at free flow, by the limits in force."""
+        moments = entered
+        for cell in cells:
+            moments = self.paces[cell].left(moments) if cell in self.paces else moments + 1
+        return moments
+
+    @cached_property
     def line_ends(self) -> list[int]:
         """The places behind the ends of the lines of the file."""
         return ends_of_lines(self.content)
@@ -87,6 +105,8 @@ def read_bytes(path: str | Path) -> bytes:
         return Path(path).read_bytes()
     except OSError as error:
         raise Problem(f"{path}: {reason(error)}") from None
+    except ValueError:  # a zero byte in its name
+        raise Problem(f"{str(path)!r}: no file has such a name") from None
 
 
 def network_of(content: bytes, name: str = "the network") -> Network:

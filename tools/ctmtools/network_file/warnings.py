@@ -142,14 +142,14 @@ def _high_demands(network: Network, naming: Naming) -> Iterator[Warning]:
 
 
 def _late(network: Network, naming: Naming) -> Iterator[Warning]:
-    for sort, frame in (("demand", network.demands), ("limit", network.limits), ("turn", network.turns)):
+    for sort, frame in (("demand", network.demands), ("limit", network.limits), ("turn", network.turns), ("speed", network.speeds)):
         for row in frame[frame["from"] >= network.steps].itertuples():
             yield Warning("ranges behind the last step", network.line(row.record),
                           f"this {sort} begins behind the last step, {network.steps - 1}, so it does nothing")
 
 
 def _twice(network: Network, naming: Naming) -> Iterator[Warning]:
-    """Records that stand twice; only those that the program accepts twice are left: demands, limits and turns."""
+    """Records that stand twice; only those that the program accepts twice are left: demands, limits, turns and speeds."""
     seen: dict[tuple[str, ...], int] = {}
     for record in network.records[1:]:
         if record.fields in seen:
@@ -164,10 +164,11 @@ def _twice(network: Network, naming: Naming) -> Iterator[Warning]:
 
 
 def _overlapping(network: Network, naming: Naming) -> Iterator[Warning]:
-    """Demands, limits and turns of one cell whose ranges overlap, but for those that stand twice."""
+    """Demands, limits, turns and speeds of one cell whose ranges overlap, but for those that stand twice."""
     for sort, frame, does in (("demands", network.demands, "their amounts add up"),
                               ("limits", network.limits, "the last one in the file holds there"),
-                              ("turns", network.turns, "the last one in the file holds there")):
+                              ("turns", network.turns, "the last one in the file holds there"),
+                              ("speeds", network.speeds, "the last one in the file holds there")):
         for cell, begin, record, other in _overlaps(network, frame):
             where = "" if naming.of_study else f", with line {network.line(other)}"
             yield Warning(f"{sort} that overlap", network.line(record),

@@ -16,6 +16,7 @@ from ..report.reading import Report
 from .background import Background
 from .draws import draws_of
 from .frames import Frames, bounds_of, steps_an_hour
+from .limits import speed_limits
 from .networks import is_measured, network_of, roads_of
 from .provenance import provenance
 from .tables import differing, reports_of, table_of, unlike_lines
@@ -43,7 +44,7 @@ def data_of(reports: Sequence[Report], background: Background | None = None, dra
         network = network_of(report, measured, place)
         if network not in networks:
             networks.append(network)
-        shown.append({"network": networks.index(network), **own.data()})
+        shown.append({"network": networks.index(network), "limits": speed_limits(report), **own.data()})
     return {"title": _title(reports), "subtitle": _subtitle(reports),
             "provenance": provenance(reports), "notes": _notes(reports, bounds), "names": names, "slow": SLOW,
             "measured": measured, "hour": steps_an_hour(first), "units": _units(first, measured),
@@ -107,7 +108,8 @@ def _notes(reports: Sequence[Report], bounds: Sequence[int]) -> str:
     seen = f" Queues and travel times are seen every {_lasting(step, every)}, as the run is recorded." if every > 1 else ""
     return (f"Density, flow and speed are means over {_lasting(step, bounds[1] - bounds[0])}.{seen} A cell stands in a queue "
             f"where its traffic moves slower than {SLOW:.0%} of the free-flow speed. Delay is the program's: the time beyond one "
-            "step in each cell.")
+            "step in each cell"
+            f"{', so it counts driving at a speed limit too' if any(report.need_network().paces for report in reports) else ''}.")
 
 
 def _lasting(step: float | None, steps: int) -> str:

@@ -1,3 +1,8 @@
+// The speed limit of a cell at a time, NaN where there is none.
+function limitAt(report, cell, time) {
+  const found = report.limits.find(limit => limit.begin <= time && time < limit.end && limit.cells.includes(cell));
+  return found ? found.speed : NaN;
+}
 // What the pointer is over: place, time, and the values there.
 function tipRows(cell, frame) {
   const own = shown().cells[cell], compared = state.against !== null;
@@ -9,6 +14,11 @@ function tipRows(cell, frame) {
     if (!compared) return [what, `${told(values[0], digits)} ${unitOf(name, own)}`];
     return [`${what}, ${unitOf(name, own)}`, ...[...values, values[1] - values[0]].map(one => told(one, digits))];
   });
+  const limits = columns.map(([report, place]) => limitAt(data.reports[report], place, (bounds[frame] + bounds[frame + 1]) / 2));
+  if (limits.some(limit => !Number.isNaN(limit))) {
+    const [what, texts] = [compared ? `speed limit, ${data.units.speed}` : "speed limit", limits.map(limit => told(limit, 1))];
+    rows.push(compared ? [what, ...texts, ""] : [what, `${texts[0]} ${data.units.speed}`]);
+  }
   return compared ? [["", ...columns.map(([report]) => data.names[report]), "rise"], ...rows] : rows;
 }
 function showTip(event, cell, frame) {

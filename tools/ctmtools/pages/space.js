@@ -65,7 +65,23 @@ function drawOutlines(pen, x, y, kms, width, height) {
     pen.setLineDash([]);
   }
   outline(pen, shown(), cells, x, y, kms);
+  drawLimits(pen, cells, x, y, kms);
   pen.restore();
+}
+// Where and when speed limits hold, dotted, with the speed.
+function drawLimits(pen, cells, x, y, kms) {
+  pen.fillStyle = paint("ink");
+  pen.setLineDash([1.5, 2.5]);
+  for (const { begin, end, speed, cells: held } of shown().limits) {
+    const own = new Set(held), rows = d3.range(cells.length).filter(row => own.has(cells[row]));
+    for (const first of rows.filter(row => !own.has(cells[row - 1]))) {
+      let last = first;
+      while (own.has(cells[last + 1])) last++;
+      pen.strokeRect(x(begin), y(kms[last + 1]), x(end) - x(begin), y(kms[first]) - y(kms[last + 1]));
+      pen.fillText(`${speed} ${data.units.speed}`, x(begin) + 4, y(kms[last + 1]) + 11);
+    }
+  }
+  pen.setLineDash([]);
 }
 // A bar beside the cells of the chosen way.
 function drawLit(pen, y, kms) {

@@ -1,8 +1,9 @@
-"""What stands beside a route and along it: junctions, signals and limits, as marks on a time-space diagram."""
+"""What stands beside a route and along it: junctions, signals, limits and speed limits, as marks on a time-space diagram."""
 
 from __future__ import annotations
 
-from collections.abc import Iterator, Sequence
+from collections.abc import Iterator, Mapping, Sequence
+from typing import Any
 
 import pandas
 from matplotlib.axes import Axes
@@ -14,6 +15,7 @@ from .figure import moments, note
 
 LEAST_APART = 0.035  # of the height of a diagram between two names beside it
 RED = "#c00000"
+LIMIT = "#00518a"  # of speed limits
 
 
 def junctions(report: Report, cells: Sequence[str]) -> list[tuple[int, str]]:
@@ -92,12 +94,33 @@ def draw_limits(axes: Axes, report: Report, cells: Sequence[str], bounds: Sequen
         cell, begin, end, most, _ = row
         if most < capacity[cell] and begin < report.steps:
             spans.setdefault((begin, min(end, report.steps)), []).append(cells.index(cell))
+    _outline(axes, report, spans, bounds, edgecolor="#333333", hatch="//")
+    return bool(spans)
+
+
+def draw_speed_limits(axes: Axes, report: Report, cells: Sequence[str], bounds: Sequence[float]) -> bool:
+    """Outlines where and when speed limits hold on a route's cells, and says them where the units are known."""
+    paces = report.need_network().paces
+    spans: dict[tuple[int, int, str], list[int]] = {}
+    for i, cell in enumerate(cells):
+        own = report.units.cells.get(cell, {}).get("free_flow_kmh")
+        for begin, end, part in paces[cell].slower() if cell in paces else ():
+            spans.setdefault((begin, end, f"{own * part:.6g} km/h" if own else ""), []).append(i)
+    for (begin, end, speed), places in spans.items():
+        _outline(axes, report, {(begin, end): places}, bounds, edgecolor=LIMIT, linestyle=(0, (1, 1.5)), hatch="...")
+        left, right = moments(report, [begin, end])
+        axes.annotate(speed, ((left + right) / 2, bounds[max(places) + 1]), xytext=(0, -3), textcoords="offset points", ha="center",
+                      va="top", fontsize=8, color=LIMIT, clip_on=True)
+    return bool(spans)
+
+
+def _outline(axes: Axes, report: Report, spans: Mapping[tuple[int, int], Sequence[int]], bounds: Sequence[float], **look: Any) -> None:
+    """Outlines spans of steps of some places of a route."""
     for (begin, end), places in spans.items():
         for first, last in _stretches(sorted(set(places))):
             left, right = moments(report, [begin, end])
             axes.add_patch(Rectangle((left, bounds[first]), right - left, bounds[last + 1] - bounds[first], fill=False,
-                                     edgecolor="#333333", linewidth=0.9, hatch="//", alpha=0.55))
-    return bool(spans)
+                                     linewidth=0.9, alpha=0.55, **look))
 
 
 def _stretches(places: Sequence[int]) -> Iterator[tuple[int, int]]:

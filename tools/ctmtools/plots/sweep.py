@@ -12,7 +12,7 @@ from .figure import DENSITY, SHADES, beside, drawing, figure, head, note, style
 
 UNITS = {"offset": "s", "first_green": "s", "cycle": "s", "green": "s", "step": "s", "length": "km", "from": "km",
          "to": "km", "at": "km",
-         "free_flow_speed": "km/h", "wave_speed": "km/h", "jam_density": "vehicles/km in a lane",
+         "free_flow_speed": "km/h", "speed": "km/h", "wave_speed": "km/h", "jam_density": "vehicles/km in a lane",
          "saturation_flow": "vehicles/h in a lane", "capacity": "vehicles/h", "lanes": "lanes"}
 BEYOND = "{}: a queue reaches the upstream end of the model, behind which vehicles wait in a gate"
 NAMES = {"delay_vehicle_hours": "Delay (vehicle-hours)", "longest_queue_km": "Longest queue (km)"}

@@ -20,7 +20,7 @@ from ..report.routes import kilometres, route_of
 from ..report.upstream import spilled_queues
 from .figure import DENSITY, SPEED, beside, drawing, figure, head, legend_below, moments, note, span_of, time_axis
 from .lines import draw_lines
-from .roadside import RED, draw_junctions, draw_limits, draw_signals
+from .roadside import LIMIT, RED, draw_junctions, draw_limits, draw_signals, draw_speed_limits
 
 # What is shaded, with its unit where lengths are known and where they aren't.
 SHADED = {"density": ("vehicles/km, all lanes", "vehicles in a cell"), "speed": ("km/h", "cells in a step"),
@@ -46,6 +46,8 @@ def draw(report: Report, road: str | None = None, first: str | None = None, last
     handles = [Line2D([], [], color="#111111", linewidth=0.9, label=f"slower than {SLOW:.0%} of free flow")]
     if draw_limits(axes, report, cells, bounds):
         handles.append(Patch(fill=False, edgecolor="#333333", hatch="////", label="capacity reduced"))
+    if draw_speed_limits(axes, report, cells, bounds):
+        handles.append(Patch(fill=False, edgecolor=LIMIT, linestyle=(0, (1, 1.5)), hatch="...", label="speed limit"))
     if draw_signals(axes, report, cells, bounds, begins, ends):
         handles.append(Line2D([], [], color=RED, linewidth=2.2, label="red light"))
     handles += draw_lines(axes, report, lines)

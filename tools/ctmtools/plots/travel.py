@@ -2,6 +2,7 @@
 
 from __future__ import annotations
 
+import numpy
 from matplotlib.figure import Figure
 
 from ..report.reading import Report
@@ -22,7 +23,10 @@ def draw(report: Report, first: str | None = None, last: str | None = None, road
     scale = 1.0 if report.units.step is None else report.units.step / 60
     drawn, axes = figure()
     axes.plot(moments(report, driven.entered), driven.steps * scale, label="travel time", **style(0))
-    axes.axhline(len(cells) * scale, label="at free flow", **style(2))
+    if numpy.ptp(driven.free) > 0:
+        axes.plot(moments(report, driven.entered), driven.free * scale, label="at free flow, by the speed limits in force", **style(2))
+    else:
+        axes.axhline(driven.mean_free * scale, label="at free flow", **style(2))
     time_axis(axes, report, *span_of(report, begin, until))
     note(axes, f"Time of setting out at {_place(report, cells[0], 'from_km')}, to {_place(report, cells[-1], 'to_km')}")
     beside(axes, "Travel time (min)" if report.units.known else "Travel time (steps)")

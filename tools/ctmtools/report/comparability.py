@@ -2,7 +2,7 @@
 
 from __future__ import annotations
 
-from collections.abc import Iterator, Mapping
+from collections.abc import Iterator, Mapping, Sequence
 from typing import Any
 
 from ..first_few import first_few
@@ -31,6 +31,31 @@ def other_lanes_and_speeds(first: Report, second: Report) -> Iterator[str]:
             cell, one, two = other[0]
             yield (f"{len(other)} cell{'s have' if len(other) > 1 else ' has'} another {what} in A and in B, as {cell}: "
                    f"{one:g}{unit} in A, {two:g}{unit} in B")
+    yield from _speed_limits(first, second)
+
+
+def _speed_limits(first: Report, second: Report) -> Iterator[str]:
+    """The cells of one place whose speed limits by time differ."""
+    if first.network is None or second.network is None:
+        return
+    limits = [{cell: list(pace.slower()) for cell, pace in network.paces.items()} for network in (first.network, second.network)]
+    other = [cell for cell in first.cells.index if cell in second.cells.index and limits[0].get(cell) != limits[1].get(cell)]
+    if other:
+        told = [_limit(report, other[0], own.get(other[0])) for report, own in zip((first, second), limits)]
+        yield (f"{len(other)} cell{'s have' if len(other) > 1 else ' has'} other speed limits in A and in B, as {other[0]}: {told[0]} in A, "
+               f"{told[1]} in B")
+
+
+def _limit(report: Report, cell: str, limits: Sequence[tuple[int, int, float]] | None) -> str:
+    """The first speed limit of a cell, and how many more it has."""
+    if not limits:
+        return "none"
+    begin, end, part = limits[0]
+    units, own = report.units, report.units.cells.get(cell, {}).get("free_flow_kmh")
+    speed = f"{own * part:.6g} km/h" if own else f"{part:.6g} cells in a step"
+    times = [units.clock(step) if units.known else f"step {step}" for step in (begin, end)]
+    more = f" and {len(limits) - 1} more" if len(limits) > 1 else ""
+    return f"{speed} from {times[0]} to {times[1]}{more}"
 
 
 def _cells(first: Report, second: Report) -> Iterator[str]:

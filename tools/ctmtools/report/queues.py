@@ -36,7 +36,8 @@ class Queue:
     """A queue: the cells that stood in it, joined in space and time.
 
     `start`, `end` and `reached` are steps; `end` is None where the queue still stands at the last step. `reach` is in
-    km where lengths are known, else in cells; gates count nothing. `delay` is in vehicle-steps, `most` in vehicles.
+    km where lengths are known, else in cells; gates count nothing. `delay` is in vehicle-steps, `most` in vehicles; where a
+    speed limit holds both are beyond driving at it.
     `spells` tells how often it came, as at a signal in each cycle. `reach` is that of the cells to which it grew from its
     origin, and `longest_reach` that from any of its origins through what stood there before and what it touched.
     """
@@ -59,12 +60,13 @@ class Queue:
 def standing(report: Report) -> pandas.DataFrame:
     """Whether each cell stands in a queue, from each recorded step to the next: a frame of truth values.
 
+    Where a speed limit holds, that is the free-flow speed.
     A cell that has waited for less than one such step makes it never did, though means over several steps may look so
     where vehicles come in platoons.
     """
     held, flow = report.held, report.flow
-    frame = (held >= LEAST) & (flow < SLOW * held)
-    kinds, waited = report.need_network().kinds, report.cells.wait
+    frame = (held >= LEAST) & (flow < SLOW * report.free_parts * held)
+    kinds, waited = report.need_network().kinds, report.cells.wait - report.slowed.sum()
     never = [cell for cell in frame.columns if kinds[cell] == "exit" or waited[cell] < (1 - SLOW) * LEAST]
     frame.loc[:, never] = False
     return frame
@@ -160,8 +162,8 @@ def grown_from(report: Report, origin: str, spans: Spans, start: int) -> dict[st
 
 
 def _waits(report: Report) -> pandas.DataFrame:
-    """The vehicles of each cell that wait from each recorded step to the next."""
-    return (report.held - report.flow).clip(lower=0)
+    """The vehicles of each cell that wait from each recorded step to the next, beyond those who drive at free flow."""
+    return (report.held - report.flow / report.free_parts).clip(lower=0)
 
 
 def _runs(flags: numpy.ndarray) -> list[Span]:

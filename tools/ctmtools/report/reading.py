@@ -85,6 +85,26 @@ class Report:
         parts = numpy.where(whole > 0, beyond / numpy.where(whole > 0, whole, 1), lasting / lasting.sum())
         return pandas.DataFrame(parts * self.cells.wait.to_numpy(), index=self.times[:-1], columns=self.departed.columns)
 
+    @cached_property
+    def free_parts(self) -> pandas.DataFrame:
+        """The part of its own free-flow speed that each cell has from a recorded step to the next, indexed as `flow`.
+
+        It is 1 but where a speed limit holds.
+        """
+        parts = pandas.DataFrame(1.0, index=self.times[:-1], columns=self.departed.columns)
+        for cell, pace in (self.network.paces if self.network else {}).items():
+            parts[cell] = pace.mean(self.times)
+        return parts
+
+    @cached_property
+    def slowed(self) -> pandas.DataFrame:
+        """Vehicle-steps that those who leave each cell have lost by driving at its speed limit, indexed as `flow`.
+
+        They are a part of what the program counts as delay, which is the time beyond one step in a cell.
+        """
+        lasting = numpy.diff(self.times)[:, None]
+        return self.flow * (1 / self.free_parts - 1) * lasting
+
     def need_records(self) -> None:
         """The problem of a report without records, where there are none."""
         if not self.recorded:

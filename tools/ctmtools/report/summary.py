@@ -30,6 +30,7 @@ def page(report: Report) -> Iterator[str]:
     yield ""
     yield f"Vehicles  {number_text(total.entered)} came, {number_text(total.left)} were served, {number_text(total.inside)} are still inside"
     yield f"Delay     {number_text(delay)} {units.delay_unit}{each}"
+    yield from _slowed(report)
     yield ""
     if report.recorded:
         yield from _queues(report, queues)
@@ -38,6 +39,13 @@ def page(report: Report) -> Iterator[str]:
         yield "No queues are told, since the run has no records."
     yield ""
     yield from _inside(report, queues)
+
+
+def _slowed(report: Report) -> Iterator[str]:
+    """What of the delay is lost by driving at the speed limits, where a run has any."""
+    if report.recorded and report.need_network().paces:
+        lost = report.units.hours(report.slowed.to_numpy().sum())
+        yield f"          {number_text(lost)} of these by driving at the speed limits, and not in queues"
 
 
 def _lasting(seconds: float) -> str:

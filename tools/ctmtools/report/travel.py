@@ -28,15 +28,19 @@ Numbers = numpy.ndarray
 
 @dataclass(frozen=True)
 class Trips:
-    """Who enters a chain of cells: how many at which step, and the steps that they need, lacking without an arrival."""
+    """Who enters a chain of cells: how many at which step, and the steps that they need, lacking without an arrival.
+
+    `free` are the steps at free flow, by the speed limits in force.
+    """
 
     entered: Numbers
     vehicles: Numbers
     steps: Numbers
+    free: Numbers
 
     def of(self, chosen: Numbers) -> Trips:
         """Those of them that are chosen."""
-        return Trips(self.entered[chosen], self.vehicles[chosen], self.steps[chosen])
+        return Trips(self.entered[chosen], self.vehicles[chosen], self.steps[chosen], self.free[chosen])
 
     @property
     def mean(self) -> float:
@@ -44,6 +48,13 @@ class Trips:
         if not len(self.vehicles) or numpy.isnan(self.steps).any():
             return float("nan")
         return float((self.vehicles * self.steps).sum() / self.vehicles.sum())
+
+    @property
+    def mean_free(self) -> float:
+        """The mean over the vehicles of the steps at free flow; lacking where there are none."""
+        if not len(self.free) or numpy.ptp(self.free) == 0:
+            return float(self.free[0]) if len(self.free) else float("nan")
+        return float((self.vehicles * self.free).sum() / self.vehicles.sum())
 
 
 def trips(report: Report, cells: Sequence[str]) -> Trips:
@@ -61,7 +72,8 @@ def trips(report: Report, cells: Sequence[str]) -> Trips:
     moments = entered
     for cell in cells:
         moments = _left(report, cell, moments)
-    return Trips(entered, vehicles, moments - entered)
+    free = report.need_network().left_freely(cells, entered) - entered if report.network else numpy.full(len(entered), len(cells))
+    return Trips(entered, vehicles, moments - entered, free)
 
 
 def _arrivals(report: Report, cell: str) -> Numbers:
@@ -86,7 +98,7 @@ def travel_times(report: Report, cells: Sequence[str], every: float | None = Non
     `every` is the length of a span in seconds (in steps where the step isn't known), by default the whole time. The
     frame has `entered`, when the span begins, `vehicles`, `mean`, `least`, `most`, `free` and `delay` in minutes (or
     steps), and `speed` in km/h where all lengths are known. What is lacking belongs to a span of which not all have
-    arrived by the end. `frame.attrs["units"]` names the units.
+    arrived by the end. `free` is at the speed limits in force. `frame.attrs["units"]` names the units.
     """
     units = report.units
     found, step = trips(report, cells), units.step
@@ -101,9 +113,9 @@ def travel_times(report: Report, cells: Sequence[str], every: float | None = Non
     for span in sorted(set(spans.tolist())):
         own = found.of(spans == span)
         bounds = (own.steps.min(), own.steps.max()) if own.mean == own.mean else (numpy.nan, numpy.nan)
-        rows.append((span * width, own.vehicles.sum(), own.mean * scale, bounds[0] * scale, bounds[1] * scale))
-    frame = pandas.DataFrame(rows, columns=["entered", "vehicles", "mean", "least", "most"])
-    frame["free"] = len(cells) * scale
+        rows.append((span * width, own.vehicles.sum(), own.mean * scale, bounds[0] * scale, bounds[1] * scale,
+                     own.mean_free * scale))
+    frame = pandas.DataFrame(rows, columns=["entered", "vehicles", "mean", "least", "most", "free"])
     frame["delay"] = (frame["mean"] - frame["free"]).round(DIGITS) + 0.0  # and no -0
     frame["speed"] = length / (frame["mean"] / 60) if step is not None else numpy.nan
     frame["step"] = frame["entered"]
@@ -136,7 +148,7 @@ def road_times(report: Report) -> list[RoadTime]:
         driven = driven.of(~numpy.isnan(driven.steps))
         if len(driven.steps):
             most = int(driven.steps.argmax())
-            found.append(RoadTime(road, len(cells), driven.mean, float(driven.steps[most]), float(driven.entered[most])))
+            found.append(RoadTime(road, driven.mean_free, driven.mean, float(driven.steps[most]), float(driven.entered[most])))
     return sorted(found, key=lambda time: time.free - time.mean)
 
 

@@ -1,4 +1,4 @@
-"""What a cell lets pass at each step, where closures, openings, limits or red lights hold for some steps."""
+"""What a cell lets pass at each step, where closures, openings, limits, speed limits or red lights hold for some steps."""
 
 from __future__ import annotations
 
@@ -16,6 +16,7 @@ class Change:
 
     `saturation_flow`, in vehicles/h, is that of each lane left open by a closure, or of each lane of an opening, where
     it is less than the road's. In a red light nothing passes. `place` is where the study says it. Who gives way passes `by_gaps`.
+    A speed limit has a `speed` in km/h alone.
     """
 
     begin: int
@@ -27,6 +28,7 @@ class Change:
     capacity: Fraction | None = None
     red: bool = False
     by_gaps: bool = False
+    speed: Fraction | None = None
 
 
 def spans(changes: Sequence[Change]) -> Iterator[tuple[int, int, list[Change]]]:

@@ -13,11 +13,11 @@ from fractions import Fraction
 
 from ..network_file.faults import NAME
 from ..problem import Problem
-from .crossings import green
+from .crossings import green, stop_line
 from .plan import (ActuatedJunction, ActuatedPhase, Crossing, Diverge, Matrix, Merge, Permission, Precedence, Road, Section,
                    Signal, Stream, Study, Turn, Way, Yield)
 from .rounding import rounded_text
-from .ways import movements, named
+from .ways import movements, named, road_of
 
 HOUR = 3600
 
@@ -63,7 +63,7 @@ class Expansion:
             raise Problem(f"{self.crossing.place}.{key}: {name} isn't {what} of the study")
 
     def _name(self, movement: Way) -> str:
-        return f"{self.crossing.sources[movement[0]]}-{self.crossing.into[movement[1]]}"
+        return road_of(self.crossing, movement)
 
     def _cells(self, arm: str, end: int = -1) -> str:
         """An arm's name where a cell may have it, else the one of its cells, at the end of the road or at its start."""
@@ -193,11 +193,7 @@ class Expansion:
         return ActuatedJunction(found, crossing.offset + crossing.phases[0].start, crossing.place)
 
     def _stop_line(self, movement: Way) -> str:
-        """The road at whose end a movement's signal stands: its approach, where all of that is green together."""
-        if not self.crossing.phases:
-            return self._name(movement)
-        greens = {green(self.crossing, way) for way in self.movements if way[0] == movement[0]}
-        return self.crossing.sources[movement[0]] if len(greens) == 1 else self._name(movement)
+        return stop_line(self.crossing, movement)
 
     def _yield(self, one: Precedence) -> Yield:
         """Who gives way in the cell of a movement to those in the cells of others."""

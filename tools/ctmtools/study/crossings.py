@@ -8,11 +8,11 @@ from typing import Any
 
 from ..problem import Problem
 from .entries import Entries, Reader, list_of
-from .plan import Actuation, Crossing, Matrix, Phase
+from .plan import Actuation, Crossing, Matrix, Phase, Way
 from .quantities import duration, not_negative, shown, word
 from .precedences import check_precedence, precedence
 from .times import Times
-from .ways import movements, named, taken_ways
+from .ways import movements, named, road_of, taken_ways
 
 MOST_ARMS = 16
 _weight = not_negative("a number here")  # a share, a priority, or lanes
@@ -142,6 +142,8 @@ def actuation_of(value: Any, key: str) -> Actuation:
     table.done()
     if not 0 < found.least <= found.most:
         raise Problem(f"{table.key('least')}: must be above 0 s and at most the most, {float(found.most):g} s")
+    if found.gap > found.most:
+        raise Problem(f"{table.key('gap')}: must be at most the most, {float(found.most):g} s, which bounds the green with it")
     return found
 
 
@@ -169,7 +171,7 @@ def _check_phases(table: Entries, found: Crossing) -> None:
         green(found, movement)
 
 
-def green(found: Crossing, movement: tuple[int, int]) -> tuple[Fraction, Fraction]:
+def green(found: Crossing, movement: Way) -> tuple[Fraction, Fraction]:
     """From when to when in the cycle a movement is green: its phases follow each other, since a signal has one green."""
     own = [phase for phase in found.phases if movement in phase.movements]
     places = [found.phases.index(phase) for phase in own]
@@ -180,6 +182,14 @@ def green(found: Crossing, movement: tuple[int, int]) -> tuple[Fraction, Fractio
     start, cycle = own[first].start, found.cycle or Fraction(0)
     ends = [phase.start + phase.green + (cycle if phase.start < start else 0) for phase in own]
     return (Fraction(0), cycle) if len(own) == len(found.phases) > 1 else (start, max(ends))
+
+
+def stop_line(found: Crossing, movement: Way) -> str:
+    """The road at whose end a movement's signal stands: its approach, where all of that is green together."""
+    if not found.phases:
+        return road_of(found, movement)
+    greens = {green(found, way) for way in movements(found) if way[0] == movement[0]}
+    return found.sources[movement[0]] if len(greens) == 1 else road_of(found, movement)
 
 
 def common_green(first: Phase, second: Phase, cycle: Fraction) -> Fraction:

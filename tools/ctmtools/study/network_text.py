@@ -25,6 +25,7 @@ from .plausible import implausible
 from .rounding import Rounding, rounded_text
 from .scale import Scale
 from .signals import Signals
+from .speeds import Speeds
 
 MADE = "# Made by ctm-tools build"
 MOST_FREE = 8  # of those who give way a network without it names so many
@@ -72,6 +73,7 @@ class Builder:
         self.scale = Scale(study, self.rounding)
         self.junctions = Junctions(study, self.layout, self.scale)
         self.limits = Limits(study, self.junctions, self.scale)
+        self.speeds = Speeds(study, self.junctions, self.scale)
         self.signals = Signals(study, self.junctions, self.scale, self.limits)
 
     def build(self) -> Built:
@@ -81,8 +83,8 @@ class Builder:
         text = "\n".join([*self._head(), f"ctm,{form}", record_text("steps", self.scale.steps)]) + "\n"
         text += "".join("\n".join(["", f"# {comment}", *records]) + "\n" for comment, records in sections if records)
         _check(text)
-        remarks = [*self.study.remarks, *self._opened(), *self.limits.overlaps(), *self.signals.remarks]
-        warnings = [*self._left_out(), *implausible(self.study, self.layout)]
+        remarks = [*self.study.remarks, *self._opened(), *self.limits.overlaps(), *self.speeds.remarks(), *self.signals.remarks]
+        warnings = [*self._left_out(), *self.speeds.idle(), *implausible(self.study, self.layout)]
         return Built(text, self._units(), self.rounding, remarks, warnings)
 
     def sections(self) -> list[tuple[str, list[str]]]:
@@ -91,15 +93,16 @@ class Builder:
             (headings("gate"), self._gates()), (headings("road"), self._roads()), (headings("exit"), self._exits()),
             (headings("link", "merge", "diverge", "turn"), [*self.junctions.connectors, *self.junctions.turns]),
             (headings("signal"), self.signals.records), (headings("limit"), self.limits.records()),
-            (headings("demand"), demands(self.study, self.scale))]
+            (headings("speed"), self.speeds.records()), (headings("demand"), demands(self.study, self.scale))]
         return [(comment, list(records)) for comment, records in made]
 
     def form(self, records: Iterable[str]) -> int:
-        """The format of a file with these records, 1 where they are of it."""
-        return 2 if self.junctions.turns or _is_large(records) else 1
+        """The first format that a file with these records may be of."""
+        found = list(records)
+        return max([2 if _is_large(found) else 1, *(KINDS[_kind_of(record)].form for record in found)])
 
     def _left_out(self) -> Iterator[str]:
-        """What of the study isn't in the network: meters with feedback, who gives way, and speed limits by time."""
+        """What of the study isn't in the network: meters with feedback and who gives way."""
         for meter in self.study.meters:
             yield (f"{meter.place}: a meter with feedback is run by `ctm-tools meter` alone; ramp {meter.ramp} isn't "
                    "metered here")
@@ -110,12 +113,6 @@ class Builder:
             yield f"{name}: nobody gives way in this network; `ctm-tools run` works out what passes, and writes the network with it"
         if len(free) > MOST_FREE:
             yield f"and {len(free) - MOST_FREE} more who don't give way in this network"
-        for limit in self.study.speed_limits:
-            part, cells = limit.part, self.junctions.cells_of(limit.part)
-            kept = sorted({float(cell.section.free_flow_speed) for cell in cells})
-            yield (f"{part.place}: speed limits by time are out of the model's reach, since a cell is as long as the way of a "
-                   f"step at the free-flow speed; road {part.road} has {' and '.join(f'{speed:g}' for speed in kept)} km/h at "
-                   f"all times, and not {rounded_text(limit.speed)} for a time")
 
     def _opened(self) -> Iterator[str]:
         """What an opening makes of the room of its cells, which a closed lane has too."""
@@ -206,9 +203,13 @@ def _check_names(study: Study) -> None:
             raise Problem(f"{name}: a road, a gate and an exit have names of their own")
 
 
+def _kind_of(record: str) -> str:
+    return record.partition(",")[0]
+
+
 def _is_large(records: Iterable[str]) -> bool:
     """Whether a network has more records of a sort than format 1 allows."""
-    counts = Counter(KINDS[record.split(",", 1)[0]].sort for record in records)
+    counts = Counter(KINDS[_kind_of(record)].sort for record in records)
     return any(counts[sort] > MOST_RECORDS[1] for sort in COUNTED)
 
 

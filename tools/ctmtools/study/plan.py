@@ -342,7 +342,7 @@ class Meter:
 
 @dataclass
 class SpeedLimit:
-    """A speed limit of a part of a road for some time, in km/h, which the model can't have."""
+    """A speed limit of a part of a road for some time, in km/h: a free-flow speed in place of the road's own, where less."""
 
     part: RoadPart
     speed: Fraction

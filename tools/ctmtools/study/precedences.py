@@ -16,14 +16,18 @@ from .ways import named, taken_ways, way_of
 SNEAKERS = Fraction(2)  # vehicles that turn at the end of a green, HCM 2010, chapter 31
 CONTROLS = ("stop", "give_way")
 MERGE_KIND = "minor-right"
+OF_SIGNS, OF_GREENS = ("median", "first", "stage_gap"), ("sneakers",)  # keys of a junction without and with a signal
+OF_GAPS = ("kind", "priority_lanes", "legs", "critical_gap", "follow_up", "control")
+MOST_IN_MEDIAN, MOST_SNEAKERS, MOST_PART = 20, 20, 10
+LEAST_FOLLOW_UP, MOST_GAP = Fraction(1, 10), 3600  # s
 
 
 def precedence(table: Entries, found: Crossing) -> Precedence:
     """To whom a movement of a junction gives way, and by which gaps."""
     way = table.take("movement", lambda value, key: way_of(value, key, found))
     others = table.take("yields_to", list_of(lambda value, key: _other(value, key, found)))
-    if not others or way in [other for other, _ in others]:
-        raise Problem(f"{table.key('yields_to')}: expected other movements than its own, one or more")
+    _check_others(table, found, way, [other for other, _ in others])
+    _check_keys(table, found)
     gaps = _gaps(table, "permitted-left" if found.cycle is not None else None)
     holds, first = table.take("median", whole, 0), taken_ways(table, "first", found)
     stage = _stage(table, gaps, holds)
@@ -32,9 +36,32 @@ def precedence(table: Entries, found: Crossing) -> Precedence:
     if bool(holds) != bool(first) or not set(first) < {other for other, _ in others}:
         raise Problem(f"{table.key('first')}: with a median, first are those of yields_to that are crossed before it, and "
                       "some are crossed behind it")
-    if sneakers < 0:
-        raise Problem(f"{table.key('sneakers')}: expected 0 or more")
+    if holds > MOST_IN_MEDIAN:
+        raise Problem(f"{table.key('median')}: expected room for at most {MOST_IN_MEDIAN} vehicles, found {holds}")
+    if not 0 <= sneakers <= MOST_SNEAKERS:
+        raise Problem(f"{table.key('sneakers')}: expected 0 to {MOST_SNEAKERS} vehicles")
     return Precedence(way, others, gaps, holds, first, stage, sneakers, table.place)
+
+
+def _check_others(table: Entries, found: Crossing, way: Way, others: list[Way]) -> None:
+    """Refuses a movement that gives way to nobody, to itself, or twice to the same."""
+    if not others or way in others:
+        raise Problem(f"{table.key('yields_to')}: expected other movements than its own, one or more")
+    twice = next((other for i, other in enumerate(others) if other in others[:i]), None)
+    if twice:
+        raise Problem(f"{table.key('yields_to')}: {named(found, twice)} stands twice; a third entry is the part of a flow that counts")
+
+
+def _check_keys(table: Entries, found: Crossing) -> None:
+    """Refuses what is of signs where there is a signal, and the other way round."""
+    signal = found.cycle is not None
+    why = "is of junctions without a signal; in a permitted green nobody waits in a median" if signal else \
+        "are of permitted greens, and this junction has no signal"
+    for name in OF_SIGNS if signal else OF_GREENS:
+        if table.has(name):
+            raise Problem(f"{table.key(name)}: {why}")
+    if table.has("stage_gap") and not table.has("median"):
+        raise Problem(f"{table.key('stage_gap')}: goes with median, the vehicles that wait between both stages")
 
 
 def _other(value: Any, key: str, found: Crossing) -> tuple[Way, Fraction]:
@@ -42,8 +69,8 @@ def _other(value: Any, key: str, found: Crossing) -> tuple[Way, Fraction]:
     if not isinstance(value, list) or len(value) not in (2, 3):
         raise Problem(f"{key}: expected [from, into] or [from, into, part], found {shown(value)}")
     part = number(value[2], f"{key}[3]") if len(value) == 3 else Fraction(1)
-    if part <= 0:
-        raise Problem(f"{key}[3]: the part of a flow that counts is above 0")
+    if not 0 < part <= MOST_PART:
+        raise Problem(f"{key}[3]: the part of a flow that counts is above 0 and at most {MOST_PART}")
     return way_of(value[:2], key, found), part
 
 
@@ -53,8 +80,10 @@ def _gaps(table: Entries, usual: str | None) -> Gaps:
     if name is not None and name not in KINDS:
         raise Problem(f"{table.key('kind')}: expected one of {', '.join(KINDS)}, found {name}")
     lanes, legs = table.take("priority_lanes", whole, 2), table.take("legs", whole, 4)
-    if lanes not in (2, 4, 6) or legs not in (3, 4):
-        raise Problem(f"{table.key('priority_lanes')}: expected 2, 4 or 6 lanes, of both directions, and 3 or 4 legs")
+    if lanes not in (2, 4, 6):
+        raise Problem(f"{table.key('priority_lanes')}: expected 2, 4 or 6 lanes, of both directions")
+    if legs not in (3, 4):
+        raise Problem(f"{table.key('legs')}: expected 3 or 4 legs, found {legs}")
     kind = KINDS[name] if name else GapKind({}, {})
     critical, follow_up = table.take("critical_gap", duration, None), table.take("follow_up", duration, None)
     if name is None and None in (critical, follow_up):
@@ -62,16 +91,27 @@ def _gaps(table: Entries, usual: str | None) -> Gaps:
     if critical is None:
         critical = kind.critical[lanes] - THREE_LEGS * (name == "minor-left" and legs == 3)
     follow_up = kind.follow_up[lanes] if follow_up is None else follow_up
-    if not 0 < follow_up or critical < 0:
-        raise Problem(f"{table.key('follow_up')}: must be above 0 s")
+    if not LEAST_FOLLOW_UP <= follow_up <= MOST_GAP:
+        raise Problem(f"{table.key('follow_up')}: expected {float(LEAST_FOLLOW_UP):g} s to an hour")
+    _check_critical(table.key("critical_gap"), critical, follow_up)
     return Gaps(critical, follow_up, kind.formula, _gives_way(table, name))
+
+
+def _check_critical(key: str, critical: Fraction, follow_up: Fraction) -> None:
+    """Refuses a gap by which the more vehicles pass the more have priority."""
+    if not follow_up / 2 <= critical <= MOST_GAP:
+        raise Problem(f"{key}: expected half of the follow-up gap of {float(follow_up):g} s to an hour; by less the more pass the more "
+                      "have priority")
 
 
 def _stage(table: Entries, gaps: Gaps, holds: int) -> Gaps:
     """The gaps of each stage of a median; those of six lanes aren't a second less, so the study has to say them."""
     if holds and table.values.get("priority_lanes") == 6 and not table.has("stage_gap"):
         raise Problem(f"{table.key('stage_gap')}: is missing; across six lanes that of a stage isn't known to be a second less")
-    return replace(gaps, critical=table.take("stage_gap", duration, gaps.critical - A_STAGE * bool(holds)))
+    critical = table.take("stage_gap", duration, gaps.critical - A_STAGE * bool(holds))
+    if holds:
+        _check_critical(table.key("stage_gap"), critical, gaps.follow_up)
+    return replace(gaps, critical=critical)
 
 
 def _gives_way(table: Entries, kind: str | None) -> bool:
@@ -104,6 +144,9 @@ def take_precedence(table: Entries, merge: Merge) -> None:
     merge.yields_to = table.take("yields_to", word, None)
     gaps = _gaps(table, MERGE_KIND)
     if merge.yields_to is None:
+        idle = next((name for name in OF_GAPS if table.has(name)), None)
+        if idle:
+            raise Problem(f"{table.key(idle)}: goes with yields_to, which names the one of both that has priority")
         return
     if merge.yields_to not in merge.sources:
         raise Problem(f"{table.key('yields_to')}: expected {' or '.join(merge.sources)}, found {merge.yields_to}")

@@ -7,11 +7,13 @@ import re
 import unicodedata
 from collections.abc import Callable
 from fractions import Fraction
+from math import isfinite
 from typing import Any
 
 from ..problem import Problem
 
 MILE = Fraction("1.609344")  # km
+MOST_NUMBER = 10 ** 300  # what no unit makes more than a floating-point number holds
 
 # For each sort of quantity the unit of a bare number, and what each unit is of it.
 UNITS = {
@@ -22,15 +24,39 @@ UNITS = {
     "flow": ("vehicles/h", {"vehicles/h": Fraction(1), "veh/h": Fraction(1), "vehicles/s": Fraction(3600)}),
     "duration": ("s", {"s": Fraction(1), "min": Fraction(60), "h": Fraction(3600)}),
 }
-TEXT = re.compile(r"\s*([+-]?[0-9]+(?:\.[0-9]+)?)\s*(.*?)\s*")
-CLOCK = re.compile(r"([0-9]{1,2}):([0-9]{2})(?::([0-9]{2}(?:\.[0-9]+)?))?")
+TEXT = re.compile(r"\s*([+-]?[0-9]{1,300}(?:\.[0-9]{1,300})?)\s*(.*?)\s*")
+CLOCK = re.compile(r"([0-9]{1,2}):([0-9]{2})(?::([0-9]{2}(?:\.[0-9]{1,300})?))?")
 
 
 def number(value: Any, key: str) -> Fraction:
     """The exact fraction of a number of the study file."""
     if isinstance(value, bool) or not isinstance(value, (int, Fraction)):
         raise Problem(f"{key}: expected a number, found {shown(value)}")
-    return Fraction(value)
+    result = Fraction(value)
+    if abs(result) > MOST_NUMBER:
+        raise Problem(f"{key}: expected a number, found one beyond 1e300")
+    return result
+
+
+def exact(text: str) -> Fraction | float:
+    """The number that a text as `0.3`, `3e-1` or `3/10` spells: an exact fraction, or a float where it is infinite or nan.
+
+    What is nearer to 0 than any float is 0. A text that spells no number is a ValueError, as a ratio of nothing is.
+    """
+    try:
+        about = float(text)
+    except ValueError:
+        return _ratio(text)
+    if not isfinite(about):
+        return about
+    return Fraction(text) if about else Fraction(0)
+
+
+def _ratio(text: str) -> Fraction:
+    try:
+        return Fraction(text)
+    except ZeroDivisionError:
+        raise ValueError(f"{text} divides by 0") from None
 
 
 def not_negative(what: str) -> Callable[[Any, str], Fraction]:
@@ -110,5 +136,6 @@ def shown(value: object) -> str:
     if isinstance(value, list):
         return "a list"
     if isinstance(value, Fraction):
-        return f"{float(value):g}"
+        short = f"{float(value):g}"
+        return short if Fraction(short) == value else str(float(value))
     return f"\"{value}\"" if isinstance(value, str) else str(value)

@@ -20,18 +20,17 @@ from .following import put_actuated_signals
 from .plan import (Closure, Diverge, Exit, Flow, Gate, Merge, Meter, Opening, Road, RoadPart, Section, Signal, SpeedLimit,
                    Study, Turn)
 from .precedences import put_merges, take_precedence
-from .quantities import clock, density, duration, flow, lanes, length, number, shown, speed, title, whole, word
+from .quantities import clock, density, duration, exact, flow, lanes, length, number, shown, speed, title, whole, word
 from .slips import slip_hint
 from .times import Times
 from .trips import put_demand, read_trips
 
 LANE = ("free_flow_speed", "wave_speed", "jam_density", "saturation_flow")
-BY_TIME = ("speed limits by time are out of the model's reach: a cell is as long as the way of a step at the free-flow speed, "
-           "so a road has one speed at all times; say a number, and note the limits as [[speed_limits]]")
+BY_TIME = "a road has one free-flow speed of its own; say a number, and lower speeds by time as [[speed_limits]]"
 
 
 def _free_flow_speed(value: Any, key: str) -> Fraction:
-    """A free-flow speed, which can't change with time."""
+    """A free-flow speed, which is one for all times."""
     if isinstance(value, (list, dict)):
         raise Problem(f"{key}: {BY_TIME}")
     return speed(value, key)
@@ -45,16 +44,11 @@ def read_values(path: str | Path) -> dict[str, Any]:
     """The values of a study file as TOML has them, with each decimal number as an exact fraction."""
     content = read_as(path, "a study")
     try:
-        return tomllib.loads(content.decode("utf-8-sig"), parse_float=_decimal)
+        return tomllib.loads(content.decode("utf-8-sig"), parse_float=exact)
     except UnicodeDecodeError:
         raise Problem(f"{path}: a study file is UTF-8; save it so") from None
     except (tomllib.TOMLDecodeError, ValueError) as error:
         raise Problem(f"{path}: {one_line(error)}{slip_hint(content, str(error))}") from None
-
-
-def _decimal(text: str) -> Fraction | float:
-    """A decimal number of TOML as an exact fraction; `nan` and `inf` as they are, so that their keys refuse them."""
-    return float(text) if text.strip("+-") in ("nan", "inf") else Fraction(text)
 
 
 def read_study(path: str | Path) -> Study:
@@ -102,6 +96,7 @@ def _study(entries: Entries, path: Path) -> Study:
     study.yield_interval = entries.take("yield_interval", duration, Study.yield_interval)
     if study.yield_interval < study.step:
         raise Problem("yield_interval: must be a step or more")
+    study.yield_interval = min(study.yield_interval, max(study.duration, study.step))
     entries.done()
     if not study.roads and not study.gates:
         raise Problem("roads: is missing")
@@ -346,6 +341,8 @@ def _opening(table: Entries, times: Times) -> Opening:
 def _speed_limit(table: Entries, times: Times) -> SpeedLimit:
     limit = SpeedLimit(_part(table, times), table.take("speed", speed))
     table.done()
+    if limit.speed == 0:
+        raise Problem(f"{table.key('speed')}: must be above 0; a closure lets nobody through")
     return limit
 
 

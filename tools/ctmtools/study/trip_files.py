@@ -15,16 +15,17 @@ from .times import Times
 
 HOUR = 3600
 COLUMNS = ("from", "to", "start", "end", "vehicles")
-DECIMAL = re.compile(r"[+-]?([0-9]+\.?[0-9]*|\.[0-9]+)([eE][+-]?[0-9]{1,2})?")
+DECIMAL = re.compile(r"[+-]?([0-9]{1,99}\.?[0-9]{,99}|\.[0-9]{1,99})([eE][+-]?[0-9]{1,2})?")
 Rows = list[tuple[int, list[str]]]  # each row with its line
 
 
 def trips_of_list(path: Path, times: Times) -> Iterator[Trips]:
     """The trips of a CSV file with the columns from, to, start, end and vehicles, each row evenly over its time."""
     (line, names), *rows = _rows(path)
-    missing = [column for column in COLUMNS if column not in names]
-    if missing:
-        raise Problem(f"{path}: line {line} has no column {missing[0]}; it has {', '.join(names)}")
+    for column in COLUMNS:
+        if names.count(column) != 1:
+            many = f"{names.count(column)} columns" if column in names else "no column"
+            raise Problem(f"{path}: line {line} has {many} {column}; it has {', '.join(names)}")
     places = [names.index(column) for column in COLUMNS]
     for line, row in rows:
         where = f"{path}: line {line}"
@@ -63,7 +64,10 @@ def _rows(path: Path) -> Rows:
     except UnicodeDecodeError:
         raise Problem(f"{path}: a file of trips is UTF-8; save it so") from None
     reader = csv.reader(text.splitlines())
-    rows = [(reader.line_num, [field.strip() for field in row]) for row in reader if any(field.strip() for field in row)]
+    try:
+        rows = [(reader.line_num, [field.strip() for field in row]) for row in reader if any(field.strip() for field in row)]
+    except csv.Error as error:
+        raise Problem(f"{path}: line {reader.line_num}: {error}") from None
     if not rows:
         raise Problem(f"{path}: is empty")
     return rows

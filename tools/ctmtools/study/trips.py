@@ -12,9 +12,11 @@ from .entries import Entries, Reader, list_of
 from .plan import Flow, Route, Routing, Share, Study, Trips
 from .quantities import duration, not_negative, number, shown, whole, word
 from .times import Times
-from .trip_files import trips_of_list, trips_of_matrix
+from .trip_files import HOUR, trips_of_list, trips_of_matrix
 
 MOST_NAMED = 6  # gates or exits of the study that a message names
+MOST_WAYS = 1000  # of a pair
+MOST_IN_STEP = 10_000_000  # vehicles that a network file says to come to a gate in a step
 _part = not_negative("a share")
 
 
@@ -83,6 +85,8 @@ def _shares(times: Times) -> Reader[list[Share]]:
     def read(value: Any, key: str) -> list[Share]:
         if not isinstance(value, list):
             return [Share(Fraction(0), times.duration, _part(value, key))]
+        if not value:
+            raise Problem(f"{key}: expected a number or rows of [start, end, share], found none")
         return [row(one, f"{key}[{i}]") for i, one in enumerate(value, 1)]
 
     def row(value: Any, key: str) -> Share:
@@ -100,6 +104,8 @@ def _routing(value: Any, key: str) -> Routing:
     table.done()
     if routing.interval == 0:
         raise Problem(f"{table.key('interval')}: must be above 0")
+    if routing.ways > MOST_WAYS:
+        raise Problem(f"{table.key('ways')}: expected at most {MOST_WAYS:,}, found {shown(routing.ways)}")
     return routing
 
 
@@ -125,6 +131,9 @@ def put_demand(study: Study) -> None:
             raise Problem(f"{trips.place}: from {trips.source}: is no gate of the study, which has {first_few(study.gates, MOST_NAMED)}")
         if trips.into not in study.exits:
             raise Problem(f"{trips.place}: to {trips.into}: is no exit of the study, which has {first_few(study.exits, MOST_NAMED)}")
+        most = max((flow.flow for flow in trips.demand), default=Fraction(0))
+        if most * study.step > MOST_IN_STEP * HOUR:
+            raise Problem(f"{trips.place}: {shown(most)} vehicles/h are more than {MOST_IN_STEP:,} in a step")
     for name in dict.fromkeys(trips.source for trips in study.trips):
         gate = study.gates[name]
         if gate.demand:

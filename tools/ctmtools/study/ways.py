@@ -20,6 +20,11 @@ def named(found: Crossing, movement: Way) -> str:
     return f"{found.sources[movement[0]]} to {found.into[movement[1]]}"
 
 
+def road_of(found: Crossing, movement: Way) -> str:
+    """The road of one cell that a movement drives through."""
+    return f"{found.sources[movement[0]]}-{found.into[movement[1]]}"
+
+
 def way_of(value: object, key: str, found: Crossing) -> Way:
     """The movement that a pair of an approach and a way out names."""
     pair = list_of(word, 2)(value, key)

@@ -10,6 +10,7 @@ from fractions import Fraction
 from typing import Any
 
 from ..problem import NoSuchKey, Problem
+from ..study.quantities import exact
 
 MOST_VALUES = 1000
 MOST_DENOMINATOR = 10**9  # 0.1 + 0.2 of Python is 3/10
@@ -49,9 +50,10 @@ def variation_of(key: str, values: str | Iterable[object]) -> Variation:
 
 def _number(text: str) -> Fraction | str:
     try:
-        return Fraction(text.strip())
-    except (ValueError, ZeroDivisionError):
+        number = exact(text.strip())
+    except ValueError:
         return text.strip()
+    return number if isinstance(number, Fraction) else text.strip()
 
 
 def _range(text: str, first: Fraction, last: Fraction, step: Fraction) -> Iterator[Fraction]:

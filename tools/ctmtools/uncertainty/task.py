@@ -77,9 +77,10 @@ def figures(report: Report, asked: Asked) -> dict[str, Any]:
     travel, free = {}, {}
     for name, cells in _ways(report, asked).items():
         found = trips(report, cells)
+        arrived = found.of(~numpy.isnan(found.steps))
         minutes = (report.units.step or 0) / 60
-        travel[name] = _told(found.of(~numpy.isnan(found.steps)).mean * minutes)
-        free[name] = len(cells) * minutes
+        travel[name] = _told(arrived.mean * minutes)
+        free[name] = (arrived.mean_free if len(arrived.free) else len(cells)) * minutes
     stands = standing(report)
     rows = numpy.flatnonzero(stands.to_numpy().any(axis=1))
     last = float(report.times[rows[-1] + 1] * (report.units.step or 0)) if len(rows) else None

@@ -9,7 +9,7 @@ roundabouts have. With `v` vehicles/h of priority, a critical gap `t_c` and a fo
 
 from __future__ import annotations
 
-from math import exp, isclose, sqrt
+from math import exp, expm1, isclose, sqrt
 
 from ..study.gap_kinds import SIEGLOCH
 from ..study.plan import Gaps
@@ -21,7 +21,7 @@ def harders(priority: float, critical: float, follow_up: float) -> float:
     """What passes where each gap lets whole vehicles through: one from the critical gap on, one more for each follow-up gap."""
     if priority <= 0:
         return HOUR / follow_up
-    return priority * exp(-priority * critical / HOUR) / (1 - exp(-priority * follow_up / HOUR))
+    return priority * exp(-priority * critical / HOUR) / -expm1(-priority * follow_up / HOUR)
 
 
 def siegloch(priority: float, critical: float, follow_up: float) -> float:
@@ -43,10 +43,11 @@ def in_two_stages(holds: int, first: float, second: float, at_once: float) -> fl
     `first` and `second` are what passes of each stage, `at_once` what passes where both are crossed in one go.
     """
     part = 1 - 0.32 * exp(-1.3 * sqrt(holds))
-    if second <= at_once:
+    if min(first, second) <= at_once:
         return at_once
     ratio = (first - at_once) / (second - at_once)
     if isclose(ratio, 1, rel_tol=1e-9):
         return part / (holds + 1) * (holds * second + at_once)
-    power = ratio ** holds
-    return part / (power * ratio - 1) * (ratio * (power - 1) * second + (ratio - 1) * at_once)
+    # The manual's `power` by `one` = 1; where it may be beyond all numbers, both divided by it.
+    power, one = (ratio ** holds, 1.0) if ratio < 1 else (1.0, ratio ** -holds)
+    return part / (power * ratio - one) * (ratio * (power - one) * second + (ratio - 1) * one * at_once)

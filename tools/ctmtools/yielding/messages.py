@@ -1,12 +1,16 @@
-"""What is told of those who give way: what passes, and what doesn't settle."""
+"""What is told of those who give way: what passes, and what doesn't settle; and of fixed greens what is lost at them."""
 
 from __future__ import annotations
 
-from collections.abc import Sequence
+from collections.abc import Iterator, Sequence
 
+from ..report.summary import number_text
+from ..text_table import table
+from .fixed_greens import GreenWaits
 from .yielding import Waits, Yielding
 
 HOUR = 3600
+MINUTE = 60
 MOST_TOLD = 8
 
 
@@ -45,3 +49,25 @@ def _waits(waits: Waits) -> str:
         return ""
     queues = f", and a queue stands in {waits.full} intervals" if waits.full else ""
     return f"; {waits.vehicles:,.0f} vehicles lose {waits.hours * HOUR / waits.vehicles:.1f} s each by coming at random{queues}"
+
+
+def green_lines(greens: Sequence[GreenWaits], others: float) -> Iterator[str]:
+    """What is lost at fixed greens by coming at random, beside what those lose in vehicle-hours who give way."""
+    hours = sum(one.hours for one in greens)
+    if not any(one.vehicles for one in greens):
+        return
+    more = f", with those who give way {hours + others:,.2f}" if others else ""
+    yield f"Lost at fixed greens by coming at random, by the Highway Capacity Manual and no part of the delay: {hours:,.2f} vehicle-hours{more}"
+    yield ""
+    most = sorted(greens, key=lambda one: -one.hours)
+    heads = ("lane group", "vehicles", "of what may pass", "each", "vehicle-hours", "queue stands")
+    yield from table([heads, *(_row(one) for one in most[:MOST_TOLD])], right=(1, 2, 3, 4, 5))
+    if len(most) > MOST_TOLD:
+        yield f"  and {len(most) - MOST_TOLD} more with less"
+
+
+def _row(one: GreenWaits) -> tuple[str, ...]:
+    each = f"{one.hours * HOUR / one.vehicles:.1f} s" if one.vehicles else ""
+    part = f"{one.part:.0%}" if one.vehicles else ""
+    full = f"{number_text(one.full / MINUTE)} min" if one.full else ""
+    return one.name, number_text(round(one.vehicles)), part, each, f"{one.hours:,.2f}", full

@@ -1,5 +1,5 @@
 use Rattle.std.specs.Prelude.{MatchOption, Option, Some, None}
-use Rattle.std.proofs.Common.{◌≡◌, ℕ, List, true, false, refl, ap, sym, ◌∙◌, arith}
+use Rattle.std.proofs.Common.{◌≡◌, ℕ, List, true, false, length, refl, ap, sym, ◌∙◌, arith}
 use Rattle.signal_plan.specs.Speeds.{has_speeds}
 use Rattle.network_file.specs.Network.{Network}
 use Rattle.network_file.specs.declared.connector.Connector.TheVariants.{Link, Merge, Diverge}
@@ -26,3 +26,15 @@ pub returns-in-Diverge : goal.returns-in-Diverge
 returns-in-Diverge c =
     rw c.in-Diverge.is
     (not_chained c.args.net.now c.args.region.now.order.now.placed (Diverge c.in-Diverge.up c.in-Diverge.down1 c.in-Diverge.down2 c.in-Diverge.b1 c.in-Diverge.b2) (λ p. refl))
+
+pub returns-then-has_speeds : goal.returns-then-has_speeds
+returns-then-has_speeds c =
+    let slows : has_speeds c.args.net.now.plan c.in-Link.up ≡ true =
+    sym (ap (λ (net : Network). has_speeds net.plan c.in-Link.up) c.net.view_is) ∙ sym c.has_speeds.ensures ∙ c.if-has_speeds.true in
+    rw c.in-Link.is (slowed-none c.args.net.now c.args.region.now.order.now.placed c.in-Link.up c.in-Link.down slows)
+
+pub returns-else-has_speeds : goal.returns-else-has_speeds
+returns-else-has_speeds c =
+    let free : has_speeds c.args.net.now.plan c.in-Link.up ≡ false =
+    sym (ap (λ (net : Network). has_speeds net.plan c.in-Link.up) c.net.view_is) ∙ sym c.has_speeds.ensures ∙ c.if-has_speeds.false in
+    rw c.in-Link.is (next c.args.net.now c.args.region.now.order.now.placed c.in-Link.up c.in-Link.down c.next_place.result free c.next_place.ensures)
