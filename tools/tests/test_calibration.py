@@ -1,10 +1,13 @@
 """Studies against detectors: what a run with known values passed finds these values again; triangles of known states."""
 
+from types import SimpleNamespace
+
 import numpy
 import pandas
 import pytest
 
 from ctmtools import Problem, run
+from ctmtools.calibration import fitting
 from ctmtools.calibration.diagram import fit, read_states
 from ctmtools.calibration.fitting import Calibration, by_place, calibrate, distance, geh, range_of
 from ctmtools.calibration.nearest import Reach, around, descend, starts, width_of
@@ -93,6 +96,16 @@ def test_the_starts_are_valleys_of_the_grid_that_lie_apart():
     assert starts(grid, valleys, 3) == [(0.96875,), (0.46875,)] and len(starts(grid, valleys, 1)) == 1
     # The points of 16 are a sixteenth apart, those of a quarter in each of two ranges a half.
     assert (width_of(grid), width_of(around(2, 4)), width_of(around(2, 3))) == (1 / 32, 1 / 4, 0.3)
+
+
+@pytest.mark.parametrize("most, searches", [(40, [24]), (76, [20, 20, 20]), (20, [11])])
+def test_each_search_has_eight_runs_for_each_key(monkeypatch, most, searches):
+    made = []
+    monkeypatch.setattr(fitting, "descend", lambda distance, start, wide, runs: made.append(runs))
+    # Of 40 or 76 runs 16 are of the grid, and of 20 as many as make a square in the half of them, 9. Two keys make 16 runs a search.
+    own = SimpleNamespace(ranges=["a", "b"], need=lambda points: None, point_of=lambda parts: parts, distance=lambda parts: 0.0, best=())
+    fitting.Calibration.search(own, most, 16, 3)
+    assert made == searches
 
 
 def test_how_far_a_value_does_as_well_is_halved():

@@ -325,3 +325,9 @@ def test_the_study_is_the_same_with_sumolib_and_without(tool, files, monkeypatch
 
 def test_the_least_length_of_time_is_taken():
     assert seconds("0", "--after", least=0) == 0 and seconds("0.1 s", "--step") == 0.1
+
+
+def test_a_street_is_a_tenth_of_a_metre_long_at_least(files):
+    text = (files / "town.net.xml").read_text()
+    (files / "town.net.xml").write_text(text.replace('length="125"', 'length="0.05"'))
+    assert read_network(files / "town.net.xml").streets["c"].length == 0.0001  # as in SUMO, in km

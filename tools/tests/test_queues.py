@@ -3,8 +3,10 @@
 import numpy
 import pytest
 
+from ctmtools.network_file.network import network_of
+from ctmtools.report.reading import report_of
 from ctmtools.report.summary import page
-from ctmtools.report.queues import course, queues_in, reach_of_part
+from ctmtools.report.queues import course, queues_in, reach_of_part, standing
 from ctmtools.report.upstream import spills
 
 from .corridor import corridor
@@ -266,3 +268,11 @@ def test_a_queue_that_begins_in_a_gate_is_told_as_before(report):
     read = report("meter")
     assert not any(spills(read, queue) for queue in queues_in(read))
     assert not any("upstream end" in line for line in page(read))
+
+
+@pytest.mark.parametrize("vehicles, stands", [(0.102, True), (0.098, False)])
+def test_a_cell_that_holds_less_than_a_tenth_of_a_vehicle_is_empty(vehicles, stands):
+    rows = "".join(f"at,{step},a,{vehicles},0\n" for step in range(3))
+    report = report_of(f"report,2,1\n{rows}cell,a,{vehicles},{vehicles},0,1\ntotal,{vehicles},{vehicles},0,1\n".encode(), "c")
+    report.network = network_of(b"ctm,1\nsteps,2\nroad,a,60,9,1,5,0\n")
+    assert standing(report).a.tolist() == [stands] * 2
