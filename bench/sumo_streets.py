@@ -11,6 +11,7 @@ import sys
 from collections import Counter
 from dataclasses import dataclass, field
 from pathlib import Path
+from random import Random
 from xml.etree import ElementTree
 
 TOOLS = Path(os.environ.get("SUMO_HOME", "/usr/share/sumo")) / "tools"
@@ -137,7 +138,7 @@ class Sumo:
         else:
             self._take_rilsa()
         self._free()
-        self.alone = None
+        self.alone = self._lost_alone() if sum(streets.flows.values()) else {}
 
     def _convert(self):
         """The network; the greens of a signal are those of the streets that are green, left turns without priority."""
@@ -172,17 +173,17 @@ class Sumo:
         (self.folder / "free.nod.xml").write_text(f"<nodes>{free}</nodes>")
         run("netconvert", "-s", "n.net.xml", "-n", "free.nod.xml", "-o", "free.net.xml", *NO_TURNS, cwd=self.folder)
 
-    def write_vehicles(self, vehicles):
-        """Writes vehicles and the routes that they drive to r.rou.xml."""
+    def write_vehicles(self, vehicles, name="r"):
+        """Writes vehicles and the routes that they drive to NAME.rou.xml."""
         routes = "".join(f'<route id="{i}" edges="{edges}"/>' for i, edges in enumerate(self.routes))
-        (self.folder / "r.rou.xml").write_text(f"<routes>{CAR}{routes}{vehicles}</routes>")
+        (self.folder / f"{name}.rou.xml").write_text(f"<routes>{CAR}{routes}{vehicles}</routes>")
 
-    def _trips(self, vehicles, *words, net="n.net.xml", step=STEP):
-        """The trips of vehicles by a run of SUMO, each with the number of its route."""
-        self.write_vehicles(vehicles)
-        run("sumo", "-n", net, "-r", "r.rou.xml", "--no-step-log", "--no-warnings", "--time-to-teleport", -1, "--step-length", step,
-            "--tripinfo-output", "t.xml", *words, cwd=self.folder)
-        found = ElementTree.parse(self.folder / "t.xml").getroot()
+    def _trips(self, vehicles, *words, net="n.net.xml", step=STEP, name="r"):
+        """The trips of vehicles by a run of SUMO, each with the number of its route; runs of several names go side by side."""
+        self.write_vehicles(vehicles, name)
+        run("sumo", "-n", net, "-r", f"{name}.rou.xml", "--no-step-log", "--no-warnings", "--time-to-teleport", -1, "--step-length",
+            step, "--tripinfo-output", f"{name}.trips.xml", *words, cwd=self.folder)
+        found = ElementTree.parse(self.folder / f"{name}.trips.xml").getroot()
         return [(int(trip.get("id").split(".")[0]), trip) for trip in found.iter("tripinfo")]
 
     def random(self, flows, lasting):
@@ -190,6 +191,13 @@ class Sumo:
         numbered = ((self.routes.index(route), flow) for route, flow in flows.items())
         return "".join(f'<flow id="{i}" type="car" route="{i}" begin="0" end="{lasting}" period="exp({flow / 3600:.6f})" '
                        'departSpeed="max"/>' for i, flow in numbered)
+
+    def even(self, flows, lasting, seed):
+        """Vehicles of some routes that come evenly, so many in an hour, the first of each at a time of its own by the seed."""
+        begins = Random(seed)
+        rows = sorted((begins.random() * 3600 / flow, self.routes.index(route), 3600 / flow) for route, flow in flows.items())
+        return "".join(f'<flow id="{i}" type="car" route="{i}" begin="{begin:.2f}" end="{lasting}" period="{period:.4f}" '
+                       'departSpeed="max"/>' for begin, i, period in rows)
 
     def _lost_alone(self):
         """What a vehicle of each route loses in the mean, in s, that is alone on streets without signs and signals."""
@@ -200,11 +208,11 @@ class Sumo:
             each.setdefault(route, []).append(float(trip.get("timeLoss")))
         return {route: statistics.mean(lost) for route, lost in each.items()}
 
-    def lost(self, seed, lasting):
-        """What the watched vehicles lose in the mean, in s, beside one that is alone."""
-        self.alone = self.alone or self._lost_alone()
-        watched = [self.routes.index(route) for route in self.streets.watched]
-        trips = self._trips(self.random(self.streets.flows, lasting), "--seed", seed)
+    def lost(self, seed, lasting, evenly=False):
+        """What the watched vehicles lose in the mean, in s, beside one that is alone; they come at random, or evenly."""
+        watched, flows = [self.routes.index(route) for route in self.streets.watched], self.streets.flows
+        vehicles = self.even(flows, lasting, seed) if evenly else self.random(flows, lasting)
+        trips = self._trips(vehicles, "--seed", seed, name=f"{'even' if evenly else 'random'}{seed}")
         return statistics.mean(float(trip.get("timeLoss")) + float(trip.get("departDelay")) - self.alone[route]
                                for route, trip in trips if route in watched)
 

@@ -50,7 +50,8 @@ def command(source: str, output: str | None, every: int | None, workers: int | N
 
     Before the page stands what `build` tells of the study, or the warnings of `lint` of the network. The page has the
     vehicles served, the delay, for each queue where it began, how far it reached and when, and when it
-    cleared, and what is still inside at the end.
+    cleared, and what is still inside at the end. Below it stands what vehicles lose at the fixed greens of a study by
+    coming at random, which is no part of the delay.
     """
     target = report_target(source, output)
     if checkpoint is not None and every:
