@@ -48,7 +48,7 @@ def sentences(page):
 
 @pytest.mark.parametrize("page, most", [("README.md", 750), ("docs/TUTORIAL.md", 450), ("tools/README.md", 550),
                                         *((page, 200) for page in BOTH if page.startswith("docs/how-to/")),
-                                        *((page, 3300) for page in BOTH)])
+                                        *((page, 3600) for page in BOTH)])
 def test_a_page_has_no_more_words(page, most):
     assert len(words(prose(page))) <= most
 
