@@ -23,7 +23,7 @@ def rows_of_faults():
 
 # Faults in other fields and kinds than those of the table.
 MORE = [
-    ("ctm,3", "NoHeader", 1), ("ctm,1; turn,p,0,1,1,1", "BadKind", 2), ("ctm,1; road,a,6,2,2,1,0", "OutOfRange", 2),
+    ("ctm,4", "NoHeader", 1), ("ctm,1; turn,p,0,1,1,1", "BadKind", 2), ("ctm,1; road,a,6,2,2,1,0", "OutOfRange", 2),
     ("ctm,1; exit,x,2; limit,x,5,5,1", "OutOfRange", 3), ("ctm,1; gate,g,1,0; signal,g,4,0,2,5", "OutOfRange", 3),
     ("ctm,1; gate,g,1,0; gate,h,1,0; exit,x,2; merge,g,h,x,0,1", "OutOfRange", 5),
     ("ctm,1; gate,g,1,0; exit,x,2; exit,y,2; diverge,g,x,y,1,1001", "OutOfRange", 5),
