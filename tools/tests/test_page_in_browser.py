@@ -206,6 +206,7 @@ def test_a_speed_limit_is_outlined_and_told(browser, tmp_path):
     path = tmp_path / "limited.html"
     path.write_text(page_of([reported(corridor(tmp_path, parts, demand=1080)) for parts in ("", limit)]))
     opened(browser, path)
+    taken(browser, "view", "study (1)")
     assert not any(line.startswith("speed limit") for line in point_at(browser, "space", 0.4, 0.375))
     without = ink(browser, "space")
     taken(browser, "view", "study (2)")

@@ -89,7 +89,10 @@ def gauge_of(meter: Meter, network: Network, units: Units) -> Gauge:
 
 def _limited(road: pandas.Series, pace: Pace | None) -> Callable[[int, int], float] | None:
     """The set point of a road with speed limits between two steps, by the mean of its speed."""
-    return None if pace is None else lambda first, last: critical(road, float(pace.mean(numpy.array([first, last]))[0]))
+    if pace is None:
+        return None
+    known: Pace = pace
+    return lambda first, last: critical(road, float(known.mean(numpy.array([first, last]))[0]))
 
 
 def critical(road: pandas.Series, part: float = 1.0) -> float:
