@@ -16,7 +16,7 @@ COMMANDS_IN = {"docs/TUTORIAL.md": 9, "docs/how-to/signals.md": 2, "docs/how-to/
                "tools/docs/networks.md": 1, "tools/docs/calibration.md": 0, "tools/docs/saved.md": 6,
                "tools/docs/plans.md": 2, "tools/docs/pages.md": 3, "tools/docs/counts.md": 0, "tools/docs/detectors.md": 1, "tools/docs/queues.md": 0, "tools/docs/sweeps.md": 1,
                "tools/docs/python.md": 0, "tools/docs/units.md": 0, "tools/docs/uncertainty.md": 1, "tools/docs/routes.md": 2,
-               "tools/docs/yields.md": 0, "tools/docs/maps.md": 4}  # and how many there are at least
+               "tools/docs/yields.md": 0, "tools/docs/speeds.md": 0, "tools/docs/maps.md": 4}  # and how many there are at least
 PAGES = sorted(str(path.relative_to(TOP)) for path in
                [*TOP.glob("*.md"), *TOP.glob("docs/**/*.md"), *TOP.glob("tools/docs/*.md"), TOP / "tools/README.md",
                 TOP / "examples/README.md"])
@@ -190,7 +190,7 @@ def test_the_excerpts_of_the_examples_are_what_the_commands_above_them_write(top
             continue
         excerpts += 1
         assert any(stand_in_order(lines, text) for text in texts_shown(top, recording_program, before, calls)), lines
-    assert excerpts == 21
+    assert excerpts == 22
 
 
 def test_the_tutorial_shows_what_its_commands_print(top, recording_program):

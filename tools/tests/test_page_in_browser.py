@@ -200,6 +200,23 @@ def test_what_only_one_report_has_is_in_the_table_and_in_no_difference(browser, 
     assert browser.get_log("browser") == []
 
 
+def test_a_speed_limit_is_outlined_and_told(browser, tmp_path):
+    """Of one of two reports, from 06:10 to 06:40 on km 0.5 to 0.75; the diagram begins at 06:00 and ends at 07:00."""
+    limit = '[[speed_limits]]\nroad = "m"\nfrom = 0.5\nto = 0.75\nstart = "06:10"\nend = "06:40"\nspeed = 60\n'
+    path = tmp_path / "limited.html"
+    path.write_text(page_of([reported(corridor(tmp_path, parts, demand=1080)) for parts in ("", limit)]))
+    opened(browser, path)
+    taken(browser, "view", "study (1)")
+    assert not any(line.startswith("speed limit") for line in point_at(browser, "space", 0.4, 0.375))
+    without = ink(browser, "space")
+    taken(browser, "view", "study (2)")
+    assert "speed limit 60 km/h" in point_at(browser, "space", 0.4, 0.375) and ink(browser, "space") != without
+    assert not any(line.startswith("speed limit") for line in point_at(browser, "space", 0.9, 0.375))
+    taken(browser, "view", "study (2) less study (1)")
+    assert any(line.startswith("speed limit, km/h – 60") for line in point_at(browser, "space", 0.4, 0.375))
+    assert browser.get_log("browser") == []
+
+
 def test_it_is_zoomed_dragged_and_played(browser, two):
     opened(browser, two)
     for name in ("map", "space"):

@@ -100,10 +100,10 @@ class Legs:
         diverges = set(self.diverges)
         return self.gates[cells[0]], *(self.of_start[down] for up, down in zip(cells, cells[1:]) if up in diverges)
 
-    def steps(self, leg: int) -> Fraction:
+    def steps(self, leg: int) -> int | Fraction:
         """The steps that a leg takes at free flow: one for each cell, or more by the mean of its speed limits over the run."""
         cells = [cell for chain in self.legs[leg].chains for cell in self.chains[chain]]
-        return sum((self._slow[cell] for cell in cells if cell in self._slow), Fraction(sum(cell not in self._slow for cell in cells)))
+        return len(cells) + sum(self._slow[cell] - 1 for cell in cells if cell in self._slow)
 
     @cached_property
     def _slow(self) -> dict[str, Fraction]:
@@ -119,7 +119,7 @@ class Legs:
         for number, leg in enumerate(self.legs):
             if leg.end is not None:
                 behind = leg.follows or ((END, leg.end),)
-                graph.add_edges_from(((number, node) for node in behind), steps=max(Fraction(1), self.steps(number)))
+                graph.add_edges_from(((number, node) for node in behind), steps=max(1, self.steps(number)))
         return graph
 
     def free_ways(self, source: str, into: str, most: int) -> list[Way]:

@@ -61,7 +61,7 @@ def _lanes(found: Streets, sign: Element) -> Iterator[str]:
     """The lanes of a sign, with those of its edges."""
     yield from sign.get("lanes", "").split()
     for edge in sign.get("edges", "").split():
-        yield from found.streets[edge].by_lane if edge in found.streets else [edge]
+        yield from list(found.streets[edge].by_lane) if edge in found.streets else [edge]
 
 
 def _spans(street: Street, lanes: dict[str, Steps]) -> Iterator[SpeedSpan]:
