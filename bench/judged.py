@@ -36,6 +36,8 @@ class Judged:
         """What changes where the tests, or the one that noticed, or what they rest on changes."""
         if by:
             file, name = by.split("::")[:2]
+            if not (self.tools / file).exists():
+                return ""
             return reaching.key_of(self.tools, file.removeprefix("tests/"), name.partition("[")[0])[:16]
         files = sorted({name.split("::")[0].removeprefix("tests/") for name in tests})
         return _digest(*sorted(tests), *(reaching.key_of(self.tools, file) for file in files))

@@ -1,13 +1,14 @@
 """What gaps let pass: the formulas against figures that were worked out by hand from the Highway Capacity Manual's gaps."""
 
 from fractions import Fraction
+from types import SimpleNamespace
 
 import pytest
 
 from ctmtools.study.gap_kinds import KINDS
 from ctmtools.study.plan import Gaps
 from ctmtools.yielding.gaps import harders, in_two_stages, passing, siegloch
-from ctmtools.yielding.permitted import Opposing
+from ctmtools.yielding.permitted import Opposing, PermittedGreen, in_span
 
 
 @pytest.mark.parametrize("priority, passes", [(300, 744.3), (600, 504.6), (900, 340.0), (1200, 227.7)])
@@ -34,6 +35,16 @@ def test_the_queue_of_those_who_come_towards_clears_as_it_does_by_hand():
     # 30 s of red at 400 vehicles/h are gone at 1,800 - 400 vehicles/h: 400·30/1,400 s.
     assert Opposing((0, 30), 400, 400, 1800).cleared(60) == pytest.approx(8.571, abs=0.001)
     assert Opposing((0, 30), 900, 900, 1800).cleared(60) == 30
+    later = Opposing((10, 40), 400, 400, 1800)
+    assert later.cleared(60) == pytest.approx(8.571, abs=0.001)
+    # So its queue is gone at 18.571 s: in no part of the step from 16 to 18 s, in 0.2143 of that to 19 s, and in all of that to 21 s.
+    parts = [PermittedGreen._free(SimpleNamespace(cycle=60, step=2), time, later) for time in (17, 18, 20)]
+    assert parts == pytest.approx([0, 0.2143, 1], abs=0.0005)
+
+
+@pytest.mark.parametrize("time, within", [(49, False), (50, True), (5, True), (65, True), (10, False), (20, False)])
+def test_a_span_that_passes_the_end_of_the_cycle(time, within):
+    assert in_span(time, (50, 70), 60) == within
 
 
 def test_a_median_of_one_vehicle_by_hand():

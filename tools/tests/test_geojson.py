@@ -10,7 +10,7 @@ from ctmtools.report.by_road import by_road
 
 from .corridor import HEAD, corridor
 from .examples import save_report
-from .plain_reports import reported
+from .plain_reports import at_a_light, reported
 
 
 def made(tmp_path, **named):
@@ -48,6 +48,13 @@ def test_the_delay_of_all_cells_adds_up_to_the_programs(tmp_path, every, records
         assert sum(delay for _, delay in delays) == pytest.approx(461.25, abs=0.01)
         assert all(delay == 0 for kind, delay in delays if kind == "exit")
     assert by_road(report, every).delay.sum() == pytest.approx(461.25, abs=0.01)
+
+
+def test_steps_and_cells_where_no_units_are_known():
+    rows = [row["properties"] for row in collection(at_a_light(0, 3, 7), 10)["features"] if row["properties"]["cell"] == "a"]
+    # One goes out in the first ten steps, in which the cell holds 7 vehicle-steps; the two that then stand there go out at once.
+    assert [tuple(row[key] for key in ("begin", "end", "flow", "density", "speed")) for row in rows[:2]] == [
+        (0, 10, 0.1, 0.7, 0.143), (10, 20, 0.2, 0.2, 1)]
 
 
 CENTRE = [[13.40, 52.52], [13.41, 52.52]]  # degrees, in Berlin

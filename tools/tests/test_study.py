@@ -6,7 +6,7 @@ import pytest
 from ctmtools import Problem, build, read_network, read_study
 from ctmtools.network_file.network import network_of
 
-from .corridor import HEAD as OPEN_HEAD
+from .corridor import HEAD as OPEN_HEAD, corridor
 from .examples import EXAMPLES
 
 STUDIES = sorted(path.stem for path in EXAMPLES.glob("*.toml") if path.with_suffix(".csv").exists())
@@ -279,3 +279,8 @@ def test_mistakes(mistake, tmp_path):
         built(tmp_path, text)
     assert wanted in str(found.value) and "\n" not in str(found.value)
     assert str(found.value).startswith(str(tmp_path))
+
+
+def test_a_wave_speed_of_thousandths_of_the_free_flow_speed(tmp_path):
+    made = corridor(tmp_path, head=OPEN_HEAD.replace("= 90", "= 100").replace("= 18", "= 17.1"))
+    assert {tuple(line.split(",")[4:6]) for line in made.text.splitlines() if line.startswith("road,")} == {("171", "1000")}
