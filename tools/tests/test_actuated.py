@@ -236,5 +236,5 @@ def test_when_a_queue_is_gone(waiting, come, steps):
     # One passes in two steps. Where 3 came in 10 steps, 0.3 of the 4 who stand there drive, and 0.3 come in each step that 0.5 leave.
     moment = SimpleNamespace(rows=[SimpleNamespace(n=waiting * PARTS, come=come * PARTS)])
     own = SimpleNamespace(moment=moment, places={"a": 0}, seen={"a": (0, 0)},
-                          network=SimpleNamespace(cells=SimpleNamespace(Q={"a": 0.5}), steps=100))
+                          network=SimpleNamespace(cells=SimpleNamespace(Q={"a": 0.5}), steps=100, paces={}))
     assert ActuatedSignals._clearing(own, ["a"], 10) == pytest.approx(steps)
