@@ -20,8 +20,6 @@ LONGER = [
     ("CONTRIBUTING.md", "Outside the full check, in `bench`"),
     ("docs/SPEED.md", "Ratios can be compared with those of another day"),
     ("docs/VALIDATION.md", "Networks of SUMO that nobody here wrote"),
-    ("docs/VALIDATION.md", "A grid of SUMO, 16 signals"),
-    ("tools/docs/routes.md", "`import sumo NET.net.xml --routes FILE --trips`"),
     ("tools/docs/yields.md", "Who gives way to a movement that gives way itself"),
 ]
 
