@@ -217,7 +217,7 @@ def test_a_table_of_several_shares_is_written_over_an_earlier_one(tool, opened, 
 
 
 @pytest.mark.parametrize("column, value", [(2, "xx"), (2, "07:00 + "), (3, "one"), (4, "nan"), (4, "-1"), (4, "1e400"), (5, "inf"), (6, None),
-                                           (0, "x" * 140_000)])
+                                           pytest.param(0, "x" * 140_000, id="a long field")])
 def test_a_row_of_ways_that_assign_did_not_write_is_refused(opened, tmp_path, column, value):
     (tmp_path / "open.toml").write_bytes(opened.read_bytes())
     (tmp_path / "s.toml").write_text(TWO_WAYS.replace("3000]]", "1800]]"))

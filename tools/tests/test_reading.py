@@ -19,8 +19,6 @@ LONGEST = 40  # words of a sentence
 LONGER = [
     ("CONTRIBUTING.md", "Outside the full check, in `bench`"),
     ("docs/VALIDATION.md", "Networks of SUMO that nobody here wrote"),
-    ("docs/VALIDATION.md", "A grid of SUMO, 16 signals"),
-    ("tools/docs/routes.md", "`import sumo NET.net.xml --routes FILE --trips`"),
     ("tools/docs/yields.md", "Who gives way to a movement that gives way itself"),
 ]
 

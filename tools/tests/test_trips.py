@@ -55,15 +55,17 @@ def test_a_list_and_matrices_say_the_same(tmp_path):
      "routes[1]: there are no trips from g to y")])
 def test_trips_that_cannot_be_are_refused(tmp_path, text, told):
     with pytest.raises(Problem) as found:
-        study_of(tmp_path, ROADS + text, short=",x,y\ng,1\n", twice="from,to,start,end,vehicles,to\n", minus=",x,y\ng,-1,0\n", word=",x,y\ng,1,two\n")
+        study_of(tmp_path, ROADS + text, short=",x,y\ng,1\n", twice="from,to,start,end,vehicles,to\n", minus=",x,y\ng,-1,0\n",
+                 word=",x,y\ng,1,two\n")
     assert told in str(found.value)
 
 
 @pytest.mark.parametrize("row, told", [
     ("g,x,07:00,07:10,-1", "line 2, vehicles: a number of vehicles isn't negative, found \"-1\""),
     *((f"g,x,07:00,07:10,{text}", f'line 2, vehicles: expected a number of vehicles, found "{text}"')
-      for text in ("ten", "nan", "inf", "1e400", "1_0", "1/2", "", "9" * 5000)),
-    ("x" * 140_000 + ",x,07:00,07:10,1", "line 2: field larger than field limit"),
+      for text in ("ten", "nan", "inf", "1e400", "1_0", "1/2", "")),
+    pytest.param(f"g,x,07:00,07:10,{'9' * 5000}", "line 2, vehicles: expected a number of vehicles, found", id="many digits"),
+    pytest.param("x" * 140_000 + ",x,07:00,07:10,1", "line 2: field larger than field limit", id="a long field"),
     ("g,x,07:10,07:00,1", "line 2, end: the end isn't after the start"),
     ("g,x,7,07:10,1", "line 2, start: expected a clock time"),
     ("h,x,07:00,07:10,1", "line 2: from h: is no gate of the study, which has g"),
