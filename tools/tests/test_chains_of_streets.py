@@ -75,4 +75,4 @@ def test_limits_by_time_of_parts_of_links_are_told(tmp_path):
     (tmp_path / "link.csv").write_text("link_id,from_node_id,to_node_id,length,free_speed\na,1,2,0.5,60\n")
     (tmp_path / "segment_tod.csv").write_text("segment_tod_id,segment_id,free_speed\n1,s,30\n2,s,\n")
     notes = read_folder(tmp_path).notes
-    assert notes[-1].endswith(": 1 of segment_tod.csv are left out")
+    assert notes[-1].startswith("segment_tod.csv: 1 speeds by time are left out")
