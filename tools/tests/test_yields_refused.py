@@ -48,7 +48,7 @@ HOSTILE = [
     (light(median="1", first='[["n", "x"]]'), "yields[1].median", "is of junctions without a signal"),
     (light(sneakers="-1"), "yields[1].sneakers", "expected 0 to 20 vehicles"),
     (light(sneakers="1e300"), "yields[1].sneakers", "expected 0 to 20 vehicles"),
-    (light(sneakers="1e400"), "yields[1].sneakers", "found one beyond 1e300"),
+    (light(sneakers="1e305"), "yields[1].sneakers", "found one beyond 1e300"),
     (light(permitted='[["e", "x"]]'), "phases[1].permitted", "isn't green in it"),
     (light(permitted='"s"'), "phases[1].permitted", "expected a list"),
     (follows("{ least = 0, most = 40, gap = 4 }"), "phases[1].actuated.least", "must be above 0 s and at most the most, 40 s"),
