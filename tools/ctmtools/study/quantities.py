@@ -32,9 +32,10 @@ def number(value: Any, key: str) -> Fraction:
     """The exact fraction of a number of the study file."""
     if isinstance(value, bool) or not isinstance(value, (int, Fraction)):
         raise Problem(f"{key}: expected a number, found {shown(value)}")
-    if abs(value) >= BEYOND:
+    result = Fraction(value)
+    if abs(result) >= BEYOND:
         raise Problem(f"{key}: expected a number below 1e300")
-    return Fraction(value)
+    return result
 
 
 def exact(text: str) -> Fraction | float:
