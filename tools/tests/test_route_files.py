@@ -49,13 +49,3 @@ def test_a_route_of_its_own_and_ways_over_stops(trips):
     assert found == [("a c", 5, 5, 1), ("a c e", 6, 6, 1)]
     assert notes == ["t.rou.xml: 6 vehicles without a way over the network are left out, as trip 3 from a to b, where no way is",
                      "t.rou.xml: 1 vehicles that depart triggered are left out, as vehicle 6"]
-
-
-def test_signs_of_speed_are_told_with_their_streets(tmp_path):
-    (tmp_path / "t.net.xml").write_text(net())
-    for terms, told in (('lanes="a_1 b_0"', "1 variable speed signs are left out; a, b keep their speeds at all times"),
-                        ('edges="c"', "1 variable speed signs are left out; c keeps its speed at all times"), ('lanes="q_0"', "1 variable speed signs are left out")):
-        (tmp_path / "t.rou.xml").write_text(f'<routes><variableSpeedSign id="v" {terms}/></routes>')
-        found = read_network(tmp_path / "t.net.xml")
-        read_trips(found, [tmp_path / "t.rou.xml"], [], 3600)
-        assert found.notes[-1].endswith(told)

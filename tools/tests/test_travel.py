@@ -46,7 +46,7 @@ def test_who_has_not_arrived_by_the_end_has_no_time():
 def test_of_nobody_there_is_no_mean_time():
     with warnings.catch_warnings():
         warnings.simplefilter("error")
-        assert numpy.isnan(Trips(*[numpy.empty(0)] * 3).mean)
+        assert numpy.isnan(Trips(*[numpy.empty(0)] * 4).mean)
 
 
 def test_spans_of_a_single_step():
