@@ -42,12 +42,7 @@ unfolding limits_in
 kept-steady None limits step until s has from within = refl
 kept-steady (Some courses) limits step until s has from within = has.steady s from within
 
--- where nothing bounds it otherwise in another step a connector carries the same
-pub flow-until : (course : LimitedValues) (limits : Limits) (s t : ℕ) (n : List ℕ) → limits_of course s ≡ limits → limits_of course t ≡ limits →
-    limited_flow course s n ≡ limited_flow course t n
-flow-until course limits s t n is was = sym (flow-within course limits s n is) ∙ flow-within course limits t n was
-
--- so does one whose limits never change
+-- a connector whose limits never change carries the same in each step
 pub flow-stays : (course : LimitedValues) (s t : ℕ) (n : List ℕ) → course.courses ≡ None → limited_flow course s n ≡ limited_flow course t n
 unfolding limited_flow limits_in
 flow-stays course s t n never = rw never refl

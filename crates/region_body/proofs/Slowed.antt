@@ -1,22 +1,15 @@
 -- Speeds that are followed forward.
-use Rattle.std.specs.Prelude.{All, Option, Some, None, is_some, not, ◌&&◌, slice_index, if◌then◌else◌}
-use Rattle.std.proofs.Common.{◌≡◌, ℕ, ◌<◌, ◌≤◌, Bool, true, false, List, refl, sym, ap, ◌∙◌, subst, length, arith}
-use Rattle.std.proofs.lemmas.List.Elements.{All-weaker}
-use Rattle.signal_plan.specs.Limits.{most_steps}
+use Rattle.std.specs.Prelude.{Option, Some, None, is_some, slice_index, if◌then◌else◌}
+use Rattle.std.proofs.Common.{◌≡◌, ℕ, Bool, true, false, List, refl, sym, ap, ◌∙◌, subst, arith}
 use Rattle.signal_plan.specs.Speeds.{IsSpeed, arriving, has_speeds, speed_at}
 use Rattle.signal_plan.proofs.Laws.{arriving-own, speed_at-none}
 use Rattle.network_file.specs.Network.{IsNetwork, Network}
 use Rattle.flow_model.proofs.CellLimits.{speed_at-sound}
-use Rattle.courses.specs.Courses.{Course, IsSteady, value_at}
+use Rattle.courses.specs.Courses.{Course, value_at}
 use Rattle.region_body.specs.Flows.{ConnectorValues, flow_at, limited_flow}
 use Rattle.region_body.specs.Limits.{sends_second}
-use Rattle.region_body.specs.Slowing.{AreSpeeds, AreSpeedsIn, IsSlowedWith, IsSlowing, IsSlowingAs, SlowingValues, sent_in, slowed, slowed_by}
+use Rattle.region_body.specs.Slowing.{AreSpeeds, AreSpeedsIn, IsSlowing, IsSlowingAs, SlowingValues, sent_in, slowed}
 use Rattle.region_body.specs.declared.rule.Rule.{Rule}
-use Rattle.region_body.specs.declared.rule.Rule.TheVariants.{Linking, Merging, Diverging}
-
--- a value that stays does so up to an earlier step
-pub steady-earlier : {X : Type 0} (at : ℕ → X) (t until earlier : ℕ) → IsSteady at t until → earlier ≤ until → IsSteady at t earlier
-steady-earlier at t until earlier steady less = λ s from within. steady s from (omega arith)
 
 -- no speed records, no slowing
 none-slowed : (net : Network) (cell t n : ℕ) → has_speeds net.plan cell ≡ false → n ≡ arriving (speed_at net.plan cell t) n

@@ -7,7 +7,6 @@ from collections.abc import Iterator, Sequence
 import numpy
 
 from ..report.summary import number_text
-from ..report.reading import Report
 from ..study.plan import Study
 from ..text_table import table
 from ..units import clock_text

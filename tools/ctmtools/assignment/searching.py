@@ -8,7 +8,7 @@ import numpy
 from scipy.sparse import csr_matrix
 from scipy.sparse.csgraph import dijkstra
 
-from .legs import Legs, Way
+from .legs import Way
 from .passing import Passing
 
 MOST_NODES = 40_000  # legs times slots

@@ -8,6 +8,7 @@ from typing import TypeVar
 
 import numpy
 
+from ..network_file.kinds import record_text
 from ..study.network_text import Builder, Built
 from .forks import Fork, pairs_of
 
@@ -32,8 +33,7 @@ class SharedNetwork:
             for cell, pairs in zip(fork.cells, pairs_of(own)):
                 number = self.diverges[cell]
                 lines[number] = ",".join([*lines[number].split(",")[:4], *map(str, pairs[0])])
-                turns += [f"turn,{cell},{begin},{end},{pair[0]},{pair[1]}" for begin, end, pair in spans(pairs, bounds)
-                          if pair != pairs[0]]
+                turns += [record_text("turn", cell, begin, end, *pair) for begin, end, pair in spans(pairs, bounds) if pair != pairs[0]]
         if turns and lines[self.header] == "ctm,1":
             lines[self.header] = "ctm,2"
         return ("\n".join([*lines[:-1], *turns]) + "\n").encode()

@@ -1,5 +1,5 @@
 use Rattle.std.specs.Prelude.{◌&&◌}
-use Rattle.std.proofs.Common.{◌≡◌, Bool, true, false, refl, sym, ap, subst, ◌∙◌, slice_index}
+use Rattle.std.proofs.Common.{◌≡◌, Bool, true, false, sym, ap, subst, ◌∙◌, slice_index}
 use Rattle.signal_plan.specs.Speeds.{has_speeds}
 use Rattle.network_file.specs.Network.{IsNetwork, Network}
 use Rattle.courses.specs.Courses.{value_at}

@@ -1,6 +1,6 @@
-use Rattle.std.specs.Prelude.{Option, Some, None}
+use Rattle.std.specs.Prelude.{Some, None}
 use Rattle.std.specs.Option.{option_map}
-use Rattle.std.proofs.Common.{◌≡◌, ◌<◌, ℕ, refl, sym, ap, subst, ◌∙◌, arith}
+use Rattle.std.proofs.Common.{◌≡◌, refl, sym, ap, subst, ◌∙◌, arith}
 use Rattle.courses.specs.Courses.{value_at}
 use Rattle.region_body.specs.Flows.{ConnectorValues, limited_flow, until_of}
 use Rattle.region_body.specs.Slowing.{IsSlowedWith, IsSlowing, SlowingValues, slowed}
