@@ -183,6 +183,8 @@ def _lines(place):
 def _context(place):
     """The widest expression or statement around a place that can be shown in a line."""
     found = place.node
+    if isinstance(found, ast.stmt):
+        return found
     for node in reversed(place.above):
         if not isinstance(node, (ast.expr, ast.stmt, ast.comprehension, ast.keyword)) or len(_shown(node)) > CONTEXT:
             break

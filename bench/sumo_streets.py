@@ -24,6 +24,7 @@ RED = 4  # s at the end of each phase
 ALONE, APART = 12, 67  # vehicles of each route that drive alone, and s between them
 BEGINS = 300  # s until those who pass are counted
 LONGEST_WAIT = 20  # s for room, after which a vehicle of a queue that is to stand doesn't come
+MOST_MEMORY, LONGEST_RUN = 4_000_000_000, 1200  # bytes and s of a run, since one whose streets are jammed for good doesn't end
 ARMS = {"N": (0, 1), "E": (1, 0), "S": (0, -1), "W": (-1, 0)}
 RIGHT_OF = {"N": "W", "W": "S", "S": "E", "E": "N"}  # where who comes from an arm turns right
 NO_TURNS = "--no-turnarounds", "true"
@@ -121,8 +122,12 @@ def rilsa(part):
 
 
 def run(*words, **named):
-    """Runs a command, and ends with what it says where it fails."""
-    ended = subprocess.run([str(word) for word in words], capture_output=True, text=True, **named)
+    """Runs a command within bounds of memory and time, and ends with what it says where it fails."""
+    try:
+        ended = subprocess.run(["prlimit", f"--as={MOST_MEMORY}", *map(str, words)], capture_output=True, text=True,
+                               timeout=LONGEST_RUN, **named)
+    except subprocess.TimeoutExpired:
+        sys.exit(f"{words[0]}: hasn't ended after {LONGEST_RUN} s")
     if ended.returncode:
         sys.exit(f"{words[0]}: {ended.stderr.strip()[-500:] or ended.stdout.strip()[-500:]}")
     return ended.stdout

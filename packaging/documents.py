@@ -15,7 +15,7 @@ from figures.field import field_picture
 from figures.user_book import PICTURES
 
 # The heads of the tables that are written here.
-CHECK_TIMES = "| Crate | Functions | Proof | Tests | Must-fail edits |\n|---|---|---|---|---|\n"
+CHECK_TIMES = "```\ncrate            functions    proof    tests    edits\n"
 MODES = "| Mode | Begin with | Definitions | Files | Files not read yet |\n|---|---|---|---|---|\n"
 FILES_OF_RUN = "| Crate | Files of `specs` |\n|---|---|\n"
 
@@ -23,8 +23,10 @@ FILES_OF_RUN = "| Crate | Files of `specs` |\n|---|---|\n"
 def map_page() -> str:
     """docs/inside/MAP.md with the check times of launcher/check_times.csv."""
     with open(TOP / "launcher/check_times.csv", newline="") as file:
-        rows = [[f"`{row[0]}`", *row[1:]] for row in list(csv.reader(file))[1:]]
-    return with_table((TOP / "docs/inside/MAP.md").read_text(), CHECK_TIMES, rows)
+        rows = list(csv.reader(file))[1:]
+    before, _, behind = (TOP / "docs/inside/MAP.md").read_text().partition(CHECK_TIMES)
+    lines = "".join(f"{row[0]:16}{row[1]:>10}{row[2]:>9}{row[3]:>9}{row[4]:>9}\n" for row in rows)
+    return before + CHECK_TIMES + lines + behind[behind.index("```"):]
 
 
 def proved_page() -> str:

@@ -7,7 +7,8 @@ for each combination of varied values. `read_report(path)` gives a report that s
 Of a report, `states(report)` is the tidy table of occupancy (vehicles), flow (vehicles/h), density (vehicles/km) and
 speed (km/h) over time, `totals(report)` its delays (vehicle-hours) by cell, `queues_of(report)` its queues,
 `travel_times(report, chain_of(report, road="m"), every=900)` the travel times along a chain of cells,
-`compare(first, second)` what two of them differ by, `plot(report, kind)` a picture, and `page(report)` a page for a browser.
+`compare(first, second)` what two of them differ by, `by_lane_group(report)` what is lost at fixed greens by coming at random,
+`plot(report, kind)` a picture, and `page(report)` a page for a browser.
 
 `read_detectors(files)` reads files of detectors in whatever format they come. `assign`, `choose`, `draw`, `optimise`, `meter`,
 `calibrate` and `diagram` are the commands of their names; `import_sumo`, `import_gmns` and `import_osm` make studies of other
@@ -49,11 +50,13 @@ if TYPE_CHECKING:
     from .report.travel import chain_of as chain_of
     from .report.travel import travel_times as travel_times
     from .study.reading import read_study as read_study
+    from .yielding.fixed_greens import by_lane_group as by_lane_group
 
 __version__ = "1.0"  # the program's, in launcher/words.table
 
 # Where each public name is at home; it is loaded when it is first asked for.
-HOMES = {"Network": "network_file.network", "Problem": "problem", "Report": "report.reading", "by_road": "report.by_road",
+HOMES = {"Network": "network_file.network", "Problem": "problem", "Report": "report.reading", "by_lane_group": "yielding.fixed_greens",
+         "by_road": "report.by_road",
          "chain_of": "report.travel", "compare": "report.comparing", "queues_of": "report.states",
          "read_network": "network_file.network", "read_report": "report.reading", "read_study": "study.reading",
          "states": "report.states", "totals": "report.states", "travel_times": "report.travel",

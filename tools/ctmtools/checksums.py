@@ -8,6 +8,7 @@ by hand is held against the network: its steps, its cells, and what came to each
 from __future__ import annotations
 
 import hashlib
+from dataclasses import replace
 from pathlib import Path
 from typing import TYPE_CHECKING
 
@@ -36,7 +37,12 @@ def units_of(network: Network, path: str | Path) -> Units:
     """The units that stand beside a network's file, which have to be of it."""
     units = read_units(units_path(path))
     check_network(network, units, path, units_path(path))
-    return units
+    return of_runs(units, network)
+
+
+def of_runs(units: Units, network: Network) -> Units:
+    """The units of a network, without what the runs of another one settled, as where it was edited since."""
+    return units if units.network_checksum == checksum(network.content) else replace(units, giving_way=[])
 
 
 def check_network(network: Network, units: Units, name: str | Path, units_name: str | Path) -> None:

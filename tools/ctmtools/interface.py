@@ -12,7 +12,7 @@ from typing import TYPE_CHECKING, Any
 
 from .problem import Problem
 from .report.reading import Report, read_report
-from .running import is_study, opened, prepare, run_into, settled_by_runs
+from .running import opened, prepare, run_into
 from .running import run as run_network
 from .study.network_text import Built
 from .study.network_text import build as build_study
@@ -53,11 +53,8 @@ def run(source: str | Path | Study, output: str | Path | None = None, every: int
     """
     if output is not None:
         return run_into(Path(output), prepare(source, Path(output)), every, workers)
-    if isinstance(source, Study) or is_study(source):
-        built = settled_by_runs(source if isinstance(source, Study) else read_study(source)).built
-        return _named(run_network(built.text.encode(), "the built network", built.units, every, workers)[1], source)
     prepared = opened(source)
-    return _named(run_network(prepared.content, str(source), prepared.units, every, workers, network=prepared.network)[1], source)
+    return _named(run_network(prepared.content, str(prepared.path), prepared.units, every, workers, network=prepared.network)[1], source)
 
 
 def plot(report: str | Path | Report, kind: str, output: str | Path | None = None, **options: Any) -> Figure:

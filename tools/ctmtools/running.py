@@ -22,6 +22,7 @@ from .study.reading import read_study
 from .study.messages import built_lines
 from .checksums import checksum, marked, units_of
 from .units import Units, units_path
+from .yielding.fixed_greens import note_losses
 from .yielding.settling import MOST_RUNS, Done, Settled, settled
 
 Shown = Callable[[int], Done]  # takes how many runs there may be, and gives what is called after each
@@ -99,6 +100,7 @@ def opened(source: str | Path | Study, shown: Shown | None = None, kept: Path | 
         count = MOST_RUNS if study.yields else round(study.duration / study.step) if study.actuated else 0
         found = settled_by_runs(study, done=shown(count) if shown and count else None, kept=kept)
         built = found.built
+        note_losses(found.study, found.waits, built)
         return Prepared(study.path, built.text.encode(), built.network, built.units, list(built_lines(built)), built, found)
     path = Path(source)
     content = read_as(path, "a network")

@@ -25,7 +25,9 @@ class Units:
     where it isn't known. `cells` has for each road cell `road`, `from_km`, `to_km`, `lanes`, `free_flow_kmh`,
     `wave_kmh`; `roads` has for each road its cells in the direction of travel, and `points` where they are given.
     `cycles` has the cycle in steps of each signal that the network has as limits, by the cell or the gate of its stop
-    line. `crs` is the coordinate system of the points, which are in km of it, where it is known. `network_checksum` and
+    line. `lane_groups` are those at fixed greens, each the fields of a `LaneGroup`, whose flows are counted for `yield_interval`
+    steps or whole cycles. `giving_way` is what those lose by coming at random who give way, each the fields of `Waits` and a
+    `name`. `crs` is the coordinate system of the points, which are in km of it, where it is known. `network_checksum` and
     `steps` are of the network that the units are of; `report_checksum` is of the report that was last written beside them,
     and `report_network` of the network that it was run of. `ways_checksum` is of the ways of an assignment that stand beside
     the report, `ways_network` of the network that it ended in, and `ways_interval` the steps of its intervals of choice.
@@ -47,6 +49,9 @@ class Units:
     ways_checksum: str | None = None
     ways_network: str | None = None
     ways_interval: int | None = None
+    yield_interval: int | None = None
+    lane_groups: list[dict[str, Any]] = field(default_factory=list)
+    giving_way: list[dict[str, Any]] = field(default_factory=list)
 
     @property
     def known(self) -> bool:
@@ -126,7 +131,9 @@ def read_units(path: str | Path) -> Units:
         values = json.loads(path.read_text())
         return Units(values.get("title", ""), values.get("step_seconds"), values.get("start_seconds"),
                      values.get("network"), values.get("cells", {}), values.get("roads", {}), values.get("points", {}),
-                     values.get("cycles", {}), values.get("crs"), values.get("steps"), *(values.get(key) for key in TIES))
+                     values.get("cycles", {}), values.get("crs"), values.get("steps"),
+                     yield_interval=values.get("yield_interval"), lane_groups=values.get("lane_groups", []),
+                     giving_way=values.get("giving_way", []), **{key: values.get(key) for key in TIES})
     except (OSError, ValueError, AttributeError) as error:
         raise Problem(f"{path}: no units file: {error}") from None
 
@@ -136,8 +143,9 @@ def units_text(units: Units) -> str:
     cells = ",\n".join(f"    {json.dumps(name)}: {json.dumps(row)}" for name, row in units.cells.items())
     head = {"title": units.title, "step_seconds": units.step, "start_seconds": units.start, "network": units.network,
             "steps": units.steps, **{key: getattr(units, key) for key in TIES},
-            "roads": units.roads, "points": units.points, "cycles": units.cycles, "crs": units.crs}
-    lines = [f"  {json.dumps(key)}: {json.dumps(value)}" for key, value in head.items() if value not in (None, {}, "")]
+            "roads": units.roads, "points": units.points, "cycles": units.cycles, "crs": units.crs,
+            "yield_interval": units.yield_interval, "lane_groups": units.lane_groups, "giving_way": units.giving_way}
+    lines = [f"  {json.dumps(key)}: {json.dumps(value)}" for key, value in head.items() if value not in (None, {}, [], "")]
     if cells:
         lines.append('  "cells": {\n' + cells + "\n  }")
     return "{\n" + ",\n".join(lines) + "\n}\n"

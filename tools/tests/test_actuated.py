@@ -10,6 +10,9 @@ from ctmtools.amounts import PARTS
 from ctmtools.moments.actuated_signals import ActuatedSignals
 from ctmtools.program import ask
 from ctmtools.running import opened
+from ctmtools.study.plan import Actuation
+
+from .examples import EXAMPLES
 
 STUDY = """step = 1
 start = "07:00"
@@ -95,7 +98,24 @@ def test_a_green_of_two_streets_lasts_until_the_longer_queue_is_gone(tmp_path, r
 
 def test_greens_that_need_less_last_the_least(tmp_path, recording_program):
     # Where few come 0.02·(28 - 4) + 4 = 4.5 s would do.
-    assert settled_greens(opened(write(tmp_path, 36, 36, "{ least = 10, most = 40, gap = 4 }"))) == [10, 10, 28]
+    found = opened(write(tmp_path, 36, 36, "{ least = 10, most = 40, gap = 4 }"))
+    assert settled_greens(found) == [10, 10, 28] and set(found.units.cycles.values()) == {28}
+
+
+def test_a_bar_is_told_how_far_greens_have_come_and_there_is_none_without_runs(tmp_path, recording_program):
+    shown, passed = [], []
+
+    def bar(count):
+        shown.append(count)
+        return passed.append
+
+    opened(EXAMPLES / "bottleneck.toml", bar)
+    assert not shown
+    path = write(tmp_path, 36, 36, "{ least = 10, most = 40, gap = 4 }")
+    path.write_text(path.read_text().replace('end = "07:08"', 'end = "07:07:56"'))
+    opened(path, bar)
+    # A green begins each 14 s, and none at the end.
+    assert shown == [476] and sum(passed) == 462
 
 
 def test_greens_that_are_too_short_last_the_most(tmp_path, recording_program):
@@ -116,6 +136,7 @@ def test_build_tells_that_its_greens_are_fixed(tmp_path, tool):
 
 @pytest.mark.parametrize("changes, why", [
     ({"follow": "{ least = 50, most = 40, gap = 4 }"}, "phases[1].actuated.least: must be above 0 s and at most the most, 40 s"),
+    ({"follow": "{ least = 5, most = 40, gap = 41 }"}, "phases[1].actuated.gap: must be at most the most, 40 s"),
     ({"follow": "{ least = 5, most = 40 }"}, "phases[1].actuated.gap: is missing"),
     ({"more": 'yields = [{ movement = ["a", "x"], yields_to = [["b", "y"]] }]'}, "is permitted in no phase"),
     ({"follow": FOLLOW + ', permitted = [["a", "x"]]', "more": 'yields = [{ movement = ["a", "x"], yields_to = [["b", "y"]] }]'},
@@ -124,6 +145,11 @@ def test_what_a_study_cant_mean_is_refused(tmp_path, changes, why):
     with pytest.raises(Problem) as refused:
         read_study(write(tmp_path, **changes))
     assert why in str(refused.value)
+
+
+def test_a_gap_may_be_as_long_as_the_most(tmp_path):
+    (junction,) = read_study(write(tmp_path, follow="{ least = 40, most = 40, gap = 40 }")).actuated
+    assert {phase.actuation for phase in junction.phases} == {Actuation(40, 40, 40)}
 
 
 SIGNALS = STUDY.partition("[[junctions]]")[0].replace("[roads]", "[roads]\nz = {{ length = 0.1, lanes = 1 }}").replace(
@@ -156,6 +182,13 @@ def test_signals_whose_roads_merge_take_turns_as_phases_do(tmp_path, recording_p
     # As the junction: C = (8 + 2·4 - 4·Y)/(1 - Y) = 28 with Y = 0.3 + 0.2, and greens of y·(C - 4) + 4.
     found = settled_greens(opened(signals(tmp_path)))
     assert found[:2] == pytest.approx([11.2, 8.8], abs=1.2) and found[2] == pytest.approx(28, abs=2.4)
+
+
+def test_signals_that_are_green_together_before_the_others_are_one_phase(tmp_path):
+    path = signals(tmp_path)
+    path.write_text(path.read_text().replace("first_green = 30", "first_green = 0"))
+    (junction,) = read_study(path).actuated
+    assert [phase.lines for phase in junction.phases] == [[("a", None), ("b", None)]] and junction.phases[0].pause == 34
 
 
 def test_a_signal_without_actuated_keeps_its_green_between_the_others(tmp_path, recording_program):

@@ -246,6 +246,7 @@ def test_times_on_the_ways_are_in_hours_of_all_and_minutes_of_each():
 
 @pytest.mark.parametrize("gap, moved, limits, told", [
     (0.02, 0, 0, "the gap is 0.0200, above 0.01;"), (0, 0.02, 0, "2.00% of what comes to branches still moves between them, above 0.01;"),
+    (0, 0.01, 0, "1.00% of what comes to branches still moves between them, above 0.01;"),
     (0, 0, 0.2, "what passes of those who give way still moves by 20.0%;")])
 def test_what_has_not_settled_is_told_with_what_it_is_above(gap, moved, limits, told):
     own = SimpleNamespace(choices=[], departures=SimpleNamespace(by_interval=[]), times=[], crowded=set(),

@@ -11,7 +11,7 @@ from ctmtools.assignment.choices import Choice
 from ctmtools.assignment.departures import Departures, departures_of
 from ctmtools.assignment.diversion import divert
 from ctmtools.assignment.forks import Fork, Rounded, pairs_of, parts_of
-from ctmtools.assignment.loading import moved
+from ctmtools.assignment.loading import moved, share_bounds
 from ctmtools.assignment.searching import Search
 from ctmtools.assignment.swapping import Pace, swap
 from ctmtools.assignment.times import Gap, times_of
@@ -116,6 +116,12 @@ def test_what_moves_between_branches_is_counted_once_and_by_intervals_of_choice(
     assert moved(before, after, bounds, 2) == pytest.approx(2 / 20)
 
 
+# Of 90 steps and 4,166 branches there may be about 50,000·30/(90·4,166) = 4 spans in each interval of 30 steps: 3 have whole steps.
+@pytest.mark.parametrize("diverges, wanted", [(1, list(range(91))), (4166, list(range(0, 91, 10))), (100_000, [0, 30, 60, 90])])
+def test_shares_change_at_the_intervals_of_choice_and_as_often_between_as_there_is_room(diverges, wanted):
+    assert share_bounds(30, 90, diverges).tolist() == wanted
+
+
 @pytest.mark.parametrize("gap, shifted, settled", [(0.009, 0.009, True), (0.011, 0.009, False), (0.009, 0.011, False)])
 def test_a_round_is_settled_where_neither_drivers_nor_shares_would_move(gap, shifted, settled):
     assert Round(1, Gap(100 + 100 * gap, 100, 500), shifted, 0.0, 0.0).settled(0.01) == settled
@@ -123,6 +129,8 @@ def test_a_round_is_settled_where_neither_drivers_nor_shares_would_move(gap, shi
 
 @pytest.mark.parametrize("come, parts", [
     ([[50, 52], [50, 48]], [[500_000, 520_000], [500_000, 480_000]]),
+    # Parts that differ by less than 50 millionths from those before stay as these are.
+    ([[500_000, 500_030, 500_100], [500_000, 499_970, 499_900]], [[500_000, 500_000, 500_100], [500_000, 500_000, 499_900]]),
     ([[0, 1], [0, 2]], [[333_333, 333_333], [666_667, 666_667]]),  # where nobody comes at first those behind count
     ([[0, 0], [0, 0]], [[1, 1], [1_000_000, 1_000_000]])])  # where nobody comes, the nearest exit, which is 3 steps ahead
 def test_what_comes_to_a_fork_is_parted_to_a_millionth(come, parts):
@@ -145,6 +153,7 @@ def test_the_rows_of_the_ways_have_all_drivers_and_their_minutes(tmp_path):
     found = {row.roads[1]: (row.vehicles, row.minutes) for row in made.rows() if row.start == "07:00:00"}
     # 40 % of 250 choose the long way. 14.75 km at 90 km/h, or 7.5 km more, and a step of 5 s in the gate.
     assert found["short"] == pytest.approx((150, 595 / 60)) and found["long"] == pytest.approx((100, 895 / 60))
+    assert list(dict.fromkeys(row.start for row in made.rows())) == CLOCKS
 
 
 @pytest.mark.parametrize("come, told", [([9.925, 10_000], 1), ([10, 9_995], 0)])

@@ -1,9 +1,12 @@
 """What a comparison says of two reports that aren't of the same cells, places and times."""
 
+from types import SimpleNamespace
+
 import plain_model
 import pytest
 
 from ctmtools.files import write_units
+from ctmtools.report.comparability import other_lanes_and_speeds
 from ctmtools.units import units_path
 
 from .corridor import HEAD, corridor
@@ -53,6 +56,12 @@ def test_other_lanes_and_speeds_are_told(tool, saved):
     lines = tool("compare", one, saved("slow", head=HEAD.replace("= 18", "= 15")))[1].splitlines()
     assert lines[2] == "4 cells have another wave speed in A and in B, as m1: 18 km/h in A, 15 km/h in B"
     assert "another" not in tool("compare", one, saved("same"))[1]
+
+
+def test_a_single_other_cell_is_told_as_one():
+    one, two = (SimpleNamespace(network=None, units=SimpleNamespace(cells={
+        "m1": {"road": "m", "from_km": 0, "to_km": 1, "lanes": lanes}})) for lanes in (2, 3))
+    assert list(other_lanes_and_speeds(one, two)) == ["1 cell has another number of lanes in A and in B, as m1: 2 in A, 3 in B"]
 
 
 def test_nothing_is_told_of_reports_that_are_alike(tool, saved):

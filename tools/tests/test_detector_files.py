@@ -80,6 +80,11 @@ def calibration(tmp_path, **terms):
     return Calibration(tmp_path / "study.toml", read_observed(tmp_path / "d.csv"), [range_of("lane.wave_speed=10:20")], **terms)
 
 
+@pytest.mark.parametrize("part, value", [(0, 10), (0.12345, 11.23), (0.5, 15), (1, 20)])
+def test_values_of_four_digits_are_tried(tmp_path, part, value):
+    assert calibration(tmp_path).point_of((part,)) == (value,)
+
+
 def test_a_run_beside_others_has_one_worker(tmp_path, monkeypatch):
     calls = []
     monkeypatch.setattr(fitting, "run", lambda *words: calls.append(words) or ("text", "report"))

@@ -190,7 +190,7 @@ def test_the_excerpts_of_the_examples_are_what_the_commands_above_them_write(top
             continue
         excerpts += 1
         assert any(stand_in_order(lines, text) for text in texts_shown(top, recording_program, before, calls)), lines
-    assert excerpts == 22
+    assert excerpts == 21
 
 
 def test_the_tutorial_shows_what_its_commands_print(top, recording_program):
@@ -213,9 +213,14 @@ def test_the_example_of_the_first_page_is_the_file_and_its_report(top, recording
     assert f"in {len(read('examples/bottleneck.toml').splitlines())} lines" in read("README.md")
 
 
-def test_the_must_fail_edits_and_the_tests_of_the_map_are_those_that_stand():
+def check_times():
+    """The rows of launcher/check_times.csv: a crate, its functions, the seconds of its proof and of its tests, and its edits."""
+    return [line.split(",") for line in read("launcher/check_times.csv").splitlines()[1:]]
+
+
+def test_the_must_fail_edits_and_the_tests_of_the_check_times_are_those_that_stand():
     page = read("docs/inside/MAP.md").split("## Check times")[1].split("\n## ")[0]
-    rows = re.findall(r"^\| `(\w+)` \| \w+ \| \w+ \| (\w+) \| (\w+) \|$", page, re.MULTILINE)
+    rows = [(crate, tests, edits) for crate, _, _, tests, edits in check_times()]
     counts = [line.split() for line in read(".ci/counts.txt").splitlines()]
     assert [crate for crate, _, _ in rows] == [words[1] for words in counts if words[0] == "crate"]
     for crate, tests, edits in rows:
@@ -227,9 +232,8 @@ def test_the_must_fail_edits_and_the_tests_of_the_map_are_those_that_stand():
 
 def test_the_times_of_the_map_add_up():
     page = read("docs/inside/MAP.md").split("## Check times")[1].split("\n## ")[0]
-    rows = re.findall(r"^\| `(\w+)` \| \w+ \| (\d+) \| (\w+) \| \w+ \|$", page, re.MULTILINE)
-    proofs = {crate: int(seconds) for crate, seconds, _ in rows}
-    tests = sum(int(seconds) for _, _, seconds in rows if seconds != "none")
+    proofs = {crate: int(proof) for crate, _, proof, _, _ in check_times()}
+    tests = sum(int(seconds) for _, _, _, seconds, _ in check_times() if seconds != "none")
     assert f"some {sum(proofs.values()) / 60:.0f} processor-minutes of proofs and {tests / 60:.0f} of tests" in page
     edits, each, minutes = map(int, re.search(r"The (\d+) edits take some (\d+) s each, in all some (\d+) minutes", page).groups())
     assert round(edits * each / 60) == minutes
@@ -322,4 +326,4 @@ def test_a_decision_is_told_in_80_words():
 
 def test_the_book_for_who_carries_the_project_on_stays_short():
     words = [word for page in [*INSIDE, "CONTRIBUTING.md"] for word in read(page).split() if re.search(r"\w", word)]
-    assert len(words) <= 12_500
+    assert len(words) <= 11_200

@@ -292,11 +292,30 @@ def test_a_plan_of_which_no_run_succeeds_is_told_beside_the_other(tool, program,
     assert (status, err) == (2, "ctm-tools: no run succeeded\n") and "2 of 2 runs failed" in out
 
 
+@pytest.mark.parametrize("runs, jobs, address, wanted", [
+    (1, 2, None, ("here", 1)), (3, 1, None, ("here", 3)), (3, 2, None, ("beside", 3, 2)), (2, 4, None, ("beside", 2, 2)),
+    (1, 1, "tcp://a:1", ("cluster", 1, "tcp://a:1"))])
+def test_who_does_the_runs(tmp_path, monkeypatch, program, runs, jobs, address, wanted):
+    calls = []
+
+    def does(name):
+        def done(tasks, *words):
+            calls.append((name, len(tasks), *words[:-1]))
+            yield from ()
+        return done
+
+    for name in ("here", "beside", "cluster"):
+        monkeypatch.setattr(f"ctmtools.uncertainty.drawn_runs.{name}", does(name))
+    assert not list(DrawnRuns([written(tmp_path, GATE + UNIFORM)], runs, 1).run(jobs, address)) and calls == [wanted]
+
+
 def test_the_picture_can_be_read(program):
     picture = draws.draw(draw(STUDY, SHOULDER, runs=20))
     assert_readable(picture)
     assert len(picture.axes) == 2 and [text.get_text() for text in picture.legends[0].texts] == \
         ["A lane drop, demand uncertain", "The same with a hard shoulder"]
+    across = [line.get_ydata()[0] for line in picture.axes[1].lines if list(line.get_xdata()) == [0, 1]]
+    assert across == picture.axes[1].get_yticks().tolist()[1:] == [0.5, 0.8, 0.95]
 
 
 def test_the_function_for_python_gives_what_the_command_writes(tool, program, tmp_path):

@@ -1,11 +1,15 @@
 """What is lost at fixed greens by coming at random: its formula by hand, the lane groups, and what `run` tells of a study."""
 
+import csv
+import io
 import re
 
 import pytest
 
 from ctmtools import read_study
-from ctmtools.running import settled_by_runs
+from ctmtools.pages.tables import greens_of
+from ctmtools.report.reading import read_report
+from ctmtools.running import opened
 from ctmtools.study.network_text import build
 from ctmtools.yielding.control_delay import at_signal
 from ctmtools.yielding.fixed_greens import waits_at_greens
@@ -65,8 +69,7 @@ def test_the_incremental_delay_of_fixed_greens_by_hand(flow, capacity, wanted):
 
 def lost(tmp_path, text):
     """What is lost at the greens of a study, by a run of which each step is recorded."""
-    study = read_study(write(tmp_path, text))
-    return waits_at_greens(study, recorded(settled_by_runs(study).built))
+    return waits_at_greens(recorded(opened(write(tmp_path, text)).built))
 
 
 def test_a_stop_line_below_its_capacity_loses_what_the_formula_has(tmp_path, recording_program):
@@ -128,14 +131,13 @@ def test_greens_that_follow_traffic_and_signals_for_a_time_are_no_fixed_greens(t
     assert not lane_groups(study, built.network, built.units)
 
 
-def test_run_tells_it_below_the_page_and_of_a_network_nothing(tmp_path, tool, recording_program):
+def test_run_tells_it_below_the_page_and_nothing_without_records(tmp_path, tool, recording_program):
     path = write(tmp_path, STOP_LINE.format(demand=450, more=""))
     status, out, _ = tool("run", path)
     assert status == 0
     assert re.search(r"\n\nLost at fixed greens by coming at random, by the Highway Capacity Manual and no part of the delay: 0\.24 "
                      r"vehicle-hours\n\n  lane group +vehicles +of what may pass +each +vehicle-hours +queue stands\n"
                      r"  street09 +444 +49% +1\.9 s +0\.24\n\nReport", out)
-    assert "at random" not in tool("run", "study.csv", "-o", "again.report")[1]
     assert "at random" not in tool("run", path, "--every", "0")[1]
 
 
@@ -144,3 +146,70 @@ def test_those_who_give_way_at_the_same_signal_are_told_once(tmp_path, recording
     assert [one.name for one in found] == ["junctions[1], s to east, ahead", "junctions[1], n to west"]
     # 7/8 of 400 vehicles/h of the 900 of a lane, x = 0.3889: 225·(-0.6111 + sqrt(0.37346 + 0.0069136)) = 1.265 s.
     assert 3600 * found[0].hours / found[0].vehicles == pytest.approx(1.265, rel=0.05)
+
+
+@pytest.fixture
+def left_turn(tmp_path, tool, recording_program):
+    """What `run` tells below its page of a signal with a permitted left turn, from a folder with its report study.report."""
+    _, out, _ = tool("run", write(tmp_path, APPROACH.format(lanes=2, table="[1, 1, 1]", more=PERMITTED)))
+    return out[out.index("\nLost at fixed greens"):out.index("\n\nReport ")]
+
+
+def cells_told(told):
+    """The rows of a table that is told, cell by cell."""
+    return [re.split(r"  +", line.strip()) for line in told.splitlines() if line.startswith("  ")]
+
+
+def test_the_page_for_a_browser_has_the_words_and_numbers_of_run(left_turn):
+    found, = greens_of([read_report("study.report")], ["study"])
+    assert re.fullmatch(r"Lost at fixed greens .*: \d\.\d\d vehicle-hours, with those who give way \d\.\d\d", found["head"])
+    assert left_turn.strip().splitlines()[0] == found["head"]
+    assert cells_told(left_turn) == [[cell for cell in row if cell] for row in [found["columns"], *found["rows"]]]
+
+
+def test_a_table_by_lane_groups_has_the_numbers_of_run(left_turn, tool):
+    _, out, _ = tool("table", "study.report", "--by", "lane-group", "--value-of-time", "20")
+    rows = list(csv.DictReader(io.StringIO(out)))
+    assert list(rows[0]) == ["lane_group", "vehicles", "part", "lost_each", "lost", "queue_stands", "cost"]
+    assert cells_told(left_turn)[1:] == [[row["lane_group"], f"{float(row['vehicles']):.0f}", f"{float(row['part']):.0%}",
+                                          f"{float(row['lost_each']):.1f} s", f"{float(row['lost']):.2f}"] for row in rows]
+    assert all(float(row["cost"]) == pytest.approx(20 * float(row["lost"])) and float(row["queue_stands"]) == 0 for row in rows)
+
+
+@pytest.mark.parametrize("words, wanted", [(("--interval", "15 min"), "goes without --interval"), (("--cell", "s7"), "--cell with --by cell"),
+                                           (("--totals",), "--totals and --cell with --by cell")])
+def test_what_a_table_by_lane_groups_does_not_take(left_turn, tool, words, wanted):
+    status, _, err = tool("table", "study.report", "--by", "lane-group", *words)
+    assert status == 2 and wanted in err
+
+
+def test_a_network_that_was_edited_has_its_own_loss_at_greens_and_no_longer_that_of_giving_way(left_turn, tool, tmp_path):
+    # The program's own run repeats the report, and tells the same; with half of the demand less is lost.
+    assert left_turn in tool("run", "study.csv", "-o", "again.report")[1]
+    network = tmp_path / "study.csv"
+    text = network.read_text()
+    gate = next(line for line in text.splitlines() if line.startswith("demand,gs"))
+    *words, amount = gate.split(",")
+    network.write_text(text.replace(gate, ",".join([*words, f"{float(amount) / 2:g}"])))
+    _, out, _ = tool("run", "study.csv", "-o", "half.report")
+    assert "Lost at fixed greens" in out and "with those who give way" not in out and left_turn not in out
+
+
+def test_a_network_of_build_tells_it_too(tmp_path, tool, plain):
+    path = write(tmp_path, STOP_LINE.format(demand=450, more=""))
+    assert tool("build", path)[0] == 0
+    _, out, _ = tool("run", "study.csv", "-o", "by-hand.report")
+    assert re.search(r"no part of the delay: 0\.24 vehicle-hours\n", out)
+
+
+def test_two_reports_compared_tell_what_each_loses_at_random(left_turn, tool):
+    greens, both = map(float, re.search(r"delay: ([\d.]+) vehicle-hours, with those who give way ([\d.]+)", left_turn).groups())
+    _, out, _ = tool("compare", "study.report", "study.report")
+    rows = {row[0]: row[1:] for row in cells_told(out[out.index("Lost by coming at random"):])}
+    assert rows["at fixed greens"] == [f"{greens:.2f}", f"{greens:.2f}", "0"]
+    assert float(rows["by those who give way"][0]) == pytest.approx(both - greens, abs=0.011)
+
+
+def test_what_is_not_known_is_not_compared(left_turn, tool):
+    assert tool("run", "study.toml", "--every", "0", "-o", "bare.report")[0] == 0
+    assert "at random" not in tool("compare", "study.report", "bare.report")[1]

@@ -37,6 +37,10 @@ def test_by_quarter_of_an_hour(tmp_path):
     assert rows[0]["flow"] == pytest.approx(1440 * 88 / 90) and rows[0]["density"] == pytest.approx(16 * 88 / 90, abs=0.001)
     assert (rows[1]["flow"], rows[1]["density"], rows[1]["speed"], rows[1]["delay"]) == pytest.approx((1440, 16, 90, 0))
     assert rows[3]["flow"] == 0 and rows[3]["speed"] is None
+    # It is the same where each sixth step is recorded.
+    sparse = collection(reported(corridor(tmp_path, demand='[["06:00", "06:30", 1440]]'), 6), 900)["features"]
+    second = [row["properties"] for row in sparse if row["properties"]["cell"] == "m1"][1]
+    assert (second["flow"], second["density"], second["speed"], second["delay"]) == pytest.approx((1440, 16, 90, 0))
 
 
 @pytest.mark.parametrize("every, records", [(900, 1), (900, 6), (700, 7)])

@@ -2,12 +2,15 @@
 
 import re
 import tomllib
+from types import SimpleNamespace
 
 import pytest
 
 from ctmtools import build, read_study
 from ctmtools.imports import sumolib_net
+from ctmtools.imports.streets import LEFT, RIGHT, THROUGH
 from ctmtools.imports.sumo import read_network
+from ctmtools.imports.turning import turn_of
 from ctmtools.running import settled_by_runs
 
 from .test_gmns import TABLES
@@ -114,6 +117,12 @@ def test_signs_turns_and_roundabouts_say_the_kind(import_net, terms, wanted):
     assert found == {"yields_to": [["w", "p"]], **wanted}
 
 
+def test_a_left_turn_where_three_streets_meet_has_the_gaps_of_that(import_net):
+    import_net(turn="l", net=NET.replace('to="O"', 'to="W"').replace('to="P"', 'to="E"').replace('to="N"', 'to="S"'))
+    found = yields_of(study()["junctions"][0])["s", "p"]
+    assert found == {"yields_to": [["w", "p"]], "kind": "minor-left", "legs": 3, "control": "give_way"}
+
+
 def test_who_drives_through_and_crosses_another_has_the_gaps_of_that(import_net):
     import_net(right="0101", turn="s")
     found = yields_of(study()["junctions"][0])["s", "p"]
@@ -124,6 +133,15 @@ def test_a_left_turn_that_has_priority_over_a_side_street_counts_twice_there(imp
     # w to n is a left turn out of the street with priority, to which who drives through from s gives way.
     import_net(right="0011", turn="s")
     assert yields_of(study()["junctions"][0])["s", "p"]["yields_to"] == [["w", "n", 2], ["w", "p"]]
+
+
+# The street before leads to the east; up to 45 degrees are no turn.
+@pytest.mark.parametrize("said, before, behind, wanted", [
+    ("", [(0, 0), (1, 0)], [(1, 0), (1, 1)], LEFT), ("", [(0, 0), (1, 0)], [(1, 0), (1, -1)], RIGHT),
+    ("", [(0, 0), (1, 0)], [(1, 0), (2, 0.9)], THROUGH), ("", [(0, 0), (1, 0)], [(1, 0), (2, -1.1)], RIGHT),
+    ("", [], [(1, 0), (1, 1)], THROUGH), ("", [(0, 0), (1, 0)], [], THROUGH), ("thru", [(0, 0), (1, 0)], [(1, 0), (1, 1)], THROUGH)])
+def test_where_a_movement_turns_is_what_is_said_or_by_its_streets(said, before, behind, wanted):
+    assert turn_of(said, SimpleNamespace(points=before), SimpleNamespace(points=behind)) == wanted
 
 
 def test_where_one_drives_on_the_left_a_right_turn_crosses(import_net):

@@ -104,6 +104,8 @@ def test_what_became_of_the_map_is_told_with_its_place():
     assert of_kind(places, "roundabout") == [("Kreisel", pytest.approx((420, 400), abs=8))]
     assert {street for street, _ in of_kind(places, "left out")} == {"Am Graben", "Inselweg", "Rundweg", "Am Tor",
                                                                   'Sackgasse "Zur Mühle", Hof'}
+    # It is one-way from node 70 on.
+    assert dict(of_kind(places, "left out"))['Sackgasse "Zur Mühle", Hof'] == (1300, 700)
     assert of_kind(places, "dead end") == [("Am Graben", (1300, 200))]
     assert of_kind(places, "barred") == [("Privatweg", (900, -1000))]
     assert sorted(of_kind(places, "signal")) == [("Bahnhofstraße and Münchner Straße", (900, 400)),

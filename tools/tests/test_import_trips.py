@@ -132,12 +132,13 @@ def test_the_ways_are_those_of_cars_from_end_to_end(tool, net):
     assert "1 vehicles without a way over the network are left out, as vehicle 2 over bus" in out
 
 
-def test_a_matrix_is_cut_where_the_demand_ends(net):
+# 100 vehicles in half an hour are 200 vehicles/h, and in ten hours 10.
+@pytest.mark.parametrize("end, flow", [("0.30", 200), ("10.00", 10)])
+def test_a_matrix_is_cut_where_the_demand_ends(net, end, flow):
     (net / "t.taz.xml").write_text(TAZ)
-    (net / "m.od").write_text("$OR;D2\n0.00 0.30\n1.00\n1 2 100\n")
+    (net / "m.od").write_text(f"$OR;D2\n0.00 {end}\n1.00\n1 2 100\n")
     study = import_sumo(net / "n.net.xml", net / "n.toml", trips=True, taz=net / "t.taz.xml", matrix=net / "m.od", until="15 min")
-    # 100 vehicles in half an hour are 200 vehicles/h.
-    assert [[(flow.start, flow.end, flow.flow) for flow in trips.demand] for trips in study.trips] == [[(0, 900, 200)]]
+    assert [[(row.start, row.end, row.flow) for row in trips.demand] for trips in study.trips] == [[(0, 900, flow)]]
 
 
 def test_an_imported_study_is_assigned_from_python_with_the_columns_of_its_file(net, program, monkeypatch):

@@ -52,6 +52,13 @@ def test_the_fit_of_each_detector():
     assert distance(model, seen) == pytest.approx(((flow + speed) / 2) ** 0.5)
 
 
+def test_a_geh_of_five_is_not_below_five():
+    # Differences of 40, 50 and 55 at a mean of 100: 4, 5 and 5.5.
+    model = pandas.DataFrame({"flow": [120, 125, 127.5], "speed": [50, 50, 50]})
+    found = by_place(model, observed(("a", 80, 50), ("a", 75, 50), ("a", 72.5, 50)))
+    assert found.geh.tolist() == pytest.approx([14.5 / 3]) and found.below_5.tolist() == pytest.approx([1 / 3])
+
+
 def rows(*parts):
     """Flow and density of a lane: for each part so many rows with a speed, their densities spread evenly over a range."""
     density = numpy.concatenate([numpy.linspace(low, high, count) for count, _, low, high in parts])

@@ -13,13 +13,16 @@ from selenium.webdriver.common.by import By
 from selenium.webdriver.common.actions.wheel_input import ScrollOrigin
 from selenium.webdriver.support.ui import WebDriverWait
 
-from ctmtools import read_report, states
+from ctmtools import build, read_report, read_study, states
 from ctmtools.pages.background import Background
 from ctmtools.pages.html_page import page_of
 from ctmtools.pages.tables import table_of
+from ctmtools.yielding.fixed_greens import note_losses
 
 from .corridor import corridor
+from .test_fixed_greens import STOP_LINE
 from .test_page import BESIDE
+from .test_yield import write
 from .plain_reports import reported
 
 LANE_DROP, STAGGERED = "A lane drop", "Staggered hours before a lane drop"
@@ -311,6 +314,19 @@ def test_it_is_printed_on_two_pages_of_a4(browser, page, names):
     opened(browser, page(*names), scheme="dark")
     assert printed_pages(browser) == 2
     assert browser.execute_script("return [state.printing, document.documentElement.className]") == [False, ""]
+
+
+def test_what_is_lost_at_fixed_greens_stands_below_the_roads(browser, tmp_path):
+    study = read_study(write(tmp_path, STOP_LINE.format(demand=450, more="")))
+    built = build(study)
+    note_losses(study, (), built)
+    path = tmp_path / "greens.html"
+    path.write_text(page_of([reported(built)]))
+    opened(browser, path)
+    head = browser.find_element(By.CSS_SELECTOR, "#greens h2").text
+    assert head.startswith("Lost at fixed greens by coming at random") and head.endswith("no part of the delay: 0.24 vehicle-hours")
+    assert [column(browser, number, "greens-0") for number in range(1, 7)] == [["street09"], ["444"], ["49%"], ["1.9 s"], ["0.24"], [""]]
+    assert printed_pages(browser) == 2
 
 
 def test_rows_that_find_no_room_on_paper_are_counted(browser, tmp_path):

@@ -123,6 +123,8 @@ FAILING = "read -r _; read -r steps; [ $steps != steps,1 ] || exit 0; "
     (f"{FAILING}echo ctm: no memory >&2; exit 7", "a.csv: ctm: no memory; the program is PROGRAM"),
     (f"{FAILING}echo ctm: words refused >&2; exit 2", "a.csv: ctm: words refused; the program is PROGRAM"),
     (f"{FAILING}echo ctm: network: record 3 code 13 NoCells >&2; exit 3", "a.csv: ctm: network: record 3 code 13 NoCells"),
+    (f"{FAILING}echo ctm: too large: record >&2; exit 4", "a.csv: ctm: too large: record"),
+    (f"{FAILING}echo ctm: read fault >&2; exit 5", "a.csv: ctm: read fault; the program is PROGRAM"),
     (f"{FAILING}kill -9 $$", "PROGRAM was ended by signal 9"),
     ("exec cat", "a.csv: what PROGRAM wrote is no report of ctm"),
     (None, "PROGRAM: permission denied"),

@@ -9,8 +9,9 @@ import pytest
 from ctmtools import read_study
 from ctmtools.report.reading import Report
 from ctmtools.running import run
+from ctmtools.study.network_text import build
 from ctmtools.yielding import settling
-from ctmtools.yielding.settling import settled
+from ctmtools.yielding.settling import Settled, settled
 
 from .test_yield import CROSSING, PERMITTED, SIDE, write
 
@@ -114,3 +115,10 @@ def test_limits_that_swing_go_less_than_half_way_and_end_after_20_runs(tmp_path)
     assert limits[:5] == pytest.approx([744.3, 542.1, 643.2, 567.4, 611.6], abs=0.1)
     assert found.runs == 20 and not found.is_settled and counted == [1] * 20 + [0]
     assert any("merges[1], side: after 20 runs what passes isn't settled" in line for line in found.built.warnings)
+
+
+@pytest.mark.parametrize("moved, doubt", [(0.01, ""), (0.011, "who gives way isn't settled after 20 runs, a limit moves by 1.1%")])
+def test_a_limit_that_would_move_by_just_a_hundredth_is_settled(tmp_path, moved, doubt):
+    study = read_study(write(tmp_path, SIDE.format(main=600, low=300, high=300)))
+    found = Settled(study, build(study), 20, moved)
+    assert (found.is_settled, found.doubt) == (not doubt, doubt)

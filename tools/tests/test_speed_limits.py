@@ -91,6 +91,7 @@ def test_a_road_at_its_limit_passes_less_for_long(tmp_path):
     assert corridor(tmp_path, PART).remarks == [
         "speed_limits[1]: at 60 km/h road m from km 0.5 to 0.75 passes 3,987.69 vehicles/h for long, by its wave speed and jam "
         "density, in place of 4,320"]
+    assert "at 60 km/h road m from km 0 to 1 passes 3,987.69 vehicles/h" in corridor(tmp_path, SIXTY).remarks[0]
     assert built(tmp_path, corridor_text(SIXTY).replace("saturation_flow = 2160", "saturation_flow = 1800")).remarks == []
 
 

@@ -134,6 +134,11 @@ def test_a_time_between_steps_is_rounded(tmp_path):
     assert roundings(made)["end of gates.g.demand[1]"] == (1806, 1810)
 
 
+@pytest.mark.parametrize("lanes, told", [(1, "1 lane"), (2, "2 lanes"), (3, "3 lanes")])
+def test_a_built_network_tells_the_lanes_of_its_roads(tmp_path, lanes, told):
+    assert f"# m1 to m4: road m, {told}, cells of 250 m, 90 km/h, " in corridor(tmp_path, lanes=lanes).text
+
+
 def test_times_after_midnight(tmp_path):
     text = HEAD.replace("06:00", "23:30").replace("07:00", "00:30") + ROAD.replace("1000", '[["23:50", "00:10", 360]]')
     assert records(built(tmp_path, text), "demand") == ["demand,g,120,240,1"]

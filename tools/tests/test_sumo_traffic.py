@@ -214,6 +214,7 @@ def test_an_import_of_nothing_says_why(tool, imported, tmp_path):
     (FLOW.format('number="-3"'), 'flow f: number: expected a number of 0 or more, found "-3"'),
     (FLOW.format('vehsPerHour="nan"'), 'flow f: vehsPerHour: expected a number of 0 or more, found "nan"'),
     (FLOW.format('period="0"'), "flow f: period: is above 0"), (FLOW.format('vehsPerHour="0"'), "flow f: vehsPerHour: is above 0"), (FLOW.format('begin="100" end="50" number="3"'), "ends at 50 s, before"),
+    (FLOW.format('end="100" vehsPerHour="36" probability="0.1"'), "flow f: expected one of number"),
     (FLOW.format('end="100"'), "flow f: expected one of number"), (FLOW.format('end="9" number="3" period="1"'), "and with number and"),
     ('<vehicle id="1" depart="-5"><route edges="a b"/></vehicle>', 'vehicle 1: depart: expected seconds or a clock'),
     ('<vehicle id="1" depart="5" route="r"/>', "vehicle 1: there is no route r; name the file that has it with --additional"),

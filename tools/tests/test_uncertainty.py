@@ -12,7 +12,7 @@ from ctmtools.uncertainty.distribution import Given, Lognormal, Normal, Triangul
 from ctmtools.uncertainty.draw import drawn
 from ctmtools.uncertainty.incident import happened
 from ctmtools.uncertainty.interval import of_mean, of_percentile, of_probability, within
-from ctmtools.uncertainty.key import with_drawn
+from ctmtools.uncertainty.key import is_demand, with_drawn
 from ctmtools.uncertainty.reliability import buffer_index, planning_time_index, spread
 from ctmtools.uncertainty.task import Asked, figures
 
@@ -80,6 +80,16 @@ def test_what_is_drawn_stands_in_the_study(tmp_path):
     assert made["roads"]["m"]["length"] == "19250.000000000 m" and made["roads"]["m"]["sections"] == [{"from": Fraction(15), "lanes": 1}]
 
 
+def test_values_that_are_given_may_be_texts(tmp_path):
+    found = uncertain(tmp_path, 'key = "roads.m.length"\nvalue = "given"\nvalues = ["17500 m"]')
+    assert drawn(found, 1, 1) == {"roads.m.length": "17500 m"}
+
+
+@pytest.mark.parametrize("key, wanted", [("demand", True), ("demand.on", True), ("demand.on.flow", False), ("gates.on.demand", False)])
+def test_the_demand_of_all_gates_or_of_one_is_multiplied_once_the_study_is_read(key, wanted):
+    assert is_demand(key) == wanted
+
+
 NORMAL = 'factor = "normal"\nmean = 1\ndeviation = 0.1'
 
 
@@ -98,6 +108,7 @@ NORMAL = 'factor = "normal"\nmean = 1\ndeviation = 0.1'
     ('key = "demand"\nfactor = "given"\nvalues = [1, 2]\nweights = [0, 0]', r"uncertain\[1\].weights: expected numbers"),
     ('key = "demand"\nfactor = "given"\nvalues = [1, 2]\nweights = [3, -1]', r"uncertain\[1\].weights: expected numbers"),
     (f'key = "demand"\n{NORMAL}\n[[uncertain]]\nkey = "demand"\n{NORMAL}', r"uncertain\[2\].key: demand varies already"),
+    ('keys = ["demand", "demand"]\ncorrelation = 1', r"uncertain\[1\].keys: expected two keys or more, each once"),
     ('keys = ["demand", "demand.on"]\ncorrelation = 0.5', r"uncertain: demand has a correlation and doesn't vary"),
     ('keys = ["a", "b"]\ncorrelation = 1.5', r"uncertain\[1\].correlation: no values vary together like this"),
     ('keys = ["a", "b"]\ncorrelation = [[1, 0.5], [0.4, 1]]', r"uncertain\[1\].correlation: expected the same both ways"),

@@ -341,3 +341,13 @@ def test_what_passes_is_the_same_by_other_steps(tmp_path, recording_program, ste
 def test_a_move_is_that_of_the_steps_in_which_one_gives_way(more, moved):
     own = SimpleNamespace(green=SimpleNamespace(permitted=numpy.array([True, True, False])), rates=numpy.array([[100.0, 100, 900]]))
     assert Yielding.move(own, own.rates + numpy.array([more, more, 500])) == pytest.approx(moved)
+
+
+@pytest.mark.parametrize("green, chance", [(None, 0.75), ((0, 30), 1.0)])
+def test_those_with_priority_who_wait_themselves_hold_up_others_where_there_is_no_signal(monkeypatch, green, chance):
+    monkeypatch.setattr("ctmtools.yielding.yielding.own_flow", lambda *_: numpy.array([100.0]))
+    left = SimpleNamespace(cell="left", bounds=numpy.array([0, 60]), of="left", unimpeded=lambda *_: numpy.ones((1, 1)))
+    own = SimpleNamespace(bounds=numpy.array([0, 60]), green=green, units=SimpleNamespace(roads={}),
+                          of=SimpleNamespace(streams=[SimpleNamespace(road="left", at=None)]))
+    # Of those who turn left with priority 100 come where 400 may pass.
+    assert Yielding.unimpeded(own, None, {"left": left}, {"left": numpy.array([[400.0]])}).tolist() == [[chance]]

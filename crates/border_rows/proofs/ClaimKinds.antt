@@ -326,7 +326,7 @@ taken-keeps terms s id r view c old sound is some_share within free =
         there = there;
         at_home = λ q inside none.
             let home = old.claims.at_home q inside (sym (taken-knowers s.views id r q view is) ∙ none) in
-            (home.0, home.1, subst (λ t. Stands terms.setup.now.net chart terms.setup.now.start terms.setup.now.every q t home.0) (sym (steps q inside)) home.2);
+            (home.0, home.1, subst (λ t. Stands terms.setup.now q t home.0) (sym (steps q inside)) home.2);
       };
       steps = steps-kept terms.setup.now.net chart terms.setup.now.start s after old.steps steps from there;
       rows = rows-kept terms.setup.now.net chart terms.setup.now.start s after old.rows steps (claim-rows chart s.words r 1 sound within) from there;
@@ -354,7 +354,7 @@ gathered-keeps terms s i id c view old is some_share =
 -- a region that a seat holds with its slot, at the step that it has published, is given back
 freed_with-keeps : (terms : Terms) (s : FieldState) (id r : ℕ) (view : View) (hold : Hold) (holds : List Hold) (region : RegionValue) (c : List (ℕ × RegionValue)) → IsStanding terms s →
     IsChart terms.setup.now.chart → get_elem? s.views id ≡ some view → view.share ≢ 0 → r < region_count terms.setup.now.chart.cut → view.holds ≡ hold ∷ holds → hold.region ≡ r →
-    Stands terms.setup.now.net terms.setup.now.chart terms.setup.now.start terms.setup.now.every r (step_of terms.setup.now.chart s.words r) region →
+    Stands terms.setup.now r (step_of terms.setup.now.chart s.words r) region →
     IsStanding terms (stepped s (claim_place (widths_of terms.setup.now.chart) r) 0 id ((r, region) ∷ c) (freed view) gives)
 freed_with-keeps terms s id r view hold holds region c old sound is some_share within has own stands =
     let chart : ChartLists = terms.setup.now.chart in
@@ -384,16 +384,16 @@ freed_with-keeps terms s id r view hold holds region c old sound is some_share w
         ];
         there = there;
         at_home = λ q inside none. elim (cases_eq q r) [
-          | inl same ↦ subst (λ p. (home : RegionValue) × IsHome homes p home × Stands terms.setup.now.net chart terms.setup.now.start terms.setup.now.every p (step_of chart words p) home) (sym same) (
+          | inl same ↦ subst (λ p. (home : RegionValue) × IsHome homes p home × Stands terms.setup.now p (step_of chart words p) home) (sym same) (
             region,
             set_here s.homes r (some region) (omega (arith, within, old.claims.homes)),
-            subst (λ t. Stands terms.setup.now.net chart terms.setup.now.start terms.setup.now.every r t region) (sym (steps r within)) stands,
+            subst (λ t. Stands terms.setup.now r t region) (sym (steps r within)) stands,
           )
           | inr other ↦
               let home = old.claims.at_home q inside (sym (freed-knowers-other s.views id r q view hold holds is has own other) ∙ none) in (
                 home.0,
                 set_else s.homes r q (some region) other ∙ home.1,
-                subst (λ t. Stands terms.setup.now.net chart terms.setup.now.start terms.setup.now.every q t home.0) (sym (steps q inside)) home.2,
+                subst (λ t. Stands terms.setup.now q t home.0) (sym (steps q inside)) home.2,
               )
         ];
       };
@@ -406,7 +406,7 @@ freed_with-keeps terms s id r view hold holds region c old sound is some_share w
 -- the same for all that the seat carries, where the slot is the first
 pub freed-keeps : (terms : Terms) (s : FieldState) (id r : ℕ) (view : View) (hold : Hold) (holds : List Hold) (region : RegionValue) (c rest : List (ℕ × RegionValue)) → IsStanding terms s →
     IsChart terms.setup.now.chart → get_elem? s.views id ≡ some view → view.share ≢ 0 → r < region_count terms.setup.now.chart.cut → view.holds ≡ hold ∷ holds → hold.region ≡ r →
-    c ≡ (r, region) ∷ rest → Stands terms.setup.now.net terms.setup.now.chart terms.setup.now.start terms.setup.now.every r (step_of terms.setup.now.chart s.words r) region →
+    c ≡ (r, region) ∷ rest → Stands terms.setup.now r (step_of terms.setup.now.chart s.words r) region →
     IsStanding terms (stepped s (claim_place (widths_of terms.setup.now.chart) r) 0 id c (freed view) gives)
 freed-keeps terms s id r view hold holds region c rest old sound is some_share within has own carries stands =
     subst (λ l. IsStanding terms (stepped s (claim_place (widths_of terms.setup.now.chart) r) 0 id l (freed view) gives)) (sym carries)
@@ -415,14 +415,14 @@ freed-keeps terms s id r view hold holds region c rest old sound is some_share w
 -- a region that a seat knows the step of is given back at the step that the seat knows it to stand at
 pub freed_known-keeps : (terms : Terms) (s : FieldState) (id r : ℕ) (view : View) (hold : Hold) (holds : List Hold) (region : RegionValue) (c rest : List (ℕ × RegionValue)) → IsStanding terms s →
     IsChart terms.setup.now.chart → get_elem? s.views id ≡ some view → view.share ≢ 0 → view.holds ≡ hold ∷ holds → hold.region ≡ r → hold.known ≡ true →
-    c ≡ (r, region) ∷ rest → Stands terms.setup.now.net terms.setup.now.chart terms.setup.now.start terms.setup.now.every r (if hold.published then hold.step + 1 else hold.step) region →
+    c ≡ (r, region) ∷ rest → Stands terms.setup.now r (if hold.published then hold.step + 1 else hold.step) region →
     IsStanding terms (stepped s (claim_place (widths_of terms.setup.now.chart) r) 0 id c (freed view) gives)
 freed_known-keeps terms s id r view hold holds region c rest old sound is some_share has own knows carries stands =
     let held : IsHeld s.views view hold = record { seat = Contains-elem s.views id view is; held = subst (λ l. Contains l hold) (sym has) (0, omega arith, refl) } in
     let stood : step_of terms.setup.now.chart s.words r ≡ (if hold.published then hold.step + 1 else hold.step) =
     ap (step_of terms.setup.now.chart s.words) (sym own) ∙ old.steps.known view hold held knows in
     freed-keeps terms s id r view hold holds region c rest old sound is some_share (subst (λ q. q < region_count terms.setup.now.chart.cut) own (old.claims.there view hold held)) has own carries
-    (subst (λ t. Stands terms.setup.now.net terms.setup.now.chart terms.setup.now.start terms.setup.now.every r t region) (sym stood) stands)
+    (subst (λ t. Stands terms.setup.now r t region) (sym stood) stands)
 
 -- a sum of terms that are all 0
 none-sum : {X : Type 0} (f : X → ℕ) (xs : List X) → ((x : X) → Contains xs x → f x ≡ 0) → sum_by f xs ≡ 0

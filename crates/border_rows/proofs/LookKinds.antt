@@ -110,9 +110,9 @@ pub record IsReader (terms : Terms) (s : FieldState) (view w : View) : Type 0 wh
 
 -- such a step keeps the claims, where the regions at home stay but those of which a step is known now
 claims-read : (terms : Terms) (s : FieldState) (homes : List (maybe.Option RegionValue)) (id : ℕ) (view w : View) →
-    Claims terms.setup.now.net terms.setup.now.chart terms.setup.now.start terms.setup.now.every s → get_elem? s.views id ≡ some view → IsReader terms s view w →
+    Claims terms.setup.now s → get_elem? s.views id ≡ some view → IsReader terms s view w →
     length homes ≡ length s.homes → ((r : ℕ) (region : RegionValue) → knowers (set s.views id w) r ≡ 0 → IsHome s.homes r region → IsHome homes r region) →
-    Claims terms.setup.now.net terms.setup.now.chart terms.setup.now.start terms.setup.now.every record { words = s.words; homes = homes; views = set s.views id w }
+    Claims terms.setup.now record { words = s.words; homes = homes; views = set s.views id w }
 claims-read terms s homes id view w old is reads long stay =
     let chart : ChartLists = terms.setup.now.chart in
     let held : (r : ℕ) → holders (set s.views id w) r ≡ holders s.views r = λ r. omega (arith, sum-set (λ v. held_in v r) s.views id w view is, reads.same r) in
@@ -401,7 +401,7 @@ pub found_at-keeps : (terms : Terms) (s : FieldState) (id r : ℕ) (c : List (�
     IsStanding terms s → get_elem? s.views id ≡ some view → view.share ≢ 0 → r < region_count terms.setup.now.chart.cut →
     view.holds ≡ hold ∷ holds → hold ≡ fresh r →
     (region : RegionValue) × IsHome s.homes r region ×
-    Stands terms.setup.now.net terms.setup.now.chart terms.setup.now.start terms.setup.now.every r (step_of terms.setup.now.chart s.words r) region ×
+    Stands terms.setup.now r (step_of terms.setup.now.chart s.words r) region ×
     IsStanding terms (stepped s (step_place (widths_of terms.setup.now.chart) r) (step_of terms.setup.now.chart s.words r) id c (found_at view r (step_of terms.setup.now.chart s.words r)) (takes r region))
 found_at-keeps terms s id r c view hold holds old is shares within some_first taken =
     let step : ℕ = step_of terms.setup.now.chart s.words r in

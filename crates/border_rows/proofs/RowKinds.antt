@@ -266,7 +266,7 @@ claims-worked : (terms : Terms) (s : FieldState) (id : ℕ) (view w : View) (hol
     IsWorking terms s id view hold holds → IsChanged view w hold new holds → length words ≡ length s.words →
     ((r : ℕ) → r < region_count terms.setup.now.chart.cut → claim_of terms.setup.now.chart words r ≡ claim_of terms.setup.now.chart s.words r) →
     ((r : ℕ) → r < region_count terms.setup.now.chart.cut → r ≢ hold.region → step_of terms.setup.now.chart words r ≡ step_of terms.setup.now.chart s.words r) →
-    Claims terms.setup.now.net terms.setup.now.chart terms.setup.now.start terms.setup.now.every (field_of s words (set s.views id w))
+    Claims terms.setup.now (field_of s words (set s.views id w))
 claims-worked terms s id view w hold new holds words works changed long claims steps =
     let old = works.standing.claims in
     record {

@@ -15,6 +15,7 @@ use Rattle.region_cut.specs.Cuttings.{region_count}
 use Rattle.region_cut.specs.LawfulSteps.{AreLawful}
 use Rattle.region_step.specs.Grid.{grid_held}
 use Rattle.region_step.specs.Region.{RegionValue}
+use Rattle.region_step.specs.Setup.{SetupValue}
 use Rattle.region_step.specs.Standing.{AllStand, Stands}
 use Rattle.region_step.specs.Start.{StartLists}
 use Rattle.atomic_table.specs.Table.{opening}
@@ -34,15 +35,15 @@ use Rattle.border_rows.proofs.ViewUpdates.{Contains-elem, Contains-set, set-Cont
 
 -- the words and regions of a field that opens: no region is taken, each stands at the start's step, its row of that step
 -- and, past step 0, of the step before are there, and it is at home
-pub record IsOpening (net : Network) (chart : ChartLists) (start : StartLists) (every : ℕ) (words : List ℕ) (regions : List RegionValue) : Type 0 where
-  pub long : length words ≡ words_of (widths_of chart)
-  pub free : (r : ℕ) → r < region_count chart.cut → claim_of chart words r ≡ 0
-  pub steps : (r : ℕ) → r < region_count chart.cut → step_of chart words r ≡ slice_index start.steps r
-  pub now : (r j : ℕ) → r < region_count chart.cut → j < width_at (widths_of chart) r →
-      border_word chart words r (slice_index start.steps r) j ≡ grid_held net chart.cut start (slice_index start.steps r) (border_cell chart r j)
-  pub before : (r t j : ℕ) → r < region_count chart.cut → j < width_at (widths_of chart) r → slice_index start.steps r ≡ t + 1 →
-      border_word chart words r t j ≡ grid_held net chart.cut start t (border_cell chart r j)
-  pub homes : AllStand net chart start every start.steps regions
+pub record IsOpening (setup : SetupValue) (words : List ℕ) (regions : List RegionValue) : Type 0 where
+  pub long : length words ≡ words_of (widths_of setup.chart)
+  pub free : (r : ℕ) → r < region_count setup.chart.cut → claim_of setup.chart words r ≡ 0
+  pub steps : (r : ℕ) → r < region_count setup.chart.cut → step_of setup.chart words r ≡ slice_index setup.start.steps r
+  pub now : (r j : ℕ) → r < region_count setup.chart.cut → j < width_at (widths_of setup.chart) r →
+      border_word setup.chart words r (slice_index setup.start.steps r) j ≡ grid_held setup.net setup.chart.cut setup.start (slice_index setup.start.steps r) (border_cell setup.chart r j)
+  pub before : (r t j : ℕ) → r < region_count setup.chart.cut → j < width_at (widths_of setup.chart) r → slice_index setup.start.steps r ≡ t + 1 →
+      border_word setup.chart words r t j ≡ grid_held setup.net setup.chart.cut setup.start t (border_cell setup.chart r j)
+  pub homes : AllStand setup setup.start.steps regions
 
 -- the view of its one seat
 pub record IsFirst (terms : Terms) (view : View) : Type 0 where
@@ -72,25 +73,25 @@ first-none terms v view hold first held =
     omega (arith, nothing.1)
 
 -- a field opens with the steps of the start
-steps_of-start : (net : Network) (chart : ChartLists) (start : StartLists) (every : ℕ) (words : List ℕ) (regions : List RegionValue) →
-    AreLawful net chart.cut start.steps → IsOpening net chart start every words regions → steps_of chart words ≡ start.steps
-steps_of-start net chart start every words regions lawful opens =
-    sym (fill_by_all (step_of chart words) start.steps (region_count chart.cut) 0 lawful.one_each (λ k within. sym (opens.steps k (omega (arith, within)))))
+steps_of-start : (setup : SetupValue) (words : List ℕ) (regions : List RegionValue) →
+    AreLawful setup.net setup.chart.cut setup.start.steps → IsOpening setup words regions → steps_of setup.chart words ≡ setup.start.steps
+steps_of-start setup words regions lawful opens =
+    sym (fill_by_all (step_of setup.chart words) setup.start.steps (region_count setup.chart.cut) 0 lawful.one_each (λ k within. sym (opens.steps k (omega (arith, within)))))
 
 -- and none is made
-none-made : (net : Network) (chart : ChartLists) (start : StartLists) (every : ℕ) (words : List ℕ) (regions : List RegionValue) →
-    IsOpening net chart start every words regions → steps_made chart start words ≡ 0
-none-made net chart start every words regions opens =
-    let range : List ℕ = range_with_len 0 (region_count chart.cut) in
-    sum_by-zero (λ r. step_of chart words r - slice_index start.steps r) range (λ k d within.
-    let inside : k < region_count chart.cut = omega (arith, within, length-range_with_len 0 (region_count chart.cut)) in
-    let is : get_or range k d ≡ k = get_or-range_with_len 0 (region_count chart.cut) k d inside ∙ omega arith in
-    subst (λ r. step_of chart words r - slice_index start.steps r ≤ 0) (sym is) (omega (arith, opens.steps k inside)))
+none-made : (setup : SetupValue) (words : List ℕ) (regions : List RegionValue) →
+    IsOpening setup words regions → steps_made setup.chart setup.start words ≡ 0
+none-made setup words regions opens =
+    let range : List ℕ = range_with_len 0 (region_count setup.chart.cut) in
+    sum_by-zero (λ r. step_of setup.chart words r - slice_index setup.start.steps r) range (λ k d within.
+    let inside : k < region_count setup.chart.cut = omega (arith, within, length-range_with_len 0 (region_count setup.chart.cut)) in
+    let is : get_or range k d ≡ k = get_or-range_with_len 0 (region_count setup.chart.cut) k d inside ∙ omega arith in
+    subst (λ r. step_of setup.chart words r - slice_index setup.start.steps r ≤ 0) (sym is) (omega (arith, opens.steps k inside)))
 
 -- a field opens under the rule
 pub opening-stands : (terms : Terms) (words : List ℕ) (regions : List RegionValue) (v : View) →
     AreLawful terms.setup.now.net terms.setup.now.chart.cut terms.setup.now.start.steps →
-    IsOpening terms.setup.now.net terms.setup.now.chart terms.setup.now.start terms.setup.now.every words regions → IsFirst terms v → terms.seats ≢ 0 →
+    IsOpening terms.setup.now words regions → IsFirst terms v → terms.seats ≢ 0 →
     IsStanding terms (opening words regions v)
 opening-stands terms words regions v lawful opens first seats =
     let net : Network = terms.setup.now.net in
@@ -106,7 +107,7 @@ opening-stands terms words regions v lawful opens first seats =
         at_home = λ r within unknown. home r within;
       };
       steps = record {
-        lawful = subst (AreLawful net chart.cut) (sym (steps_of-start net chart start terms.setup.now.every words regions lawful opens)) lawful;
+        lawful = subst (AreLawful net chart.cut) (sym (steps_of-start terms.setup.now words regions lawful opens)) lawful;
         started = λ r within. omega (arith, opens.steps r within);
         known = λ view hold holds knows. absurd (first-none terms v view hold first holds);
         around = λ view hold q holds knows has. absurd (first-none terms v view hold first holds);
@@ -129,7 +130,7 @@ opening-stands terms words regions v lawful opens first seats =
             omega (arith, ap (λ (u : View). slice_index u.seen r) (one-Contains v view has), ap (λ seen. slice_index seen r) first.seen, opens.steps r within);
         shares = omega (arith, sum_by-cons (λ (u : View). u.share) v [], first.share);
         spent = λ view has none. absurd (seats (omega (arith, ap (λ (u : View). u.share) (one-Contains v view has), first.share, none)));
-        moves = omega (arith, sum_by-cons (λ (u : View). length u.log) v [], ap length first.log, none-made net chart start terms.setup.now.every words regions opens);
+        moves = omega (arith, sum_by-cons (λ (u : View). length u.log) v [], ap length first.log, none-made terms.setup.now words regions opens);
         logged = λ r step. omega (
           arith,
           sum_by-cons (λ (u : View). times_in u.log r step) v [],
@@ -147,14 +148,14 @@ opening-stands terms words regions v lawful opens first seats =
         omega (arith, sum_by-cons (λ (u : View). count_by (λ hold. hold.region == r) u.holds) v [], none)
 
     home : (r : ℕ) → r < region_count terms.setup.now.chart.cut → (region : RegionValue) × IsHome (map some regions) r region ×
-        Stands terms.setup.now.net terms.setup.now.chart terms.setup.now.start terms.setup.now.every r (step_of terms.setup.now.chart words r) region
+        Stands terms.setup.now r (step_of terms.setup.now.chart words r) region
     home r within =
         let inside : r < length regions = omega (arith, within, opens.homes.one_each) in
         let d : RegionValue = (some_there regions r inside).0 in
         let region : RegionValue = get_or regions r d in (
           region,
           at_map some regions r region (elem-get_or regions r d inside),
-          subst (λ t. Stands terms.setup.now.net terms.setup.now.chart terms.setup.now.start terms.setup.now.every r t region) (sym (opens.steps r within)) (opens.homes.each r d inside),
+          subst (λ t. Stands terms.setup.now r t region) (sym (opens.steps r within)) (opens.homes.each r d inside),
         )
 
 -- each of the views holds what some view held before
@@ -162,10 +163,10 @@ abbrev pub AreHeldBefore : (before after : List View) → Type 0
 AreHeldBefore before after = (view : View) (hold : Hold) → IsHeld after view hold → (old : View) × IsHeld before old hold
 
 -- with the words and the regions as they are, views that hold the same keep all of the rule but the counts
-claims-same : (net : Network) (chart : ChartLists) (start : StartLists) (every : ℕ) (s : FieldState) (views : List View) → Claims net chart start every s →
+claims-same : (setup : SetupValue) (s : FieldState) (views : List View) → Claims setup s →
     ((r : ℕ) → holders views r ≡ holders s.views r) → ((r : ℕ) → knowers views r ≡ knowers s.views r) → AreHeldBefore s.views views →
-    Claims net chart start every record { words = s.words; homes = s.homes; views = views }
-claims-same net chart start every s views old held knew before = record {
+    Claims setup record { words = s.words; homes = s.homes; views = views }
+claims-same setup s views old held knew before = record {
   words = old.words;
   homes = old.homes;
   counted = λ r within. old.counted r within ∙ sym (held r);
@@ -183,7 +184,7 @@ standing-same terms s views old held knew before counts =
     let was = before view hold holds in
     all_right terms.setup.now.net terms.setup.now.chart terms.setup.now.start s old.steps old.rows was.0 hold was.1 knows in
     record {
-      claims = claims-same terms.setup.now.net terms.setup.now.chart terms.setup.now.start terms.setup.now.every s views old.claims held knew before;
+      claims = claims-same terms.setup.now s views old.claims held knew before;
       steps = steps-right terms.setup.now.net terms.setup.now.chart terms.setup.now.start s s.homes views old.steps right;
       rows = rows-right terms.setup.now.net terms.setup.now.chart terms.setup.now.start s s.homes views old.rows right;
       counts = counts;

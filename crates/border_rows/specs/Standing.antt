@@ -12,6 +12,7 @@ use Rattle.region_cut.specs.Joins.{are_neighbours}
 use Rattle.region_cut.specs.LawfulSteps.{AreLawful}
 use Rattle.region_step.specs.Grid.{grid_held}
 use Rattle.region_step.specs.Region.{RegionValue}
+use Rattle.region_step.specs.Setup.{SetupValue}
 use Rattle.region_step.specs.Standing.{Stands}
 use Rattle.region_step.specs.Start.{StartLists}
 use Rattle.atomic_table.specs.Table.{State}
@@ -31,14 +32,14 @@ FieldState = State RegionValue View
 
 -- Claims. The claim word of a region says how many views hold it, one at most. A region of which no view knows the step
 -- is at home, as the start's region at the step that it has published.
-pub record Claims (net : Network) (chart : ChartLists) (start : StartLists) (every : ℕ) (field : FieldState) : Type 0 where
-  pub words : length field.words ≡ words_of (widths_of chart)
-  pub homes : length field.homes ≡ region_count chart.cut
-  pub counted : (r : ℕ) → r < region_count chart.cut → claim_of chart field.words r ≡ holders field.views r
+pub record Claims (setup : SetupValue) (field : FieldState) : Type 0 where
+  pub words : length field.words ≡ words_of (widths_of setup.chart)
+  pub homes : length field.homes ≡ region_count setup.chart.cut
+  pub counted : (r : ℕ) → r < region_count setup.chart.cut → claim_of setup.chart field.words r ≡ holders field.views r
   pub one : (r : ℕ) → holders field.views r ≤ 1
-  pub there : (view : View) (hold : Hold) → IsHeld field.views view hold → hold.region < region_count chart.cut
-  pub at_home : (r : ℕ) → r < region_count chart.cut → knowers field.views r ≡ 0 →
-      (region : RegionValue) × IsHome field.homes r region × Stands net chart start every r (step_of chart field.words r) region
+  pub there : (view : View) (hold : Hold) → IsHeld field.views view hold → hold.region < region_count setup.chart.cut
+  pub at_home : (r : ℕ) → r < region_count setup.chart.cut → knowers field.views r ≡ 0 →
+      (region : RegionValue) × IsHome field.homes r region × Stands setup r (step_of setup.chart field.words r) region
 
 -- Steps. They are lawful, and none is before the start's. A view that knows a region's step knows what the region has
 -- published, and the neighbours that it has cleared stand at that step or past it.
@@ -98,7 +99,7 @@ pub record Counts (terms : Terms) (chart : ChartLists) (start : StartLists) (sea
 
 -- the rule
 pub record IsStanding (terms : Terms) (field : FieldState) : Type 0 where
-  pub claims : Claims terms.setup.now.net terms.setup.now.chart terms.setup.now.start terms.setup.now.every field
+  pub claims : Claims terms.setup.now field
   pub steps : Steps terms.setup.now.net terms.setup.now.chart terms.setup.now.start field
   pub rows : Rows terms.setup.now.net terms.setup.now.chart terms.setup.now.start field
   pub counts : Counts terms terms.setup.now.chart terms.setup.now.start terms.seats field

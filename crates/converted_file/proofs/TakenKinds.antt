@@ -2,8 +2,8 @@
 use Rattle.std.proofs.Common.{ℕ, zero, suc, ◌≡◌, ◌-◌, List, [], ◌∷◌, Ok, Some, None, refl, subst, ap}
 use Rattle.std.specs.Prelude.{Result, is_none}
 use Rattle.std.proofs.lemmas.List.Elements.{All-push}
-use Rattle.fixed_flow.specs.Limits.{most_parts}
-use Rattle.signal_plan.specs.Limits.{most_ratio, most_steps}
+use Rattle.fixed_flow.specs.Limits.{most_parts, most_ratio}
+use Rattle.signal_plan.specs.Limits.{most_steps}
 use Rattle.network_file.specs.Draft.{Draft}
 use Rattle.record_fields.specs.Fields.{field, whole_within, range_within, ratio, weights, amount_within}
 use Rattle.network_file.specs.CellFields.{new_name, known_cell, upstream, downstream, signal_cell, demand_gate, turn_cell, speed_road, region_cell}

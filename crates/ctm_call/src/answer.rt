@@ -14,7 +14,7 @@ use command_words::{Mode, Request};
 use ctm_ports::Source;
 use region_slots::Observer;
 use run_modes::{run_text, sample_text, watch_text};
-use saved_modes::{recut_text, resume_text, saved_text};
+use saved_modes::{recut_text, resume_text, save_text};
 use std::alloc::Global;
 use std::thread::Threads;
 use workerless_call::{check_text, choose_text, convert_text, cut_text, input_of, request_of};
@@ -64,7 +64,7 @@ fn text_of<R: Threads + Sync, W: Observer>(
         Mode::Run => run_text(rt, alloc, request, input, observer),
         Mode::Watch => watch_text(rt, alloc, request, input, observer),
         Mode::Sample => sample_text(rt, alloc, request, input, observer),
-        Mode::Save => saved_text(rt, alloc, request, input, observer),
+        Mode::Save => save_text(rt, alloc, request, input, observer),
         Mode::Resume => resume_text(rt, alloc, request, input, observer),
         Mode::Choose => choose_text(rt, alloc, input),
         Mode::Recut => recut_text(rt, alloc, request, input, observer),

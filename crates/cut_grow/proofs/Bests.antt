@@ -19,7 +19,7 @@ use Rattle.cut_grow.specs.BestRuns.{AreBestRuns, IsBestIn, IsSize}
 use Rattle.cut_grow.specs.CutConnectors.{cuts}
 use Rattle.cut_grow.specs.Grown.{runs_from}
 use Rattle.cut_grow.specs.Most.{most, start_of}
-use Rattle.cut_grow.specs.Orders.{IsOrder}
+use Rattle.cut_grow.specs.Orders.{IsPermutation}
 use Rattle.cut_grow.specs.Sides.{AreThere}
 use Rattle.cut_grow.specs.Spans.{ArePlaces, AreWithin, IsSpan, inside_runs}
 use Rattle.cut_grow.specs.declared.sizes.Sizes.{Sizes}
@@ -51,7 +51,7 @@ by_cell : (cells : ℕ) (order places runs regions : List ℕ) → ArePlaces cel
 by_cell cells order places runs regions inverse is i within =
     ap (λ list. region_at list i) is ∙ get_or-map (slice_index (runs_from 0 runs)) places i 0 0 (omega (arith, inverse.long))
 
-by_place : (cells : ℕ) (order places runs regions : List ℕ) → IsOrder cells order → ArePlaces cells order places → regions ≡ map (slice_index (runs_from 0 runs)) places →
+by_place : (cells : ℕ) (order places runs regions : List ℕ) → IsPermutation cells order → ArePlaces cells order places → regions ≡ map (slice_index (runs_from 0 runs)) places →
     sum runs ≡ cells → map (region_at regions) order ≡ runs_from 0 runs
 by_place cells order places runs regions all inverse is whole =
     same_number_lists (map (region_at regions) order) (runs_from 0 runs)
@@ -63,7 +63,7 @@ by_place cells order places runs regions all inverse is whole =
     ap (λ q. get_or (runs_from 0 runs) q 0) (inverse.forth p below))
 
 -- in any cutting in runs the region of a cell is by its place
-by_runs : (cells : ℕ) (order places sizes list : List ℕ) → IsOrder cells order → ArePlaces cells order places → map (region_at list) order ≡ runs_from 0 sizes →
+by_runs : (cells : ℕ) (order places sizes list : List ℕ) → IsPermutation cells order → ArePlaces cells order places → map (region_at list) order ≡ runs_from 0 sizes →
     (i : ℕ) → i < cells → IsByRuns list places sizes i
 by_runs cells order places sizes list all inverse is i within =
     let place : ℕ = get_or places i 0 in
@@ -89,7 +89,7 @@ pub places-below : (cells : ℕ) (order places : List ℕ) → ArePlaces cells o
 places-below cells order places inverse = λ k d within.
     let there = inverse.there k (omega (arith, inverse.long)) in omega (arith, there, get_or_default places k d 0 within)
 
-in-runs-cutting : (cells k : ℕ) (order places runs regions : List ℕ) → IsOrder cells order → ArePlaces cells order places →
+in-runs-cutting : (cells k : ℕ) (order places runs regions : List ℕ) → IsPermutation cells order → ArePlaces cells order places →
     regions ≡ map (slice_index (runs_from 0 runs)) places → sum runs ≡ cells → length runs ≡ k → All (λ size. 1 ≤ size) runs → 1 ≤ k → k ≤ most_regions →
     IsCutting cells regions
 unfolding has_no_gap
@@ -129,7 +129,7 @@ kept-or-cut net order places sizes list spans sound by_place zipped within whole
     (All-weaker (λ span. (span.first < length net.cells) × (span.last < length net.cells)) (λ span. span.last < sum sizes) (λ span both. omega (arith, both.1, whole)) spans within)
 
 pub best-runs : (net : Network) (k : ℕ) (sizes : Sizes) (order places runs regions : List ℕ) (spans : List Span) (kept : ℕ) → IsNetwork net →
-    1 ≤ k → k ≤ most_regions → k ≤ length net.cells → IsOrder (length net.cells) order → ArePlaces (length net.cells) order places →
+    1 ≤ k → k ≤ most_regions → k ≤ length net.cells → IsPermutation (length net.cells) order → ArePlaces (length net.cells) order places →
     AllZip (IsSpan places) net.connectors spans → sizes.floor ≡ length net.cells / k → sizes.smalls ≡ k - length net.cells % k → sizes.larges ≡ length net.cells % k →
     AreBestRuns sizes spans runs → regions ≡ map (slice_index (runs_from 0 runs)) places → kept ≡ most spans sizes.floor sizes.smalls sizes.larges →
     IsBestIn net k order regions kept

@@ -4,10 +4,10 @@ use Rattle.std.proofs.Common.{ℕ, ◌<◌, arith}
 use Rattle.std.proofs.lemmas.List.{get_or_default}
 use Rattle.std.proofs.lemmas.List.FromFn.{length-range_with_len}
 use Rattle.region_cut.proofs.Ranges.{range-Contains}
-use Rattle.cut_grow.specs.Orders.{IsOrder}
+use Rattle.cut_grow.specs.Orders.{IsPermutation}
 use Rattle.cut_grow.proofs.Leasts.{range-at}
 
-pub file-order : (cells : ℕ) → IsOrder cells (range_with_len 0 cells)
+pub file-order : (cells : ℕ) → IsPermutation cells (range_with_len 0 cells)
 file-order cells = record {
   long = length-range_with_len 0 cells;
   there = λ k d within.

@@ -3,7 +3,7 @@ use Rattle.std.specs.Prelude.{◌≡◌, ℕ, ◌<◌, List, length, slice_index
 use Rattle.std.specs.List.{Contains}
 
 -- a list of the numbers below a bound, each once
-pub record IsOrder (cells : ℕ) (order : List ℕ) : Type 0 where
+pub record IsPermutation (cells : ℕ) (order : List ℕ) : Type 0 where
   pub long : length order ≡ cells
   pub there : All (λ i. i < cells) order
   pub each : (i : ℕ) → i < cells → Contains order i

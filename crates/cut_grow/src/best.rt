@@ -1,7 +1,7 @@
 ghost use Rattle.std.specs.Prelude.{◌≡◌, ◌<◌, ◌≤◌, ◌^◌, IfOk, length};
 ghost use Rattle.network_file.specs.declared.limits.TheConstants.{MOST_REGIONS};
 ghost use Rattle.cut_grow.specs.BestRuns.{IsBestIn};
-ghost use Rattle.cut_grow.specs.Orders.{IsOrder};
+ghost use Rattle.cut_grow.specs.Orders.{IsPermutation};
 
 use crate::gains::{Gains, run_gains};
 use crate::places::places;
@@ -23,7 +23,7 @@ pub(crate) struct InRuns {
 
 /// A cutting in `k` even runs of an order that cuts the fewest connectors.
 pub(crate) fn best_in(alloc: Global, net: &Net, order: &[u32], k: u32) -> Result<InRuns, NoMemory>
-    requires order { IsOrder (length net.now.cells) order.now }
+    requires order { IsPermutation (length net.now.cells) order.now }
     requires some { 1 ≤ k }
     requires few { k ≤ MOST_REGIONS }
     requires cells { k ≤ length net.now.cells }

@@ -22,7 +22,7 @@ pub fn grow(alloc: Global, net: &Net, k: u32) -> Result<Vec<u32>, NoMemory>
     ensures grown { IfOk result (λ list. IsGrown net.now k list.items) }
     // The even cutting is one of those among which it has the fewest.
     ensures no_more { IfOk result (λ list. cuts list.items net.now ≤ cuts (even_cutting (length net.now.cells) k) net.now) }
-    // `Cut::of` takes it.
+    // `Cut::known` takes it.
     ensures cutting { IfOk result (λ list. IsCutting (length net.now.cells) list.items) }
 {
     let in_file = best_in(alloc, net, &file_order(alloc, net.cells.len() as u32)?, k)?;

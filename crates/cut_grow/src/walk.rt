@@ -1,5 +1,5 @@
 ghost use Rattle.std.specs.Prelude.{◌≡◌, IfOk, length};
-ghost use Rattle.cut_grow.specs.Orders.{IsOrder};
+ghost use Rattle.cut_grow.specs.Orders.{IsPermutation};
 ghost use Rattle.cut_grow.specs.Walk.{walk_of};
 
 use crate::joints::Joints;
@@ -12,7 +12,7 @@ use std::alloc::Global;
 /// The walk over all cells of a network.
 pub(crate) fn walk(alloc: Global, net: &Net) -> Result<Vec<u32>, NoMemory>
     ensures walk { IfOk result (λ order. order.items ≡ walk_of net.now) }
-    ensures order { IfOk result (λ order. IsOrder (length net.now.cells) order.items) }
+    ensures order { IfOk result (λ order. IsPermutation (length net.now.cells) order.items) }
 {
     let connectors = net.connectors.as_slice();
     let cells = net.cells.len() as u32;

@@ -1,5 +1,5 @@
 -- What regions that stand where a start brought them have of their cells.
-use Rattle.std.specs.Prelude.{flat_map, replicate, slice_index, slice_index_or, sum_by}
+use Rattle.std.specs.Prelude.{flat_map, slice_index, slice_index_or, sum_by}
 use Rattle.std.proofs.Common.{◌≡◌, ℕ, ◌<◌, ◌≤◌, ◌+◌, ◌*◌, inl, inr, List, [], ◌∷◌, ◌++◌, length, map, refl, sym, ap, subst, ◌∙◌, arith}
 use Rattle.std.proofs.Math.Nat.{add-mul}
 use Rattle.std.proofs.lemmas.Bool.{cases_eq}
@@ -13,12 +13,14 @@ use Rattle.flow_model.proofs.States.{length-state_at}
 use Rattle.region_cut.specs.Chart.{ChartLists, chart_of, list_at}
 use Rattle.region_cut.specs.Cuttings.{region_at, region_count}
 use Rattle.region_cut.specs.LawfulSteps.{AreLawful}
+use Rattle.region_cut.specs.Layout.{LayoutValue}
 use Rattle.region_step.specs.Grid.{grid_row}
 use Rattle.region_step.specs.Laws.{grid_rows, grid_state, grid_trail}
 use Rattle.region_step.specs.Recording.{note_of, notes_of, recorded}
 use Rattle.region_step.specs.Region.{RegionValue}
-use Rattle.region_step.specs.Standing.{AllStand, Stands}
-use Rattle.region_step.specs.Start.{StartLists, start_of, zero_start}
+use Rattle.region_step.specs.Setup.{SetupValue, zero_setup}
+use Rattle.region_step.specs.Standing.{AllStand, AllStandAtLast, Stands}
+use Rattle.region_step.specs.Start.{StartLists, start_of}
 use Rattle.region_step.proofs.Grids.{are_the_recurrences}
 use Rattle.region_step.proofs.GridStates.{grid_state-rows}
 use Rattle.region_step.proofs.Ground.{ground}
@@ -58,93 +60,92 @@ length-notes f cells steps =
     length-flat_map (λ t. map (f t) cells) steps ∙ same_lengths (λ t. length (map (f t) cells)) (length cells) steps (λ t. length-map cells (f t))
 
 -- each region has a row for each of its cells
-pub stand-rows : (net : Network) (chart : ChartLists) (start : StartLists) (every : ℕ) (steps : List ℕ) (regions : List RegionValue) →
-    AllStand net chart start every steps regions → HaveRows chart regions
-stand-rows net chart start every steps regions stand = record {
+pub stand-rows : (setup : SetupValue) (steps : List ℕ) (regions : List RegionValue) →
+    AllStand setup steps regions → HaveRows setup.chart regions
+stand-rows setup steps regions stand = record {
   one_each = stand.one_each;
   rows = λ r region within.
       let here = stand.each r region (omega (arith, within, stand.one_each)) in
-      ap (λ state. length state.rows) here.state ∙ ap length (grid_state-rows net chart start every r (slice_index steps r)) ∙
-      length-map (list_at chart.cells r) (grid_row net chart.cut start (slice_index steps r));
+      ap (λ state. length state.rows) here.state ∙ ap length (grid_state-rows setup.net setup.chart setup.start setup.every r (slice_index steps r)) ∙
+      length-map (list_at setup.chart.cells r) (grid_row setup.net setup.chart.cut setup.start (slice_index steps r));
 }
 
 -- at the last step, with notes of it and of all recorded steps
 
-pub at_last : (net : Network) (chart : ChartLists) (start : StartLists) (every r : ℕ) (regions : List RegionValue) (region : RegionValue) → AllStand net chart start every (replicate (region_count chart.cut) net.steps) regions →
-    r < region_count chart.cut → Stands net chart start every r net.steps (slice_index_or regions r region)
-at_last net chart start every r regions region stand within =
-    subst (λ s. Stands net chart start every r s (slice_index_or regions r region)) (get_or-replicate (region_count chart.cut) r net.steps 0 within)
+pub at_last : (setup : SetupValue) (r : ℕ) (regions : List RegionValue) (region : RegionValue) → AllStandAtLast setup regions →
+    r < region_count setup.chart.cut → Stands setup r setup.net.steps (slice_index_or regions r region)
+at_last setup r regions region stand within =
+    subst (λ s. Stands setup r s (slice_index_or regions r region)) (get_or-replicate (region_count setup.chart.cut) r setup.net.steps 0 within)
     (stand.each r region (omega (arith, within, stand.one_each)))
 
 -- no region starts past the last step
 starts-in_time : (net : Network) (cut : List ℕ) (start : StartLists) (i : ℕ) → AreLawful net cut start.steps → region_at cut i < region_count cut → start_of start cut i ≤ net.steps
 starts-in_time net cut start i lawful within = lawful.in_time (region_at cut i) 0 (omega (arith, within, lawful.one_each))
 
-pub end-rows_of : (net : Network) (chart : ChartLists) (start : StartLists) (every : ℕ) (regions : List RegionValue) → IsNetwork net → chart ≡ chart_of net chart.cut →
-    length chart.cut ≡ length net.cells → AreAtTheEnd net chart start every regions → AreRowsOf chart regions (state_at net net.steps)
-end-rows_of net chart start every regions sound is one_each end = record {
-  one_each = length-state_at net net.steps ∙ sym one_each;
+pub end-rows_of : (setup : SetupValue) (regions : List RegionValue) → IsNetwork setup.net → setup.chart ≡ chart_of setup.net setup.chart.cut →
+    length setup.chart.cut ≡ length setup.net.cells → AreAtTheEnd setup regions → AreRowsOf setup.chart regions (state_at setup.net setup.net.steps)
+end-rows_of setup regions sound is one_each end = record {
+  one_each = length-state_at setup.net setup.net.steps ∙ sym one_each;
   each = λ r region within.
-      let here = at_last net chart start every r regions region end.stand within in
-      let lists = ground net chart.cut chart r sound is within in
-      ap (λ state. state.rows) here.state ∙ grid_state-rows net chart start every r net.steps ∙
-      map_same (grid_row net chart.cut start net.steps) (row_at (state_at net net.steps)) (list_at chart.cells r)
+      let here = at_last setup r regions region end.stand within in
+      let lists = ground setup.net setup.chart.cut setup.chart r sound is within in
+      ap (λ state. state.rows) here.state ∙ grid_state-rows setup.net setup.chart setup.start setup.every r setup.net.steps ∙
+      map_same (grid_row setup.net setup.chart.cut setup.start setup.net.steps) (row_at (state_at setup.net setup.net.steps)) (list_at setup.chart.cells r)
       (λ i has.
       let own = lists.own i has in
-      are_the_recurrences net chart.cut start sound end.lawful end.true_start net.steps i own.0
-      (starts-in_time net chart.cut start i end.lawful (subst (λ q. q < region_count chart.cut) (sym own.1) within)));
+      are_the_recurrences setup.net setup.chart.cut setup.start sound end.lawful end.true_start setup.net.steps i own.0
+      (starts-in_time setup.net setup.chart.cut setup.start i end.lawful (subst (λ q. q < region_count setup.chart.cut) (sym own.1) within)));
 }
 
-pub end-notes_of : (net : Network) (chart : ChartLists) (start : StartLists) (every : ℕ) (regions : List RegionValue) → IsNetwork net → chart ≡ chart_of net chart.cut →
-    AreAtTheEnd net chart start every regions → AreNotesOf chart regions (recorded net.steps every 0 net.steps) (state_note net)
-end-notes_of net chart start every regions sound is end = record {
+pub end-notes_of : (setup : SetupValue) (regions : List RegionValue) → IsNetwork setup.net → setup.chart ≡ chart_of setup.net setup.chart.cut →
+    AreAtTheEnd setup regions → AreNotesOf setup.chart regions (recorded setup.net.steps setup.every 0 setup.net.steps) (state_note setup.net)
+end-notes_of setup regions sound is end = record {
   each = λ r region within.
-      let here = at_last net chart start every r regions region end.stand within in
-      let cells : List ℕ = list_at chart.cells r in
-      ap (λ state. state.trail) here.state ∙ grid_state-trail net chart start every r net.steps ∙
-      elim (cases_eq every 0) [
+      let here = at_last setup r regions region end.stand within in
+      let cells : List ℕ = list_at setup.chart.cells r in
+      ap (λ state. state.trail) here.state ∙ grid_state-trail setup.net setup.chart setup.start setup.every r setup.net.steps ∙
+      elim (cases_eq setup.every 0) [
         | inl never ↦
-            let none : (from : ℕ) → recorded net.steps every from net.steps ≡ [] = λ from. ap (λ e. recorded net.steps e from net.steps) never ∙ recorded-none net.steps from net.steps in
-            ap (flat_map (λ s. notes_of (map (grid_row net chart.cut start s) cells))) (none (slice_index start.steps r)) ∙
-            sym (ap (flat_map (λ t. map (state_note net t) cells)) (none 0))
+            let none : (from : ℕ) → recorded setup.net.steps setup.every from setup.net.steps ≡ [] = λ from. ap (λ e. recorded setup.net.steps e from setup.net.steps) never ∙ recorded-none setup.net.steps from setup.net.steps in
+            ap (flat_map (λ s. notes_of (map (grid_row setup.net setup.chart.cut setup.start s) cells))) (none (slice_index setup.start.steps r)) ∙
+            sym (ap (flat_map (λ t. map (state_note setup.net t) cells)) (none 0))
         | inr some ↦
             let zero_first = end.from_zero some in
-            ap (λ from. flat_map (λ s. notes_of (map (grid_row net chart.cut start s) cells)) (recorded net.steps every from net.steps)) (zero_first r) ∙
-            flat_map_same (λ s. notes_of (map (grid_row net chart.cut start s) cells)) (λ t. map (state_note net t) cells) (recorded net.steps every 0 net.steps)
+            ap (λ from. flat_map (λ s. notes_of (map (grid_row setup.net setup.chart.cut setup.start s) cells)) (recorded setup.net.steps setup.every from setup.net.steps)) (zero_first r) ∙
+            flat_map_same (λ s. notes_of (map (grid_row setup.net setup.chart.cut setup.start s) cells)) (λ t. map (state_note setup.net t) cells) (recorded setup.net.steps setup.every 0 setup.net.steps)
             (λ t.
-            map-map note_of (grid_row net chart.cut start t) cells ∙
-            map_same (λ i. note_of (grid_row net chart.cut start t i)) (state_note net t) cells
+            map-map note_of (grid_row setup.net setup.chart.cut setup.start t) cells ∙
+            map_same (λ i. note_of (grid_row setup.net setup.chart.cut setup.start t i)) (state_note setup.net t) cells
             (λ i has.
-            let own = (ground net chart.cut chart r sound is within).own i has in
-            ap note_of (are_the_recurrences net chart.cut start sound end.lawful end.true_start t i own.0 (omega (arith, zero_first (region_at chart.cut i))))))
+            let own = (ground setup.net setup.chart.cut setup.chart r sound is within).own i has in
+            ap note_of (are_the_recurrences setup.net setup.chart.cut setup.start sound end.lawful end.true_start t i own.0 (omega (arith, zero_first (region_at setup.chart.cut i))))))
       ];
 }
 
 -- a note for each cell at each recorded step
-pub end-notes : (net : Network) (chart : ChartLists) (start : StartLists) (every : ℕ) (regions : List RegionValue) → IsNetwork net → chart ≡ chart_of net chart.cut →
-    AreAtTheEnd net chart start every regions → HaveNotes chart regions (recorded_count net.steps every)
-end-notes net chart start every regions sound is end =
-    let notes = end-notes_of net chart start every regions sound is end in
+pub end-notes : (setup : SetupValue) (regions : List RegionValue) → IsNetwork setup.net → setup.chart ≡ chart_of setup.net setup.chart.cut →
+    AreAtTheEnd setup regions → HaveNotes setup.chart regions (recorded_count setup.net.steps setup.every)
+end-notes setup regions sound is end =
+    let notes = end-notes_of setup regions sound is end in
     record {
-      notes = λ r region within. ap length (notes.each r region within) ∙ length-notes (state_note net) (list_at chart.cells r) (recorded net.steps every 0 net.steps);
+      notes = λ r region within. ap length (notes.each r region within) ∙ length-notes (state_note setup.net) (list_at setup.chart.cells r) (recorded setup.net.steps setup.every 0 setup.net.steps);
     }
 
 -- from step 0
-pub end-zero : (net : Network) (chart : ChartLists) (every : ℕ) (regions : List RegionValue) → AllStand net chart (zero_start net chart.cut) every (replicate (region_count chart.cut) net.steps) regions →
-    AreAtTheEnd net chart (zero_start net chart.cut) every regions
-end-zero net chart every regions stand = record {
-  true_start = zero_start-true net chart.cut;
-  lawful = zero_start-lawful net chart.cut;
-  from_zero = λ some q. zero_start-at net chart.cut q;
+pub end-zero : (layout : LayoutValue) (every : ℕ) (regions : List RegionValue) → AllStandAtLast (zero_setup layout every) regions → AreAtTheEnd (zero_setup layout every) regions
+end-zero layout every regions stand = record {
+  true_start = zero_start-true layout.net layout.chart.cut;
+  lawful = zero_start-lawful layout.net layout.chart.cut;
+  from_zero = λ some q. zero_start-at layout.net layout.chart.cut q;
   stand = stand;
 }
 
 -- they are numbered in order and have all been recorded so
-pub end-ended : (net : Network) (chart : ChartLists) (start : StartLists) (every : ℕ) (regions : List RegionValue) → AreAtTheEnd net chart start every regions → AreEnded net.steps every regions
+pub end-ended : (setup : SetupValue) (regions : List RegionValue) → AreAtTheEnd setup regions → AreEnded setup.net.steps setup.every regions
 unfolding grid_state
-end-ended net chart start every regions end =
-    let here : (r : ℕ) (region : RegionValue) → r < length regions → Stands net chart start every r net.steps (slice_index_or regions r region) =
-    λ r region within. at_last net chart start every r regions region end.stand (omega (arith, within, end.stand.one_each)) in
+end-ended setup regions end =
+    let here : (r : ℕ) (region : RegionValue) → r < length regions → Stands setup r setup.net.steps (slice_index_or regions r region) =
+    λ r region within. at_last setup r regions region end.stand (omega (arith, within, end.stand.one_each)) in
     record {
       number = λ r region within. ap (λ state. state.number) (here r region within).state;
       recorded = λ r region within. ap (λ state. state.every) (here r region within).state;

@@ -1,5 +1,6 @@
 ghost use Rattle.std.specs.Prelude.{◌≡◌, ◌++◌, ℕ, OnOk, length};
 ghost use Rattle.flow_model.specs.State.{state_at};
+ghost use Rattle.region_step.specs.Setup.{setup_of};
 ghost use Rattle.region_step.specs.Start.{StartLists};
 ghost use Rattle.delay_report.specs.Ended.{AreAtTheEnd};
 ghost use Rattle.delay_report.specs.Regions.{HaveRows};
@@ -23,7 +24,7 @@ pub fn put_last_totals(
     requires rows { HaveRows layout.now.chart regions.now }
 
     // Of regions of a true start it is that of the plain recurrences, whatever the cutting.
-    ensures recurrences { OnOk result ((start : StartLists) (every : ℕ) → AreAtTheEnd layout.now.net layout.now.chart start every regions.now →
+    ensures recurrences { OnOk result ((start : StartLists) (every : ℕ) → AreAtTheEnd (setup_of layout.now start every) regions.now →
         text.new.items ≡ text.old.items ++ total_line layout.now.net (state_at layout.now.net layout.now.net.steps)) }
 {
     let net = layout.net();

@@ -1,8 +1,8 @@
-ghost use Rattle.std.specs.Prelude.{◌≡◌, ◌<◌, ◌^◌, ℕ, IfOk, length, replicate};
+ghost use Rattle.std.specs.Prelude.{◌≡◌, ◌<◌, ◌^◌, ℕ, IfOk, length};
 ghost use Rattle.flow_model.specs.State.{delay_of, state_at};
-ghost use Rattle.region_cut.specs.Cuttings.{region_count};
-ghost use Rattle.region_step.specs.Standing.{AllStand};
-ghost use Rattle.region_step.specs.Start.{StartLists, zero_start};
+ghost use Rattle.region_step.specs.Setup.{setup_of, zero_setup};
+ghost use Rattle.region_step.specs.Standing.{AllStandAtLast};
+ghost use Rattle.region_step.specs.Start.{StartLists};
 ghost use Rattle.delay_report.specs.Ended.{AreAtTheEnd};
 ghost use Rattle.delay_report.specs.FromStart.{report_from};
 ghost use Rattle.delay_report.specs.Report.{report_of};
@@ -24,7 +24,7 @@ pub fn run_report(
     regions: &[Region],
     every: u64,
 ) -> Result<Vec<u8>, NoMemory>
-    requires stand { AllStand layout.now.net layout.now.chart (zero_start layout.now.net layout.now.chart.cut) every (replicate (region_count layout.now.chart.cut) layout.now.net.steps) regions.now }
+    requires stand { AllStandAtLast (zero_setup layout.now every) regions.now }
     ensures { IfOk result (λ text. text.items ≡ report_of layout.now.net every) }
 {
     let net = layout.net();
@@ -35,12 +35,12 @@ pub fn run_report(
 
 /// The same of regions that were taken to the last step from any one start, each from its own step, and recorded at none.
 pub fn report_from(alloc: Global, layout: &Layout, regions: &[Region]) -> Result<Vec<u8>, NoMemory>
-    requires stand { (start : StartLists) × AllStand layout.now.net layout.now.chart start 0 (replicate (region_count layout.now.chart.cut) layout.now.net.steps) regions.now }
-    ensures rows { IfOk result (λ text. (start : StartLists) → AllStand layout.now.net layout.now.chart start 0 (replicate (region_count layout.now.chart.cut) layout.now.net.steps) regions.now →
+    requires stand { (start : StartLists) × AllStandAtLast (setup_of layout.now start 0) regions.now }
+    ensures rows { IfOk result (λ text. (start : StartLists) → AllStandAtLast (setup_of layout.now start 0) regions.now →
         text.items ≡ report_from layout.now.net layout.now.chart.cut start) }
 
     // Of a true start it is the report of the plain recurrences.
-    ensures recurrences { IfOk result (λ text. (start : StartLists) → AreAtTheEnd layout.now.net layout.now.chart start 0 regions.now → text.items ≡ report_of layout.now.net 0) }
+    ensures recurrences { IfOk result (λ text. (start : StartLists) → AreAtTheEnd (setup_of layout.now start 0) regions.now → text.items ≡ report_of layout.now.net 0) }
 {
     let net = layout.net();
     let _steps = net.steps;
@@ -50,7 +50,7 @@ pub fn report_from(alloc: Global, layout: &Layout, regions: &[Region]) -> Result
 
 /// The rows of all cells at the last step, in the order of the file, of such regions, however they were recorded.
 pub fn run_rows(alloc: Global, layout: &Layout, regions: &[Region]) -> Result<Vec<Row>, NoMemory>
-    requires stand { (every : ℕ) × AllStand layout.now.net layout.now.chart (zero_start layout.now.net layout.now.chart.cut) every (replicate (region_count layout.now.chart.cut) layout.now.net.steps) regions.now }
+    requires stand { (every : ℕ) × AllStandAtLast (zero_setup layout.now every) regions.now }
     ensures one_each { IfOk result (λ rows. length rows.items ≡ length layout.now.net.cells) }
     ensures rows { IfOk result (λ rows. rows.items ≡ state_at layout.now.net layout.now.net.steps) }
 {
@@ -62,7 +62,7 @@ pub fn run_rows(alloc: Global, layout: &Layout, regions: &[Region]) -> Result<Ve
 
 /// The delay of such regions: the waits of all cells, parts times steps. At most 200,000 waits of 64 bits fit in 128.
 pub fn run_delay(alloc: Global, layout: &Layout, regions: &[Region]) -> Result<u128, NoMemory>
-    requires stand { (every : ℕ) × AllStand layout.now.net layout.now.chart (zero_start layout.now.net layout.now.chart.cut) every (replicate (region_count layout.now.chart.cut) layout.now.net.steps) regions.now }
+    requires stand { (every : ℕ) × AllStandAtLast (zero_setup layout.now every) regions.now }
     ensures delay { IfOk result (λ sum. sum ≡ delay_of (state_at layout.now.net layout.now.net.steps)) }
     ensures few { IfOk result (λ sum. sum < 2 ^ 96) }
 {

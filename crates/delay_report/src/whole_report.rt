@@ -2,6 +2,7 @@ ghost use Rattle.std.specs.Prelude.{◌≡◌, ◌++◌, ◌+◌, ℕ, List, IfO
 ghost use Rattle.flow_ledger.specs.Books.{entered_of, initial_of, inside_of, left_of};
 ghost use Rattle.flow_model.specs.declared.row.Row.{Row as RowValue};
 ghost use Rattle.region_step.specs.Recording.{recorded};
+ghost use Rattle.region_step.specs.Setup.{setup_of};
 ghost use Rattle.region_step.specs.Start.{StartLists};
 ghost use Rattle.region_step.specs.declared.note.Note.{Note as NoteValue};
 ghost use Rattle.delay_report.specs.Ended.{AreAtTheEnd};
@@ -38,10 +39,10 @@ pub fn report(
         text.items ≡ report_with layout.now.net every note rows) }
 
     // Of regions of a true start it is the report of the plain recurrences, whatever the cutting.
-    ensures recurrences { IfOk result (λ text. (start : StartLists) → AreAtTheEnd layout.now.net layout.now.chart start every regions.now → text.items ≡ report_of layout.now.net every) }
+    ensures recurrences { IfOk result (λ text. (start : StartLists) → AreAtTheEnd (setup_of layout.now start every) regions.now → text.items ≡ report_of layout.now.net every) }
 
     // Then its totals balance: what is inside at the last step and what has left were there at first or have entered.
-    ensures balance { IfOk result (λ text. (start : StartLists) (rows : List RowValue) → AreAtTheEnd layout.now.net layout.now.chart start every regions.now →
+    ensures balance { IfOk result (λ text. (start : StartLists) (rows : List RowValue) → AreAtTheEnd (setup_of layout.now start every) regions.now →
         AreRowsOf layout.now.chart regions.now rows → inside_of layout.now.net rows + left_of layout.now.net rows ≡ initial_of layout.now.net + entered_of layout.now.net rows) }
 {
     let net = layout.net();

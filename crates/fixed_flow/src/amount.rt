@@ -7,7 +7,7 @@ use crate::{printing, spelling};
 /// The parts of one vehicle.
 pub const PARTS_PER_VEHICLE: u64 = 1_000_000;
 
-/// The most parts that a text may spell, those of 10,000,000 vehicles.
+/// The most parts of an amount, those of 10,000,000 vehicles.
 pub const MOST_PARTS: u64 = 10_000_000_000_000;
 
 /// An amount of traffic, in parts: millionths of a vehicle.

@@ -17,6 +17,6 @@ mod whole_number;
 pub use amount::{Amount, AmountFault, MOST_PARTS, PARTS_PER_VEHICLE};
 pub use median::middle;
 pub use printing::put_wide;
-pub use share::share_floor;
+pub use share::{MOST_RATIO, share_floor};
 pub use text::Text48;
 pub use whole_number::whole;

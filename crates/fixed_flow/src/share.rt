@@ -1,5 +1,8 @@
 ghost use Rattle.std.specs.Prelude.{◌≡◌, ◌*◌, ◌/◌, ◌≤◌};
 
+/// The greatest priority, turning share, and numerator and denominator of a ratio.
+pub const MOST_RATIO: u32 = 1_000;
+
 /// The share `num / den` of a value, rounded down.
 pub fn share_floor(value: u64, num: u64, den: u64) -> u64
     requires divisor { 1 ≤ den }

@@ -93,7 +93,7 @@ is_change net t k i outs ins rows flow carried has =
     ))
 
 -- before its first move
-pub carrying-begins : (net : Network) (t k : ℕ) (rows now : List Row) (flow : Flow) →
+carrying-begins : (net : Network) (t k : ℕ) (rows now : List Row) (flow : Flow) →
     now ≡ next_rows (with_connectors net k) t rows → now ≡ rows_so_far net t k rows flow 0 0
 carrying-begins net t k rows now flow is =
     is ∙ next_rows-with_connectors net t k rows ∙
@@ -101,7 +101,7 @@ carrying-begins net t k rows now flow is =
     (entered_so_far net t k rows flow 0) (left_so_far net t k rows flow 0) (λ i. omega arith) (λ i. omega arith)
 
 -- after its last
-pub carrying-ends : (net : Network) (t k outs ins : ℕ) (rows now : List Row) (flow : Flow) → IsCarried net t k rows flow →
+carrying-ends : (net : Network) (t k outs ins : ℕ) (rows now : List Row) (flow : Flow) → IsCarried net t k rows flow →
     length (upstream_of (connector_at net.connectors k)) ≤ outs → length (downstream_of (connector_at net.connectors k)) ≤ ins →
     now ≡ rows_so_far net t k rows flow outs ins → now ≡ next_rows (with_connectors net (k + 1)) t rows
 carrying-ends net t k outs ins rows now flow carried all_out all_in is =
@@ -114,7 +114,7 @@ carrying-ends net t k outs ins rows now flow carried all_out all_in is =
     sym (next_rows-with_connectors net t (k + 1) rows)
 
 -- one move out: of the cell upstream of this place
-pub moves-out : (net : Network) (t k j ins cell parts : ℕ) (rows now : List Row) (flow : Flow) → IsCarried net t k rows flow →
+moves-out : (net : Network) (t k j ins cell parts : ℕ) (rows now : List Row) (flow : Flow) → IsCarried net t k rows flow →
     j < length (upstream_of (connector_at net.connectors k)) → j < 2 →
     cell ≡ get_or (cells_of (connector_at net.connectors k)) j 0 → parts ≡ get_or (sent_by flow) j 0 →
     now ≡ rows_so_far net t k rows flow j ins →
@@ -137,7 +137,7 @@ moves-out net t k j ins cell parts rows now flow carried within few place parts_
     )
 
 -- one move in: into the cell downstream of this place
-pub moves-in : (net : Network) (t k outs j cell parts : ℕ) (rows now : List Row) (flow : Flow) → IsCarried net t k rows flow →
+moves-in : (net : Network) (t k outs j cell parts : ℕ) (rows now : List Row) (flow : Flow) → IsCarried net t k rows flow →
     j < length (downstream_of (connector_at net.connectors k)) → j < 2 →
     cell ≡ get_or (cells_of (connector_at net.connectors k)) (length (upstream_of (connector_at net.connectors k)) + j) 0 →
     parts ≡ get_or (received_by flow) j 0 →
@@ -221,33 +221,64 @@ two_held net t k cells rows sound there bounds is up_long down_long =
     of_place long (suc zero) within = (bounds.each _ (cells_there net.cells _ (connector_at-sound net k sound there) 1 0 within)).held
     of_place long (suc (suc j)) within = absurd (omega arith)
 
-pub three_carried : (net : Network) (t k ups downs : ℕ) (cells : List ℕ) (rows : List Row) (flow : Flow) → IsNetwork net → t < net.steps →
+-- a connector carries its flow between these cells, so many of them upstream and so many downstream
+pub record Carries (net : Network) (t k ups downs : ℕ) (cells : List ℕ) (rows : List Row) (flow : Flow) : Type 0 where
+  pub carried : IsCarried net t k rows flow
+  pub between : cells_of (connector_at net.connectors k) ≡ cells
+  pub up : length (upstream_of (connector_at net.connectors k)) ≡ ups
+  pub down : length (downstream_of (connector_at net.connectors k)) ≡ downs
+
+pub three_carries : {net : Network} {t k ups downs : ℕ} {cells : List ℕ} {rows : List Row} {flow : Flow} → IsNetwork net → t < net.steps →
     k < length net.connectors → AreInBounds net t rows → cells_of (connector_at net.connectors k) ≡ cells →
     length (upstream_of (connector_at net.connectors k)) ≡ ups → length (downstream_of (connector_at net.connectors k)) ≡ downs → ups + downs ≡ 3 →
     flow ≡ flow_between net t (connector_at net.connectors k)
     (occupancy rows (get_or cells 0 0) ∷ occupancy rows (get_or cells 1 0) ∷ occupancy rows (get_or cells 2 0) ∷ []) →
-    IsCarried net t k rows flow
-three_carried net t k ups downs cells rows flow sound before there bounds is up_long down_long all flow_is =
+    Carries net t k ups downs cells rows flow
+three_carries {net} {t} {k} {ups} {downs} {cells} {rows} {flow} sound before there bounds is up_long down_long all flow_is =
     let connector : Connector = connector_at net.connectors k in
+    let same = (rw (← is) at flow_is) ∙ three_flow net t (occupancy rows) connector ups downs up_long down_long all in
     record {
-      sound = sound;
-      before = before;
-      there = there;
-      bounds = bounds;
-      is = (rw (← is) at flow_is) ∙ three_flow net t (occupancy rows) connector ups downs up_long down_long all;
+      carried = record { sound = sound; before = before; there = there; bounds = bounds; is = same };
+      between = is;
+      up = up_long;
+      down = down_long;
     }
 
-pub two_carried : (net : Network) (t k : ℕ) (cells : List ℕ) (rows : List Row) (flow : Flow) → IsNetwork net → t < net.steps →
+pub two_carries : {net : Network} {t k : ℕ} {cells : List ℕ} {rows : List Row} {flow : Flow} → IsNetwork net → t < net.steps →
     k < length net.connectors → AreInBounds net t rows → cells_of (connector_at net.connectors k) ≡ cells →
     length (upstream_of (connector_at net.connectors k)) ≡ 1 → length (downstream_of (connector_at net.connectors k)) ≡ 1 →
     flow ≡ flow_between net t (connector_at net.connectors k) (occupancy rows (get_or cells 0 0) ∷ occupancy rows (get_or cells 1 0) ∷ 0 ∷ []) →
-    IsCarried net t k rows flow
-two_carried net t k cells rows flow sound before there bounds is up_long down_long flow_is =
+    Carries net t k 1 1 cells rows flow
+two_carries {net} {t} {k} {cells} {rows} {flow} sound before there bounds is up_long down_long flow_is =
     let connector : Connector = connector_at net.connectors k in
+    let same = (rw (← is) at flow_is) ∙ sym (two net t (occupancy rows) connector up_long down_long) in
     record {
-      sound = sound;
-      before = before;
-      there = there;
-      bounds = bounds;
-      is = (rw (← is) at flow_is) ∙ sym (two net t (occupancy rows) connector up_long down_long);
+      carried = record { sound = sound; before = before; there = there; bounds = bounds; is = same };
+      between = is;
+      up = up_long;
+      down = down_long;
     }
+
+-- its moves, one after the other
+pub begun : {net : Network} {t k ups downs : ℕ} {cells : List ℕ} {rows now : List Row} {flow : Flow} → Carries net t k ups downs cells rows flow →
+    now ≡ next_rows (with_connectors net k) t rows → now ≡ rows_so_far net t k rows flow 0 0
+begun {net} {t} {k} {ups} {downs} {cells} {rows} {now} {flow} carries is = carrying-begins net t k rows now flow is
+
+pub leaves : {net : Network} {t k ups downs : ℕ} {cells : List ℕ} {rows now : List Row} {flow : Flow} → Carries net t k ups downs cells rows flow → (j : ℕ) → j < ups → j < 2 →
+    now ≡ rows_so_far net t k rows flow j 0 → let cell = get_or cells j 0 in let parts = get_or (sent_by flow) j 0 in
+    CanLeave now cell parts × (set now cell (row_less (row_at now cell) parts) ≡ rows_so_far net t k rows flow (j + 1) 0)
+leaves {net} {t} {k} {ups} {downs} {cells} {rows} {now} {flow} carries j within few is =
+    moves-out net t k j 0 (get_or cells j 0) (get_or (sent_by flow) j 0) rows now flow carries.carried (omega (arith, within, carries.up)) few
+    (ap (λ cells. get_or cells j 0) (sym carries.between)) refl is
+
+pub enters : {net : Network} {t k ups downs : ℕ} {cells : List ℕ} {rows now : List Row} {flow : Flow} → Carries net t k ups downs cells rows flow → (j : ℕ) → j < downs → j < 2 →
+    now ≡ rows_so_far net t k rows flow ups j → let cell = get_or cells (ups + j) 0 in let parts = get_or (received_by flow) j 0 in
+    CanEnter now cell parts × (set now cell (row_more (row_at now cell) parts) ≡ rows_so_far net t k rows flow ups (j + 1))
+enters {net} {t} {k} {ups} {downs} {cells} {rows} {now} {flow} carries j within few is =
+    moves-in net t k ups j (get_or cells (ups + j) 0) (get_or (received_by flow) j 0) rows now flow carries.carried (omega (arith, within, carries.down)) few
+    (rw carries.up (ap (λ cells. get_or cells (ups + j) 0) (sym carries.between))) refl is
+
+pub ended : {net : Network} {t k ups downs : ℕ} {cells : List ℕ} {rows now : List Row} {flow : Flow} → Carries net t k ups downs cells rows flow →
+    now ≡ rows_so_far net t k rows flow ups downs → now ≡ next_rows (with_connectors net (k + 1)) t rows
+ended {net} {t} {k} {ups} {downs} {cells} {rows} {now} {flow} carries is =
+    carrying-ends net t k ups downs rows now flow carries.carried (omega (arith, carries.up)) (omega (arith, carries.down)) is

@@ -4,6 +4,7 @@ use Rattle.std.specs.Prelude.{All}
 use Rattle.std.specs.List.{IsDistinct, list_any}
 use Rattle.std.proofs.lemmas.Bool.Decides.{nat_tests}
 use Rattle.std.proofs.lemmas.List.Elements.{All-cons, All-nil}
+use Rattle.fixed_flow.specs.Limits.{most_ratio}
 use Rattle.network_file.specs.Cells.{is_exit_at, is_gate_at}
 use Rattle.network_file.specs.Connectors.{leads_into, leads_out_of}
 use Rattle.network_file.specs.Draft.{Draft}
@@ -12,7 +13,6 @@ use Rattle.network_file.specs.Formats.{most_records}
 use Rattle.network_file.specs.Network.{IsSoundConnector}
 use Rattle.network_file.specs.declared.cell.Cell.{Cell}
 use Rattle.network_file.specs.declared.connector.Connector.TheVariants.{Link, Merge, Diverge}
-use Rattle.signal_plan.specs.Limits.{most_ratio}
 
 -- a cell that may stand upstream, one that may stand downstream, and a weight
 abbrev Sends : List Cell → ℕ → Type 0

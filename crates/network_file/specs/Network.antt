@@ -1,12 +1,12 @@
 -- A network as contracts see it, and what holds of every network.
 use Rattle.std.specs.Prelude.{◌≡◌, ℕ, ◌+◌, ◌<◌, ◌≤◌, ◌⊎◌, List, [], length, map, eqb, bytes_eq, All, count_by, sum_by, IfSome, true, false}
 use Rattle.std.specs.List.{IsDistinct, list_any}
-use Rattle.fixed_flow.specs.Limits.{most_parts}
+use Rattle.fixed_flow.specs.Limits.{most_parts, most_ratio}
 use Rattle.signal_plan.specs.Counts.{demand_count, limit_count, speed_count, turn_count}
 use Rattle.signal_plan.specs.Records.{PlannedCell, PlanRecords}
 use Rattle.signal_plan.specs.Sound.{IsSoundSpeed, IsSoundTurn}
 use Rattle.signal_plan.specs.Total.{total_demand}
-use Rattle.signal_plan.specs.Limits.{most_ratio, most_steps}
+use Rattle.signal_plan.specs.Limits.{most_steps}
 use Rattle.network_file.specs.Cells.{is_road, is_exit, is_exit_at, is_gate_at, is_road_at}
 use Rattle.network_file.specs.Connectors.{diverges_from, upstream_of, downstream_of, weights_of, leads_into, leads_out_of}
 use Rattle.network_file.specs.Cutting.{IsCutting}

@@ -1,8 +1,8 @@
 -- What each kind of record adds to the draft, or the first fault that it has there.
 use Rattle.std.specs.Prelude.{ℕ, ◌-◌, ◌==◌, List, Some, None, Result, Ok, is_none, nat_lt, length, ok_or}
-use Rattle.fixed_flow.specs.Limits.{most_parts}
+use Rattle.fixed_flow.specs.Limits.{most_parts, most_ratio}
 use Rattle.signal_plan.specs.Counts.{demand_count, limit_count, speed_count, turn_count}
-use Rattle.signal_plan.specs.Limits.{most_ratio, most_steps}
+use Rattle.signal_plan.specs.Limits.{most_steps}
 use Rattle.record_fields.specs.Checks.{◌>>=◌, ◌>>◌, must}
 use Rattle.network_file.specs.Draft.{Draft, with_steps, add_cell, add_connector, add_demand, add_limit, add_region, add_signal, add_speed, add_turn}
 use Rattle.record_fields.specs.Fields.{field, whole_within, range_within, ratio, weights, amount_within}

@@ -17,12 +17,12 @@ use crate::draft::NetDraft;
 use crate::entry::Entry;
 use crate::format::most_records;
 use crate::limits::{MOST_CAPACITY, MOST_REGIONS, MOST_ROOM};
-use fixed_flow::MOST_PARTS;
+use fixed_flow::{MOST_PARTS, MOST_RATIO};
 use record_fields::{
     Code, FileRecord, RecordKind, RecordRefusal, RegionRecord, amount_within, range_within, ratio,
     weights, whole_within,
 };
-use signal_plan::{Demand, Limit, MOST_RATIO, MOST_STEPS, Signal, Speed, Turn};
+use signal_plan::{Demand, Limit, MOST_STEPS, Signal, Speed, Turn};
 
 /// The draft with one more record of the file.
 #[inline(always)]

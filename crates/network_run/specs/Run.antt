@@ -1,9 +1,9 @@
 -- What contracts see of a run.
-use Rattle.std.specs.Prelude.{ℕ, ◌+◌, ◌<◌, ◌≤◌, List, replicate, slice_index}
+use Rattle.std.specs.Prelude.{ℕ, ◌+◌, ◌<◌, ◌≤◌, List, slice_index}
 use Rattle.std.specs.List.{Contains}
 use Rattle.region_cut.specs.Cuttings.{region_count}
 use Rattle.region_step.specs.Region.{RegionValue}
-use Rattle.region_step.specs.Standing.{AllStand}
+use Rattle.region_step.specs.Standing.{AllStandAt}
 use Rattle.border_rows.specs.declared.view.PublishedStep.{PublishedStep}
 use Rattle.border_rows.specs.declared.view.Terms.{Terms}
 use Rattle.border_rows.specs.declared.view.View.{View}
@@ -24,7 +24,7 @@ abbrev pub StandWhereTheyCame : RunValue → List RegionValue → Type 0
 StandWhereTheyCame run regions =
     (goal : ℕ) → AllReach (region_count run.terms.setup.now.chart.cut) goal run.knows → run.knows.reach ≤ goal →
     ((r : ℕ) → r < region_count run.terms.setup.now.chart.cut → slice_index run.terms.setup.now.start.steps r ≤ goal) →
-    AllStand run.terms.setup.now.net run.terms.setup.now.chart run.terms.setup.now.start run.terms.setup.now.every (replicate (region_count run.terms.setup.now.chart.cut) goal) regions
+    AllStandAt run.terms.setup.now goal regions
 
 -- and up to such a goal its log is whole
 abbrev pub IsLoggedWhereTheyCame : RunValue → Type 0

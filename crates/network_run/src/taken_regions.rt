@@ -1,9 +1,9 @@
-ghost use Rattle.std.specs.Prelude.{◌≡◌, ◌<◌, ◌≤◌, ℕ, IfOk, IsOk, replicate, slice_index};
+ghost use Rattle.std.specs.Prelude.{◌≡◌, ◌<◌, ◌≤◌, ℕ, IfOk, IsOk, slice_index};
 ghost use Rattle.region_cut.specs.Cuttings.{region_count};
-ghost use Rattle.region_step.specs.Standing.{AllStand};
-ghost use Rattle.region_step.specs.Start.{zero_start};
 ghost use Rattle.region_slots.specs.Moments.{cut_run};
 ghost use Rattle.network_run.specs.Telling.{HasTold, zero_run};
+ghost use Rattle.region_step.specs.Setup.{zero_setup};
+ghost use Rattle.region_step.specs.Standing.{AllStandAt, AllStandAtLast};
 
 use crate::run::Run;
 use no_memory::NoMemory;
@@ -25,8 +25,7 @@ pub fn last_regions<R: Threads + Sync, W: Observer>(
     observer: &W,
 ) -> Result<Vec<Region>, NoMemory>
     requires workers { (1 ≤ workers) × (workers ≤ 16) }
-    ensures stand { IfOk result (λ regions. AllStand layout.now.net layout.now.chart (zero_start layout.now.net layout.now.chart.cut) every
-        (replicate (region_count layout.now.chart.cut) layout.now.net.steps) regions.items) }
+    ensures stand { IfOk result (λ regions. AllStandAtLast (zero_setup layout.now every) regions.items) }
     ensures told { IsOk result → HasTold (W.told_held observer.now) (W.told_freed observer.now) (zero_run layout.now.net layout.now.chart.cut every) layout.now.net.steps }
 {
     let net = layout.net();
@@ -47,8 +46,7 @@ pub fn regions_from<R: Threads + Sync, W: Observer>(
     requires before { (r : ℕ) → r < region_count setup.now.chart.cut → slice_index setup.now.start.steps r ≤ goal }
     requires in_time { goal ≤ setup.now.net.steps }
     requires workers { (1 ≤ workers) × (workers ≤ 16) }
-    ensures stand { IfOk result (λ regions. AllStand setup.now.net setup.now.chart setup.now.start setup.now.every
-        (replicate (region_count setup.now.chart.cut) goal) regions.items) }
+    ensures stand { IfOk result (λ regions. AllStandAt setup.now goal regions.items) }
     ensures told { IsOk result → HasTold (W.told_held observer.now) (W.told_freed observer.now) (cut_run setup.now) goal }
 {
     let mut run = Run::open(alloc, setup, workers)?;

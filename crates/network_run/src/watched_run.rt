@@ -1,6 +1,7 @@
-ghost use Rattle.std.specs.Prelude.{◌≡◌, ◌+◌, ◌<◌, ◌≤◌, ◌^◌, IfOk, IsOk, [], length, replicate};
+ghost use Rattle.std.specs.Prelude.{◌≡◌, ◌+◌, ◌<◌, ◌≤◌, ◌^◌, IfOk, IsOk, [], length};
 ghost use Rattle.region_cut.specs.Cuttings.{region_count};
-ghost use Rattle.region_step.specs.Standing.{AllStand};
+ghost use Rattle.region_step.specs.Setup.{zero_setup};
+ghost use Rattle.region_step.specs.Standing.{AllStandAtLast};
 ghost use Rattle.region_step.specs.Start.{zero_start};
 ghost use Rattle.snapshot.specs.Rooms.{IsRoomFor};
 ghost use Rattle.snapshot.specs.Shots.{goal_of};
@@ -44,8 +45,7 @@ pub fn watched_regions<R: Threads + Sync, W: Observer>(
     requires workers { (1 ≤ workers) × (workers ≤ 16) }
     requires shots { (1 ≤ shots) × (shots + 1 < 2 ^ 32) }
     ensures shots { IfOk result (λ watched. AreShots layout.now.net layout.now.chart.cut shots watched.shots.items) }
-    ensures stand { IfOk result (λ watched. AllStand layout.now.net layout.now.chart (zero_start layout.now.net layout.now.chart.cut) every
-        (replicate (region_count layout.now.chart.cut) layout.now.net.steps) watched.regions.items) }
+    ensures stand { IfOk result (λ watched. AllStandAtLast (zero_setup layout.now every) watched.regions.items) }
     ensures told { IsOk result → HasTold (W.told_held observer.now) (W.told_freed observer.now) (zero_run layout.now.net layout.now.chart.cut every) layout.now.net.steps }
     ensures told_shots { IsOk result → HasToldShots (W.told_watched observer.now) (zero_run layout.now.net layout.now.chart.cut every) shots }
 {

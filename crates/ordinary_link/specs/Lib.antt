@@ -1,4 +1,3 @@
-pub mod Limits
 pub mod Sending
 pub mod Space
 pub mod Receiving

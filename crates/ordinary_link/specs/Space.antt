@@ -1,6 +1,6 @@
 use Rattle.std.specs.Prelude.{ℕ, ◌≤◌, ◌-◌, ◌*◌, ◌/◌}
+use Rattle.fixed_flow.specs.Limits.{most_ratio}
 use Rattle.ordinary_link.specs.declared.space.Room.{Room}
-use Rattle.ordinary_link.specs.Limits.{most_ratio}
 
 -- what the empty space of a road that holds `n` parts lets in: floor(A·(N - n)/B)
 abbrev pub space_flow : ℕ → Room → ℕ

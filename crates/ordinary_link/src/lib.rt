@@ -15,8 +15,9 @@ mod rows;
 mod send;
 mod space;
 
+pub use fixed_flow::MOST_PARTS;
 pub use link::link_flow;
 pub use receive::receiving;
 pub use rows::{link_row, send_row, step_row};
 pub use send::sending;
-pub use space::{MOST_PARTS, MOST_RATIO, Room};
+pub use space::Room;

@@ -3,7 +3,8 @@ ghost use Rattle.std.specs.Option.{ForSome};
 ghost use Rattle.ordinary_link.specs.Space.{IsRoomHolding};
 ghost use Rattle.ordinary_link.specs.Receiving.{receiving_flow};
 
-use crate::space::{MOST_PARTS, Room};
+use crate::space::Room;
+use fixed_flow::MOST_PARTS;
 
 /// What a cell that holds `n` parts can receive in a step whose capacity is `q` parts: `R` of
 /// Daganzo (1995). A cell without a room receives up to its capacity, however much it holds.

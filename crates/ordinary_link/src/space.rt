@@ -1,11 +1,7 @@
 ghost use Rattle.std.specs.Prelude.{◌≡◌, ◌≤◌, ◌+◌};
 ghost use Rattle.ordinary_link.specs.Space.{space_flow, IsRoomHolding};
 
-/// The most parts that a road may have room for: 10,000,000 vehicles.
-pub const MOST_PARTS: u64 = 10_000_000_000_000;
-
-/// The greatest denominator of a road's ratio.
-pub const MOST_RATIO: u32 = 1_000;
+use fixed_flow::MOST_PARTS;
 
 /// The room of a road cell: it holds at most `most` parts, and the backward wave runs at `num / den`
 /// of the free speed.

@@ -1,14 +1,15 @@
 ghost use Rattle.std.specs.Prelude.{◌≡◌, ◌<◌, ◌≤◌, ◌^◌, ℕ, IfOk, length};
 ghost use Rattle.region_cut.specs.Cuttings.{region_count};
 ghost use Rattle.region_step.specs.Advance.{HasRowsInBounds};
+ghost use Rattle.region_step.specs.Setup.{zero_setup};
 ghost use Rattle.region_step.specs.Standing.{Stands};
-ghost use Rattle.region_step.specs.Start.{Fits, zero_start};
+ghost use Rattle.region_step.specs.Start.{Fits};
 ghost use Rattle.plan_choice.specs.Choice.{whole_delay};
 
 use delay_report::run_delay;
 use network_file::Net;
 use no_memory::NoMemory;
-use region_cut::{Cut, CutRefusal, Layout};
+use region_cut::{Cut, Layout};
 use region_step::{Region, Start};
 use std::alloc::Global;
 
@@ -29,17 +30,13 @@ fn whole(alloc: Global, net: &Net) -> Result<Cut, NoMemory>
     ensures one { IfOk result (λ cut. region_count cut ≡ 1) }
 {
     let regions = vec![in alloc; 0; net.cells.len()]?;
-    match Cut::of(alloc, net, &regions) {
-        Ok(cut) => Ok(cut),
-        // One region is a cutting, so that it has no fault.
-        Err(CutRefusal::Fault(_) | CutRefusal::NoMemory) => Err(NoMemory),
-    }
+    Ok(Cut::known(regions))
 }
 
 // The one region of a network at the last step.
 fn last_region(alloc: Global, layout: &Layout) -> Result<Region, NoMemory>
     requires one { region_count layout.now.chart.cut ≡ 1 }
-    ensures { IfOk result (Stands layout.now.net layout.now.chart (zero_start layout.now.net layout.now.chart.cut) 0 0 layout.now.net.steps) }
+    ensures { IfOk result (Stands (zero_setup layout.now 0) 0 layout.now.net.steps) }
 {
     let start = Start::zero(alloc, layout)?;
     let mut region = Region::open(alloc, layout, &start, 0, 0)?;
@@ -50,9 +47,9 @@ fn last_region(alloc: Global, layout: &Layout) -> Result<Region, NoMemory>
 // Takes the one region of a network from step 0 to the last step.
 fn take_to_end(layout: &Layout, region: &mut Region)
     requires one { region_count layout.now.chart.cut ≡ 1 }
-    requires stands { Stands layout.now.net layout.now.chart (zero_start layout.now.net layout.now.chart.cut) 0 0 0 region.old }
+    requires stands { Stands (zero_setup layout.now 0) 0 0 region.old }
     requires in_bounds { HasRowsInBounds layout.now.net layout.now.chart region.old.state }
-    ensures { Stands layout.now.net layout.now.chart (zero_start layout.now.net layout.now.chart.cut) 0 0 layout.now.net.steps region.new }
+    ensures { Stands (zero_setup layout.now 0) 0 layout.now.net.steps region.new }
 {
     let net = layout.net();
     let _regions = layout.regions();

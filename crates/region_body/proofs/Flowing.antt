@@ -1,12 +1,12 @@
 -- What leaves a cell and what enters it in a step, by the link between places and by the other connectors.
-use Rattle.std.specs.Prelude.{Bool, not, ◌⊎◌, eqb, slice_index, if◌then◌else◌}
+use Rattle.std.specs.Prelude.{Bool, not, ◌⊎◌, eqb, min, slice_index, if◌then◌else◌}
 use Rattle.std.specs.List.{Contains, filter, list_any, range_with_len, sum_by}
 use Rattle.std.proofs.Common.{◌≡◌, ℕ, zero, suc, ◌+◌, ◌<◌, inl, inr, true, false, List, [], ◌∷◌, length, get_or, refl, sym, ap, ◌∙◌, subst, add-one, arith}
 use Rattle.std.proofs.lemmas.Bool.{cases_Bool, eq-eqb, eqb-true}
 use Rattle.std.proofs.lemmas.List.Elements.{Contains-get_or}
 use Rattle.signal_plan.specs.Capacity.{capacity_at}
+use Rattle.signal_plan.specs.Speeds.{arriving, speed_at}
 use Rattle.signal_plan.proofs.Sums.{sum_by_places, sum_by-zero}
-use Rattle.signal_plan.specs.Speeds.{has_speeds}
 use Rattle.network_file.specs.Cells.{is_gate_at}
 use Rattle.network_file.specs.Connectors.{connector_at, leads_into, leads_out_of}
 use Rattle.network_file.specs.Network.{IsNetwork, Network}
@@ -46,69 +46,70 @@ one_of a b listed = elim (cases_Bool (eqb a b)) [
   | inr other ↦ let none = rw other at listed in cc
 ]
 
--- each place has what its cell holds, its cell's space, and the most of its link
+-- each place has what its cell holds and its cell's space, and can send what limits and speed let its link carry
 pub record HasPlaces (net : Network) (t : ℕ) (n : ℕ → ℕ) (cells connectors : List ℕ) (places : List Place) : Type 0 where
   pub one_each : length places ≡ length cells
   pub held : (p : ℕ) → p < length cells → (place_at places p).n ≡ n (slice_index cells p)
   pub space : (p : ℕ) → p < length cells → IsSpaceOf (place_at places p).space (room_at net.cells (slice_index cells p))
   pub fits : (p : ℕ) → p < length cells →
       HasSpace (place_at places p).n (capacity_at net.plan (slice_index cells p) t) (room_at net.cells (slice_index cells p))
-  pub most : (p : ℕ) → p < length cells → (place_at places p).most ≡ most_out net cells connectors p t
+  pub sends : (p : ℕ) → p < length cells → min (place_at places p).most (place_at places p).n ≡
+      min (most_out net cells connectors p t) (arriving (speed_at net.plan (slice_index cells p) t) (n (slice_index cells p)))
 
 -- the connector that joins the p-th cell to the next
 pub record IsJoin (net : Network) (cells connectors : List ℕ) (p : ℕ) : Type 0 where
   pub number : ℕ
   pub there : number < length net.connectors
-  pub chained : is_chained net cells (connector_at net.connectors number) ≡ true
-  pub at : IsLinkAt net cells p (connector_at net.connectors number)
+  pub chained : is_chained cells (connector_at net.connectors number) ≡ true
+  pub at : IsLinkAt cells p (connector_at net.connectors number)
 
 -- so one of the region's connectors does
 join : (net : Network) (cells connectors : List ℕ) (p : ℕ) → AreAround net cells connectors → is_joined net cells connectors p ≡ true →
     IsJoin net cells connectors p
 unfolding is_joined
 join net cells connectors p around joined =
-    let some = found (λ k. is_link net cells p (connector_at net.connectors k)) connectors joined in
+    let some = found (λ k. is_link cells p (connector_at net.connectors k)) connectors joined in
     let listed : Contains (filter around.touched (range_with_len 0 (length net.connectors))) some.0 =
     subst (λ list. Contains list some.0) around.numbers some.1 in
-    let at = link-is net cells p (connector_at net.connectors some.0) some.2 in
+    let at = link-is cells p (connector_at net.connectors some.0) some.2 in
     let within = at.within in
     record {
       number = some.0;
       there = (Contains-filter_range around.touched (length net.connectors) some.0 listed).0;
-      chained = finds (λ q. is_link net cells q (connector_at net.connectors some.0)) (range_with_len 0 (length cells)) p
+      chained = finds (λ q. is_link cells q (connector_at net.connectors some.0)) (range_with_len 0 (length cells)) p
           (range-Contains (length cells) p (omega arith)) some.2;
       at = at;
     }
 
 joined-by : (net : Network) (cells connectors : List ℕ) (p k : ℕ) (around : AreAround net cells connectors) → k < length net.connectors →
-    around.touched k ≡ true → is_link net cells p (connector_at net.connectors k) ≡ true → is_joined net cells connectors p ≡ true
+    around.touched k ≡ true → is_link cells p (connector_at net.connectors k) ≡ true → is_joined net cells connectors p ≡ true
 unfolding is_joined
 joined-by net cells connectors p k around there touched linked =
     let listed : Contains connectors k =
     subst (λ list. Contains list k) (sym around.numbers) (filter_range-Contains around.touched (length net.connectors) k there touched) in
-    finds (λ m. is_link net cells p (connector_at net.connectors m)) connectors k listed linked
+    finds (λ m. is_link cells p (connector_at net.connectors m)) connectors k listed linked
 
 -- a chained connector out of the p-th cell joins it to the next
-chained-out : (net : Network) (cells : List ℕ) (p : ℕ) (connector : Connector) → AreDistinct cells → p < length cells → is_chained net cells connector ≡ true →
-    leads_out_of (slice_index cells p) connector ≡ true → is_link net cells p connector ≡ true
-chained-out net cells p connector distinct within chained out =
-    let some = found (λ q. is_link net cells q connector) (range_with_len 0 (length cells)) chained in
+chained-out : (cells : List ℕ) (p : ℕ) (connector : Connector) → AreDistinct cells → p < length cells → is_chained cells connector ≡ true →
+    leads_out_of (slice_index cells p) connector ≡ true → is_link cells p connector ≡ true
+chained-out cells p connector distinct within chained out =
+    let some = found (λ q. is_link cells q connector) (range_with_len 0 (length cells)) chained in
     let q : ℕ = some.0 in
-    let at = link-is net cells q connector some.2 in
+    let at = link-is cells q connector some.2 in
     let inside = at.within in
     let out_here : leads_out_of (slice_index cells p) (Link (slice_index cells q) (slice_index cells (q + 1))) ≡ true =
     subst (λ c. leads_out_of (slice_index cells p) c ≡ true) at.is out in
     let same : slice_index cells p ≡ slice_index cells q = one_of (slice_index cells p) (slice_index cells q) out_here in
     let place : q ≡ p = distinct q p (omega arith) within (sym same) in
-    subst (λ m. is_link net cells m connector ≡ true) place some.2
+    subst (λ m. is_link cells m connector ≡ true) place some.2
 
 -- and into the p-th cell it joins the one before to it
-chained-into : (net : Network) (cells : List ℕ) (p : ℕ) (connector : Connector) → AreDistinct cells → p < length cells → is_chained net cells connector ≡ true →
-    leads_into (slice_index cells p) connector ≡ true → (q : ℕ) × (q + 1 ≡ p) × (is_link net cells q connector ≡ true)
-chained-into net cells p connector distinct within chained into =
-    let some = found (λ q. is_link net cells q connector) (range_with_len 0 (length cells)) chained in
+chained-into : (cells : List ℕ) (p : ℕ) (connector : Connector) → AreDistinct cells → p < length cells → is_chained cells connector ≡ true →
+    leads_into (slice_index cells p) connector ≡ true → (q : ℕ) × (q + 1 ≡ p) × (is_link cells q connector ≡ true)
+chained-into cells p connector distinct within chained into =
+    let some = found (λ q. is_link cells q connector) (range_with_len 0 (length cells)) chained in
     let q : ℕ = some.0 in
-    let at = link-is net cells q connector some.2 in
+    let at = link-is cells q connector some.2 in
     let inside = at.within in
     let into_here : leads_into (slice_index cells p) (Link (slice_index cells q) (slice_index cells (q + 1))) ≡ true =
     subst (λ c. leads_into (slice_index cells p) c ≡ true) at.is into in
@@ -116,31 +117,38 @@ chained-into net cells p connector distinct within chained into =
     let place : q + 1 ≡ p = distinct (q + 1) p (omega arith) within (sym same) in
     (q, place, some.2)
 
+-- what the link out of the p-th cell can carry at most, by whether it is joined to the next
+sent-by : (net : Network) (t : ℕ) (n : ℕ → ℕ) (cells connectors : List ℕ) (places : List Place) (p : ℕ) (joined : Bool) → HasPlaces net t n cells connectors places →
+    p < length cells → is_joined net cells connectors p ≡ joined →
+    min (place_at places p).most (place_at places p).n ≡
+    min (if joined then most_between net.plan (slice_index cells p) (slice_index cells (p + 1)) t else 0)
+    (arriving (speed_at net.plan (slice_index cells p) t) (n (slice_index cells p)))
+unfolding most_out
+sent-by net t n cells connectors places p joined has within is =
+    has.sends p within
+    ∙ ap (λ b. min (if b then most_between net.plan (slice_index cells p) (slice_index cells (p + 1)) t else 0)
+    (arriving (speed_at net.plan (slice_index cells p) t) (n (slice_index cells p)))) is
+
 -- where nothing joins a cell to the next, its place's link carries nothing
 most-none : (net : Network) (t : ℕ) (n : ℕ → ℕ) (cells connectors : List ℕ) (places : List Place) (p : ℕ) → HasPlaces net t n cells connectors places →
     p < length cells → is_joined net cells connectors p ≡ false → link_out places p ≡ 0
-unfolding most_out link_out
+unfolding link_out
 most-none net t n cells connectors places p has within apart =
-    carried-none (place_at places p) (place_at places (p + 1)) (has.most p within ∙ ap (λ b. if b then most_between net.plan (slice_index cells p) (slice_index cells (p + 1)) t else 0) apart)
-
--- no speed record slows a cell that is joined to the next
-joined-free : (net : Network) (cells connectors : List ℕ) (p : ℕ) → is_joined net cells connectors p ≡ true → has_speeds net.plan (slice_index cells p) ≡ false
-unfolding is_joined
-joined-free net cells connectors p joined =
-    let some = found (λ k. is_link net cells p (connector_at net.connectors k)) connectors joined in
-    (link-is net cells p (connector_at net.connectors some.0) some.2).free
+    carried-none (place_at places p) (place_at places (p + 1))
+    (sent-by net t n cells connectors places p false has within apart ∙ none (arriving (speed_at net.plan (slice_index cells p) t) (n (slice_index cells p))))
+  where
+    none : (x : ℕ) → min 0 x ≡ 0
+    none x = omega arith
 
 -- and else it carries the flow of the link
 most-joined : (net : Network) (t : ℕ) (n : ℕ → ℕ) (cells connectors : List ℕ) (places : List Place) (p : ℕ) → HasPlaces net t n cells connectors places →
     p + 1 < length cells → is_joined net cells connectors p ≡ true →
     link_out places p ≡ link_flow_of (sending_at net t (slice_index cells p) (n (slice_index cells p)))
     (receiving_at net t (slice_index cells (p + 1)) (n (slice_index cells (p + 1))))
-unfolding most_out link_out
+unfolding link_out
 most-joined net t n cells connectors places p has within joined =
     carried-link net t (slice_index cells p) (slice_index cells (p + 1)) n (place_at places p) (place_at places (p + 1))
-    (joined-free net cells connectors p joined) (has.held p (omega arith)) (has.held (p + 1) within)
-    (has.most p (omega arith) ∙ ap (λ b. if b then most_between net.plan (slice_index cells p) (slice_index cells (p + 1)) t else 0) joined)
-    (has.space (p + 1) within) (has.fits (p + 1) within)
+    (sent-by net t n cells connectors places p true has (omega arith) joined) (has.held (p + 1) within) (has.space (p + 1) within) (has.fits (p + 1) within)
 
 own-cell : (cells : List ℕ) (p : ℕ) → p < length cells → Contains cells (slice_index cells p)
 own-cell cells p within = Contains-get_or cells p 0 within
@@ -157,23 +165,23 @@ odd_sum net cells connectors f = sum_by f (odd_ones net cells connectors)
 
 -- where connector k is chained and moves all, the others move nothing
 odd-none : (net : Network) (cells connectors : List ℕ) (f : ℕ → ℕ) (k : ℕ) → AreAround net cells connectors → k < length net.connectors →
-    is_chained net cells (connector_at net.connectors k) ≡ true → sum_by f (range_with_len 0 (length net.connectors)) ≡ f k →
+    is_chained cells (connector_at net.connectors k) ≡ true → sum_by f (range_with_len 0 (length net.connectors)) ≡ f k →
     odd_sum net cells connectors f ≡ 0
 odd-none net cells connectors f k around there chained all =
-    let odd : ℕ → Bool = λ m. not (is_chained net cells (connector_at net.connectors m)) in
+    let odd : ℕ → Bool = λ m. not (is_chained cells (connector_at net.connectors m)) in
     ap (λ list. sum_by f (filter odd list)) around.numbers ∙
     sum-none around.touched odd f (length net.connectors) k there (ap not chained) all
 
 -- where each that moves something is touched and not chained, they move all
 odd-all : (net : Network) (cells connectors : List ℕ) (f : ℕ → ℕ) (around : AreAround net cells connectors) →
-    ((k : ℕ) → k < length net.connectors → (f k ≡ 0) ⊎ ((around.touched k ≡ true) × (is_chained net cells (connector_at net.connectors k) ≡ false))) →
+    ((k : ℕ) → k < length net.connectors → (f k ≡ 0) ⊎ ((around.touched k ≡ true) × (is_chained cells (connector_at net.connectors k) ≡ false))) →
     odd_sum net cells connectors f ≡ sum_by f (range_with_len 0 (length net.connectors))
 odd-all net cells connectors f around each =
-    let odd : ℕ → Bool = λ m. not (is_chained net cells (connector_at net.connectors m)) in
+    let odd : ℕ → Bool = λ m. not (is_chained cells (connector_at net.connectors m)) in
     ap (λ list. sum_by f (filter odd list)) around.numbers ∙
     sum-all around.touched odd f (length net.connectors) (λ k below. elim (each k below) [
       | inl none ↦ inl none
-      | inr (touched, other) ↦ inr (touched, not_false (is_chained net cells (connector_at net.connectors k)) other)
+      | inr (touched, other) ↦ inr (touched, not_false (is_chained cells (connector_at net.connectors k)) other)
     ])
 
 -- what leaves a cell: by the link of its place, and by the connectors that are not chained
@@ -201,10 +209,10 @@ out-total net t n cells connectors places p sound around has within = elim (case
             let touched = around.whole i k (own-cell cells p within) below (leads_out_of-touches i (connector_at net.connectors k) out) in
             inr (
               touched,
-              elim (cases_Bool (is_chained net cells (connector_at net.connectors k))) [
+              elim (cases_Bool (is_chained cells (connector_at net.connectors k))) [
                 | inr other ↦ other
                 | inl chained ↦
-                    let linked = chained-out net cells p (connector_at net.connectors k) around.distinct within chained out in
+                    let linked = chained-out cells p (connector_at net.connectors k) around.distinct within chained out in
                     let joined = joined-by net cells connectors p k around below touched linked in cc
               ],
             )
@@ -246,10 +254,10 @@ none-before net t n cells connectors p around within no_gate none =
           let touched = around.whole i k (own-cell cells p within) below (leads_into-touches i (connector_at net.connectors k) into) in
           inr (
             touched,
-            elim (cases_Bool (is_chained net cells (connector_at net.connectors k))) [
+            elim (cases_Bool (is_chained cells (connector_at net.connectors k))) [
               | inr other ↦ other
               | inl chained ↦
-                  let linked = chained-into net cells p (connector_at net.connectors k) around.distinct within chained into in
+                  let linked = chained-into cells p (connector_at net.connectors k) around.distinct within chained into in
                   let joined = joined-by net cells connectors linked.0 k around below touched linked.2 in
                   let apart = none linked.0 linked.1 in cc
             ],

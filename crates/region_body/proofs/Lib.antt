@@ -12,6 +12,7 @@ pub mod Slowed
 pub mod Made
 pub mod Nothing
 pub mod Shares
+pub mod SlowLinks
 pub mod Links
 pub mod Flowing
 pub mod Stepping
@@ -20,6 +21,7 @@ pub mod Ruled
 pub mod Spots
 pub mod Parting
 pub mod Ties
+pub mod Renewed
 pub mod Whole
 pub mod Stepped
 pub mod Joins

@@ -25,6 +25,6 @@ link_flow-is q_up q_down n_up n_down true space None is has =
 link_flow-is q_up q_down n_up n_down false space room is has = omega arith
 
 -- a place can hold what its cell can
-pub held-fits : (n q : ℕ) (space : Space) (room : Option Room) → IsSpaceOf space room → HasSpace n q room → n ≤ space.most
+pub held-fits : (n q : ℕ) (space : Space) (room : Option Room) → IsSpaceOf space room → HasSpace n q room → n ≤ space.storage
 held-fits n q space (Some room) is has = (is n has).0
 held-fits n q space None is has = (is n q has).0

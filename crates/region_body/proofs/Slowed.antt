@@ -12,7 +12,7 @@ use Rattle.region_body.specs.Slowing.{AreSpeeds, AreSpeedsIn, IsSlowing, IsSlowi
 use Rattle.region_body.specs.declared.rule.Rule.{Rule}
 
 -- no speed records, no slowing
-none-slowed : (net : Network) (cell t n : ℕ) → has_speeds net.plan cell ≡ false → n ≡ arriving (speed_at net.plan cell t) n
+pub none-slowed : (net : Network) (cell t n : ℕ) → has_speeds net.plan cell ≡ false → n ≡ arriving (speed_at net.plan cell t) n
 none-slowed net cell t n none = sym (ap (λ speed. arriving speed n) (speed_at-none net.plan cell t none) ∙ arriving-own n)
 
 -- a connector out of cells without speed records

@@ -1,5 +1,5 @@
 -- A whole step of places is the step of their cells.
-use Rattle.std.specs.Prelude.{All, Bool, Option, ◌==◌, map, slice_index, if◌then◌else◌}
+use Rattle.std.specs.Prelude.{All, Bool, Option, ◌==◌, map, min, slice_index, if◌then◌else◌}
 use Rattle.std.proofs.lemmas.List.Elements.{Contains-get_or}
 use Rattle.std.specs.List.{Contains, filter, range_with_len, sum_by}
 use Rattle.std.proofs.Common.{◌≡◌, ℕ, ◌+◌, ◌-◌, ◌^◌, ◌<◌, ◌≤◌, inl, inr, true, false, List, length, get_or, refl, sym, ap, ◌∙◌, subst, zero-add, arith}
@@ -8,6 +8,7 @@ use Rattle.std.proofs.lemmas.List.{ext_get_or, get_or-map, length-map}
 use Rattle.std.proofs.lemmas.List.FromFn.{get_or-map-range_with_len, length-map-range_with_len}
 use Rattle.signal_plan.specs.Capacity.{capacity_at}
 use Rattle.signal_plan.specs.Demand.{demand_at}
+use Rattle.signal_plan.specs.Speeds.{arriving, speed_at}
 use Rattle.signal_plan.proofs.Sums.{sum_by-filter, sum_by_agree, sum_by_range_one}
 use Rattle.network_file.specs.Cells.{is_gate_at, is_road}
 use Rattle.network_file.specs.declared.cell.Cell.{Cell}
@@ -30,14 +31,16 @@ use Rattle.region_body.specs.declared.place.Place.{Place}
 use Rattle.region_body.proofs.LinkFlows.{held-fits}
 use Rattle.region_body.specs.Chains.{AreAround, most_out, odd_ones}
 use Rattle.region_body.specs.Placed.{ArePlacesInBounds, ArePlaced, CanAdvance, PlacedCells}
-use Rattle.region_body.specs.Followed.{AreFollowed, IsThere}
+use Rattle.region_body.specs.Followed.{AreFollowed}
 use Rattle.region_body.specs.declared.followed.FollowedLink.{FollowedLink}
 use Rattle.region_cut.proofs.Ranges.{Contains-filter_range}
 use Rattle.region_body.specs.Moves.{ArePartsOf, IsScene, IsSeen, demand_for, in_by, out_by}
+use Rattle.region_body.specs.SlowLinks.{SlowLinkValues, is_listed}
 use Rattle.region_body.specs.Rows.{AreSettled, IsOf, origin_at, row_of, rows_of}
 use Rattle.region_body.specs.declared.origin.Origin.{Origin}
 use Rattle.region_body.specs.declared.tie.Tie.{Tie}
 use Rattle.region_body.proofs.Flowing.{HasPlaces, in-gate, in-total, odd_sum, out-total}
+use Rattle.region_body.proofs.Renewed.{AreRenewed, IsFresh}
 use Rattle.region_body.proofs.Stepping.{row-stepped, stepped-is_of}
 use Rattle.region_body.proofs.Ties.{come-followed, demands-asked, demands-into, gates-asked, numbers-followed, sum_by-map, tied-followed}
 use Rattle.region_body.specs.Carrying.{AreTiesFollowed}
@@ -189,13 +192,12 @@ held-sum net t n i origin place is other =
 -- the places of cells in bounds, once each has the most of its link
 pub has-places : (net : Network) (t : ℕ) (n : ℕ → ℕ) (cells halo connectors : List ℕ) (placed : PlacedCells) (places : List Place) (put : List (Option ℕ)) →
     IsNetwork net → t < net.steps → ArePlaced net cells halo connectors t placed → ArePlacesInBounds net cells halo t placed put →
-    IsSeen n cells halo placed.places put → length places ≡ length placed.places →
-    ((p : ℕ) → p < length placed.places → place_at places p ≡ record (place_at placed.places p) { most = most_out net cells connectors p t }) →
+    IsSeen n cells halo placed.places put → AreRenewed net cells connectors t placed places →
     HasPlaces net t n cells connectors places
-has-places net t n cells halo connectors placed places put sound before has bounds seen long fresh =
-    let each = λ (p : ℕ) (within : p < length cells). fresh p (omega (arith, has.one_each)) in
+has-places net t n cells halo connectors placed places put sound before has bounds seen renewed =
+    let each = λ (p : ℕ) (within : p < length cells). renewed.only_most p (omega (arith, has.one_each)) in
     record {
-      one_each = long ∙ has.one_each;
+      one_each = renewed.long ∙ has.one_each;
       held = λ p within. ap (λ place. place.n) (each p within) ∙ sym (seen.own p within);
       space = λ p within.
           subst (λ space. IsSpaceOf space (room_at net.cells (slice_index cells p))) (sym (ap (λ place. place.space) (each p within))) (has.space p within);
@@ -206,20 +208,21 @@ has-places net t n cells halo connectors placed places put sound before has boun
           let capacity = capacity_at-le net t i sound is.there in
           subst (λ x. HasSpace x (capacity_at net.plan i t) (room_at net.cells i)) (sym (ap (λ place. place.n) (each p within)))
           (has-space net t i (place_at placed.places p).n (capacity_at net.plan i t) is.there is.row.held (omega arith));
-      most = λ p within. ap (λ place. place.most) (each p within);
+      sends = λ p within.
+          ap (min (place_at places p).most) (ap (λ place. place.n) (each p within)) ∙ renewed.sends p (omega (arith, has.one_each))
+          ∙ ap (λ x. min (most_out net cells connectors p t) (arriving (speed_at net.plan (slice_index cells p) t) x)) (sym (seen.own p within));
     }
 
 -- each can hold what it holds, and what it holds may go
 pub sound-fresh : (net : Network) (t : ℕ) (n : ℕ → ℕ) (cells halo connectors : List ℕ) (placed : PlacedCells) (places : List Place) (put : List (Option ℕ)) →
     IsNetwork net → t < net.steps → ArePlaced net cells halo connectors t placed → ArePlacesInBounds net cells halo t placed put →
-    IsSeen n cells halo placed.places put → length places ≡ length placed.places →
-    ((p : ℕ) → p < length placed.places → place_at places p ≡ record (place_at placed.places p) { most = most_out net cells connectors p t }) →
+    IsSeen n cells halo placed.places put → AreRenewed net cells connectors t placed places →
     AreSound places
-sound-fresh net t n cells halo connectors placed places put sound before has bounds seen long fresh =
-    let same : length places ≡ length cells = long ∙ has.one_each in
-    let placing = has-places net t n cells halo connectors placed places put sound before has bounds seen long fresh in
+sound-fresh net t n cells halo connectors placed places put sound before has bounds seen renewed =
+    let same : length places ≡ length cells = renewed.long ∙ has.one_each in
+    let placing = has-places net t n cells halo connectors placed places put sound before has bounds seen renewed in
     let own = λ (p : ℕ) (within : p < length places). ready net t n cells halo connectors placed put p sound before has bounds seen (omega arith) in
-    let each = λ (p : ℕ) (within : p < length places). fresh p (omega arith) in
+    let each = λ (p : ℕ) (within : p < length places). renewed.only_most p (omega (arith, within, renewed.long)) in
     record {
       room = λ p within.
           let i : ℕ = slice_index cells p in
@@ -241,14 +244,13 @@ pub record CanStep (places : List Place) (outs ins : ℕ → ℕ) : Type 0 where
 
 pub can_step : (net : Network) (t : ℕ) (n : ℕ → ℕ) (cells halo connectors : List ℕ) (placed : PlacedCells) (places : List Place) (put : List (Option ℕ)) (outs ins : ℕ → ℕ) →
     IsNetwork net → t < net.steps → ArePlaced net cells halo connectors t placed → ArePlacesInBounds net cells halo t placed put →
-    IsSeen n cells halo placed.places put → length places ≡ length placed.places →
-    ((p : ℕ) → p < length placed.places → place_at places p ≡ record (place_at placed.places p) { most = most_out net cells connectors p t }) →
+    IsSeen n cells halo placed.places put → AreRenewed net cells connectors t placed places →
     IsMoved net t n cells places outs ins →
     CanStep places outs ins
-can_step net t n cells halo connectors placed places put outs ins sound before has bounds seen long fresh moves =
-    let same : length places ≡ length cells = long ∙ has.one_each in
+can_step net t n cells halo connectors placed places put outs ins sound before has bounds seen renewed moves =
+    let same : length places ≡ length cells = renewed.long ∙ has.one_each in
     let own = λ (p : ℕ) (within : p < length places). ready net t n cells halo connectors placed put p sound before has bounds seen (omega arith) in
-    let each = λ (p : ℕ) (within : p < length places). fresh p (omega arith) in
+    let each = λ (p : ℕ) (within : p < length places). renewed.only_most p (omega (arith, within, renewed.long)) in
     record {
       held = λ p within.
           let is = own p within in
@@ -295,30 +297,6 @@ unfolding rows_after
 row_at-rows_after net t n cells rows p within =
     get_or-map-range_with_len (λ p. next_row net t n (slice_index cells p) (row_at rows p)) 0 (length cells) p p empty_row within (zero-add p)
 
--- the places once each has the most of its link in step t
-pub record IsFresh (net : Network) (cells connectors : List ℕ) (t : ℕ) (placed : PlacedCells) (fresh : List Place) (links : List FollowedLink) : Type 0 where
-  pub long : length fresh ≡ length placed.places
-  pub most : (p : ℕ) → p < length placed.places → place_at fresh p ≡ record (place_at placed.places p) { most = most_out net cells connectors p t }
-  pub links_there : All (IsThere (length fresh) t) links
-  pub followed : AreFollowed (most_out net cells connectors) fresh links t
-
-pub fresh-of : (net : Network) (cells halo connectors : List ℕ) (t : ℕ) (placed : PlacedCells) (places fresh : List Place) (first links : List FollowedLink) →
-    ArePlaced net cells halo connectors t placed → places ≡ placed.places → first ≡ placed.links → length fresh ≡ length places →
-    All (IsThere (length places) t) links →
-    ((most : ℕ → ℕ → ℕ) → AreFollowed most places first t → (p : ℕ) → p < length places → place_at fresh p ≡ record (place_at places p) { most = most p t }) →
-    ((most : ℕ → ℕ → ℕ) → AreFollowed most places first t → AreFollowed most fresh links t) →
-    IsFresh net cells connectors t placed fresh links
-fresh-of net cells halo connectors t placed places fresh first links has same_places same_links long there most followed =
-    let before : AreFollowed (most_out net cells connectors) places first t = rw (same_places, same_links) has.followed in
-    record {
-      long = long ∙ ap length same_places;
-      most = λ p within.
-          most (most_out net cells connectors) before p (rw same_places within)
-          ∙ ap {B = Place} (λ list. record (place_at list p) { most = most_out net cells connectors p t }) same_places;
-      links_there = rw long there;
-      followed = followed (most_out net cells connectors) before;
-    }
-
 -- what leaves and enters in the step: what the ties carry, and what the gates demand besides
 pub record AreBrought (net : Network) (cells : List ℕ) (t : ℕ) (n : ℕ → ℕ) (placed : PlacedCells) (outs carried ins : ℕ → ℕ) : Type 0 where
   pub parts : ArePartsOf net t n cells placed.ties outs carried
@@ -326,8 +304,8 @@ pub record AreBrought (net : Network) (cells : List ℕ) (t : ℕ) (n : ℕ → 
 
 -- the parts of a step, one after the other
 pub record AreSteps (net : Network) (cells halo connectors : List ℕ) (t : ℕ) (n : ℕ → ℕ) (placed : PlacedCells) (fresh : List Place)
-    (links : List FollowedLink) (outs carried ins : ℕ → ℕ) (after : List Place) : Type 0 where
-  pub renewed : IsFresh net cells connectors t placed fresh links
+    (links : List FollowedLink) (slow_links : List SlowLinkValues) (outs carried ins : ℕ → ℕ) (after : List Place) : Type 0 where
+  pub now : IsFresh net cells connectors t placed fresh links slow_links
   pub brought : AreBrought net cells t n placed outs carried ins
   pub long_after : length after ≡ length fresh
   pub stepped_each : (p : ℕ) → p < length fresh →
@@ -335,29 +313,27 @@ pub record AreSteps (net : Network) (cells halo connectors : List ℕ) (t : ℕ)
 
 -- what is seen of the places stays so when their most is written
 pub seen-fresh : (net : Network) (t : ℕ) (n : ℕ → ℕ) (cells halo connectors : List ℕ) (placed : PlacedCells) (fresh : List Place) (put : List (Option ℕ)) →
-    ArePlaced net cells halo connectors t placed → IsSeen n cells halo placed.places put →
-    ((p : ℕ) → p < length placed.places → place_at fresh p ≡ record (place_at placed.places p) { most = most_out net cells connectors p t }) →
+    ArePlaced net cells halo connectors t placed → IsSeen n cells halo placed.places put → AreRenewed net cells connectors t placed fresh →
     IsSeen n cells halo fresh put
-seen-fresh net t n cells halo connectors placed fresh put has seen most = record {
-  own = λ p within. seen.own p within ∙ sym (ap (λ place. place.n) (most p (omega (arith, has.one_each))));
+seen-fresh net t n cells halo connectors placed fresh put has seen renewed = record {
+  own = λ p within. seen.own p within ∙ sym (ap (λ place. place.n) (renewed.only_most p (omega (arith, has.one_each))));
   around = seen.around;
 }
 
 -- the scene of the other connectors
 pub scene-fresh : (net : Network) (t : ℕ) (n : ℕ → ℕ) (cells halo connectors : List ℕ) (placed : PlacedCells) (fresh : List Place) (put : List (Option ℕ)) →
     IsNetwork net → t < net.steps → ArePlaced net cells halo connectors t placed → ArePlacesInBounds net cells halo t placed put →
-    IsSeen n cells halo placed.places put → length fresh ≡ length placed.places →
-    ((p : ℕ) → p < length placed.places → place_at fresh p ≡ record (place_at placed.places p) { most = most_out net cells connectors p t }) →
+    IsSeen n cells halo placed.places put → AreRenewed net cells connectors t placed fresh →
     IsScene net t cells halo placed.ties fresh put
-scene-fresh net t n cells halo connectors placed fresh put sound before has bounds seen long most = record {
+scene-fresh net t n cells halo connectors placed fresh put sound before has bounds seen renewed = record {
   sound = sound;
   before = before;
   tied = has.tied;
-  place_each = long ∙ has.one_each;
+  place_each = renewed.long ∙ has.one_each;
   put_each = bounds.put_each;
   own = λ p within.
       let is = ready net t n cells halo connectors placed put p sound before has bounds seen within in
-      subst (IsHeldInBounds net t (slice_index cells p)) (sym (ap (λ place. place.n) (most p (omega (arith, has.one_each))))) is.row.held;
+      subst (IsHeldInBounds net t (slice_index cells p)) (sym (ap (λ place. place.n) (renewed.only_most p (omega (arith, has.one_each))))) is.row.held;
   around = bounds.around;
 }
 
@@ -398,62 +374,61 @@ gates-there net cells halo connectors t placed has = λ k d within.
 pub steps-moved : (net : Network) (cells halo connectors : List ℕ) (t : ℕ) (n : ℕ → ℕ) (placed : PlacedCells) (fresh : List Place)
     (outs carried ins : ℕ → ℕ) (put : List (Option ℕ)) →
     IsNetwork net → t < net.steps → ArePlaced net cells halo connectors t placed → ArePlacesInBounds net cells halo t placed put →
-    IsSeen n cells halo placed.places put → length fresh ≡ length placed.places →
-    ((p : ℕ) → p < length placed.places → place_at fresh p ≡ record (place_at placed.places p) { most = most_out net cells connectors p t }) →
+    IsSeen n cells halo placed.places put → AreRenewed net cells connectors t placed fresh →
     ArePartsOf net t n cells placed.ties outs carried →
     ((p : ℕ) → ins p ≡ carried p + sum_by (demand_into t p) placed.gates) →
     IsMoved net t n cells fresh outs ins
-steps-moved net cells halo connectors t n placed fresh outs carried ins put sound before has bounds seen long most parts demands =
+steps-moved net cells halo connectors t n placed fresh outs carried ins put sound before has bounds seen renewed parts demands =
     moves-of net t n cells connectors placed.ties fresh outs carried ins sound has.around
-    (has-places net t n cells halo connectors placed fresh put sound before has bounds seen long most) has.numbers parts
+    (has-places net t n cells halo connectors placed fresh put sound before has bounds seen renewed) has.numbers parts
     (λ p.
     demands p
     ∙ ap (λ x. carried p + x) (demands-into net t cells p placed.gates has.demands ∙ ap (sum_by (demand_for net.plan t cells p)) has.gates))
 
 -- each cell after the step
 pub cell-after : (net : Network) (cells halo connectors : List ℕ) (t : ℕ) (n : ℕ → ℕ) (placed : PlacedCells) (fresh : List Place) (links : List FollowedLink)
-    (outs carried ins : ℕ → ℕ) (after : List Place) (put : List (Option ℕ)) (p : ℕ) →
+    (slow_links : List SlowLinkValues) (outs carried ins : ℕ → ℕ) (after : List Place) (put : List (Option ℕ)) (p : ℕ) →
     IsNetwork net → t < net.steps → ArePlaced net cells halo connectors t placed → ArePlacesInBounds net cells halo t placed put →
-    IsSeen n cells halo placed.places put → AreSteps net cells halo connectors t n placed fresh links outs carried ins after → p < length cells →
+    IsSeen n cells halo placed.places put → AreSteps net cells halo connectors t n placed fresh links slow_links outs carried ins after → p < length cells →
     (row_of (origin_at placed.origins p) (place_at after p) ≡
     next_row net t n (slice_index cells p) (row_of (origin_at placed.origins p) (place_at placed.places p))) ×
     IsOf net (slice_index cells p) (origin_at placed.origins p) (place_at after p)
-cell-after net cells halo connectors t n placed fresh links outs carried ins after put p sound before has bounds seen steps within =
+cell-after net cells halo connectors t n placed fresh links slow_links outs carried ins after put p sound before has bounds seen steps within =
     let here : p < length placed.places = omega (arith, has.one_each) in
-    let there : p < length fresh = omega (arith, steps.renewed.long) in
-    let moves = steps-moved net cells halo connectors t n placed fresh outs carried ins put sound before has bounds seen steps.renewed.long steps.renewed.most steps.brought.parts steps.brought.demands in
+    let there : p < length fresh = omega (arith, steps.now.renewed.long) in
+    let moves = steps-moved net cells halo connectors t n placed fresh outs carried ins put sound before has bounds seen steps.now.renewed steps.brought.parts steps.brought.demands in
     row-after net t n (slice_index cells p) (origin_at placed.origins p) (place_at placed.places p) (place_at fresh p) (place_at after p)
-    (most_out net cells connectors p t) (link_in fresh p + ins p) (link_out fresh p + outs p)
-    (ready net t n cells halo connectors placed put p sound before has bounds seen within) (steps.renewed.most p here) (steps.stepped_each p there)
+    (place_at fresh p).most (link_in fresh p + ins p) (link_out fresh p + outs p)
+    (ready net t n cells halo connectors placed put p sound before has bounds seen within) (steps.now.renewed.only_most p here) (steps.stepped_each p there)
     (moves.enters p within) (moves.leaves p within)
 
 -- the rows after the step
 pub rows-after : (net : Network) (cells halo connectors : List ℕ) (t : ℕ) (n : ℕ → ℕ) (placed : PlacedCells) (fresh : List Place) (links : List FollowedLink)
-    (outs carried ins : ℕ → ℕ) (after : List Place) (put : List (Option ℕ)) →
+    (slow_links : List SlowLinkValues) (outs carried ins : ℕ → ℕ) (after : List Place) (put : List (Option ℕ)) →
     IsNetwork net → t < net.steps → ArePlaced net cells halo connectors t placed → ArePlacesInBounds net cells halo t placed put →
-    IsSeen n cells halo placed.places put → AreSteps net cells halo connectors t n placed fresh links outs carried ins after →
+    IsSeen n cells halo placed.places put → AreSteps net cells halo connectors t n placed fresh links slow_links outs carried ins after →
     rows_of placed.origins after ≡ rows_after net t n cells (rows_of placed.origins placed.places)
-rows-after net cells halo connectors t n placed fresh links outs carried ins after put sound before has bounds seen steps =
+rows-after net cells halo connectors t n placed fresh links slow_links outs carried ins after put sound before has bounds seen steps =
     ext_get_or empty_row (rows_of placed.origins after) (rows_after net t n cells (rows_of placed.origins placed.places))
     (length-rows_of placed.origins after ∙ has.origin_each ∙ sym (length-rows_after net t n cells (rows_of placed.origins placed.places)))
     (λ p lt.
     let inside : p < length placed.origins = omega (arith, length-rows_of placed.origins after) in
     let within : p < length cells = omega (arith, has.origin_each) in
     row_at-rows_of placed.origins after p inside
-    ∙ (cell-after net cells halo connectors t n placed fresh links outs carried ins after put p sound before has bounds seen steps within).0
+    ∙ (cell-after net cells halo connectors t n placed fresh links slow_links outs carried ins after put p sound before has bounds seen steps within).0
     ∙ sym (row_at-rows_after net t n cells (rows_of placed.origins placed.places) p within
     ∙ ap (next_row net t n (slice_index cells p)) (row_at-rows_of placed.origins placed.places p inside)))
 
 -- the links follow on
 
-follows-later : (most : ℕ → ℕ → ℕ) (fresh after : List Place) (links : List FollowedLink) (t : ℕ) → length after ≡ length fresh →
-    ((p : ℕ) → p < length fresh → (place_at after p).most ≡ (place_at fresh p).most) → AreFollowed most fresh links t → AreFollowed most after links (t + 1)
-follows-later most fresh after links t long same followed = record {
+follows-later : (apart : ℕ → Bool) (most : ℕ → ℕ → ℕ) (fresh after : List Place) (links : List FollowedLink) (t : ℕ) → length after ≡ length fresh →
+    ((p : ℕ) → p < length fresh → (place_at after p).most ≡ (place_at fresh p).most) → AreFollowed apart most fresh links t → AreFollowed apart most after links (t + 1)
+follows-later apart most fresh after links t long same followed = record {
   courses = followed.courses;
-  each = λ p within.
+  each = λ p within free.
       let here : p < length fresh = omega arith in
       let is = same p here in
-      elim (followed.each p here) [
+      elim (followed.each p here free) [
         | inl constant ↦ inl (λ s from. is ∙ constant s (omega arith))
         | inr (m, has) ↦ inr (
           m,
@@ -467,24 +442,25 @@ follows-later most fresh after links t long same followed = record {
 }
 
 pub placed-after : (net : Network) (cells halo connectors : List ℕ) (t : ℕ) (n : ℕ → ℕ) (placed : PlacedCells) (fresh : List Place) (links : List FollowedLink)
-    (outs carried ins : ℕ → ℕ) (after : List Place) (before_list : List ℕ) (ties : List Tie) (until : ℕ) (gates : List GatePlace) (pause : Pause) (seen_list : List (Option ℕ)) (put : List (Option ℕ)) →
+    (slow_links : List SlowLinkValues) (outs carried ins : ℕ → ℕ) (after : List Place) (before_list : List ℕ) (ties : List Tie) (until : ℕ) (gates : List GatePlace) (pause : Pause) (seen_list : List (Option ℕ)) (put : List (Option ℕ)) →
     IsNetwork net → t < net.steps → ArePlaced net cells halo connectors t placed → ArePlacesInBounds net cells halo t placed put →
-    IsSeen n cells halo placed.places put → AreSteps net cells halo connectors t n placed fresh links outs carried ins after →
-    length before_list ≡ length placed.before → AreTiesFollowed t placed.ties ties → All (λ tie. until ≤ tie.course.until) ties → AreAsked t placed.gates gates → IsPauseOf after before_list links ties seen_list (t + 1) pause → length seen_list ≡ length halo →
+    IsSeen n cells halo placed.places put → AreSteps net cells halo connectors t n placed fresh links slow_links outs carried ins after →
+    length before_list ≡ length placed.before → AreTiesFollowed t placed.ties ties → All (λ tie. until ≤ tie.course.until) ties → AreAsked t placed.gates gates → IsPauseOf after before_list links slow_links ties seen_list (t + 1) pause → length seen_list ≡ length halo →
     ArePlaced net cells halo connectors (t + 1) (record {
       places = after;
       origins = placed.origins;
       before = before_list;
       links = links;
+      slow_links = slow_links;
       ties = ties;
       ties_until = until;
       gates = gates;
       pause = pause;
       seen = seen_list;
     })
-placed-after net cells halo connectors t n placed fresh links outs carried ins after before_list ties until gates pause seen_list put sound before has bounds seen steps long
+placed-after net cells halo connectors t n placed fresh links slow_links outs carried ins after before_list ties until gates pause seen_list put sound before has bounds seen steps long
     ties_are unchanged gates_are pausing seen_each =
-    let same : length after ≡ length cells = steps.long_after ∙ steps.renewed.long ∙ has.one_each in
+    let same : length after ≡ length cells = steps.long_after ∙ steps.now.renewed.long ∙ has.one_each in
     let ties_long = ties_are.long in
     let gates_long = gates_are.long in
     record {
@@ -496,47 +472,51 @@ placed-after net cells halo connectors t n placed fresh links outs carried ins a
       origin_each = has.origin_each;
       before_each = long ∙ has.before_each;
       own = λ p within.
-          (cell-after net cells halo connectors t n placed fresh links outs carried ins after put p sound before has bounds seen steps within).1;
+          (cell-after net cells halo connectors t n placed fresh links slow_links outs carried ins after put p sound before has bounds seen steps within).1;
       space = λ p within.
-          let there : p < length fresh = omega (arith, steps.renewed.long, has.one_each) in
+          let there : p < length fresh = omega (arith, steps.now.renewed.long, has.one_each) in
           let here : p < length placed.places = omega (arith, has.one_each) in
-          let is = ap (λ place. place.space) (steps.stepped_each p there) ∙ ap (λ place. place.space) (steps.renewed.most p here) in
+          let is = ap (λ place. place.space) (steps.stepped_each p there) ∙ ap (λ place. place.space) (steps.now.renewed.only_most p here) in
           subst (λ space. IsSpaceOf space (room_at net.cells (slice_index cells p))) (sym is) (has.space p within);
       come = come-followed t placed.ties ties ties_are;
       unchanged = unchanged;
       gates = gates-asked t placed.gates gates gates_are ∙ has.gates;
       demands = demands-asked net cells t placed.gates gates gates_are has.demands;
       links = λ k d within.
-          let there = steps.renewed.links_there k d within in
+          let there = steps.now.links_there k d within in
           record { place = omega (arith, there.place, steps.long_after); step = omega (arith, there.step) };
-      followed = follows-later (most_out net cells connectors) fresh after links t steps.long_after
-          (λ p there. ap (λ place. place.most) (steps.stepped_each p there)) steps.renewed.followed;
+      slow_links = λ k d within.
+          let there = steps.now.slow_there k d within in
+          record { place = omega (arith, there.place, steps.long_after); step = omega (arith, there.step) };
+      slowed = steps.now.slowed;
+      followed = follows-later (is_listed slow_links) (most_out net cells connectors) fresh after links t steps.long_after
+          (λ p there. ap (λ place. place.most) (steps.stepped_each p there)) steps.now.followed;
       pause = pausing;
       seen_each = seen_each;
     }
 
 -- no sum of a place is too large after the step
 pub settled-after : (net : Network) (cells halo connectors : List ℕ) (t : ℕ) (n : ℕ → ℕ) (placed : PlacedCells) (fresh : List Place) (links : List FollowedLink)
-    (outs carried ins : ℕ → ℕ) (after : List Place) (before_list : List ℕ) (put : List (Option ℕ)) →
+    (slow_links : List SlowLinkValues) (outs carried ins : ℕ → ℕ) (after : List Place) (before_list : List ℕ) (put : List (Option ℕ)) →
     IsNetwork net → t < net.steps → ArePlaced net cells halo connectors t placed → ArePlacesInBounds net cells halo t placed put →
-    IsSeen n cells halo placed.places put → AreSteps net cells halo connectors t n placed fresh links outs carried ins after →
+    IsSeen n cells halo placed.places put → AreSteps net cells halo connectors t n placed fresh links slow_links outs carried ins after →
     length before_list ≡ length placed.before → AreSettled placed.origins after before_list
 unfolding next_row
-settled-after net cells halo connectors t n placed fresh links outs carried ins after before_list put sound before has bounds seen steps long = record {
-  one_each = steps.long_after ∙ steps.renewed.long ∙ has.one_each ∙ sym has.origin_each;
+settled-after net cells halo connectors t n placed fresh links slow_links outs carried ins after before_list put sound before has bounds seen steps long = record {
+  one_each = steps.long_after ∙ steps.now.renewed.long ∙ has.one_each ∙ sym has.origin_each;
   before_each = long ∙ has.before_each ∙ sym has.origin_each;
   each = λ p inside.
       let within : p < length cells = omega (arith, has.origin_each) in
-      let next = cell-after net cells halo connectors t n placed fresh links outs carried ins after put p sound before has bounds seen steps within in
+      let next = cell-after net cells halo connectors t n placed fresh links slow_links outs carried ins after put p sound before has bounds seen steps within in
       let is = ready net t n cells halo connectors placed put p sound before has bounds seen within in
       let n_is = ap (λ row. row.n) next.0 in
       let gone_is = ap (λ row. row.gone) next.0 in
       let few = is.after.n in
       let few_gone = is.after.gone in
       let i : ℕ = slice_index cells p in
-      let there : p < length fresh = omega (arith, steps.renewed.long, has.one_each) in
+      let there : p < length fresh = omega (arith, steps.now.renewed.long, has.one_each) in
       let here : p < length placed.places = omega (arith, has.one_each) in
-      let space_is = ap (λ place. place.space) (steps.stepped_each p there) ∙ ap (λ place. place.space) (steps.renewed.most p here) in
+      let space_is = ap (λ place. place.space) (steps.stepped_each p there) ∙ ap (λ place. place.space) (steps.now.renewed.only_most p here) in
       let space : IsSpaceOf (place_at after p).space (room_at net.cells i) =
       subst (λ space. IsSpaceOf space (room_at net.cells i)) (sym space_is) (has.space p within) in
       let held : IsHeldInBounds net (t + 1) i (place_at after p).n = subst (IsHeldInBounds net (t + 1) i) (sym n_is) is.next.held in

@@ -5,15 +5,13 @@ use Rattle.network_file.specs.Connectors.{connector_at, touches}
 use Rattle.network_file.specs.Network.{Network}
 use Rattle.network_file.specs.declared.connector.Connector.{Connector}
 use Rattle.network_file.specs.declared.connector.Connector.TheVariants.{Link, Merge, Diverge}
-use Rattle.signal_plan.specs.Speeds.{has_speeds}
 use Rattle.courses.specs.Links.{most_between}
 
--- the connector is a link from the p-th of these cells, which has no speed records, to the next
-abbrev pub is_link : Network → (cells : List ℕ) → (p : ℕ) → Connector → Bool
-is_link net cells p (Link up down) =
-    nat_lt (p + 1) (length cells) && (slice_index cells p == up) && (slice_index cells (p + 1) == down) && not (has_speeds net.plan up)
-is_link net cells p (Merge up1 up2 down p1 p2) = false
-is_link net cells p (Diverge up down1 down2 b1 b2) = false
+-- the connector is a link from the p-th of these cells to the next
+abbrev pub is_link : (cells : List ℕ) → (p : ℕ) → Connector → Bool
+is_link cells p (Link up down) = nat_lt (p + 1) (length cells) && (slice_index cells p == up) && (slice_index cells (p + 1) == down)
+is_link cells p (Merge up1 up2 down p1 p2) = false
+is_link cells p (Diverge up down1 down2 b1 b2) = false
 
 -- the first of two cells stands at p, and the other behind it
 pub record IsNextAt (cells : List ℕ) (up down p : ℕ) : Type 0 where
@@ -25,17 +23,17 @@ pub record IsNextAt (cells : List ℕ) (up down p : ℕ) : Type 0 where
 abbrev pub HasNoNext : (cells : List ℕ) → (up down : ℕ) → Type 0
 HasNoNext cells up down = (p : ℕ) → IsNextAt cells up down p → ⊥
 
--- it is such a link from one of these cells to the next
-abbrev pub is_chained : Network → (cells : List ℕ) → Connector → Bool
-is_chained net cells connector = list_any (λ p. is_link net cells p connector) (range_with_len 0 (length cells))
+-- it is a link from one of these cells to the next
+abbrev pub is_chained : (cells : List ℕ) → Connector → Bool
+is_chained cells connector = list_any (λ p. is_link cells p connector) (range_with_len 0 (length cells))
 
--- the connectors of a list that are no such link
+-- the connectors of a list that are no link from one of these cells to the next
 abbrev pub odd_ones : Network → (cells connectors : List ℕ) → List ℕ
-odd_ones net cells connectors = filter (λ k. not (is_chained net cells (connector_at net.connectors k))) connectors
+odd_ones net cells connectors = filter (λ k. not (is_chained cells (connector_at net.connectors k))) connectors
 
 -- whether one of these connectors links the p-th cell to the next
 unfoldable pub is_joined : Network → (cells connectors : List ℕ) → (p : ℕ) → Bool
-is_joined net cells connectors p = list_any (λ k. is_link net cells p (connector_at net.connectors k)) connectors
+is_joined net cells connectors p = list_any (λ k. is_link cells p (connector_at net.connectors k)) connectors
 
 -- the most that this link carries in step t, 0 where there is none
 unfoldable pub most_out : Network → (cells connectors : List ℕ) → (p t : ℕ) → ℕ

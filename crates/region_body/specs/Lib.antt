@@ -10,6 +10,8 @@ pub mod Slowing
 pub mod Flows
 pub mod Following
 pub mod Chains
+pub mod SpeedFactors
+pub mod SlowLinks
 pub mod Rows
 pub mod Carrying
 pub mod Moves

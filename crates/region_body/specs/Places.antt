@@ -6,7 +6,7 @@ use Rattle.region_body.specs.declared.place.Place.{Place}
 
 -- a place that holds nothing and lets nothing in
 abbrev pub no_place : Place
-no_place = record { n = 0; gone = 0; held = 0; most = 0; space = record { most = 0; factor = 0 } }
+no_place = record { n = 0; gone = 0; held = 0; most = 0; space = record { storage = 0; factor = 0 } }
 
 abbrev pub place_at : List Place → (p : ℕ) → Place
 place_at places p = slice_index_or places p no_place
@@ -45,5 +45,5 @@ swept places p = moved (place_at places p) (link_in places p) (link_out places p
 
 -- each place can hold what it holds, and what it holds may go
 pub record AreSound (places : List Place) : Type 0 where
-  pub room : (p : ℕ) → p < length places → (place_at places p).n ≤ (place_at places p).space.most
+  pub room : (p : ℕ) → p < length places → (place_at places p).n ≤ (place_at places p).space.storage
   pub gone : (p : ℕ) → p < length places → (place_at places p).gone + (place_at places p).n < 2 ^ 64

@@ -38,7 +38,7 @@ pub record IsSettled (origin : Origin) (place : Place) : Type 0 where
   pub began : origin.is_exit ≡ false → origin.first ≤ place.n + place.gone
   pub sums : origin.is_exit ≡ false → place.gone ≤ place.held
   pub fits : place.n + place.gone < 2 ^ 64
-  pub room : place.n ≤ place.space.most
+  pub room : place.n ≤ place.space.storage
 
 -- so is each, with an occupancy of a step before for each
 pub record AreSettled (origins : List Origin) (places : List Place) (before : List ℕ) : Type 0 where

@@ -46,7 +46,7 @@ pub(crate) fn carried(
 fn received(most: u64, space: Space, n: u64) -> u64
     ensures { result ≡ received most space n }
 {
-    if n > space.most {
+    if n > space.storage {
         return 0;
     }
     most.min(space.let_in(n))

@@ -15,7 +15,7 @@ use crate::carry::carry_all;
 use crate::cells::Cells;
 use crate::demands::{bring_demands, nothing_demanded};
 use crate::follow::follow;
-use crate::followed::{FollowedLink, refresh};
+use crate::followed::FollowedLink;
 use crate::gate::GatePlace;
 use crate::held::Held;
 use crate::joints::join_places;
@@ -23,6 +23,8 @@ use crate::opening::{earlier_of, gates_of, nothing_put, origins_of, places_of};
 use crate::origin::Origin;
 use crate::pause::{Pause, hold_the_same, note_seen};
 use crate::place::Place;
+use crate::renew::renew;
+use crate::slow_link::SlowLink;
 use crate::sweep::sweep;
 use crate::tie::Tie;
 use crate::waiting::{note_held, wait_all, waited};
@@ -41,6 +43,7 @@ pub struct PlacedRows {
     origins: Vec<Origin>,
     before: Vec<u64>,
     links: Vec<FollowedLink>,
+    slow_links: Vec<SlowLink>,
     ties: Vec<Tie>,
     // None of these changes before this step.
     ties_until: u64,
@@ -63,6 +66,7 @@ impl Model for PlacedRows {
       origins = rows.origins.items;
       before = rows.before.items;
       links = rows.links.items;
+      slow_links = rows.slow_links.items;
       ties = rows.ties.items;
       ties_until = rows.ties_until;
       gates = rows.gates.items;
@@ -116,6 +120,7 @@ impl PlacedRows {
             origins,
             before,
             links: joints.links,
+            slow_links: joints.slow_links,
             ties: joints.ties,
             ties_until: 0,
             gates,
@@ -262,7 +267,7 @@ impl PlacedRows {
         ensures seen { self.new.seen ≡ self.old.seen }
     {
         let _steps = net.steps;
-        refresh(&mut self.links, &mut self.places, t);
+        renew(&mut self.links, &mut self.slow_links, &mut self.places, t);
         self.ties_until = follow(t, &mut self.ties, self.ties_until);
         sweep(&mut self.places, &mut self.before);
         let held = Held {
@@ -278,14 +283,22 @@ impl PlacedRows {
         requires none_owed { self.old.pause.owed ≡ 0 }
         requires seen { length self.old.seen ≡ length put.now }
         requires there { All (λ link. link.place < length self.old.places) self.old.links }
+        requires slow_there { All (λ link. link.place < length self.old.places) self.old.slow_links }
         requires spots { All (λ tie. (m : ℕ) → m < 3 → IsThere self.old.places put.now (spot_at tie m)) self.old.ties }
         ensures only_pause { self.new ≡ record self.old { pause = self.new.pause; seen = self.new.seen } }
         ensures one_each { length self.new.seen ≡ length put.now }
         ensures none_owed { self.new.pause.owed ≡ 0 }
         ensures idle { (s : ℕ) → s < self.new.pause.until →
-            AreIdle self.old.places self.old.links self.old.ties self.new.seen self.new.pause.until }
+            AreIdle self.old.places self.old.links self.old.slow_links self.old.ties self.new.seen self.new.pause.until }
     {
-        self.pause = Pause::of(self.pause.mover, &self.places, &self.links, &self.ties, put);
+        self.pause = Pause::of(
+            self.pause.mover,
+            &self.places,
+            &self.links,
+            &self.slow_links,
+            &self.ties,
+            put,
+        );
         note_seen(self.pause.until > 0, &mut self.seen, put);
     }
 }

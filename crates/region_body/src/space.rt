@@ -12,7 +12,7 @@ pub(crate) const BOUNDLESS: u64 = 4_611_686_018_427_387_904;
 #[derive(Clone, Copy)]
 pub(crate) struct Space {
     /// The most parts that the place holds, and one more where its ratio is 1.
-    pub(crate) most: u64,
+    pub(crate) storage: u64,
     /// The ratio times 2^64, rounded up.
     pub(crate) factor: u64,
 }
@@ -26,7 +26,7 @@ impl Space {
     {
         match room {
             None => Space {
-                most: BOUNDLESS + 1,
+                storage: BOUNDLESS + 1,
                 factor: u64::MAX,
             },
             Some(room) => Space::of_road(room),
@@ -41,12 +41,12 @@ impl Space {
     {
         if room.num == room.den {
             Space {
-                most: room.most + 1,
+                storage: room.most + 1,
                 factor: u64::MAX,
             }
         } else {
             Space {
-                most: room.most,
+                storage: room.most,
                 factor: factor_of(room.num, room.den),
             }
         }
@@ -55,12 +55,12 @@ impl Space {
     /// What the empty space of a place that holds `n` parts lets in.
     #[inline(always)]
     pub(crate) fn let_in(self, n: u64) -> u64
-        requires fits { n ≤ self.most }
+        requires fits { n ≤ self.storage }
         ensures flow { result ≡ let_in self n }
-        ensures in_room { n + result ≤ self.most }
+        ensures in_room { n + result ≤ self.storage }
         ensures fits { n + result < 2 ^ 64 }
     {
-        let wide = u128::from(self.most - n) * u128::from(self.factor);
+        let wide = u128::from(self.storage - n) * u128::from(self.factor);
         (wide >> 64) as u64
     }
 }

@@ -74,7 +74,7 @@ fn sweep_one(places: &mut [Place], before: &mut [u64], p: usize, enters: u64) ->
 #[inline(always)]
 pub(crate) fn carried_from(places: &[Place], p: usize) -> u64
     requires there { p + 1 < length places.now }
-    requires fits { (place_at places.now (p + 1)).n ≤ (place_at places.now (p + 1)).space.most }
+    requires fits { (place_at places.now (p + 1)).n ≤ (place_at places.now (p + 1)).space.storage }
     ensures flow { result ≡ carried (place_at places.now p) (place_at places.now (p + 1)) }
     ensures held { result ≤ (place_at places.now p).n }
     ensures fits { (place_at places.now (p + 1)).n + result < 2 ^ 64 }

@@ -1,4 +1,4 @@
-ghost use Rattle.std.specs.Prelude.{◌≡◌, ℕ, ◌<◌, ◌==◌, All, [], ◌∷◌, ◌++◌, IfOk, if◌then◌else◌, length, map};
+ghost use Rattle.std.specs.Prelude.{◌≡◌, ℕ, ◌<◌, ◌^◌, ◌==◌, All, [], ◌∷◌, ◌++◌, IfOk, if◌then◌else◌, length, map};
 ghost use Rattle.std.specs.List.{list_any, range_with_len};
 ghost use Rattle.region_cut.specs.Chart.{connectors_of, list_at};
 ghost use Rattle.region_cut.specs.Cuttings.{region_at};
@@ -19,7 +19,8 @@ pub(crate) fn connectors_by_region(
 ) -> Result<Lists<u32>, NoMemory>
     requires one_each { length cut.now ≡ length net.now.cells }
     requires there { All (λ region. region < regions) cut.now }
-    ensures { IfOk result (λ lists. lists ≡ map (connectors_of net.now cut.now) (range_with_len 0 regions)) }
+    ensures lists { IfOk result (λ lists. lists ≡ map (connectors_of net.now cut.now) (range_with_len 0 regions)) }
+    ensures few { IfOk result (λ lists. length lists < 2 ^ 32) }
 {
     let mut lists = empty_lists(alloc, regions)?;
     for k in 0..net.connectors.len() as u32 {

@@ -1,5 +1,6 @@
 ghost use Rattle.std.specs.Prelude.{◌≡◌, ◌≤◌, Ok, IfErr, IfOk, length, nat_lt};
 ghost use Rattle.std.specs.List.{list_all};
+ghost use Rattle.network_file.specs.Cutting.{IsCutting};
 ghost use Rattle.network_file.specs.declared.limits.TheConstants.{MOST_REGIONS};
 ghost use Rattle.region_cut.specs.CutFaults.{cut_of, IsCutRefusal};
 ghost use Rattle.region_cut.specs.Cuttings.{even_cutting, region_count};
@@ -61,6 +62,14 @@ impl Cut {
         Ok(Cut { regions })
     }
 
+    /// A list that is a cutting.
+    pub fn known(regions: Vec<u32>) -> Cut
+        requires { IsCutting (length regions.items) regions.items }
+        ensures { result ≡ regions.items }
+    {
+        Cut { regions }
+    }
+
     /// The region of each cell.
     pub fn regions(&self) -> &[u32]
         ensures { result.now ≡ self.now }
@@ -84,8 +93,8 @@ fn are_few(list: &[u32]) -> bool
     list.iter().all(|region| *region < MOST_REGIONS)
 }
 
-// The list in a vector of its own.
-fn copied(alloc: Global, list: &[u32]) -> Result<Vec<u32>, NoMemory>
+/// The list in a vector of its own.
+pub(crate) fn copied(alloc: Global, list: &[u32]) -> Result<Vec<u32>, NoMemory>
     ensures { IfOk result (λ items. items.items ≡ list.now) }
 {
     let mut items = Vec::new(alloc);

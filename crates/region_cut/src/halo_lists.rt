@@ -20,7 +20,8 @@ pub(crate) fn halo_by_region(
     requires few { length met.now < 2 ^ 32 }
     requires there { (r : ℕ) → r < length met.now → All (CanPlace cut.now border.now) (list_at met.now r) }
     requires increasing { (q : ℕ) → q < length border.now → IsStrictlyIncreasing (list_at border.now q) }
-    ensures { IfOk result (λ lists. lists ≡ map (λ r. map (placed cut.now border.now) (outside cut.now r (list_at met.now r))) (range_with_len 0 (length met.now))) }
+    ensures lists { IfOk result (λ lists. lists ≡ map (λ r. map (placed cut.now border.now) (outside cut.now r (list_at met.now r))) (range_with_len 0 (length met.now))) }
+    ensures few { IfOk result (λ lists. length lists < 2 ^ 32) }
 {
     let mut lists = Lists::new(alloc);
     for r in 0..met.len() as u32 {

@@ -21,7 +21,8 @@ pub(crate) fn met_by_region(
     requires one_each { length cut.now ≡ length net.now.cells }
     requires lists { connectors.now ≡ map (connectors_of net.now cut.now) (range_with_len 0 (length connectors.now)) }
     requires few { length connectors.now < 2 ^ 32 }
-    ensures { IfOk result (λ lists. lists ≡ map (met_by net.now cut.now) (range_with_len 0 (length connectors.now))) }
+    ensures lists { IfOk result (λ lists. lists ≡ map (met_by net.now cut.now) (range_with_len 0 (length connectors.now))) }
+    ensures few { IfOk result (λ lists. length lists < 2 ^ 32) }
 {
     let mut lists = Lists::new(alloc);
     for r in 0..connectors.len() as u32 {

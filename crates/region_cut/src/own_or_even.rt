@@ -2,8 +2,7 @@ ghost use Rattle.std.specs.Prelude.{◌≡◌, ◌≢◌, ◌≤◌, IfOk, lengt
 ghost use Rattle.region_cut.specs.Cuttings.{even_cutting};
 ghost use Rattle.network_file.specs.declared.limits.TheConstants.{MOST_REGIONS};
 
-use crate::cut::Cut;
-use crate::fault::CutRefusal;
+use crate::cut::{Cut, copied};
 use crate::layout::Layout;
 use network_file::Net;
 use no_memory::NoMemory;
@@ -22,11 +21,8 @@ pub fn cutting(alloc: Global, net: &Net, regions: u32) -> Result<Cut, NoMemory>
     if net.regions.is_empty() {
         return Cut::even(alloc, net, regions.min(cells));
     }
-    match Cut::of(alloc, net, &net.regions) {
-        Ok(cut) => Ok(cut),
-        // The file's regions are a cutting, so that they have no fault.
-        Err(CutRefusal::Fault(_) | CutRefusal::NoMemory) => Err(NoMemory),
-    }
+    let own = copied(alloc, &net.regions)?;
+    Ok(Cut::known(own))
 }
 
 /// A network in the regions that its file gives, or else in so many of nearly equal size.

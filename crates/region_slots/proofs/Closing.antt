@@ -92,7 +92,7 @@ whole_reach terms s id r view old is all within = elim (old.counts.reach r withi
 pub record IsClosed (terms : Terms) (view : View) (steps : List ℕ) (regions : List RegionValue) : Type 0 where
   pub one_step : length steps ≡ region_count terms.setup.now.chart.cut
   pub one_each : length regions ≡ region_count terms.setup.now.chart.cut
-  pub stand : AllStand terms.setup.now.net terms.setup.now.chart terms.setup.now.start terms.setup.now.every steps regions
+  pub stand : AllStand terms.setup.now steps regions
   pub lawful : AreLawful terms.setup.now.net terms.setup.now.chart.cut steps
   pub started : (r : ℕ) → r < region_count terms.setup.now.chart.cut → slice_index terms.setup.now.start.steps r ≤ slice_index steps r
   pub later : (r : ℕ) → r < region_count terms.setup.now.chart.cut → slice_index view.seen r ≤ slice_index steps r
@@ -126,8 +126,8 @@ closing terms id view words regions all empty (s, (old, is), same, long, homes) 
         each = λ q d within.
             let inside : q < count = omega (arith, within, long, old.claims.homes) in
             let (home, at, stands) = old.claims.at_home q inside (whole_knowers terms s id q view old is all empty) in
-            subst (λ x. Stands terms.setup.now.net terms.setup.now.chart terms.setup.now.start terms.setup.now.every q (slice_index (steps_of terms.setup.now.chart words) q) x) (sym (get_or-elem regions q home d (homes q home at)))
-            (subst (λ t. Stands terms.setup.now.net terms.setup.now.chart terms.setup.now.start terms.setup.now.every q t home) (sym (stood q inside)) stands);
+            subst (λ x. Stands terms.setup.now q (slice_index (steps_of terms.setup.now.chart words) q) x) (sym (get_or-elem regions q home d (homes q home at)))
+            (subst (λ t. Stands terms.setup.now q t home) (sym (stood q inside)) stands);
       };
       lawful = lawful;
       started = λ r within. omega (arith, old.steps.started r within, stood r within);

@@ -33,7 +33,7 @@ pub record IsOnTop (terms : Terms) (seen : List ℕ) (r : ℕ) (old carried : Li
   pub state : RegionValue
   pub others : List (ℕ × RegionValue)
   pub top : carried ≡ (r, state) ∷ others
-  pub stands : Stands terms.setup.now.net terms.setup.now.chart terms.setup.now.start terms.setup.now.every r (slice_index seen r) state
+  pub stands : Stands terms.setup.now r (slice_index seen r) state
   pub turned : IsTurning terms seen r old (others ++ (r, state) ∷ [])
 
 pub turning-top : (terms : Terms) (seen : List ℕ) (r : ℕ) (old carried : List (ℕ × RegionValue)) → IsTurning terms seen (suc r) old carried → IsOnTop terms seen r old carried
@@ -57,17 +57,17 @@ turning-top terms seen r old carried is =
 -- region r is shown at the step that was seen of it
 abbrev pub IsShown : Terms → (seen : List ℕ) → RoomValue → (r : ℕ) → Type 0
 IsShown terms seen room r =
-    (state : RegionValue) × Stands terms.setup.now.net terms.setup.now.chart terms.setup.now.start terms.setup.now.every r (slice_index seen r) state × ShowsRegion terms.setup.now.chart room state
+    (state : RegionValue) × Stands terms.setup.now r (slice_index seen r) state × ShowsRegion terms.setup.now.chart room state
 
 -- and so is each region from `left` on
 abbrev pub AreShown : Terms → (seen : List ℕ) → (left : ℕ) → RoomValue → Type 0
 AreShown terms seen left room = (r : ℕ) → left ≤ r → r < region_count terms.setup.now.chart.cut → IsShown terms seen room r
 
 pub shown-more : (terms : Terms) (seen : List ℕ) (left : ℕ) (old new : RoomValue) (state : RegionValue) → IsChart terms.setup.now.chart → AreShown terms seen (left + 1) old →
-    Stands terms.setup.now.net terms.setup.now.chart terms.setup.now.start terms.setup.now.every left (slice_index seen left) state → ShowsRegion terms.setup.now.chart new state → StaysBeside terms.setup.now.chart old new left →
+    Stands terms.setup.now left (slice_index seen left) state → ShowsRegion terms.setup.now.chart new state → StaysBeside terms.setup.now.chart old new left →
     AreShown terms seen left new
 shown-more terms seen left old new state chart shown stands shows stays = λ r low there. elim (cases_eq r left) [
-  | inl own ↦ (state, subst (λ q. Stands terms.setup.now.net terms.setup.now.chart terms.setup.now.start terms.setup.now.every q (slice_index seen q) state) (sym own) stands, shows)
+  | inl own ↦ (state, subst (λ q. Stands terms.setup.now q (slice_index seen q) state) (sym own) stands, shows)
   | inr other ↦ let (was, stood, showed) = shown r (omega (arith, low, other)) there in
-      (was, stood, shows-stays terms.setup.now.net terms.setup.now.chart terms.setup.now.start terms.setup.now.every r (slice_index seen r) left was old new chart there other stood showed stays)
+      (was, stood, shows-stays terms.setup.now r (slice_index seen r) left was old new chart there other stood showed stays)
 ]

@@ -31,7 +31,7 @@ carried-same terms seen r t (suc q) carried low (state, others, is, stands, late
   state,
   others,
   is,
-  subst (λ s. Stands terms.setup.now.net terms.setup.now.chart terms.setup.now.start terms.setup.now.every q s state) (sym (get_or-set_other seen r q t 0 (λ same. absurd (omega (arith, low, same))))) stands,
+  subst (λ s. Stands terms.setup.now q s state) (sym (get_or-set_other seen r q t 0 (λ same. absurd (omega (arith, low, same))))) stands,
   carried-same terms seen r t q others (omega (arith, low)) later,
 )
 
@@ -136,7 +136,7 @@ gathered-stopped terms old new r tries me has tried =
 
 -- or it was taken, at this step
 pub gathered-more : (terms : Terms) (old view : View) (r failed t : ℕ) (me : Mine) (state : RegionValue) → r < region_count terms.setup.now.chart.cut → HasGathered terms old r me → HasTried me.0 view r failed →
-    slice_index view.seen r ≤ t → t ≤ terms.setup.now.net.steps → Stands terms.setup.now.net terms.setup.now.chart terms.setup.now.start terms.setup.now.every r t state →
+    slice_index view.seen r ≤ t → t ≤ terms.setup.now.net.steps → Stands terms.setup.now r t state →
     HasGathered terms old (r + 1) (found_at (taken view r) r t, (r, state) ∷ me.1)
 gathered-more terms old view r failed t me state there has tried past now stands =
     let new : View = found_at (taken view r) r t in
@@ -180,7 +180,7 @@ gathered-more terms old view r failed t me state there has tried past now stands
         state,
         me.1,
         refl,
-        subst (λ s. Stands terms.setup.now.net terms.setup.now.chart terms.setup.now.start terms.setup.now.every r s state) (sym here) stands,
+        subst (λ s. Stands terms.setup.now r s state) (sym here) stands,
         carried-same terms view.seen r t r me.1 (omega arith) stopped.carried,
       );
       looks = λ q low. elim (cases_eq q r) [

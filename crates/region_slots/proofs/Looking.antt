@@ -78,10 +78,10 @@ learning terms slots id r me later chart within of_field share taken = λ s stan
         known = λ other q also region same first.
             let one = one-step terms me.0 r chart within of_field other q region same in
             subst (λ (t : Terms). (state : RegionValue) × (◌≡◌ {A = Mine} (found_at me.0 r found, (r, keep.0) ∷ me.1) (found_at me.0 q found, (q, state) ∷ me.1))
-            × Stands t.setup.now.net t.setup.now.chart t.setup.now.start t.setup.now.every q found state
+            × Stands t.setup.now q found state
             × (slice_index me.0.seen q ≤ found) × (slice_index t.setup.now.start.steps q ≤ found) × (found ≤ t.setup.now.net.steps)) (sym one.0)
             (subst (λ p. (state : RegionValue) × (◌≡◌ {A = Mine} (found_at me.0 r found, (r, keep.0) ∷ me.1) (found_at me.0 p found, (p, state) ∷ me.1))
-            × Stands terms.setup.now.net terms.setup.now.chart terms.setup.now.start terms.setup.now.every p found state
+            × Stands terms.setup.now p found state
             × (slice_index me.0.seen p ≤ found) × (slice_index terms.setup.now.start.steps p ≤ found) × (found ≤ terms.setup.now.net.steps)) (sym one.1)
             (keep.0, refl, keep.2, is.later, is.started, is.in_time));
       },
@@ -89,7 +89,7 @@ learning terms slots id r me later chart within of_field share taken = λ s stan
 
 pub freeing : (terms : Terms) (slots id r : ℕ) (me : Mine) (hold : Hold) (later : List Hold) (state : RegionValue) (others : List (ℕ × RegionValue)) → IsChart terms.setup.now.chart → me.0.terms ≡ terms ∷ [] →
     me.0.share ≢ 0 → me.0.holds ≡ hold ∷ later → hold.region ≡ r → hold.known ≡ true → me.1 ≡ (r, state) ∷ others →
-    Stands terms.setup.now.net terms.setup.now.chart terms.setup.now.start terms.setup.now.every r (if hold.published then hold.step + 1 else hold.step) state →
+    Stands terms.setup.now r (if hold.published then hold.step + 1 else hold.step) state →
     Allows (IsStanding terms) slots id me (claim_place (widths_of terms.setup.now.chart) r) (λ _. 0) (λ _. Freed (step slots (claim_place (widths_of terms.setup.now.chart) r) 0 0 none) me 0)
 freeing terms slots id r me hold later state others chart of_field share has own knows carries stands = λ s standing long at small. (
   freed me.0,

@@ -10,6 +10,7 @@ use Rattle.region_cut.specs.Cuttings.{region_at, region_count}
 use Rattle.region_cut.specs.LawfulSteps.{AreLawful}
 use Rattle.region_step.specs.Grid.{grid_held}
 use Rattle.region_step.specs.Region.{RegionValue}
+use Rattle.region_step.specs.Setup.{SetupValue}
 use Rattle.region_step.specs.Standing.{AllStand}
 use Rattle.region_step.specs.Start.{StartLists, start_of}
 use Rattle.region_step.proofs.Grids.{grid_held-earlier, grid_held-started, grid_row-start}
@@ -45,29 +46,29 @@ held-first net cut start i =
     grid_held-started net cut start (start_of start cut i) i (omega arith) ∙ ap (λ row. row.n) (grid_row-start net cut start (start_of start cut i) i (omega arith))
 
 -- words that are laid out and regions that stand where they start are those of a field that opens
-pub laid-opens : (net : Network) (chart : ChartLists) (start : StartLists) (every : ℕ) (words : List ℕ) (regions : List RegionValue) → IsChart chart → AreAllFirstWords chart start words →
-    AllStand net chart start every start.steps regions → IsOpening net chart start every words regions
-laid-opens net chart start every words regions sound laid stand = record {
+pub laid-opens : (setup : SetupValue) (words : List ℕ) (regions : List RegionValue) → IsChart setup.chart → AreAllFirstWords setup.chart setup.start words →
+    AllStand setup setup.start.steps regions → IsOpening setup words regions
+laid-opens setup words regions sound laid stand = record {
   long = laid.long;
   free = laid.free;
   steps = λ r within. (laid.each r within).step;
   now = λ r j within inside.
-      let from : start_of start chart.cut (border_cell chart r j) ≡ slice_index start.steps r = ap (slice_index start.steps) (border-region chart r j sound within inside) in
-      (laid.each r within).rows.now j inside inside ∙ sym (held-first net chart.cut start (border_cell chart r j)) ∙
-      ap (λ t. grid_held net chart.cut start t (border_cell chart r j)) from;
+      let from : start_of setup.start setup.chart.cut (border_cell setup.chart r j) ≡ slice_index setup.start.steps r = ap (slice_index setup.start.steps) (border-region setup.chart r j sound within inside) in
+      (laid.each r within).rows.now j inside inside ∙ sym (held-first setup.net setup.chart.cut setup.start (border_cell setup.chart r j)) ∙
+      ap (λ t. grid_held setup.net setup.chart.cut setup.start t (border_cell setup.chart r j)) from;
   before = λ r t j within inside next.
-      let from : start_of start chart.cut (border_cell chart r j) ≡ slice_index start.steps r = ap (slice_index start.steps) (border-region chart r j sound within inside) in
-      let parity : t % 2 ≡ (slice_index start.steps r + 1) % 2 = omega (arith, next) in
-      ap (λ p. slice_index words (row_place (widths_of chart) r p j)) parity ∙ (laid.each r within).rows.before j inside inside ∙
-      sym (grid_held-earlier net chart.cut start t (border_cell chart r j) (omega (arith, from, next)));
+      let from : start_of setup.start setup.chart.cut (border_cell setup.chart r j) ≡ slice_index setup.start.steps r = ap (slice_index setup.start.steps) (border-region setup.chart r j sound within inside) in
+      let parity : t % 2 ≡ (slice_index setup.start.steps r + 1) % 2 = omega (arith, next) in
+      ap (λ p. slice_index words (row_place (widths_of setup.chart) r p j)) parity ∙ (laid.each r within).rows.before j inside inside ∙
+      sym (grid_held-earlier setup.net setup.chart.cut setup.start t (border_cell setup.chart r j) (omega (arith, from, next)));
   homes = stand;
 }
 
 -- they stand under the rule
 pub laid-stands : (terms : Terms) (words : List ℕ) (regions : List RegionValue) → IsChart terms.setup.now.chart → AreLawful terms.setup.now.net terms.setup.now.chart.cut terms.setup.now.start.steps →
-    AreAllFirstWords terms.setup.now.chart terms.setup.now.start words → AllStand terms.setup.now.net terms.setup.now.chart terms.setup.now.start terms.setup.now.every terms.setup.now.start.steps regions → 1 ≤ terms.seats →
+    AreAllFirstWords terms.setup.now.chart terms.setup.now.start words → AllStand terms.setup.now terms.setup.now.start.steps regions → 1 ≤ terms.seats →
     IsStanding terms (opening words regions (first_view terms))
 laid-stands terms words regions sound lawful laid stand seats =
-    opening-stands terms words regions (first_view terms) lawful (laid-opens terms.setup.now.net terms.setup.now.chart terms.setup.now.start terms.setup.now.every words regions sound laid stand)
+    opening-stands terms words regions (first_view terms) lawful (laid-opens terms.setup.now words regions sound laid stand)
     record { alike = refl; share = refl; seen = refl; log = refl; reach = refl; holds = refl }
     (λ none. omega (arith, none, seats))

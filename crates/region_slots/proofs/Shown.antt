@@ -28,7 +28,7 @@ shown-steps terms seen room long fits shown =
     ext_get_or 0 room.steps seen (fits.steps ∙ sym long)
     (λ r within.
     let (state, stands, shows) = shown r (omega arith) (omega (arith, within, fits.steps)) in
-    shown-step terms.setup.now.net terms.setup.now.chart terms.setup.now.start terms.setup.now.every r (slice_index seen r) state room stands shows)
+    shown-step terms.setup.now r (slice_index seen r) state room stands shows)
 
 shown-snapshot : (terms : Terms) (table : TableId) (seen : List ℕ) (room : RoomValue) → IsTableFor terms table → IsRoomFor terms.setup.now.chart room → AreShown terms seen 0 room →
     AreLawful terms.setup.now.net terms.setup.now.chart.cut seen → ((r : ℕ) → r < region_count terms.setup.now.chart.cut → slice_index terms.setup.now.start.steps r ≤ slice_index seen r) →
@@ -43,12 +43,12 @@ shown-snapshot terms table seen room field fits shown lawful started =
       rows = λ i there.
           let r : ℕ = region_at cut i in
           let (state, stands, shows) = shown r (omega arith) (region_at-there cut i) in
-          shown-row terms.setup.now.net terms.setup.now.chart terms.setup.now.start terms.setup.now.every r (slice_index seen r) i state room field.sound field.charted (region_at-there cut i) stands shows there refl ∙
+          shown-row terms.setup.now r (slice_index seen r) i state room field.sound field.charted (region_at-there cut i) stands shows there refl ∙
           ap (λ t. grid_row terms.setup.now.net cut terms.setup.now.start t i) (step r);
       earlier = λ i there.
           let r : ℕ = region_at cut i in
           let (state, stands, shows) = shown r (omega arith) (region_at-there cut i) in
-          shown-before terms.setup.now.net terms.setup.now.chart terms.setup.now.start terms.setup.now.every r (slice_index seen r) i state room field.sound field.charted (region_at-there cut i) stands shows there refl ∙
+          shown-before terms.setup.now r (slice_index seen r) i state room field.sound field.charted (region_at-there cut i) stands shows there refl ∙
           ap (λ t. grid_before terms.setup.now.net cut terms.setup.now.start t i) (step r);
     }
 

@@ -38,7 +38,7 @@ use Rattle.region_slots.specs.Turning.{IsTold, field_held}
 use Rattle.atomic_table.specs.Seated.{TableId}
 
 -- nothing is told yet
-pub told-none : (terms : Terms) (r t : ℕ) (region : RegionValue) → Stands terms.setup.now.net terms.setup.now.chart terms.setup.now.start terms.setup.now.every r t region → IsTold terms r t 0 region
+pub told-none : (terms : Terms) (r t : ℕ) (region : RegionValue) → Stands terms.setup.now r t region → IsTold terms r t 0 region
 told-none terms r t region stands =
     let put : region.state.put ≡ (grid_state terms.setup.now.net terms.setup.now.chart terms.setup.now.start terms.setup.now.every r t).put = ap (λ state. state.put) stands.state in
     record {
@@ -128,7 +128,7 @@ told-step terms r t j region told = ap (λ state. state.step) told.state ∙ gri
 pub advanced-stands : (terms : Terms) (net : Network) (chart : ChartLists) (r t j : ℕ) (old new : RegionValue) → net ≡ terms.setup.now.net → chart ≡ terms.setup.now.chart →
     IsTold terms r t j old → length (halo_cells terms.setup.now.chart r) ≤ j → IsIn net chart new →
     (old.state ≡ with_halo chart (grid_held net chart.cut terms.setup.now.start t) (grid_state net chart terms.setup.now.start terms.setup.now.every r t) → new.state ≡ grid_state net chart terms.setup.now.start terms.setup.now.every r (t + 1)) →
-    Stands terms.setup.now.net terms.setup.now.chart terms.setup.now.start terms.setup.now.every r (t + 1) new
+    Stands terms.setup.now r (t + 1) new
 advanced-stands terms net chart r t j old new same_net same_chart told all opened grid =
     let whole = told-all terms r t j old told all in
     let there : old.state ≡ with_halo chart (grid_held net chart.cut terms.setup.now.start t) (grid_state net chart terms.setup.now.start terms.setup.now.every r t) = rw (same_net, same_chart) whole in
@@ -146,12 +146,12 @@ same-slot carried others later r x y first second = ap (λ l. front l) (sym firs
     front (slot ∷ slots) = slot.1
 
 -- its number
-pub stands-number : (terms : Terms) (r t : ℕ) (region : RegionValue) → Stands terms.setup.now.net terms.setup.now.chart terms.setup.now.start terms.setup.now.every r t region → region.state.number ≡ r
+pub stands-number : (terms : Terms) (r t : ℕ) (region : RegionValue) → Stands terms.setup.now r t region → region.state.number ≡ r
 stands-number terms r t region stands = ap (λ state. state.number) stands.state ∙ grid_state-number terms.setup.now.net terms.setup.now.chart terms.setup.now.start terms.setup.now.every r t
 
 -- what its border cells hold
 pub border-now : (terms : Terms) (table : TableId) (r t j result : ℕ) (region : RegionValue) → IsTableFor terms table → r < region_count terms.setup.now.chart.cut → slice_index terms.setup.now.start.steps r ≤ t →
-    j < length (list_at terms.setup.now.chart.border r) → Stands terms.setup.now.net terms.setup.now.chart terms.setup.now.start terms.setup.now.every r t region →
+    j < length (list_at terms.setup.now.chart.border r) → Stands terms.setup.now r t region →
     ((p : ℕ) → p < length (list_at terms.setup.now.chart.cells region.state.number) → slice_index (list_at terms.setup.now.chart.cells region.state.number) p ≡ slice_index (list_at terms.setup.now.chart.border region.state.number) j →
     result ≡ occupancy region.state.rows p) → result ≡ field_held terms t (border_cell terms.setup.now.chart r j)
 border-now terms table r t j result region field within started inside stands told =

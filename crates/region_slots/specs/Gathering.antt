@@ -28,7 +28,7 @@ abbrev pub AreCarried : Terms → (seen : List ℕ) → (count : ℕ) → List (
 AreCarried terms seen zero carried = carried ≡ []
 AreCarried terms seen (suc r) carried =
     (state : RegionValue) × (others : List (ℕ × RegionValue)) × (carried ≡ (r, state) ∷ others)
-    × Stands terms.setup.now.net terms.setup.now.chart terms.setup.now.start terms.setup.now.every r (slice_index seen r) state × AreCarried terms seen r others
+    × Stands terms.setup.now r (slice_index seen r) state × AreCarried terms seen r others
 
 -- a seat that holds so many regions, and had this view before
 pub record HasGathered (terms : Terms) (old : View) (count : ℕ) (me : Mine) : Type 0 where

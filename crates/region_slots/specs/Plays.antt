@@ -59,7 +59,7 @@ pub record Looked (step : Step RegionValue) (old : Mine) (found : ℕ) (new : Mi
 pub record Learned (step : Step RegionValue) (old : Mine) (found : ℕ) (new : Mine) : Type 0 where
   pub known : (terms : Terms) (r : ℕ) (later : List Hold) → IsRegion old.0 terms r → step.word ≡ step_place (widths_of terms.setup.now.chart) r → old.0.holds ≡ fresh r ∷ later →
       (region : RegionValue) × (new ≡ (found_at old.0 r found, (r, region) ∷ old.1))
-      × Stands terms.setup.now.net terms.setup.now.chart terms.setup.now.start terms.setup.now.every r found region
+      × Stands terms.setup.now r found region
       × (slice_index old.0.seen r ≤ found) × (slice_index terms.setup.now.start.steps r ≤ found) × (found ≤ terms.setup.now.net.steps)
 
 -- a look at the step word of a neighbour of the region held last: it is cleared where it stands at that region's step or

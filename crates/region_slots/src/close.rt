@@ -24,7 +24,7 @@ impl<'a> Field<'a> {
         requires whole { pass.knows.share ≡ self.terms.seats }
         ensures steps { length result.steps.items ≡ region_count self.entry.terms.setup.now.chart.cut }
         ensures regions { length result.regions.items ≡ region_count self.entry.terms.setup.now.chart.cut }
-        ensures stand { AllStand self.entry.terms.setup.now.net self.entry.terms.setup.now.chart self.entry.terms.setup.now.start self.entry.terms.setup.now.every result.steps.items result.regions.items }
+        ensures stand { AllStand self.entry.terms.setup.now result.steps.items result.regions.items }
         ensures lawful { AreLawful self.entry.terms.setup.now.net self.entry.terms.setup.now.chart.cut result.steps.items }
         ensures started { (r : ℕ) → r < region_count self.entry.terms.setup.now.chart.cut → slice_index self.entry.terms.setup.now.start.steps r ≤ slice_index result.steps.items r }
         ensures later { (r : ℕ) → r < region_count self.entry.terms.setup.now.chart.cut → slice_index pass.knows.seen r ≤ slice_index result.steps.items r }

@@ -124,7 +124,7 @@ impl<'a> Field<'a> {
         ensures same { (seat.new.id ≡ seat.old.id) × (seat.new.table_id ≡ seat.old.table_id) × (seat.new.me ≡ seat.old.me) }
         ensures room { IsRoomFor self.now.terms.setup.now.chart room.new }
         ensures shown { (r : ℕ) → r < region_count self.now.terms.setup.now.chart.cut → (state : RegionValue)
-            × Stands self.now.terms.setup.now.net self.now.terms.setup.now.chart self.now.terms.setup.now.start self.now.terms.setup.now.every r (slice_index seat.old.me.0.seen r) state
+            × Stands self.now.terms.setup.now r (slice_index seat.old.me.0.seen r) state
             × ShowsRegion self.now.terms.setup.now.chart room.new state }
     {
         let mut left = self.layout.regions();
@@ -139,7 +139,7 @@ impl<'a> Field<'a> {
     fn shows_last(&self, seat: &mut Seat<Region, View<'static>>, region: u32, room: &mut ShotRoom)
         requires seat { IsSeatOf self.now seat.old }
         requires slot { (step : ℕ) × (state : RegionValue) × (seat.old.me.1 ≡ (region, state) ∷ rest seat.old.me.1)
-            × Stands self.now.terms.setup.now.net self.now.terms.setup.now.chart self.now.terms.setup.now.start self.now.terms.setup.now.every region step state }
+            × Stands self.now.terms.setup.now region step state }
         requires room { IsRoomFor self.now.terms.setup.now.chart room.old }
         ensures same { (seat.new.id ≡ seat.old.id) × (seat.new.table_id ≡ seat.old.table_id) × (seat.new.me ≡ seat.old.me) }
         ensures room { IsRoomFor self.now.terms.setup.now.chart room.new }

@@ -41,7 +41,7 @@ impl<'a> Field<'a> {
         requires at { IsAt seat.old.me.0 region step }
         requires cleared { IsCleared self.now.terms seat.old.me.0 }
         requires slot { (state : RegionValue) × (seat.old.me.1 ≡ (region, state) ∷ rest seat.old.me.1)
-            × Stands self.now.terms.setup.now.net self.now.terms.setup.now.chart self.now.terms.setup.now.start self.now.terms.setup.now.every region step state }
+            × Stands self.now.terms.setup.now region step state }
         ensures same { (seat.new.id ≡ seat.old.id) × (seat.new.table_id ≡ seat.old.table_id) }
         ensures told { (state : RegionValue) × (seat.new.me ≡ (seat.old.me.0, (region, state) ∷ rest seat.old.me.1))
             × IsTold self.now.terms region step (length (list_at self.now.terms.setup.now.chart.halo region)) state }
@@ -65,7 +65,7 @@ impl<'a> Field<'a> {
         requires started { slice_index self.now.terms.setup.now.start.steps region ≤ step }
         ensures same { (seat.new.id ≡ seat.old.id) × (seat.new.table_id ≡ seat.old.table_id) }
         ensures advanced { (state : RegionValue) × (seat.new.me ≡ (seat.old.me.0, (region, state) ∷ rest seat.old.me.1))
-            × Stands self.now.terms.setup.now.net self.now.terms.setup.now.chart self.now.terms.setup.now.start self.now.terms.setup.now.every region (step + 1) state }
+            × Stands self.now.terms.setup.now region (step + 1) state }
     {
         let state = seat.slot_mut(&self.table.shared, region as usize);
         state.advance(self.layout);
@@ -83,7 +83,7 @@ impl<'a> Field<'a> {
         requires there { region < region_count self.now.terms.setup.now.chart.cut }
         requires inside { j < length (list_at self.now.terms.setup.now.chart.border region) }
         requires slot { (state : RegionValue) × (seat.old.me.1 ≡ (region, state) ∷ rest seat.old.me.1)
-            × Stands self.now.terms.setup.now.net self.now.terms.setup.now.chart self.now.terms.setup.now.start self.now.terms.setup.now.every region step state }
+            × Stands self.now.terms.setup.now region step state }
         requires started { slice_index self.now.terms.setup.now.start.steps region ≤ step }
         ensures same { (seat.new.id ≡ seat.old.id) × (seat.new.table_id ≡ seat.old.table_id) × (seat.new.me ≡ seat.old.me) }
         ensures held { result ≡ field_held self.now.terms step (border_cell self.now.terms.setup.now.chart region j) }
@@ -100,7 +100,7 @@ impl<'a> Field<'a> {
         requires cleared { IsCleared self.now.terms seat.old.me.0 }
         requires none { HasWritten seat.old.me.0 0 }
         requires slot { (state : RegionValue) × (seat.old.me.1 ≡ (region, state) ∷ rest seat.old.me.1)
-            × Stands self.now.terms.setup.now.net self.now.terms.setup.now.chart self.now.terms.setup.now.start self.now.terms.setup.now.every region step state }
+            × Stands self.now.terms.setup.now region step state }
         requires started { slice_index self.now.terms.setup.now.start.steps region ≤ step }
         ensures same { (seat.new.id ≡ seat.old.id) × (seat.new.table_id ≡ seat.old.table_id) }
         ensures written { seat.new.me ≡ (wrote_many seat.old.me.0 (width_at (widths_of self.now.terms.setup.now.chart) region), seat.old.me.1) }
@@ -151,7 +151,7 @@ impl<'a> Field<'a> {
         requires cleared { IsCleared self.now.terms seat.old.me.0 }
         requires none { HasWritten seat.old.me.0 0 }
         requires slot { (state : RegionValue) × (seat.old.me.1 ≡ (region, state) ∷ rest seat.old.me.1)
-            × Stands self.now.terms.setup.now.net self.now.terms.setup.now.chart self.now.terms.setup.now.start self.now.terms.setup.now.every region step state }
+            × Stands self.now.terms.setup.now region step state }
         requires started { slice_index self.now.terms.setup.now.start.steps region ≤ step }
         ensures same { (seat.new.id ≡ seat.old.id) × (seat.new.table_id ≡ seat.old.table_id) }
         ensures risen { seat.new.me ≡ (freed (published (wrote_many seat.old.me.0 (width_at (widths_of self.now.terms.setup.now.chart) region)) region (step + 1)), rest seat.old.me.1) }

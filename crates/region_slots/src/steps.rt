@@ -47,7 +47,7 @@ impl<'a> Field<'a> {
         requires fresh { (later : List Hold) × (seat.old.me.0.holds ≡ fresh region ∷ later) }
         ensures same { (seat.new.id ≡ seat.old.id) × (seat.new.table_id ≡ seat.old.table_id) }
         ensures state { (state : RegionValue) × (seat.new.me ≡ (found_at seat.old.me.0 region result, (region, state) ∷ seat.old.me.1))
-            × Stands self.now.terms.setup.now.net self.now.terms.setup.now.chart self.now.terms.setup.now.start self.now.terms.setup.now.every region result state }
+            × Stands self.now.terms.setup.now region result state }
         ensures later { slice_index seat.old.me.0.seen region ≤ result }
         ensures started { slice_index self.now.terms.setup.now.start.steps region ≤ result }
         ensures in_time { result ≤ self.now.terms.setup.now.net.steps }
@@ -144,7 +144,7 @@ impl<'a> Field<'a> {
         requires there { region < region_count self.now.terms.setup.now.chart.cut }
         requires state { (hold : Hold) × (later : List Hold) × (state : RegionValue) × (others : List (ℕ × RegionValue)) × (seat.old.me.0.holds ≡ hold ∷ later) × (hold.region ≡ region)
             × (hold.known ≡ true) × (seat.old.me.1 ≡ (region, state) ∷ others)
-            × Stands self.now.terms.setup.now.net self.now.terms.setup.now.chart self.now.terms.setup.now.start self.now.terms.setup.now.every region (if hold.published then hold.step + 1 else hold.step) state }
+            × Stands self.now.terms.setup.now region (if hold.published then hold.step + 1 else hold.step) state }
         ensures same { (seat.new.id ≡ seat.old.id) × (seat.new.table_id ≡ seat.old.table_id) }
         ensures given { seat.new.me ≡ (freed seat.old.me.0, rest seat.old.me.1) }
         ensures in_time { HasSeenInTime self.now.terms seat.old.me.0 }

@@ -1,4 +1,5 @@
 ghost use Rattle.std.specs.Prelude.{◌≡◌, IfOk};
+ghost use Rattle.region_step.specs.Setup.{setup_of};
 ghost use Rattle.region_step.specs.Standing.{AllStand};
 ghost use Rattle.region_step.specs.Start.{Fits};
 
@@ -11,7 +12,7 @@ use std::alloc::Global;
 
 /// All regions of a setup, each at the step where it starts.
 pub fn open_regions(alloc: Global, setup: &Setup) -> Result<Vec<Region>, NoMemory>
-    ensures { IfOk result (λ regions. AllStand setup.now.net setup.now.chart setup.now.start setup.now.every setup.now.start.steps regions.items) }
+    ensures { IfOk result (λ regions. AllStand setup.now setup.now.start.steps regions.items) }
 {
     open_all(alloc, setup.layout(), setup.start(), setup.every())
 }
@@ -24,7 +25,7 @@ fn open_all(
     every: u64,
 ) -> Result<Vec<Region>, NoMemory>
     requires { Fits layout.now.net layout.now.chart.cut start.now }
-    ensures { IfOk result (λ regions. AllStand layout.now.net layout.now.chart start.now every start.now.steps regions.items) }
+    ensures { IfOk result (λ regions. AllStand (setup_of layout.now start.now every) start.now.steps regions.items) }
 {
     let mut regions = Vec::new(alloc);
     for r in 0..layout.regions() {

@@ -1,6 +1,7 @@
 ghost use Rattle.std.specs.Prelude.{◌≡◌, IfOk, length};
 ghost use Rattle.region_cut.specs.LawfulSteps.{AreLawful};
-ghost use Rattle.region_step.specs.Start.{Fits, IsTrueStart, zero_start};
+ghost use Rattle.region_step.specs.Setup.{setup_of, zero_setup};
+ghost use Rattle.region_step.specs.Start.{Fits, IsTrueStart};
 
 use crate::start::Start;
 use no_memory::NoMemory;
@@ -35,7 +36,7 @@ impl<'l> Setup<'l> {
     pub fn new(layout: &'l Layout<'l>, start: Start, every: u64) -> Setup<'l>
         requires fits { Fits layout.now.net layout.now.chart.cut start }
         requires lawful { AreLawful layout.now.net layout.now.chart.cut start.steps }
-        ensures { result ≡ record { net = layout.now.net; chart = layout.now.chart; start = start; every = every } }
+        ensures { result ≡ setup_of layout.now start every }
     {
         Setup {
             layout,
@@ -46,12 +47,7 @@ impl<'l> Setup<'l> {
 
     /// Regions that all start at step 0.
     pub fn zero(alloc: Global, layout: &'l Layout<'l>, every: u64) -> Result<Setup<'l>, NoMemory>
-        ensures setup { IfOk result (λ setup. setup ≡ record {
-          net = layout.now.net;
-          chart = layout.now.chart;
-          start = zero_start layout.now.net layout.now.chart.cut;
-          every = every;
-        }) }
+        ensures setup { IfOk result (λ setup. setup ≡ zero_setup layout.now every) }
     {
         let start = Start::zero(alloc, layout)?;
         Ok(Setup::new(layout, start, every))

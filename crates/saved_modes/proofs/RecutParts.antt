@@ -10,7 +10,8 @@ use Rattle.network_file.specs.Network.{Network}
 use Rattle.region_cut.specs.Chart.{list_at}
 use Rattle.region_cut.specs.Cuttings.{region_count}
 use Rattle.region_cut.proofs.EvenCutting.{length-even_cutting}
-use Rattle.region_step.specs.Standing.{AllStand}
+use Rattle.region_step.specs.Setup.{setup_of}
+use Rattle.region_step.specs.Standing.{AllStandAt}
 use Rattle.region_step.specs.Start.{StartLists}
 use Rattle.snapshot.specs.Shots.{goal_of}
 use Rattle.delay_report.specs.Ended.{AreAtTheEnd}
@@ -20,12 +21,12 @@ use Rattle.saved_modes.specs.Told.{HasToldPart}
 use Rattle.saved_modes.specs.declared.recutting.Part.{Part}
 
 -- the regions of a part that ends at the last step stand there
-pub part-ended : (net : Network) (part : Part) (is : IsPart net part) → part.step ≡ net.steps → AreAtTheEnd net part.layout.chart is.start 0 part.regions.items
-part-ended net part is ended = record {
+pub part-ended : (part : Part) (is : IsPart part.layout.net part) → part.step ≡ part.layout.net.steps → AreAtTheEnd (setup_of part.layout is.start 0) part.regions.items
+part-ended part is ended = record {
   true_start = is.from.true_start;
   lawful = is.from.lawful;
   from_zero = λ some. absurd (some refl);
-  stand = subst (λ u. AllStand net part.layout.chart is.start 0 (replicate (region_count part.layout.chart.cut) u) part.regions.items) ended is.at.stand;
+  stand = subst (λ u. AllStandAt (setup_of part.layout is.start 0) u part.regions.items) ended is.at.stand;
 }
 
 -- no part ends past the last step

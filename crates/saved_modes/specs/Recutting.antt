@@ -4,8 +4,9 @@ use Rattle.std.specs.List.{range_with_len}
 use Rattle.network_file.specs.Limits.{most_regions}
 use Rattle.network_file.specs.Network.{Network}
 use Rattle.region_cut.specs.Cuttings.{even_cutting}
+use Rattle.region_step.specs.Setup.{setup_of}
 use Rattle.region_step.specs.Start.{StartLists}
-use Rattle.saved_run.specs.EvenStart.{IsTrueBelow, StandAt}
+use Rattle.saved_run.specs.EvenStart.{HaveComeTo, IsTrueBelow}
 use Rattle.saved_modes.specs.declared.recutting.Part.{Part}
 
 -- the cutting of part i of a run, from 1 on: the even one in one region more for each part, at most as many as there are
@@ -23,7 +24,7 @@ pub record IsPart (net : Network) (part : Part) : Type 0 where
   pub network : part.layout.net ≡ net
   pub in_time : part.step ≤ net.steps
   pub start : StartLists
-  pub at : StandAt net part.layout.chart start 0 part.step part.regions.items
+  pub at : HaveComeTo (setup_of part.layout start 0) part.step part.regions.items
   pub from : IsTrueBelow net part.layout.chart.cut start part.step
 
 -- the last part so far, where there is one

@@ -12,4 +12,4 @@ mod save_mode;
 pub use recut_mode::recut_text;
 pub use recutting::recut_report;
 pub use resume_mode::resume_text;
-pub use save_mode::saved_text;
+pub use save_mode::save_text;

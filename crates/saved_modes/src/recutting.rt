@@ -1,7 +1,8 @@
 ghost use Rattle.std.specs.Prelude.{◌≡◌, ◌<◌, ◌≤◌, ℕ, All, IfOk, IsOk, Some, length, replicate, slice_index};
 ghost use Rattle.region_cut.specs.Cuttings.{region_count};
 ghost use Rattle.region_cut.specs.LawfulSteps.{AreLawful};
-ghost use Rattle.region_step.specs.Standing.{AllStand};
+ghost use Rattle.region_step.specs.Setup.{setup_of};
+ghost use Rattle.region_step.specs.Standing.{AllStandAt};
 ghost use Rattle.region_step.specs.Start.{Fits, IsTrueStart};
 ghost use Rattle.snapshot.specs.Shots.{goal_of};
 ghost use Rattle.delay_report.specs.Report.{report_of};
@@ -129,7 +130,7 @@ fn part_regions<R: Threads + Sync, W: Observer>(
     requires before { (r : ℕ) → r < region_count layout.now.chart.cut → slice_index start.steps r ≤ goal }
     requires in_time { goal ≤ layout.now.net.steps }
     requires workers { (1 ≤ workers) × (workers ≤ 16) }
-    ensures stand { IfOk result (λ regions. AllStand layout.now.net layout.now.chart start 0 (replicate (region_count layout.now.chart.cut) goal) regions.items) }
+    ensures stand { IfOk result (λ regions. AllStandAt (setup_of layout.now start 0) goal regions.items) }
     ensures told { IsOk result → HasTold (W.told_held observer.now) (W.told_freed observer.now) (record { net = layout.now.net; cut = layout.now.chart.cut; start = start; every = 0 }) goal }
 {
     let setup = Setup::new(layout, start, 0);

@@ -1,7 +1,7 @@
-ghost use Rattle.std.specs.Prelude.{◌≡◌, ◌≤◌, IfErr, IfOk, IsOk, None, Some, length, replicate};
+ghost use Rattle.std.specs.Prelude.{◌≡◌, ◌≤◌, IfErr, IfOk, IsOk, None, Some, length};
 ghost use Rattle.command_words.specs.Words.{IsInRange};
-ghost use Rattle.region_cut.specs.Cuttings.{region_count};
-ghost use Rattle.region_step.specs.Standing.{AllStand};
+ghost use Rattle.region_step.specs.Setup.{setup_of};
+ghost use Rattle.region_step.specs.Standing.{AllStandAtLast};
 ghost use Rattle.region_step.specs.Start.{IsTrueStart};
 ghost use Rattle.saved_run.specs.Loading.{CanStart};
 ghost use Rattle.saved_run.specs.Reading.{content_of};
@@ -84,7 +84,7 @@ fn last_regions_from<R: Threads + Sync, W: Observer>(
 ) -> Result<Vec<Region>, NoMemory>
     requires can_start { CanStart layout.now.net layout.now.chart.cut start }
     requires workers { (1 ≤ workers) × (workers ≤ 16) }
-    ensures stand { IfOk result (λ regions. AllStand layout.now.net layout.now.chart start 0 (replicate (region_count layout.now.chart.cut) layout.now.net.steps) regions.items) }
+    ensures stand { IfOk result (λ regions. AllStandAtLast (setup_of layout.now start 0) regions.items) }
     ensures told { IsOk result → HasTold (W.told_held observer.now) (W.told_freed observer.now) (record { net = layout.now.net; cut = layout.now.chart.cut; start = start; every = 0 }) layout.now.net.steps }
 {
     let net = layout.net();

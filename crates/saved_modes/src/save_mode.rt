@@ -14,13 +14,13 @@ use network_file::Net;
 use network_run::room_near;
 use no_memory::NoMemory;
 use region_slots::Observer;
-use saved_run::save_text;
+use saved_run::save;
 use std::alloc::Global;
 use std::thread::Threads;
 use workerless_call::{layout_asked, network_in};
 
 /// The saved text of a network whose regions workers take near a step.
-pub fn saved_text<R: Threads + Sync, W: Observer>(
+pub fn save_text<R: Threads + Sync, W: Observer>(
     rt: &R,
     alloc: Global,
     request: Request,
@@ -60,6 +60,6 @@ fn saved_near<R: Threads + Sync, W: Observer>(
     let _own = layout.net();
     let _regions = layout.regions();
     let room = room_near(rt, alloc, &layout, until, request.workers, observer)?;
-    let text = save_text(alloc, &layout, &room, input)?;
+    let text = save(alloc, &layout, &room, input)?;
     Ok(text)
 }

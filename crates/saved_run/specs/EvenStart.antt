@@ -6,14 +6,15 @@ use Rattle.region_cut.specs.Chart.{ChartLists, list_at}
 use Rattle.region_cut.specs.Cuttings.{region_count}
 use Rattle.region_cut.specs.LawfulSteps.{AreLawful}
 use Rattle.region_step.specs.Region.{RegionValue}
-use Rattle.region_step.specs.Standing.{AllStand}
+use Rattle.region_step.specs.Setup.{SetupValue}
+use Rattle.region_step.specs.Standing.{AllStandAt}
 use Rattle.region_step.specs.Start.{Fits, IsTrueStart, StartLists}
 
--- the regions of a start, none past step u, that all stand at step u now
-pub record StandAt (net : Network) (chart : ChartLists) (start : StartLists) (every u : ℕ) (regions : List RegionValue) : Type 0 where
-  pub fits : Fits net chart.cut start
-  pub started : (r : ℕ) → r < region_count chart.cut → slice_index start.steps r ≤ u
-  pub stand : AllStand net chart start every (replicate (region_count chart.cut) u) regions
+-- the regions of a setup, none of which starts past step u, have all come to step u
+pub record HaveComeTo (setup : SetupValue) (u : ℕ) (regions : List RegionValue) : Type 0 where
+  pub fits : Fits setup.net setup.chart.cut setup.start
+  pub started : (r : ℕ) → r < region_count setup.chart.cut → slice_index setup.start.steps r ≤ u
+  pub stand : AllStandAt setup u regions
 
 -- all regions of a cutting start at step u, where the cells have the rows of other regions, which are those of a chart,
 -- and held what these held a step before

@@ -1,6 +1,6 @@
 //! A saved run: its regions at steps of their own, written as text with the network's file and read again.
 //!
-//! `save_text` writes the text and `load` reads it. `even_start` opens a run again in another cutting of the network, from
+//! `save` writes the text and `load` reads it. `even_start` opens a run again in another cutting of the network, from
 //! regions that all stand at one step.
 #![tactic(auto)]
 
@@ -24,4 +24,4 @@ pub use loading::load;
 pub use reopening::even_start;
 pub use row_line::RowLine;
 pub use saved::Saved;
-pub use saving::save_text;
+pub use saving::save;

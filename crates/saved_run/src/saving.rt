@@ -19,7 +19,7 @@ use std::alloc::Global;
 
 /// The saved text of a room that was made for this chart, and of the bytes of the network's file.
 #[tactic(auto, unfolding(crate::specs::SavedText::saved_text))]
-pub fn save_text(
+pub fn save(
     alloc: Global,
     layout: &Layout,
     room: &ShotRoom,

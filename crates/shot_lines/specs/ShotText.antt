@@ -26,8 +26,8 @@ unfoldable pub flight_line : Network → List Row → (k : ℕ) → List ℕ
 flight_line net rows k = codes "flight" ++ count_field k ++ signed_field (flight_of net rows k) ++ codes "\n"
 
 -- `row,name,n,come,gone,wait`
-unfoldable pub row_line : (name : List ℕ) → Row → List ℕ
-row_line name row = codes "row," ++ row_fields name row ++ codes "\n"
+unfoldable pub cell_row_line : (name : List ℕ) → Row → List ℕ
+cell_row_line name row = codes "row," ++ row_fields name row ++ codes "\n"
 
 -- one line for each region
 unfoldable pub region_lines : (steps : List ℕ) → List ℕ
@@ -38,10 +38,10 @@ unfoldable pub flight_lines : Network → (cut : List ℕ) → List Row → List
 flight_lines net cut rows = flat_map (flight_line net rows) (crossing net cut)
 
 -- and one for each cell
-unfoldable pub row_lines : List Cell → List Row → List ℕ
-row_lines cells rows = lines_of (λ i. row_line (name_at cells i) (row_at rows i)) (length cells)
+unfoldable pub cell_row_lines : List Cell → List Row → List ℕ
+cell_row_lines cells rows = lines_of (λ i. cell_row_line (name_at cells i) (row_at rows i)) (length cells)
 
 -- shot `number` of a network cut so, by the steps of its regions and the rows of its cells
 unfoldable pub shot_lines : Network → (cut : List ℕ) → (number : ℕ) → (steps : List ℕ) → List Row → List ℕ
 shot_lines net cut number steps rows =
-    books_line number (books_of net rows) ++ region_lines steps ++ flight_lines net cut rows ++ row_lines net.cells rows
+    books_line number (books_of net rows) ++ region_lines steps ++ flight_lines net cut rows ++ cell_row_lines net.cells rows

@@ -3,9 +3,9 @@ ghost use Rattle.std.specs.Io.{StartsWith};
 ghost use Rattle.snapshot.specs.Rooms.{IsRoomFor};
 ghost use Rattle.shot_lines.specs.ShotText.{books_line, shot_lines};
 
+use crate::cell_row_lines::put_cell_row_lines;
 use crate::flight_lines::put_flight_lines;
 use crate::region_lines::put_region_lines;
-use crate::row_lines::put_row_lines;
 use flow_ledger::Books;
 use line_fields::{put_count, put_signed};
 use no_memory::NoMemory;
@@ -47,7 +47,7 @@ fn put_shot(
     put_books_line(text, number, &room.books(net))?;
     put_region_lines(text, room.steps())?;
     put_flight_lines(text, layout, room.rows())?;
-    put_row_lines(text, &net.cells, room.rows())?;
+    put_cell_row_lines(text, &net.cells, room.rows())?;
     Ok(())
 }
 

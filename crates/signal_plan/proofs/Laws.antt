@@ -9,7 +9,8 @@ use Rattle.std.proofs.lemmas.List.{get_or_default}
 use Rattle.std.proofs.lemmas.List.Elements.{All-nil, All-weaker}
 use Rattle.std.proofs.lemmas.List.FromFn.{length-range_with_len, get_or-range_with_len}
 use Rattle.std.proofs.lemmas.List.Sums.{sum_by-cons, sum_by-le, get_or-le-sum_by}
-use Rattle.signal_plan.specs.Limits.{most_records, most_parts}
+use Rattle.fixed_flow.specs.Limits.{most_parts}
+use Rattle.signal_plan.specs.Limits.{most_records}
 use Rattle.signal_plan.specs.Records.{CellRecords, DemandRecord, PlannedCell, PlanRecords, SpeedRecord, bare_cell, in_range, planned_at, records_at}
 use Rattle.signal_plan.specs.Sound.{AreSound, IsSoundDemand, IsSoundPlan}
 use Rattle.signal_plan.specs.Capacity.{capacity_at}

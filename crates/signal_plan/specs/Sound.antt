@@ -1,6 +1,7 @@
 use Rattle.std.specs.Prelude.{◌≡◌, ℕ, ◌<◌, ◌≤◌, length, All, IfSome}
+use Rattle.fixed_flow.specs.Limits.{most_parts, most_ratio}
 use Rattle.signal_plan.specs.Counts.{counts_of, demand_count}
-use Rattle.signal_plan.specs.Limits.{most_cells, most_records, most_parts, most_ratio, most_steps}
+use Rattle.signal_plan.specs.Limits.{most_cells, most_records, most_steps}
 use Rattle.signal_plan.specs.Records.{CellRecords, DemandRecord, PlanRecords, SignalRecord, SpeedRecord, TurnRecord, records_at}
 use Rattle.signal_plan.specs.Speeds.{IsSpeed}
 use Rattle.signal_plan.specs.declared.plan_counts.PlanCounts.{PlanCounts}

@@ -1,7 +1,7 @@
 use Rattle.std.specs.Prelude.{ℕ, ◌≤◌, ◌*◌, ◌/◌, Bool, not, ◌==◌, List, Option, length, reverse}
 use Rattle.std.specs.List.{find}
 use Rattle.std.specs.Option.{option_map_or}
-use Rattle.signal_plan.specs.Limits.{most_ratio}
+use Rattle.fixed_flow.specs.Limits.{most_ratio}
 use Rattle.signal_plan.specs.Records.{CellRecords, PlanRecords, SpeedRecord, in_range, records_at}
 
 -- the last speed record whose range contains `t`

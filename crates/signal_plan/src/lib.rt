@@ -31,7 +31,7 @@ mod speed;
 mod step_plan;
 mod turn;
 
-pub use bounds::{MOST_CELLS, MOST_PARTS, MOST_RATIO, MOST_RECORDS, MOST_STEPS};
+pub use bounds::{MOST_CELLS, MOST_RECORDS, MOST_STEPS};
 pub use change::Change;
 pub use demand::Demand;
 pub use limit::Limit;

@@ -10,7 +10,7 @@ ghost use Rattle.signal_plan.specs.Total.{demand_from, total_demand};
 ghost use Rattle.signal_plan.specs.Turning.{shares_at};
 ghost use Rattle.signal_plan.specs.Speeds.{IsSpeed, has_speeds, speed_at};
 
-use crate::bounds::{MOST_CELLS, MOST_PARTS, MOST_RATIO, MOST_RECORDS, MOST_STEPS};
+use crate::bounds::{MOST_CELLS, MOST_RECORDS, MOST_STEPS};
 use crate::cell_plan::CellPlan;
 use crate::change::Change;
 use crate::demand::Demand;
@@ -19,6 +19,7 @@ use crate::plan_counts::PlanCounts;
 use crate::signal::Signal;
 use crate::speed::Speed;
 use crate::turn::Turn;
+use fixed_flow::{MOST_PARTS, MOST_RATIO};
 use no_memory::NoMemory;
 use std::alloc::Global;
 use std::marker::Model;

@@ -1,13 +1,13 @@
-ghost use Rattle.std.specs.Prelude.{◌≡◌, ◌+◌, ◌≤◌, IfOk, IsOk, All, [], length, replicate, vec_capacity};
+ghost use Rattle.std.specs.Prelude.{◌≡◌, ◌+◌, ◌≤◌, IfOk, IsOk, All, [], length, vec_capacity};
 ghost use Rattle.region_cut.specs.Cuttings.{region_count};
-ghost use Rattle.region_step.specs.Standing.{AllStand};
-ghost use Rattle.region_step.specs.Start.{zero_start};
 ghost use Rattle.region_slots.specs.FieldView.{IsPassOf};
 ghost use Rattle.region_slots.specs.Moments.{AreTold, cut_run};
 ghost use Rattle.network_run.specs.Telling.{HasTold, zero_run};
 ghost use Rattle.parked_crew.specs.Parking.{HasSeenAll};
 ghost use Rattle.parked_crew.specs.Telling.{ArePassesTold};
 ghost use Rattle.wait_call.specs.Seats.{HasCome, IsSeat};
+ghost use Rattle.region_step.specs.Setup.{zero_setup};
+ghost use Rattle.region_step.specs.Standing.{AllStandAtLast};
 
 use crate::seats::{share_off, unite_all};
 use no_memory::NoMemory;
@@ -29,8 +29,7 @@ pub(crate) fn last_regions<R: Threads + Wait + Sync, W: Observer>(
     observer: &W,
 ) -> Result<Vec<Region>, NoMemory>
     requires workers { (1 ≤ workers) × (workers ≤ 16) }
-    ensures stand { IfOk result (λ regions. AllStand layout.now.net layout.now.chart (zero_start layout.now.net layout.now.chart.cut) 0
-        (replicate (region_count layout.now.chart.cut) layout.now.net.steps) regions.items) }
+    ensures stand { IfOk result (λ regions. AllStandAtLast (zero_setup layout.now 0) regions.items) }
     ensures told { IsOk result → HasTold (W.told_held observer.now) (W.told_freed observer.now) (zero_run layout.now.net layout.now.chart.cut 0) layout.now.net.steps }
 {
     let net = layout.net();

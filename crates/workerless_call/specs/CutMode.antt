@@ -20,14 +20,14 @@ unfoldable pub cut_line : (k even grown : ℕ) → List ℕ
 cut_line k even grown = codes "cut" ++ count_field k ++ count_field even ++ count_field grown ++ codes "\n"
 
 -- `cell,name,region`
-unfoldable pub region_line : (name : List ℕ) → (region : ℕ) → List ℕ
-region_line name region = codes "cell," ++ name ++ count_field region ++ codes "\n"
+unfoldable pub cell_region_line : (name : List ℕ) → (region : ℕ) → List ℕ
+cell_region_line name region = codes "cell," ++ name ++ count_field region ++ codes "\n"
 
 -- the text of a cutting into k regions, which a list has for each cell
 unfoldable pub cutting_text : Network → (k : ℕ) → (list : List ℕ) → List ℕ
 cutting_text net k list =
     cut_line k (cuts (even_cutting (length net.cells) k) net) (cuts list net)
-    ++ lines_of (λ i. region_line (name_at net.cells i) (region_at list i)) (length net.cells)
+    ++ lines_of (λ i. cell_region_line (name_at net.cells i) (region_at list i)) (length net.cells)
 
 -- the text of a grown cutting
 pub record ShowsGrown (net : Network) (k : ℕ) (text : List ℕ) : Type 0 where

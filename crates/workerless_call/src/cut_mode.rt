@@ -5,7 +5,7 @@ ghost use Rattle.network_file.specs.declared.limits.TheConstants.{MOST_BYTES, MO
 ghost use Rattle.line_fields.specs.Fields.{lines_of};
 ghost use Rattle.region_cut.specs.Cuttings.{even_cutting, region_at};
 ghost use Rattle.call_ending.specs.Refusing.{IsRefusalOf};
-ghost use Rattle.workerless_call.specs.CutMode.{IsCutText, ShowsGrown, cut_line, cut_refused, cutting_text, region_line};
+ghost use Rattle.workerless_call.specs.CutMode.{IsCutText, ShowsGrown, cut_line, cut_refused, cutting_text, cell_region_line};
 ghost use Rattle.workerless_call.specs.Task.{task_of};
 
 use crate::network_input::network_in;
@@ -64,7 +64,7 @@ fn cutting_text(
 {
     let mut text = Vec::new(alloc);
     put_cut_line(&mut text, k, cut_count(net, even), cut_count(net, list))?;
-    put_region_lines(&mut text, &net.cells, list)?;
+    put_cell_region_lines(&mut text, &net.cells, list)?;
     Ok(text)
 }
 
@@ -81,19 +81,19 @@ fn put_cut_line(text: &mut Vec<u8>, k: u32, even: u32, grown: u32) -> Result<(),
 }
 
 // Appends the line of each cell, by its region.
-fn put_region_lines(text: &mut Vec<u8>, cells: &[Cell], list: &[u32]) -> Result<(), NoMemory>
+fn put_cell_region_lines(text: &mut Vec<u8>, cells: &[Cell], list: &[u32]) -> Result<(), NoMemory>
     requires { length list.now ≡ length cells.now }
-    ensures { OnOk result (text.new.items ≡ text.old.items ++ lines_of (λ i. region_line (name_at cells.now i) (region_at list.now i)) (length cells.now)) }
+    ensures { OnOk result (text.new.items ≡ text.old.items ++ lines_of (λ i. cell_region_line (name_at cells.now i) (region_at list.now i)) (length cells.now)) }
 {
     for (i, cell) in cells.iter().enumerate() {
-        put_region_line(text, cell, list[i])?;
+        put_cell_region_line(text, cell, list[i])?;
     }
     Ok(())
 }
 
-#[tactic(auto, unfolding(crate::specs::CutMode::region_line))]
-fn put_region_line(text: &mut Vec<u8>, cell: &Cell, region: u32) -> Result<(), NoMemory>
-    ensures { OnOk result (text.new.items ≡ text.old.items ++ region_line cell.now.name region) }
+#[tactic(auto, unfolding(crate::specs::CutMode::cell_region_line))]
+fn put_cell_region_line(text: &mut Vec<u8>, cell: &Cell, region: u32) -> Result<(), NoMemory>
+    ensures { OnOk result (text.new.items ≡ text.old.items ++ cell_region_line cell.now.name region) }
 {
     text.extend_from_slice(b"cell,")?;
     text.extend_from_slice(cell.name.bytes())?;

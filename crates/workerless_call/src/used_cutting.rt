@@ -9,7 +9,7 @@ use command_words::Request;
 use cut_grow::grow;
 use network_file::Net;
 use no_memory::NoMemory;
-use region_cut::{Cut, CutRefusal, Layout, charted};
+use region_cut::{Cut, Layout, charted};
 use std::alloc::Global;
 
 /// A network in the regions that its file gives, or else in even or in grown ones, as is asked for.
@@ -34,9 +34,5 @@ fn grown_cut(alloc: Global, net: &Net, regions: u32) -> Result<Cut, NoMemory>
     ensures one_each { IfOk result (λ cut. length cut ≡ length net.now.cells) }
 {
     let list = grow(alloc, net, regions.min(net.cells.len() as u32))?;
-    match Cut::of(alloc, net, &list) {
-        Ok(cut) => Ok(cut),
-        // A grown list is a cutting, so that it has no fault.
-        Err(CutRefusal::Fault(_) | CutRefusal::NoMemory) => Err(NoMemory),
-    }
+    Ok(Cut::known(list))
 }

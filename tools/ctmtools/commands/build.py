@@ -9,6 +9,7 @@ from ..study.network_text import build
 from ..study.reading import read_study
 from ..study.messages import built_lines
 from ..units import units_path
+from ..yielding.fixed_greens import note_losses
 
 EPILOG = """\b
 Examples:
@@ -28,7 +29,9 @@ def command(study: str, output: str | None) -> None:
     What had to be rounded to whole cells, steps and parts by more than 0.1 % is told: the length or flow asked for
     against that modelled. So is what closures leave where they overlap, and what in the study can hardly be meant.
     """
-    built = build(read_study(study))
+    found = read_study(study)
+    built = build(found)
+    note_losses(found, (), built)
     target = network_target(study, output)
     if not output:
         guard_network(target)

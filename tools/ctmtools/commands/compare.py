@@ -12,9 +12,10 @@ from ..files import write
 from ..report.comparing import compare, part_of, totals, travel
 from ..report.names import names_of
 from ..report.summary import number_text
-from ..report.reading import read_report
+from ..report.reading import Report, read_report
 from ..report.comparability import mismatches, other_lanes_and_speeds
 from ..text_table import table
+from ..yielding.fixed_greens import lost_at_random
 from .finite import Finite
 from .report_options import on_reports
 
@@ -64,7 +65,7 @@ def command(first: str, second: str, rows: int, output: str | None, picture: str
         of = {"delay": f", {unit}", "cost of the delay": ""}.get(str(name), ", vehicles")
         lines.append((f"{name}{of}", number_text(row["first"]), number_text(row["second"]), signed(row.rise), change))
     click.echo("\n".join(table(lines, right=(1, 2, 3, 4))))
-    for line in [*_travel(travel(one, two)), *pair_changes(one, two)]:
+    for line in [*_at_random(one, two), *_travel(travel(one, two)), *pair_changes(one, two)]:
         click.echo(line)
     changed = frame[(frame.delay_rise.abs() >= 0.005) | (frame.gone_rise.abs() >= 0.005)]
     if changed.empty:
@@ -85,6 +86,17 @@ def command(first: str, second: str, rows: int, output: str | None, picture: str
 
         save(draw(one, two, road), target(two, "difference", picture))
         click.echo(f"\n{picture}")
+
+
+def _at_random(first: Report, second: Report) -> Iterator[str]:
+    """What is lost by coming at random beside the delays, where it is known of both."""
+    one, two = lost_at_random(first), lost_at_random(second)
+    if one is None or two is None or not any([*one.values(), *two.values()]):
+        return
+    yield "\nLost by coming at random, by the Highway Capacity Manual and no part of the delay, in vehicle-hours:\n"
+    rows = [(where, f"{one[where]:,.2f}", f"{two[where]:,.2f}", signed(two[where] - one[where])) for where in one
+            if one[where] or two[where]]
+    yield from table([("", "A", "B", "B - A"), *rows], right=(1, 2, 3))
 
 
 def _travel(frame: pandas.DataFrame) -> Iterator[str]:

@@ -2,7 +2,6 @@
 
 from __future__ import annotations
 
-from collections.abc import Iterator
 from contextlib import ExitStack
 from pathlib import Path
 
@@ -19,7 +18,6 @@ from ..run_time import estimated
 from ..running import Prepared, opened, placed, run_into
 from ..units import units_path
 from ..progress import bar, lasting
-from ..yielding.fixed_greens import waits_at_greens
 from ..yielding.messages import green_lines
 
 EPILOG = """\b
@@ -51,7 +49,7 @@ def command(source: str, output: str | None, every: int | None, workers: int | N
     Before the page stands what `build` tells of the study, or the warnings of `lint` of the network. The page has the
     vehicles served, the delay, for each queue where it began, how far it reached and when, and when it
     cleared, and what is still inside at the end. Below it stands what vehicles lose at the fixed greens of a study by
-    coming at random, which is no part of the delay.
+    coming at random, which is no part of the delay. `report`, `table` and `compare` tell it too.
     """
     target = report_target(source, output)
     if checkpoint is not None and every:
@@ -74,7 +72,7 @@ def command(source: str, output: str | None, every: int | None, workers: int | N
     else:
         report = _in_stretches(target, prepared, stretch, begun, workers)
     greens_path(target).unlink(missing_ok=True)
-    for line in [*page(report), *_lost_at_greens(prepared, report)]:
+    for line in [*page(report), *green_lines(report)]:
         click.echo(line)
     click.echo(f"\nReport {target}{_recorded(report)}, units {units_path(target)}, network {prepared.path}")
 
@@ -114,14 +112,6 @@ def _in_stretches(target: Path, prepared: Prepared, stretch: int, begun: Moment 
     except KeyboardInterrupt:
         kept = f"the same call goes on from {clock(reached)}" if reached else "nothing is kept yet"
         raise Interrupted(f"stopped; {kept}") from None
-
-
-def _lost_at_greens(prepared: Prepared, report: Report) -> Iterator[str]:
-    """What vehicles lose by coming at random at the fixed greens of a study, where the run has records."""
-    if prepared.settled is None or not report.recorded:
-        return
-    found = list(green_lines(waits_at_greens(prepared.settled.study, report), sum(one.hours for one in prepared.settled.waits)))
-    yield from ["", *found] if found else []
 
 
 def _news(line: str) -> None:

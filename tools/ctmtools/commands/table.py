@@ -3,17 +3,23 @@
 from __future__ import annotations
 
 import sys
-from typing import Any
+from typing import TYPE_CHECKING, Any
 
 import click
 
 from ..files import write
 from ..report.by_road import by_road
-from ..report.reading import read_report
+from ..report.reading import Report, read_report
 from ..report.states import states, totals
 from ..study.quantities import duration
+from ..yielding.fixed_greens import by_lane_group
 from .finite import Finite
 from .report_options import on_reports
+
+if TYPE_CHECKING:
+    import pandas
+
+LANE_GROUP = "lane-group"
 
 EPILOG = """\b
 Examples:
@@ -29,6 +35,9 @@ With --by road a row for each road and gate, and each --interval: time, step, ro
 (vehicles/km in a lane), level (of service by density, as the Highway Capacity Manual has it for motorways), speed, delay
 (vehicle-hours), delay_each (s), queue (km); with --value-of-time cost too. With --by ramp the same of each way from a gate to
 the merge that it leads to, with what waits in the gate.
+With --by lane-group what vehicles lose at fixed greens by coming at random, which is no part of the delay and `run` tells:
+lane_group, vehicles (that come while no queue stands), part (of those that may pass), lost_each (s), lost (vehicle-hours),
+queue_stands (min); with --value-of-time cost too. It needs fixed greens of a study, and records.
 With --totals: cell, occupancy, come, gone (vehicles), delay (vehicle-hours), road, from_km, to_km, lanes at the end; with
 --value-of-time cost too."""
 
@@ -37,10 +46,10 @@ With --totals: cell, occupancy, come, gone (vehicles), delay (vehicle-hours), ro
 @click.argument("report", metavar="REPORT", type=click.Path())
 @click.option("-o", "--output", metavar="FILE.csv", type=click.Path(), help="Where it goes; else to standard output.")
 @click.option("--totals", "ends", is_flag=True, help="The cells at the end, one row each; it needs no records.")
-@click.option("--by", type=click.Choice(["cell", "road", "ramp"]), default="cell", show_default=True, help="What a row is of.")
+@click.option("--by", type=click.Choice(["cell", "road", "ramp", LANE_GROUP]), default="cell", show_default=True, help="What a row is of.")
 @click.option("--interval", metavar="TIME", help="By road or ramp: the span of a row, as \"15 min\"; else the whole time.")
 @click.option("--value-of-time", metavar="MONEY", type=Finite(0),
-              help="By road or ramp, or with --totals: what an hour of delay costs.")
+              help="By road, ramp or lane group, or with --totals: what an hour costs.")
 @click.option("--cell", "cells", metavar="CELL", multiple=True, help="These cells alone; may be given again.")
 @click.option("--separator", default=",", show_default=True, help="What stands between fields.")
 @click.option("--decimal", default=".", show_default=True, help="The decimal sign.")
@@ -51,11 +60,10 @@ def command(report: str, output: str | None, ends: bool, by: str, interval: str 
     read = read_report(report, units, network)
     if by != "cell" and (ends or cells) or by == "cell" and (interval or value_of_time is not None and not ends):
         raise click.UsageError("--interval and --value-of-time go with --by road and --by ramp, --totals and --cell with --by cell, and "
-                               "--value-of-time with --totals too")
-    if by != "cell":
-        frame = by_road(read, float(duration(interval, "--interval")) if interval else None, value_of_time, by)
-    else:
-        frame = totals(read, value_of_time) if ends else states(read)
+                               f"--value-of-time with --by {LANE_GROUP} and --totals too")
+    if by == LANE_GROUP and interval:
+        raise click.UsageError(f"a row of --by {LANE_GROUP} is of the whole time, so it goes without --interval")
+    frame = _frame(read, by, ends, interval, value_of_time)
     if cells:
         for cell in cells:
             if cell not in read.cells.index:
@@ -63,7 +71,7 @@ def command(report: str, output: str | None, ends: bool, by: str, interval: str 
         frame = frame[frame.cell.isin(cells)]
     if len(separator) != 1 or len(decimal) != 1 or separator == decimal:
         raise click.UsageError("the separator and the decimal sign are one character each, and differ")
-    if not ends and read.units.known:
+    if "step" in frame and read.units.known:
         frame["time"] = read.units.stamps(frame.step)
     named = ", ".join(f"{column} in {unit}" for column, unit in frame.attrs["units"].items() if column != "time")
     terms: dict[str, Any] = {"sep": separator, "decimal": decimal, "index": False, "float_format": "%.9g", "lineterminator": "\n"}
@@ -73,3 +81,12 @@ def command(report: str, output: str | None, ends: bool, by: str, interval: str 
         frame.to_csv(sys.stdout, **terms)
     if output:
         click.echo(f"{output}: {len(frame)} rows; {named}")
+
+
+def _frame(report: Report, by: str, ends: bool, interval: str | None, value_of_time: float | None) -> pandas.DataFrame:
+    """The rows that are asked for."""
+    if by == LANE_GROUP:
+        return by_lane_group(report, value_of_time)
+    if by != "cell":
+        return by_road(report, float(duration(interval, "--interval")) if interval else None, value_of_time, by)
+    return totals(report, value_of_time) if ends else states(report)

@@ -19,7 +19,7 @@ from .frames import Frames, bounds_of, steps_an_hour
 from .limits import speed_limits
 from .networks import is_measured, network_of, roads_of
 from .provenance import provenance
-from .tables import differing, reports_of, table_of, unlike_lines
+from .tables import differing, greens_of, reports_of, table_of, unlike_lines
 from .ways import ways_of
 
 NEAR = 0.99  # of the greatest density, from which on a frame counts as one of the densest
@@ -51,7 +51,7 @@ def data_of(reports: Sequence[Report], background: Background | None = None, dra
             "schematic": not first.units.points, "times": _labels(first, bounds), "clock": _clock(first, bounds),
             "networks": networks, "reports": shown, "opening": opening(frames),
             "tables": {"roads": table_of(reports), "cells": differing(reports, names), "told": unlike_lines(reports, names),
-                       "reports": reports_of(reports, names) if len(reports) > 1 else None},
+                       "reports": reports_of(reports, names) if len(reports) > 1 else None, "greens": greens_of(reports, names)},
             "ways": ways_of(reports), "draws": draws_of(reports, names, draws), "background": background.data() if background else None}
 
 

@@ -82,8 +82,16 @@ function drawPlain(id, { columns: heads, rows }) {
   table.append("tbody").selectAll("tr").data(rows).join("tr").selectAll("td").data(row => row).join("td")
     .text((entry, i) => i ? told(entry, 2) : entry);
 }
+// For each report a head and a plain table of what is lost at fixed greens.
+function drawGreens() {
+  const greens = data.tables.greens, boxes = d3.select("#greens").selectAll("div").data(greens).join("div");
+  boxes.append("h2").text(green => green.head);
+  boxes.append("div").attr("class", "scroll").append("table").attr("id", (_, i) => `greens-${i}`);
+  greens.forEach((green, i) => drawPlain(`greens-${i}`, green));
+}
 function drawTables() {
   drawTable();
+  drawGreens();
   const { reports, cells, told: lines } = data.tables;
   byId("compared").hidden = !reports;
   if (reports) drawPlain("reports", reports);

@@ -13,6 +13,7 @@ from ..report.queues import standing
 from ..report.reading import Report
 from ..report.travel import road_times
 from ..report.comparability import mismatches, other_lanes_and_speeds
+from ..yielding.messages import AT_GREENS, HEADS, green_rows
 from .junctions import junctions_of
 from .networks import is_measured, roads_of
 
@@ -135,3 +136,10 @@ def unlike_lines(reports: Sequence[Report], names: Sequence[str]) -> list[str]:
         if told:
             lines += [f"A is “{names[0]}”, B is “{name}”:", *told]
     return lines
+
+
+def greens_of(reports: Sequence[Report], names: Sequence[str]) -> list[dict[str, Any]]:
+    """What each report loses at fixed greens by coming at random, as `run` tells it: a head, and a row for each lane group."""
+    told = [(name, *green_rows(report)) for name, report in zip(names, reports)]
+    of = {name: f"{name}: " if len(names) > 1 else "" for name in names}
+    return [{"head": f"{of[name]}{AT_GREENS}: {hours}", "columns": HEADS, "rows": rows} for name, hours, rows in told if rows]

@@ -13,7 +13,7 @@ import pandas
 
 from ..network_file.network import Network, read_bytes, read_network
 from ..problem import Problem
-from ..checksums import ADVICE, check_network, check_report, check_run, units_of, unlike_network
+from ..checksums import ADVICE, check_network, check_report, check_run, of_runs, units_of, unlike_network
 from ..units import Units, read_units, units_path
 
 
@@ -136,6 +136,8 @@ def read_report(path: str | Path, units: str | Path | None = None, network: str 
         check_run(report, report.network, network or report.units.network or path.with_suffix(".csv"))
     if report.network is not None and not report.units.known and not units:
         report.units = _units_of_network(report, network)
+    if report.network is not None:
+        report.units = of_runs(report.units, report.network)
     return report
 
 

@@ -26,6 +26,11 @@ def streams_of(report: Report, one: Yield, bounds: Numbers) -> list[Numbers]:
     return [float(stream.part) * flow_of(report, _cell(stream, report.units), bounds) for stream in one.streams]
 
 
+def whole_cycles(steps: int, cycle: int) -> int:
+    """The steps of the fewest whole cycles that last so many steps."""
+    return cycle * max(1, -(-steps // cycle))
+
+
 def own_flow(report: Report, one: Yield, bounds: Numbers) -> Numbers:
     """The flow of the stream that gives way."""
     return flow_of(report, cell_of(one.road, report.units), bounds)

@@ -6,18 +6,21 @@ vehicles/h that come to it, and `c` that pass in its greens, each vehicle loses 
 
 from __future__ import annotations
 
-from collections.abc import Iterable
-from dataclasses import dataclass
+from collections.abc import Iterable, Sequence
+from dataclasses import asdict, dataclass
 
 import numpy
 import pandas
 
 from ..report.reading import Report
+from ..study.network_text import Built
 from ..study.plan import Study
-from .conflicts import HOUR, Numbers, flow_of, total
+from .conflicts import HOUR, Numbers, flow_of, total, whole_cycles
 from .control_delay import at_signal
 from .lane_groups import LaneGroup, lane_groups
-from .yielding import FULL
+from .yielding import FULL, Waits
+
+MINUTE = 60
 
 
 @dataclass(frozen=True)
@@ -35,18 +38,35 @@ class GreenWaits:
     full: float
 
 
-def waits_at_greens(study: Study, report: Report) -> list[GreenWaits]:
-    """What is lost by coming at random at each lane group of a study, by a run of it that has records."""
+def note_losses(study: Study, waits: Sequence[Waits], built: Built) -> None:
+    """Notes in the units of a network that was settled by what its reports tell what is lost by coming at random."""
+    units = built.units
+    units.yield_interval = round(study.yield_interval / study.step)
+    units.lane_groups = [asdict(group) for group in lane_groups(study, built.network, units)]
+    units.giving_way = [{"name": one.name, **asdict(each)} for one, each in zip(study.yields, waits)]
+
+
+def waits_at_greens(report: Report) -> list[GreenWaits]:
+    """What is lost by coming at random at each lane group of a study, by the report of a run that has records."""
     report.need_records()
     network, signals = report.need_network(), report.need_network().signals.set_index("cell")
     found = []
-    for group in lane_groups(study, network, report.units):
-        cycle = int(signals.cycle[group.line])
-        width = cycle * max(1, -(-round(study.yield_interval / study.step) // cycle))
+    for group in (LaneGroup(**row) for row in report.units.lane_groups):
+        if group.line not in signals.index:  # of a network from which it was taken by hand
+            continue
+        width = whole_cycles(report.units.yield_interval or 1, int(signals.cycle[group.line]))
         bounds = numpy.append(numpy.arange(0, report.steps, width), report.steps).astype(float)
         parts = _green_parts(signals.loc[group.line], network.limits_of.get(group.line, ()), float(network.cells.Q[group.line]), bounds)
         found.append(_waits(group, report, bounds, group.saturation * parts))
     return found
+
+
+def lost_at_random(report: Report) -> dict[str, float] | None:
+    """The vehicle-hours that are lost by coming at random, by where; None where that isn't known, as without records."""
+    if not report.recorded or report.network is None or report.units.yield_interval is None:
+        return None
+    return {"at fixed greens": sum(one.hours for one in waits_at_greens(report)),
+            "by those who give way": sum(one["hours"] for one in report.units.giving_way)}
 
 
 def _waits(group: LaneGroup, report: Report, bounds: Numbers, capacities: Numbers) -> GreenWaits:
@@ -59,6 +79,21 @@ def _waits(group: LaneGroup, report: Report, bounds: Numbers, capacities: Number
     part = sum(count * x for count, x, _ in rows) / vehicles if vehicles else 0.0
     return GreenWaits(group.name, vehicles, sum(count * lost for count, _, lost in rows) / HOUR, part,
                       float(hours[(come > 0) & (come >= FULL * capacities)].sum()) * HOUR)
+
+
+def by_lane_group(report: Report, value_of_time: float | None = None) -> pandas.DataFrame:
+    """A row for each lane group at a fixed green, the greatest loss by coming at random first, which is no part of the delay.
+
+    `vehicles` come while no queue stands, `part` of those that may pass in their mean; each loses `lost_each` s, which are `lost`
+    vehicle-hours, and for `queue_stands` min a queue stands. With a value of time, in money an hour, `cost` is what they cost.
+    """
+    rows = [(one.name, one.vehicles, one.part, one.hours * HOUR / one.vehicles if one.vehicles else float("nan"), one.hours,
+             one.full / MINUTE) for one in sorted(waits_at_greens(report), key=lambda one: -one.hours)]
+    frame = pandas.DataFrame(rows, columns=["lane_group", "vehicles", "part", "lost_each", "lost", "queue_stands"])
+    frame.attrs["units"] = {"vehicles": "vehicles", "lost_each": "s", "lost": "vehicle-hours", "queue_stands": "min"}
+    if value_of_time is not None:
+        frame["cost"] = frame.lost * value_of_time
+    return frame
 
 
 def _green_parts(signal: pandas.Series, limits: Iterable[tuple[int, int, float]], most: float, bounds: Numbers) -> Numbers:

@@ -4,14 +4,16 @@ from __future__ import annotations
 
 from collections.abc import Iterator, Sequence
 
+from ..report.reading import Report
 from ..report.summary import number_text
 from ..text_table import table
-from .fixed_greens import GreenWaits
+from .fixed_greens import MINUTE, GreenWaits, waits_at_greens
 from .yielding import Waits, Yielding
 
 HOUR = 3600
-MINUTE = 60
 MOST_TOLD = 8
+AT_GREENS = "Lost at fixed greens by coming at random, by the Highway Capacity Manual and no part of the delay"
+HEADS = ("lane group", "vehicles", "of what may pass", "each", "vehicle-hours", "queue stands")
 
 
 def passing_lines(ones: Sequence[Yielding], waits: Sequence[Waits], moves: Sequence[float], runs: int,
@@ -51,19 +53,29 @@ def _waits(waits: Waits) -> str:
     return f"; {waits.vehicles:,.0f} vehicles lose {waits.hours * HOUR / waits.vehicles:.1f} s each by coming at random{queues}"
 
 
-def green_lines(greens: Sequence[GreenWaits], others: float) -> Iterator[str]:
-    """What is lost at fixed greens by coming at random, beside what those lose in vehicle-hours who give way."""
-    hours = sum(one.hours for one in greens)
+def green_lines(report: Report) -> Iterator[str]:
+    """What is lost at fixed greens by coming at random, below a page: in all, and at the lane groups that lose most."""
+    hours, rows = green_rows(report)
+    if rows:
+        yield ""
+        yield f"{AT_GREENS}: {hours}"
+        yield ""
+        yield from table([HEADS, *rows[:MOST_TOLD]], right=(1, 2, 3, 4, 5))
+        if len(rows) > MOST_TOLD:
+            yield f"  and {len(rows) - MOST_TOLD} more with less"
+
+
+def green_rows(report: Report) -> tuple[str, list[tuple[str, ...]]]:
+    """What is lost at fixed greens by coming at random in all, and a row for each lane group, the greatest loss first.
+
+    There are no rows where nobody comes to them, and where that isn't known, as without records.
+    """
+    greens = waits_at_greens(report) if report.recorded and report.network is not None else []
     if not any(one.vehicles for one in greens):
-        return
+        return "", []
+    hours, others = sum(one.hours for one in greens), sum(one["hours"] for one in report.units.giving_way)
     more = f", with those who give way {hours + others:,.2f}" if others else ""
-    yield f"Lost at fixed greens by coming at random, by the Highway Capacity Manual and no part of the delay: {hours:,.2f} vehicle-hours{more}"
-    yield ""
-    most = sorted(greens, key=lambda one: -one.hours)
-    heads = ("lane group", "vehicles", "of what may pass", "each", "vehicle-hours", "queue stands")
-    yield from table([heads, *(_row(one) for one in most[:MOST_TOLD])], right=(1, 2, 3, 4, 5))
-    if len(most) > MOST_TOLD:
-        yield f"  and {len(most) - MOST_TOLD} more with less"
+    return f"{hours:,.2f} vehicle-hours{more}", [_row(one) for one in sorted(greens, key=lambda one: -one.hours)]
 
 
 def _row(one: GreenWaits) -> tuple[str, ...]:

@@ -14,7 +14,7 @@ from ..report.reading import Report
 from ..study.gap_kinds import SIEGLOCH
 from ..study.network_text import Built
 from ..study.plan import Flow, Study, Yield
-from .conflicts import HOUR, Numbers, cell_of, flow_of, own_flow, streams_of, total
+from .conflicts import HOUR, Numbers, cell_of, flow_of, own_flow, streams_of, total, whole_cycles
 from .control_delay import at_roundabout, at_signal, at_stop
 from .gaps import in_two_stages, passing
 from .permitted import PermittedGreen, opposing_of
@@ -48,7 +48,7 @@ class Yielding:
         self.capacity = {name: float(network.cells.Q[name]) * HOUR / self.step for name in network.cells.index}
         self.green = PermittedGreen(one, one.permission, self.step, self.most) if one.permission else None
         cycle = self.green.count if self.green else 1
-        self.width = cycle * max(1, -(-round(study.yield_interval / study.step) // cycle))
+        self.width = whole_cycles(round(study.yield_interval / study.step), cycle)
         self.bounds = numpy.append(numpy.arange(0, network.steps, self.width), network.steps).astype(float)
         self.rates = numpy.full((len(self.bounds) - 1, cycle), self.most)
 

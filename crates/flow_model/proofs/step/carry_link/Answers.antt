@@ -1,5 +1,5 @@
-use Rattle.std.proofs.Common.{◌∙◌, get_or, refl, sym, ap, arith}
-use Rattle.flow_model.proofs.Carrying.{carrying-begins, carrying-ends, moves-in, moves-out, two_carried, two_held}
+use Rattle.std.proofs.Common.{◌∙◌, arith}
+use Rattle.flow_model.proofs.Carrying.{begun, ended, enters, leaves, two_carries, two_held}
 use Rattle.flow_model.proofs.step.carry_link.Goals as goal
 
 pub flow-carried-requires-clause-held : goal.flow-carried-requires-clause-held
@@ -9,35 +9,18 @@ flow-carried-requires-clause-held c =
 
 pub leave-requires : goal.leave-requires
 leave-requires c =
-    let carried = two_carried c.args.net.now c.args.t c.args.k c.args.cells c.args.old.now c.flow-carried.result c.requires.sound c.requires.in_time
-    c.requires.has_connector c.requires.in_bounds c.requires.cells c.requires.upstream c.requires.downstream c.flow-carried.ensures.flow in
-    let is0 = carrying-begins c.args.net.now c.args.t c.args.k c.args.old.now c.args.new.now c.flow-carried.result c.requires.before in
-    let move0 = moves-out c.args.net.now c.args.t c.args.k 0 0 (get_or c.args.cells 0 0) c.flow-carried.result.out1 c.args.old.now c.args.new.now c.flow-carried.result carried
-    (omega (arith, c.requires.upstream)) (omega arith) (ap (λ cells. get_or cells 0 0) (sym c.requires.cells)) refl is0 in
-    move0.0
+    let carries = two_carries c.requires.sound c.requires.in_time c.requires.has_connector c.requires.in_bounds c.requires.cells c.requires.upstream c.requires.downstream c.flow-carried.ensures.flow in
+    (leaves carries 0 (omega arith) (omega arith) (begun carries c.requires.before)).0
 
 pub enter-requires : goal.enter-requires
 enter-requires c =
-    let carried = two_carried c.args.net.now c.args.t c.args.k c.args.cells c.args.old.now c.flow-carried.result c.requires.sound c.requires.in_time
-    c.requires.has_connector c.requires.in_bounds c.requires.cells c.requires.upstream c.requires.downstream c.flow-carried.ensures.flow in
-    let is0 = carrying-begins c.args.net.now c.args.t c.args.k c.args.old.now c.args.new.now c.flow-carried.result c.requires.before in
-    let move0 = moves-out c.args.net.now c.args.t c.args.k 0 0 (get_or c.args.cells 0 0) c.flow-carried.result.out1 c.args.old.now c.args.new.now c.flow-carried.result carried
-    (omega (arith, c.requires.upstream)) (omega arith) (ap (λ cells. get_or cells 0 0) (sym c.requires.cells)) refl is0 in
-    let is1 = c.leave.ensures ∙ move0.1 in
-    let move1 = moves-in c.args.net.now c.args.t c.args.k 1 0 (get_or c.args.cells 1 0) c.flow-carried.result.in1 c.args.old.now c.leave.new.rows c.flow-carried.result carried
-    (omega (arith, c.requires.downstream)) (omega arith) (rw c.requires.upstream (ap (λ cells. get_or cells 1 0) (sym c.requires.cells))) refl is1 in
-    move1.0
+    let carries = two_carries c.requires.sound c.requires.in_time c.requires.has_connector c.requires.in_bounds c.requires.cells c.requires.upstream c.requires.downstream c.flow-carried.ensures.flow in
+    let out = leaves carries 0 (omega arith) (omega arith) (begun carries c.requires.before) in
+    (enters carries 0 (omega arith) (omega arith) (c.leave.ensures ∙ out.1)).0
 
 pub returns : goal.returns
 returns c =
-    let carried = two_carried c.args.net.now c.args.t c.args.k c.args.cells c.args.old.now c.flow-carried.result c.requires.sound c.requires.in_time
-    c.requires.has_connector c.requires.in_bounds c.requires.cells c.requires.upstream c.requires.downstream c.flow-carried.ensures.flow in
-    let is0 = carrying-begins c.args.net.now c.args.t c.args.k c.args.old.now c.args.new.now c.flow-carried.result c.requires.before in
-    let move0 = moves-out c.args.net.now c.args.t c.args.k 0 0 (get_or c.args.cells 0 0) c.flow-carried.result.out1 c.args.old.now c.args.new.now c.flow-carried.result carried
-    (omega (arith, c.requires.upstream)) (omega arith) (ap (λ cells. get_or cells 0 0) (sym c.requires.cells)) refl is0 in
-    let is1 = c.leave.ensures ∙ move0.1 in
-    let move1 = moves-in c.args.net.now c.args.t c.args.k 1 0 (get_or c.args.cells 1 0) c.flow-carried.result.in1 c.args.old.now c.leave.new.rows c.flow-carried.result carried
-    (omega (arith, c.requires.downstream)) (omega arith) (rw c.requires.upstream (ap (λ cells. get_or cells 1 0) (sym c.requires.cells))) refl is1 in
-    let is2 = c.enter.ensures ∙ move1.1 in
-    carrying-ends c.args.net.now c.args.t c.args.k 1 1 c.args.old.now c.enter.new.rows c.flow-carried.result carried
-    (omega (arith, c.requires.upstream)) (omega (arith, c.requires.downstream)) is2
+    let carries = two_carries c.requires.sound c.requires.in_time c.requires.has_connector c.requires.in_bounds c.requires.cells c.requires.upstream c.requires.downstream c.flow-carried.ensures.flow in
+    let out = leaves carries 0 (omega arith) (omega arith) (begun carries c.requires.before) in
+    let entered = enters carries 0 (omega arith) (omega arith) (c.leave.ensures ∙ out.1) in
+    ended carries (c.enter.ensures ∙ entered.1)

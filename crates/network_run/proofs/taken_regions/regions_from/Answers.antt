@@ -1,12 +1,12 @@
-use Rattle.std.specs.Prelude.{replicate, slice_index}
+use Rattle.std.specs.Prelude.{slice_index}
 use Rattle.std.proofs.Common.{◌≡◌, [], ap, subst, sym, ◌∙◌, arith}
 use Rattle.region_cut.specs.Cuttings.{region_count}
-use Rattle.region_step.specs.Standing.{AllStand}
 use Rattle.border_rows.specs.declared.view.Terms.{Terms}
 use Rattle.border_rows.specs.declared.view.View.{View}
 use Rattle.region_slots.specs.Moments.{AreTold, cut_run}
 use Rattle.network_run.specs.Telling.{HasTold, Telling}
 use Rattle.network_run.proofs.Told.{told-logged}
+use Rattle.region_step.specs.Standing.{AllStandAt}
 use Rattle.network_run.proofs.taken_regions.regions_from.Goals as goal
 
 pub returns-clause-stand : goal.returns-clause-stand
@@ -14,7 +14,7 @@ returns-clause-stand g c =
     let same = c.take_to.ensures.terms ∙ c.in_ok-run.ensures.terms in
     let first : region_count c.take_to.new.self.terms.setup.now.chart.cut ≡ region_count c.in_ok-run.run'.terms.setup.now.chart.cut = ap (λ (t : Terms). region_count t.setup.now.chart.cut) c.take_to.ensures.terms in
     let count : region_count c.take_to.new.self.terms.setup.now.chart.cut ≡ region_count c.args.setup.now.chart.cut = ap (λ (t : Terms). region_count t.setup.now.chart.cut) same in
-    subst (λ (t : Terms). AllStand t.setup.now.net t.setup.now.chart t.setup.now.start t.setup.now.every (replicate (region_count t.setup.now.chart.cut) c.args.goal) c.close.result.items) same
+    subst (λ (t : Terms). AllStandAt t.setup.now c.args.goal c.close.result.items) same
     (c.close.ensures.stand c.args.goal (λ r there. c.take_to.ensures.done r (omega (arith, there, first))) c.take_to.ensures.reach
     (λ r there. omega (arith, ap (λ (t : Terms). slice_index t.setup.now.start.steps r) same, c.requires.before r (omega (arith, there, count)))))
 

@@ -1,8 +1,8 @@
-use Rattle.std.specs.Prelude.{replicate, slice_index}
+use Rattle.std.specs.Prelude.{slice_index}
 use Rattle.std.proofs.Common.{◌≡◌, ℕ, [], refl, ap, subst, sym, ◌∙◌, arith}
 use Rattle.region_cut.specs.Cuttings.{region_count}
-use Rattle.region_step.specs.Standing.{AllStand}
 use Rattle.region_step.specs.Setup.{SetupValue}
+use Rattle.region_step.specs.Standing.{AllStandAt}
 use Rattle.region_step.proofs.Steps.{zero_start-at}
 use Rattle.border_rows.specs.declared.view.Terms.{Terms}
 use Rattle.border_rows.specs.declared.view.View.{View}
@@ -21,8 +21,8 @@ returns-clause-stand g c =
     ap (λ (t : Terms). region_count t.setup.now.chart.cut) same ∙ ap (λ (s : SetupValue). region_count s.chart.cut) setup in
     let zero : (r : ℕ) → slice_index c.take_shots.new.self.terms.setup.now.start.steps r ≡ 0 =
     λ r. ap (λ (t : Terms). slice_index t.setup.now.start.steps r) same ∙ ap (λ (s : SetupValue). slice_index s.start.steps r) setup ∙ zero_start-at c.args.layout.now.net c.args.layout.now.chart.cut r in
-    subst (λ (s : SetupValue). AllStand s.net s.chart s.start s.every (replicate (region_count s.chart.cut) last) c.close.result.items) setup
-    (subst (λ (t : Terms). AllStand t.setup.now.net t.setup.now.chart t.setup.now.start t.setup.now.every (replicate (region_count t.setup.now.chart.cut) last) c.close.result.items) same
+    subst (λ (s : SetupValue). AllStandAt s last c.close.result.items) setup
+    (subst (λ (t : Terms). AllStandAt t.setup.now last c.close.result.items) same
     (c.close.ensures.stand last (λ r there. taken.last refl r (omega (arith, there, count))) (taken.reach refl) (λ r there. omega (arith, zero r))))
 
 pub returns-clause-told : goal.returns-clause-told

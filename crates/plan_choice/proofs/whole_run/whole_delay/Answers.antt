@@ -1,7 +1,7 @@
 use Rattle.std.proofs.Common.{◌≡◌, ap, ◌∙◌}
-use Rattle.region_step.specs.Start.{zero_start}
 use Rattle.region_cut.specs.Cuttings.{region_count}
 use Rattle.plan_choice.proofs.WholeRun.{one-stands}
+use Rattle.region_step.specs.Setup.{zero_setup}
 use Rattle.plan_choice.proofs.whole_run.whole_delay.Goals as goal
 
 pub run_delay-requires : goal.run_delay-requires
@@ -11,7 +11,7 @@ run_delay-requires c =
       stand = (
         0,
         rw (c.deref.ensures.value, c.in_ok-push.ensures.items, c.new-regions.ensures.items)
-            (one-stands c.in_ok-layout.layout.net c.in_ok-layout.layout.chart (zero_start c.in_ok-layout.layout.net c.in_ok-layout.layout.chart.cut) 0 c.in_ok-layout.layout.net.steps c.in_ok-last_region.field-0 one
+            (one-stands (zero_setup c.in_ok-layout.layout 0) c.in_ok-layout.layout.net.steps c.in_ok-last_region.field-0 one
             c.in_ok-last_region.ensures),
       );
     }

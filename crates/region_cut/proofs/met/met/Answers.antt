@@ -1,13 +1,12 @@
-use Rattle.std.specs.Prelude.{All, Bool, not, ◌==◌}
+use Rattle.std.specs.Prelude.{not, ◌==◌}
 use Rattle.std.specs.List.{list_any}
-use Rattle.std.proofs.Common.{◌≡◌, ℕ, ◌<◌, length, get_or, arith, ap, subst, sym, ◌∙◌}
+use Rattle.std.proofs.Common.{◌≡◌, length, get_or, arith, ap, subst, sym, ◌∙◌}
 use Rattle.std.proofs.lemmas.List.{take_all}
-use Rattle.network_file.specs.Connectors.{cells_of, connector_at}
+use Rattle.network_file.specs.Connectors.{connector_at}
 use Rattle.network_file.specs.Network.{IsNetwork}
 use Rattle.region_cut.specs.Cuttings.{region_at}
 use Rattle.region_cut.specs.Joins.{leaves_region}
-use Rattle.network_file.proofs.NetworkFacts.{read_connector}
-use Rattle.region_cut.proofs.ConnectorCells.{same_cells-there}
+use Rattle.region_cut.proofs.ConnectorCells.{taken, taken-there}
 use Rattle.region_cut.proofs.MetCells.{connectors_of-at, found_leaving, found_leaving-more, found_leaving-none, met_by-is}
 use Rattle.region_cut.proofs.met.met.Goals.{then-leaves+in_ok-extend_from_slice, else-leaves}
 use Rattle.region_cut.proofs.met.met.Goals as goal
@@ -20,34 +19,20 @@ index-requires c =
 
 pub leaves-requires : goal.leaves-requires
 leaves-requires c =
-    let sound : IsNetwork c.args.net.now = subst IsNetwork c.net.view_is c.net.invariant in
-    let k : ℕ = get_or c.args.connectors.now c.loop-k.k-index 0 in
-    let there : k < length c.args.net.now.connectors =
-    connectors_of-at c.args.net.now c.args.cut.now c.args.r c.args.connectors.now c.loop-k.k-index c.requires.list c.loop-k-test.true in
-    let connector : connector_at c.args.net.now.connectors k ≡ c.index.result.now =
-    read_connector c.net.inside.connectors.items c.args.net.now.connectors k c.index.result.now (ap (λ net. net.connectors) c.net.view_is) there c.index.ensures in
-    let same : (test : ℕ → Bool) → list_any test c.three_cells-three.result ≡ list_any test (cells_of (connector_at c.args.net.now.connectors k)) =
-    λ test. c.three_cells-three.ensures.same test ∙ ap (λ cs. list_any test (cells_of cs)) (sym connector) in
-    subst (λ n. All (λ i. i < n) c.three_cells-three.result) (sym c.requires.one_each)
-    (same_cells-there c.args.net.now k c.three_cells-three.result sound there same)
+    let there = connectors_of-at c.args.net.now c.args.cut.now c.args.r c.args.connectors.now c.loop-k.k-index c.requires.list c.loop-k-test.true in
+    taken-there (taken c.net.invariant c.net.view_is there c.index.ensures c.three_cells-three.ensures.same) c.requires.one_each
 
 pub loop-k-preserved : goal.loop-k-preserved
 loop-k-preserved c =
-    let sound : IsNetwork c.args.net.now = subst IsNetwork c.net.view_is c.net.invariant in
-    let k : ℕ = get_or c.args.connectors.now c.loop-k.k-index 0 in
-    let there : k < length c.args.net.now.connectors =
-    connectors_of-at c.args.net.now c.args.cut.now c.args.r c.args.connectors.now c.loop-k.k-index c.requires.list c.loop-k-test.true in
-    let connector : connector_at c.args.net.now.connectors k ≡ c.index.result.now =
-    read_connector c.net.inside.connectors.items c.args.net.now.connectors k c.index.result.now (ap (λ net. net.connectors) c.net.view_is) there c.index.ensures in
-    let same : (test : ℕ → Bool) → list_any test c.three_cells-three.result ≡ list_any test (cells_of (connector_at c.args.net.now.connectors k)) =
-    λ test. c.three_cells-three.ensures.same test ∙ ap (λ cs. list_any test (cells_of cs)) (sym connector) in
-    let leaves : leaves_region c.args.cut.now c.args.r (connector_at c.args.net.now.connectors k) ≡ c.leaves.result =
-    sym (c.leaves.ensures ∙ same (λ i. not (region_at c.args.cut.now i == c.args.r))) in
+    let there = connectors_of-at c.args.net.now c.args.cut.now c.args.r c.args.connectors.now c.loop-k.k-index c.requires.list c.loop-k-test.true in
+    let three = taken c.net.invariant c.net.view_is there c.index.ensures c.three_cells-three.ensures.same in
+    let leaves : leaves_region c.args.cut.now c.args.r (connector_at c.args.net.now.connectors (get_or c.args.connectors.now c.loop-k.k-index 0)) ≡ c.leaves.result =
+    sym (c.leaves.ensures ∙ three.same (λ i. not (region_at c.args.cut.now i == c.args.r))) in
     elim c.if-leaves.branch [
       | then-leaves+in_ok-extend_from_slice w ↦ λ test.
           rw (w.cells-is, w.in_ok-extend_from_slice.ensures.items) (
           found_leaving-more c.args.net.now c.args.cut.now c.args.r c.args.connectors.now c.loop-k.cells.items c.three_cells-three.result c.loop-k.k-index test
-          c.loop-k-test.true (c.loop-k.invariant test) (leaves ∙ w.if-leaves.true) (same test)
+          c.loop-k-test.true (c.loop-k.invariant test) (leaves ∙ w.if-leaves.true) (three.same test)
           )
       | else-leaves w ↦ λ test.
           rw w.cells-is (

@@ -1,20 +1,23 @@
-use Rattle.std.specs.Prelude.{List}
-use Rattle.std.proofs.Common.{◌≡◌, ℕ, inl, inr, Result, Ok, length, ap, subst, ◌∙◌}
+use Rattle.std.proofs.Common.{◌≡◌, ◌≢◌, length, ap, arith, subst, sym, ◌∙◌}
 use Rattle.network_file.specs.Cutting.{IsCutting}
 use Rattle.network_file.specs.Network.{IsNetwork}
-use Rattle.region_cut.specs.CutFaults.{cut_of}
-use Rattle.region_cut.specs.declared.fault.CutFault.{CutFault}
-use Rattle.region_cut.proofs.CutFaults.{cut_of-IsCutting}
+use Rattle.region_cut.proofs.Anys.{not_same}
+use Rattle.region_cut.proofs.Cuttings.{cutting-alone, own-cutting}
 use Rattle.region_cut.proofs.own_or_even.cutting.Goals as goal
 
-same-ok : (answer : Result (List ℕ) CutFault) (a b : List ℕ) → answer ≡ Ok a → answer ≡ Ok b → a ≡ b
-same-ok answer a b first second = cc
+pub known-requires : goal.known-requires
+known-requires c =
+    let list : c.in_ok-own.own.items ≡ c.args.net.now.regions = c.in_ok-own.ensures ∙ c.deref.ensures.value ∙ ap (λ net. net.regions) c.net.view_is in
+    let some : length c.args.net.now.regions ≢ 0 =
+    λ none. not_same _ 0 (sym c.is_empty.ensures ∙ c.if-is_empty.false) (omega (arith, none, ap (λ net. length net.regions) c.net.view_is, c.net.inside.regions.ok.0)) in
+    subst (λ list. IsCutting (length list) list) (sym list) (cutting-alone (own-cutting c.args.net.now (subst IsNetwork c.net.view_is c.net.invariant) some))
 
-pub returns-in-Ok-clause-own : goal.returns-in-Ok-clause-own
-returns-in-Ok-clause-own c = λ some.
-    let list : c.deref.result.now ≡ c.args.net.now.regions = c.deref.ensures.value ∙ ap (λ net. net.regions) c.net.view_is in
-    let sound : IsCutting (length c.args.net.now.cells) c.args.net.now.regions = elim ((subst IsNetwork c.net.view_is c.net.invariant).regions) [
-      | inl none ↦ absurd (some (ap length none))
-      | inr is ↦ is
-    ] in
-    same-ok (cut_of c.args.net.now c.args.net.now.regions) c.in-Ok.cut c.args.net.now.regions (rw list at (c.in-Ok.ensures.cut)) (cut_of-IsCutting c.args.net.now c.args.net.now.regions sound)
+pub returns-clause-own : goal.returns-clause-own
+returns-clause-own c = λ some. c.known.ensures ∙ c.in_ok-own.ensures ∙ c.deref.ensures.value ∙ ap (λ net. net.regions) c.net.view_is
+
+pub returns-clause-one_each : goal.returns-clause-one_each
+returns-clause-one_each c =
+    let list : c.known.result ≡ c.args.net.now.regions = c.known.ensures ∙ c.in_ok-own.ensures ∙ c.deref.ensures.value ∙ ap (λ net. net.regions) c.net.view_is in
+    let some : length c.args.net.now.regions ≢ 0 =
+    λ none. not_same _ 0 (sym c.is_empty.ensures ∙ c.if-is_empty.false) (omega (arith, none, ap (λ net. length net.regions) c.net.view_is, c.net.inside.regions.ok.0)) in
+    ap length list ∙ (own-cutting c.args.net.now (subst IsNetwork c.net.view_is c.net.invariant) some).one_each

@@ -1,9 +1,11 @@
 use Rattle.std.proofs.Common.{◌≡◌, ◌++◌, List, ℕ, refl, ap, subst, sym, ◌∙◌}
-use Rattle.std.specs.Prelude.{length, min, replicate}
+use Rattle.std.specs.Prelude.{length, min}
 use Rattle.network_file.specs.Network.{Network}
 use Rattle.flow_model.specs.State.{state_at}
-use Rattle.region_cut.specs.Cuttings.{even_cutting, region_count}
-use Rattle.region_step.specs.Standing.{AllStand}
+use Rattle.region_cut.specs.Cuttings.{even_cutting}
+use Rattle.region_cut.specs.Layout.{LayoutValue}
+use Rattle.region_step.specs.Setup.{zero_setup}
+use Rattle.region_step.specs.Standing.{AllStandAtLast}
 use Rattle.region_step.specs.Start.{zero_start}
 use Rattle.delay_report.specs.Report.{total_line}
 use Rattle.delay_report.proofs.Standing.{end-zero, stand-rows}
@@ -12,7 +14,7 @@ use Rattle.run_modes.proofs.sample_mode.sample_totals.Goals as goal
 
 pub put_last_totals-requires : goal.put_last_totals-requires
 put_last_totals-requires g c = record {
-  rows = rw c.deref.ensures.value (stand-rows c.in_ok-layout.layout.net c.in_ok-layout.layout.chart (zero_start c.in_ok-layout.layout.net c.in_ok-layout.layout.chart.cut) 0 _ _ c.in_ok-regions.ensures.stand);
+  rows = rw c.deref.ensures.value (stand-rows (zero_setup c.in_ok-layout.layout 0) _ _ c.in_ok-regions.ensures.stand);
 }
 
 sample-is : (size seed : ℕ) (net : Network) → sample_of size seed net ≡ sample_line size seed net ++ total_line net (state_at net net.steps)
@@ -22,9 +24,10 @@ sample-is size seed net = refl
 pub returns-clause-text : goal.returns-clause-text
 returns-clause-text g c =
     let net = c.args.net.now in
-    let cut : List ℕ = c.in_ok-layout.layout.chart.cut in
-    let stand = subst (AllStand net c.in_ok-layout.layout.chart (zero_start net cut) 0 (replicate (region_count cut) net.steps)) (sym c.deref.ensures.value) (rw c.in_ok-layout.ensures.network at c.in_ok-regions.ensures.stand) in
-    (rw c.in_ok-layout.ensures.network at c.in_ok-put_last_totals.ensures.recurrences) (zero_start net cut) 0 (end-zero net c.in_ok-layout.layout.chart 0 c.deref.result.now stand) ∙
+    let layout : LayoutValue = c.in_ok-layout.layout in
+    let stand = subst (AllStandAtLast (zero_setup layout 0)) (sym c.deref.ensures.value) c.in_ok-regions.ensures.stand in
+    let totals = c.in_ok-put_last_totals.ensures.recurrences (zero_start layout.net layout.chart.cut) 0 (end-zero layout 0 c.deref.result.now stand) in
+    (rw c.in_ok-layout.ensures.network at totals) ∙
     ap (λ (first : List ℕ). first ++ total_line net (state_at net net.steps)) (c.in_ok-put_sample_line.ensures ∙ ap (λ (first : List ℕ). first ++ sample_line c.args.request.size c.args.request.seed net) c.new-text.ensures.items) ∙ sym (sample-is c.args.request.size c.args.request.seed net)
 
 pub returns-clause-told : goal.returns-clause-told

@@ -1,8 +1,7 @@
-use Rattle.std.specs.Prelude.{replicate, slice_index}
+use Rattle.std.specs.Prelude.{slice_index}
 use Rattle.std.proofs.Common.{◌≡◌, ◌≤◌, ℕ, ap, subst, sym, ◌∙◌, arith}
-use Rattle.region_cut.specs.Cuttings.{region_count}
-use Rattle.region_step.specs.Setup.{SetupValue}
-use Rattle.region_step.specs.Standing.{AllStand}
+use Rattle.region_step.specs.Setup.{SetupValue, setup_of}
+use Rattle.region_step.specs.Standing.{AllStandAt}
 use Rattle.region_step.specs.Start.{StartLists}
 use Rattle.region_step.proofs.Steps.{zero_start-at}
 use Rattle.run_trials.proofs.even_starts.start_at_two.Goals as goal
@@ -22,7 +21,7 @@ even_start-requires-clause-stand g c =
       record {
         fits = c.in_ok-start.ensures.fits;
         started = λ r within. omega (arith, ap (λ (start : StartLists). slice_index start.steps r) c.in_ok-start.ensures.start, zero_start-at old.net old.chart.cut r);
-        stand = subst (AllStand old.net old.chart start 0 (replicate (region_count old.chart.cut) 2)) (sym c.deref.ensures.value)
-            (subst (λ (setup : SetupValue). AllStand setup.net setup.chart setup.start setup.every (replicate (region_count setup.chart.cut) 2) c.in_ok-regions.regions.items) c.new-setup.ensures c.in_ok-regions.ensures.stand);
+        stand = subst (AllStandAt (setup_of old start 0) 2) (sym c.deref.ensures.value)
+            (subst (λ (setup : SetupValue). AllStandAt setup 2 c.in_ok-regions.regions.items) c.new-setup.ensures c.in_ok-regions.ensures.stand);
       },
     )

@@ -12,8 +12,8 @@ use Rattle.saved_modes.proofs.ResumedAs.{begins-resumed_as}
 use Rattle.saved_modes.proofs.Saved.{shown-run}
 use Rattle.saved_modes.proofs.save_mode.saved_near.Goals as goal
 
-pub save_text-requires-clause-few : goal.save_text-requires-clause-few
-save_text-requires-clause-few g c = omega (arith, (c.net-own.ensures.one_each ∙ ap (λ (n : Network). length n.cells) c.in_ok-layout.ensures.network), few_cells c.args.net.now (subst IsNetwork c.net.view_is c.net.invariant))
+pub save-requires-clause-few : goal.save-requires-clause-few
+save-requires-clause-few g c = omega (arith, (c.net-own.ensures.one_each ∙ ap (λ (n : Network). length n.cells) c.in_ok-layout.ensures.network), few_cells c.args.net.now (subst IsNetwork c.net.view_is c.net.invariant))
 
 pub returns-clause-saved : goal.returns-clause-saved
 returns-clause-saved g c =

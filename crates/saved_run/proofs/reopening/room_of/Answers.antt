@@ -5,6 +5,7 @@ use Rattle.std.proofs.lemmas.List.{get_or_default}
 use Rattle.network_file.specs.Network.{Network}
 use Rattle.region_cut.specs.Chart.{ChartLists}
 use Rattle.region_step.specs.Region.{RegionValue}
+use Rattle.region_step.specs.Setup.{setup_of}
 use Rattle.region_step.specs.Start.{StartLists}
 use Rattle.region_step.proofs.GridStates.{grid_state-number}
 use Rattle.snapshot.specs.Rooms.{RoomValue, ShowsRegion}
@@ -37,7 +38,7 @@ loop-r-preserved c =
             subst (λ p. ShowsRegion chart room (slice_index_or regions p region)) (sym own)
             (subst (ShowsRegion chart room) (c.index-regions-r.is ∙ get_or_default regions r filled region c.loop-r-test.true) c.fill.ensures.shows)
         | inr other ↦
-            shows-stays net chart start every q (slice_index steps q) filled.state.number (slice_index_or regions q region) c.loop-r.room room c.regions-regions.ensures.sound
+            shows-stays (setup_of c.args.layout.now start every) q (slice_index steps q) filled.state.number (slice_index_or regions q region) c.loop-r.room room c.regions-regions.ensures.sound
             (omega (arith, before, c.loop-r-test.true, stand.one_each)) (λ same. other (same ∙ number)) (stand.each q region (omega (arith, before, c.loop-r-test.true)))
             (c.loop-r.invariant.1 q region (omega (arith, before, other))) c.fill.ensures.others
       ],

@@ -13,8 +13,8 @@ returns-clause-stand c =
     let knows : View = c.self.inside.pass.knows in
     let closed = c.close-regions.ensures in
     subst (λ (run : RunValue). StandWhereTheyCame run c.close-regions.result.regions.items) c.self.view_is
-    (λ goal came low early. all-ended terms terms.setup.now.net terms.setup.now.chart terms.setup.now.start terms.setup.now.every goal knows c.close-regions.result.steps.items c.close-regions.result.regions.items
-    refl refl refl refl closed.stand closed.lawful closed.later came (λ r there. omega (arith, closed.reached r there, early r there, low)))
+    (λ goal came low early. all-ended terms terms.setup.now goal knows c.close-regions.result.steps.items c.close-regions.result.regions.items
+    refl closed.stand closed.lawful closed.later came (λ r there. omega (arith, closed.reached r there, early r there, low)))
 
 pub returns-clause-logged : goal.returns-clause-logged
 returns-clause-logged c =

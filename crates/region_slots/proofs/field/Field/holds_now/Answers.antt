@@ -15,7 +15,7 @@ border_now-requires-clause-there c =
     let field : IsTableFor terms c.args.self.now.table = subst (λ (f : FieldValue). IsTableFor f.terms f.table) c.self.view_is c.self.invariant.3 in
     let state : RegionValue = c.slot_mut-state.result.now in
     let is : c.requires.slot.0 ≡ state = same-slot c.args.seat.now.me.1 (rest c.args.seat.now.me.1) (rest c.args.seat.now.me.1) c.args.region c.requires.slot.0 state c.requires.slot.1 c.slot_mut-state.ensures.value in
-    let stands = subst (Stands terms.setup.now.net terms.setup.now.chart terms.setup.now.start terms.setup.now.every c.args.region c.args.step) is c.requires.slot.2 in
+    let stands = subst (Stands terms.setup.now c.args.region c.args.step) is c.requires.slot.2 in
     rw (chart, stands-number terms c.args.region c.args.step state stands) c.requires.inside
 
 pub returns-clause-held : goal.returns-clause-held
@@ -26,5 +26,5 @@ returns-clause-held c =
     let field : IsTableFor terms c.args.self.now.table = subst (λ (f : FieldValue). IsTableFor f.terms f.table) c.self.view_is c.self.invariant.3 in
     let state : RegionValue = c.slot_mut-state.result.now in
     let is : c.requires.slot.0 ≡ state = same-slot c.args.seat.now.me.1 (rest c.args.seat.now.me.1) (rest c.args.seat.now.me.1) c.args.region c.requires.slot.0 state c.requires.slot.1 c.slot_mut-state.ensures.value in
-    let stands = subst (Stands terms.setup.now.net terms.setup.now.chart terms.setup.now.start terms.setup.now.every c.args.region c.args.step) is c.requires.slot.2 in
+    let stands = subst (Stands terms.setup.now c.args.region c.args.step) is c.requires.slot.2 in
     border-now terms c.args.self.now.table c.args.region c.args.step c.args.j c.border_now.result state field c.requires.there c.requires.started c.requires.inside stands (rw chart at c.border_now.ensures)

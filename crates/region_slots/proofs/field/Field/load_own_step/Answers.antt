@@ -28,7 +28,7 @@ load-requires c =
 -- what the look at the step word of the region just taken tells
 known : (c : goal.After-load) →
     (state : RegionValue) × (c.load.new.seat.me ≡ (found_at c.args.seat.now.me.0 c.args.region c.load.result, (c.args.region, state) ∷ c.args.seat.now.me.1))
-    × Stands c.args.self.now.terms.setup.now.net c.args.self.now.terms.setup.now.chart c.args.self.now.terms.setup.now.start c.args.self.now.terms.setup.now.every c.args.region c.load.result state
+    × Stands c.args.self.now.terms.setup.now c.args.region c.load.result state
     × (slice_index c.args.seat.now.me.0.seen c.args.region ≤ c.load.result) × (slice_index c.args.self.now.terms.setup.now.start.steps c.args.region ≤ c.load.result)
     × (c.load.result ≤ c.args.self.now.terms.setup.now.net.steps)
 known c =

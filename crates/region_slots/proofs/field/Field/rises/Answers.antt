@@ -43,7 +43,7 @@ free-requires-clause-state c =
       at.region,
       at.works.known,
       ap (λ m. m.1) c.publish_step.ensures.risen ∙ ap (λ m. m.1) c.fills.ensures.written ∙ ap (λ m. m.1) advanced.1,
-      subst (λ n. Stands terms.setup.now.net terms.setup.now.chart terms.setup.now.start terms.setup.now.every r (n + 1) advanced.0) (sym at.step) advanced.2,
+      subst (λ n. Stands terms.setup.now r (n + 1) advanced.0) (sym at.step) advanced.2,
     )
 
 pub returns-clause-later : goal.returns-clause-later

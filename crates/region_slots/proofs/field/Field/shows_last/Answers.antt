@@ -14,5 +14,5 @@ returns-clause-others c =
     let state : RegionValue = c.slot_mut-state.result.now in
     let (step, old, has, stands) = c.requires.slot in
     let is : old ≡ state = same-slot c.args.seat.now.me.1 (rest c.args.seat.now.me.1) (rest c.args.seat.now.me.1) c.args.region old state has c.slot_mut-state.ensures.value in
-    let stood = subst (Stands terms.setup.now.net terms.setup.now.chart terms.setup.now.start terms.setup.now.every c.args.region step) is stands in
+    let stood = subst (Stands terms.setup.now c.args.region step) is stands in
     subst (StaysBeside terms.setup.now.chart c.args.room.now c.fill.new.self) (stands-number terms c.args.region step state stood) (rw chart at c.fill.ensures.others)

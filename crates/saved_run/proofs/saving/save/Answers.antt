@@ -14,7 +14,7 @@ use Rattle.saved_run.proofs.Lengths.{saved_text-short}
 use Rattle.saved_run.proofs.Shown.{row_lines-shown, rows-of_regions, rows-shown}
 use Rattle.saved_run.proofs.Starts.{shot-has_true_start}
 use Rattle.saved_run.proofs.Texts.{content_of-saved_text, saved_text-content_of}
-use Rattle.saved_run.proofs.saving.save_text.Goals as goal
+use Rattle.saved_run.proofs.saving.save.Goals as goal
 
 pub returns-clause-text : goal.returns-clause-text
 unfolding saved_text

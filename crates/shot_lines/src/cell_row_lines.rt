@@ -1,6 +1,6 @@
 ghost use Rattle.std.specs.Prelude.{◌≡◌, ◌++◌, OnOk, length};
 ghost use Rattle.std.specs.Io.{StartsWith};
-ghost use Rattle.shot_lines.specs.ShotText.{row_line, row_lines};
+ghost use Rattle.shot_lines.specs.ShotText.{cell_row_line, cell_row_lines};
 
 use flow_model::Row;
 use line_fields::put_row_fields;
@@ -8,24 +8,24 @@ use network_file::Cell;
 use no_memory::NoMemory;
 
 /// Appends a line for each cell, by its row.
-pub(crate) fn put_row_lines(
+pub(crate) fn put_cell_row_lines(
     text: &mut Vec<u8>,
     cells: &[Cell],
     rows: &[Row],
 ) -> Result<(), NoMemory>
     requires { length rows.now ≡ length cells.now }
-    ensures lines { OnOk result (text.new.items ≡ text.old.items ++ row_lines cells.now rows.now) }
+    ensures lines { OnOk result (text.new.items ≡ text.old.items ++ cell_row_lines cells.now rows.now) }
     ensures kept { StartsWith text.new.items text.old.items }
 {
     for (i, cell) in cells.iter().enumerate() {
-        put_row_line(text, cell, &rows[i])?;
+        put_cell_row_line(text, cell, &rows[i])?;
     }
     Ok(())
 }
 
-#[tactic(auto, unfolding(crate::specs::ShotText::row_line))]
-fn put_row_line(text: &mut Vec<u8>, cell: &Cell, row: &Row) -> Result<(), NoMemory>
-    ensures line { OnOk result (text.new.items ≡ text.old.items ++ row_line cell.now.name row.now) }
+#[tactic(auto, unfolding(crate::specs::ShotText::cell_row_line))]
+fn put_cell_row_line(text: &mut Vec<u8>, cell: &Cell, row: &Row) -> Result<(), NoMemory>
+    ensures line { OnOk result (text.new.items ≡ text.old.items ++ cell_row_line cell.now.name row.now) }
     ensures kept { StartsWith text.new.items text.old.items }
 {
     text.extend_from_slice(b"row,")?;
