@@ -1,13 +1,11 @@
 -- What links carry at most, once one more connector is joined.
-use Rattle.std.specs.Prelude.{All, Bool, not, ◌==◌, ◌||◌, map, slice_index, if◌then◌else◌}
+use Rattle.std.specs.Prelude.{All, Bool, not, ◌||◌, map, slice_index, if◌then◌else◌}
 use Rattle.std.specs.List.{filter, list_any, range_with_len}
 use Rattle.std.proofs.Common.{◌≡◌, ◌≢◌, ℕ, ◌+◌, ◌<◌, ◌≤◌, inl, inr, true, false, List, [], ◌∷◌, ◌++◌, length, get_or, take, refl, sym, ap, ◌∙◌, arith}
-use Rattle.std.proofs.lemmas.Bool.{cases_Bool, cases_eq, eq-eqb}
+use Rattle.std.proofs.lemmas.Bool.{cases_Bool}
 use Rattle.std.proofs.lemmas.List.{append-nil, map-append, take_more}
 use Rattle.std.proofs.lemmas.List.Elements.{All-push, filter-append}
 use Rattle.std.proofs.lemmas.List.Folds.{list_any-append}
-use Rattle.signal_plan.specs.Records.{PlanRecords}
-use Rattle.signal_plan.specs.Speeds.{has_speeds}
 use Rattle.network_file.specs.Connectors.{connector_at}
 use Rattle.network_file.specs.Network.{Network}
 use Rattle.network_file.specs.declared.connector.Connector.{Connector}
@@ -22,10 +20,8 @@ use Rattle.region_body.specs.declared.followed.FollowedLink.{FollowedLink}
 use Rattle.region_body.specs.Chains.{AreDistinct, is_chained, is_joined, is_link, most_out, odd_ones}
 use Rattle.region_body.specs.Joining.{Extends, IsAt}
 use Rattle.region_body.specs.Carrying.{IsTie}
-use Rattle.region_body.specs.SlowLinks.{AreSlowed, IsSlowLinkOf, IsSlowThere, SlowLinkValues, is_listed}
 use Rattle.region_body.specs.declared.tie.Tie.{Tie}
 use Rattle.region_body.proofs.Links.{link-is}
-use Rattle.region_body.proofs.SlowLinks.{listed-push, neither-first, neither-second}
 
 -- one connector more
 pub joined-more : (net : Network) (cells connectors : List ℕ) (j q : ℕ) → j < length connectors →
@@ -48,20 +44,6 @@ or_true false = refl
 or_false : (b : Bool) → (b || false) ≡ b
 or_false true = refl
 or_false false = refl
-
--- what is joined stays joined
-joined-still : (net : Network) (cells connectors : List ℕ) (j q : ℕ) → j < length connectors → is_joined net cells (take j connectors) q ≡ true →
-    is_joined net cells (take (j + 1) connectors) q ≡ true
-joined-still net cells connectors j q within joined =
-    joined-more net cells connectors j q within ∙ ap (λ b. b || is_link cells q (connector_at net.connectors (get_or connectors j 0))) joined
-
--- and what one connector more doesn't join was joined
-joined-already : (net : Network) (cells connectors : List ℕ) (j q : ℕ) → j < length connectors →
-    is_link cells q (connector_at net.connectors (get_or connectors j 0)) ≡ false → is_joined net cells (take (j + 1) connectors) q ≡ true →
-    is_joined net cells (take j connectors) q ≡ true
-joined-already net cells connectors j q within other joined =
-    sym (or_false (is_joined net cells (take j connectors) q)) ∙ ap (λ b. is_joined net cells (take j connectors) q || b) (sym other)
-    ∙ sym (joined-more net cells connectors j q within) ∙ joined
 
 -- a link joins one place alone
 one-place : (cells : List ℕ) (p q : ℕ) (connector : Connector) → AreDistinct cells → is_link cells p connector ≡ true → q ≢ p →
@@ -108,35 +90,30 @@ extends-more net cells connectors j p links within distinct linked joined =
           (joined-more net cells connectors j q within ∙ ap (λ b. b || is_link cells q connector) first ∙ sym first);
     }
 
--- a link from one of the cells to the next is chained
-chains : (cells : List ℕ) (connector : Connector) (p : ℕ) → is_link cells p connector ≡ true → is_chained cells connector ≡ true
-chains cells connector p linked =
-    let at = link-is cells p connector linked in
-    let inside = at.within in
-    finds (λ m. is_link cells m connector) (range_with_len 0 (length cells)) p (range-Contains (length cells) p (omega arith)) linked
-
-unlinked : (cells : List ℕ) (connector : Connector) (q : ℕ) → is_chained cells connector ≡ false → is_link cells q connector ≡ false
-unlinked cells connector q odd = elim (cases_Bool (is_link cells q connector)) [
-  | inl linked ↦ let chained = chains cells connector q linked in cc
-  | inr apart ↦ apart
-]
-
 -- one that isn't
 pub unchained-more : (net : Network) (cells connectors : List ℕ) (j q s : ℕ) → j < length connectors →
     is_chained cells (connector_at net.connectors (get_or connectors j 0)) ≡ false →
     most_out net cells (take (j + 1) connectors) q s ≡ most_out net cells (take j connectors) q s
 unchained-more net cells connectors j q s within odd =
     let connector : Connector = connector_at net.connectors (get_or connectors j 0) in
+    let none : is_link cells q connector ≡ false = elim (cases_Bool (is_link cells q connector)) [
+      | inl linked ↦
+          let at = link-is cells q connector linked in
+          let inside = at.within in
+          let chained : is_chained cells connector ≡ true =
+          finds (λ m. is_link cells m connector) (range_with_len 0 (length cells)) q (range-Contains (length cells) q (omega arith)) linked in
+          cc
+      | inr apart ↦ apart
+    ] in
     most-same net cells (take j connectors) (take (j + 1) connectors) q s
-    (joined-more net cells connectors j q within ∙ ap (λ b. is_joined net cells (take j connectors) q || b) (unlinked cells connector q odd)
-    ∙ or_false (is_joined net cells (take j connectors) q))
+    (joined-more net cells connectors j q within ∙ ap (λ b. is_joined net cells (take j connectors) q || b) none ∙ or_false (is_joined net cells (take j connectors) q))
 
 -- the same by another name
-pub followed-same : (apart : ℕ → Bool) (most later : ℕ → ℕ → ℕ) (places : List Place) (links : List FollowedLink) (t : ℕ) → ((q s : ℕ) → later q s ≡ most q s) →
-    AreFollowed apart most places links t → AreFollowed apart later places links t
-followed-same apart most later places links t same followed = record {
+pub followed-same : (most later : ℕ → ℕ → ℕ) (places : List Place) (links : List FollowedLink) (t : ℕ) → ((q s : ℕ) → later q s ≡ most q s) →
+    AreFollowed most places links t → AreFollowed later places links t
+followed-same most later places links t same followed = record {
   courses = λ k d within s. followed.courses k d within s ∙ sym (same (get_or links k d).place s);
-  each = λ p within free. elim (followed.each p within free) [
+  each = λ p within. elim (followed.each p within) [
     | inl constant ↦ inl (λ s from. constant s from ∙ sym (same p s))
     | inr (m, has) ↦ inr (
       m,
@@ -151,11 +128,11 @@ followed-same apart most later places links t same followed = record {
 
 -- nothing is joined yet
 pub followed-none : (net : Network) (cells connectors : List ℕ) (places : List Place) (t : ℕ) → ((p : ℕ) → (place_at places p).most ≡ 0) →
-    AreFollowed (is_listed []) (most_out net cells (take 0 connectors)) places [] t
+    AreFollowed (most_out net cells (take 0 connectors)) places [] t
 unfolding most_out is_joined
 followed-none net cells connectors places t none = record {
   courses = λ k d within. absurd (omega arith);
-  each = λ p within free. inl (λ s from. none p);
+  each = λ p within. inl (λ s from. none p);
 }
 
 -- the numbers of those that aren't chained
@@ -172,171 +149,66 @@ odd-more net cells connectors j b within is =
     one odd x false is = rw is refl
 
 -- the places keep all but their most
-pub record AreJoined (net : Network) (t : ℕ) (cells halo connectors : List ℕ) (first places : List Place) (links : List FollowedLink) (slow_links : List SlowLinkValues) (ties : List Tie) : Type 0 where
+pub record AreJoined (net : Network) (t : ℕ) (cells halo connectors : List ℕ) (first places : List Place) (links : List FollowedLink) (ties : List Tie) : Type 0 where
   pub only_most : (q : ℕ) → place_at places q ≡ record (place_at first q) { most = (place_at places q).most }
   pub links_there : All (IsThere (length cells) t) links
   pub joined : All (λ link. is_joined net cells connectors link.place ≡ true) links
-  pub slow_there : All (IsSlowThere (length cells) t) slow_links
-  pub slowed : AreSlowed net cells connectors slow_links
-  pub followed : AreFollowed (is_listed slow_links) (most_out net cells connectors) places links t
+  pub followed : AreFollowed (most_out net cells connectors) places links t
   pub numbers : map (λ tie. tie.connector) ties ≡ odd_ones net cells connectors
   pub tied : All (IsTie net cells halo) ties
   pub come : All (λ tie. tie.course.step ≤ t) ties
 
 pub joined-none : (net : Network) (t : ℕ) (cells halo connectors : List ℕ) (places : List Place) → ((p : ℕ) → (place_at places p).most ≡ 0) →
-    AreJoined net t cells halo (take 0 connectors) places places [] [] []
-unfolding is_joined
+    AreJoined net t cells halo (take 0 connectors) places places [] []
 joined-none net t cells halo connectors places none = record {
   only_most = λ q. refl;
   links_there = λ k d within. absurd (omega arith);
   joined = λ k d within. absurd (omega arith);
-  slow_there = λ k d within. absurd (omega arith);
-  slowed = record {
-    each = λ k d within. absurd (omega arith);
-    joined = λ k d within. absurd (omega arith);
-    whole = λ p joined speeds. absurd (cc joined);
-  };
   followed = followed-none net cells connectors places t none;
   numbers = refl;
   tied = λ k d within. absurd (omega arith);
   come = λ k d within. absurd (omega arith);
 }
 
--- the slow links stay those of the cells that are joined: of one place more that has no speed records
-slowed-free : (net : Network) (cells connectors : List ℕ) (j p : ℕ) (slow_links : List SlowLinkValues) → j < length connectors → AreDistinct cells →
-    is_link cells p (connector_at net.connectors (get_or connectors j 0)) ≡ true → has_speeds net.plan (slice_index cells p) ≡ false →
-    AreSlowed net cells (take j connectors) slow_links → AreSlowed net cells (take (j + 1) connectors) slow_links
-slowed-free net cells connectors j p slow_links within distinct linked free slowed =
-    let connector : Connector = connector_at net.connectors (get_or connectors j 0) in
-    record {
-      each = slowed.each;
-      joined = λ k d lt. joined-still net cells connectors j (get_or slow_links k d).place within (slowed.joined k d lt);
-      whole = λ q joined speeds. elim (cases_eq q p) [
-        | inl same ↦ absurd (cc (speeds, ap (λ k. has_speeds net.plan (slice_index cells k)) same, free))
-        | inr other ↦
-            slowed.whole q
-            (joined-already net cells connectors j q within (one-place cells p q connector distinct linked other) joined) speeds
-      ];
-    }
-
--- or of no place more
-slowed-odd : (net : Network) (cells connectors : List ℕ) (j : ℕ) (slow_links : List SlowLinkValues) → j < length connectors →
-    is_chained cells (connector_at net.connectors (get_or connectors j 0)) ≡ false → AreSlowed net cells (take j connectors) slow_links →
-    AreSlowed net cells (take (j + 1) connectors) slow_links
-slowed-odd net cells connectors j slow_links within odd slowed =
-    let connector : Connector = connector_at net.connectors (get_or connectors j 0) in
-    record {
-      each = slowed.each;
-      joined = λ k d lt. joined-still net cells connectors j (get_or slow_links k d).place within (slowed.joined k d lt);
-      whole = λ q joined speeds.
-          slowed.whole q
-          (joined-already net cells connectors j q within (unlinked cells connector q odd) joined) speeds;
-    }
-
--- or of one that has, with its link
-slowed-more : (net : Network) (cells connectors : List ℕ) (j p : ℕ) (slow_links : List SlowLinkValues) (link : SlowLinkValues) → j < length connectors → AreDistinct cells →
-    is_link cells p (connector_at net.connectors (get_or connectors j 0)) ≡ true → link.place ≡ p → IsSlowLinkOf net cells link →
-    AreSlowed net cells (take j connectors) slow_links → AreSlowed net cells (take (j + 1) connectors) (slow_links ++ link ∷ [])
-slowed-more net cells connectors j p slow_links link within distinct linked its is slowed =
-    let connector : Connector = connector_at net.connectors (get_or connectors j 0) in
-    let here : is_joined net cells (take (j + 1) connectors) p ≡ true =
-    joined-more net cells connectors j p within ∙ ap (λ b. is_joined net cells (take j connectors) p || b) linked ∙ or_true (is_joined net cells (take j connectors) p) in
-    record {
-      each = All-push (IsSlowLinkOf net cells) slow_links link slowed.each is;
-      joined = All-push (λ one. is_joined net cells (take (j + 1) connectors) one.place ≡ true) slow_links link
-          (λ k d lt. joined-still net cells connectors j (get_or slow_links k d).place within (slowed.joined k d lt))
-          (ap (is_joined net cells (take (j + 1) connectors)) its ∙ here);
-      whole = λ q joined speeds. elim (cases_eq q p) [
-        | inl same ↦ listed-push slow_links link q ∙ ap (λ b. is_listed slow_links q || b) (eq-eqb link.place q (its ∙ sym same)) ∙ or_true (is_listed slow_links q)
-        | inr other ↦
-            let first = slowed.whole q
-            (joined-already net cells connectors j q within (one-place cells p q connector distinct linked other) joined) speeds in
-            listed-push slow_links link q ∙ ap (λ b. b || (link.place == q)) first
-      ];
-    }
-
--- a chained connector more, out of a cell without speed records
-pub joined-chained : (net : Network) (t : ℕ) (cells halo connectors : List ℕ) (first places after : List Place) (links later : List FollowedLink)
-    (slow_links : List SlowLinkValues) (ties : List Tie) (j p : ℕ) → j < length connectors → AreDistinct cells →
-    is_link cells p (connector_at net.connectors (get_or connectors j 0)) ≡ true → has_speeds net.plan (slice_index cells p) ≡ false →
-    AreJoined net t cells halo (take j connectors) first places links slow_links ties → All (IsThere (length cells) t) later → IsAt p links later →
+-- a chained connector more
+pub joined-chained : (net : Network) (t : ℕ) (cells halo connectors : List ℕ) (first places after : List Place) (links later : List FollowedLink) (ties : List Tie)
+    (j p : ℕ) → j < length connectors → AreDistinct cells → is_link cells p (connector_at net.connectors (get_or connectors j 0)) ≡ true →
+    AreJoined net t cells halo (take j connectors) first places links ties → All (IsThere (length cells) t) later → IsAt p links later →
     ((q : ℕ) → place_at after q ≡ record (place_at places q) { most = (place_at after q).most }) →
-    ((apart : ℕ → Bool) (most next : ℕ → ℕ → ℕ) → AreFollowed apart most places links t → Extends net.plan cells p links most next →
-    AreFollowed apart next after later t) →
-    AreJoined net t cells halo (take (j + 1) connectors) first after later slow_links ties
-joined-chained net t cells halo connectors first places after links later slow_links ties j p within distinct linked free has there at only follows =
+    ((most next : ℕ → ℕ → ℕ) → AreFollowed most places links t → Extends net.plan cells p links most next → AreFollowed next after later t) →
+    AreJoined net t cells halo (take (j + 1) connectors) first after later ties
+joined-chained net t cells halo connectors first places after links later ties j p within distinct linked has there at only follows =
     let connector : Connector = connector_at net.connectors (get_or connectors j 0) in
-    let chained : is_chained cells connector ≡ true = chains cells connector p linked in
+    let at_link = link-is cells p connector linked in
+    let inside = at_link.within in
+    let chained : is_chained cells connector ≡ true =
+    finds (λ m. is_link cells m connector) (range_with_len 0 (length cells)) p (range-Contains (length cells) p (omega arith)) linked in
     record {
       only_most = λ q. only q ∙ ap {B = Place} (λ place. record place { most = (place_at after q).most }) (has.only_most q);
       links_there = there;
       joined = at.each (is_joined net cells (take (j + 1) connectors))
-          (λ k d lt. joined-still net cells connectors j (get_or links k d).place within (has.joined k d lt))
+          (λ k d lt. joined-more net cells connectors j (get_or links k d).place within ∙ ap (λ b. b || is_link cells (get_or links k d).place connector) (has.joined k d lt))
           (joined-more net cells connectors j p within ∙ ap (λ b. is_joined net cells (take j connectors) p || b) linked ∙ or_true (is_joined net cells (take j connectors) p));
-      slow_there = has.slow_there;
-      slowed = slowed-free net cells connectors j p slow_links within distinct linked free has.slowed;
-      followed = follows (is_listed slow_links) (most_out net cells (take j connectors)) (most_out net cells (take (j + 1) connectors)) has.followed
+      followed = follows (most_out net cells (take j connectors)) (most_out net cells (take (j + 1) connectors)) has.followed
           (extends-more net cells connectors j p links within distinct linked has.joined);
       numbers = has.numbers ∙ sym (odd-more net cells connectors j true within chained ∙ append-nil (odd_ones net cells (take j connectors)));
       tied = has.tied;
       come = has.come;
     }
 
--- a place more stands apart, and the others follow what the links carry with one more
-followed-slow : (plan : PlanRecords) (cells : List ℕ) (most later : ℕ → ℕ → ℕ) (places : List Place) (links : List FollowedLink) (slow_links : List SlowLinkValues)
-    (link : SlowLinkValues) (t p : ℕ) → link.place ≡ p → Extends plan cells p links most later → AreFollowed (is_listed slow_links) most places links t →
-    AreFollowed (is_listed (slow_links ++ link ∷ [])) later places links t
-followed-slow plan cells most later places links slow_links link t p its extends followed = record {
-  courses = λ k d within s. followed.courses k d within s ∙ sym (extends.linked k d within s);
-  each = λ q lt free.
-      let both : (is_listed slow_links q || (link.place == q)) ≡ false = sym (listed-push slow_links link q) ∙ free in
-      let other : q ≢ p = λ equal. absurd (cc (neither-second (is_listed slow_links q) (link.place == q) both, eq-eqb link.place q (its ∙ sym equal))) in
-      elim (followed.each q lt (neither-first (is_listed slow_links q) (link.place == q) both)) [
-        | inl constant ↦ inl (λ s from. constant s from ∙ sym (extends.others q s other))
-        | inr (m, has) ↦ inr (m, record { there = has.there; its = has.its; steady = λ d s from before. has.steady d s from before ∙ sym (extends.others q s other) })
-      ];
-}
-
--- one out of a cell with speed records
-pub joined-slow : (net : Network) (t : ℕ) (cells halo connectors : List ℕ) (first places : List Place) (links : List FollowedLink)
-    (slow_links : List SlowLinkValues) (link : SlowLinkValues) (ties : List Tie) (j p : ℕ) → j < length connectors → AreDistinct cells →
-    is_link cells p (connector_at net.connectors (get_or connectors j 0)) ≡ true → link.place ≡ p → link.limits.step ≡ 0 → IsSlowLinkOf net cells link →
-    AreJoined net t cells halo (take j connectors) first places links slow_links ties →
-    AreJoined net t cells halo (take (j + 1) connectors) first places links (slow_links ++ link ∷ []) ties
-joined-slow net t cells halo connectors first places links slow_links link ties j p within distinct linked its step is has =
-    let connector : Connector = connector_at net.connectors (get_or connectors j 0) in
-    let at_link = link-is cells p connector linked in
-    let inside = at_link.within in
-    let chained : is_chained cells connector ≡ true = chains cells connector p linked in
-    record {
-      only_most = has.only_most;
-      links_there = has.links_there;
-      joined = λ k d lt.
-          joined-still net cells connectors j (get_or links k d).place within (has.joined k d lt);
-      slow_there = All-push (IsSlowThere (length cells) t) slow_links link has.slow_there (record { place = omega (arith, its, inside); step = omega (arith, step) });
-      slowed = slowed-more net cells connectors j p slow_links link within distinct linked its is has.slowed;
-      followed = followed-slow net.plan cells (most_out net cells (take j connectors)) (most_out net cells (take (j + 1) connectors)) places links slow_links link t p its
-          (extends-more net cells connectors j p links within distinct linked has.joined) has.followed;
-      numbers = has.numbers ∙ sym (odd-more net cells connectors j true within chained ∙ append-nil (odd_ones net cells (take j connectors)));
-      tied = has.tied;
-      come = has.come;
-    }
-
 -- another more
-pub joined-odd : (net : Network) (t : ℕ) (cells halo connectors : List ℕ) (first places : List Place) (links : List FollowedLink)
-    (slow_links : List SlowLinkValues) (ties : List Tie) (tie : Tie)
+pub joined-odd : (net : Network) (t : ℕ) (cells halo connectors : List ℕ) (first places : List Place) (links : List FollowedLink) (ties : List Tie) (tie : Tie)
     (j : ℕ) → j < length connectors → is_chained cells (connector_at net.connectors (get_or connectors j 0)) ≡ false →
     tie.connector ≡ get_or connectors j 0 → IsTie net cells halo tie → tie.course.step ≡ 0 →
-    AreJoined net t cells halo (take j connectors) first places links slow_links ties →
-    AreJoined net t cells halo (take (j + 1) connectors) first places links slow_links (ties ++ tie ∷ [])
-joined-odd net t cells halo connectors first places links slow_links ties tie j within odd number tied step has = record {
+    AreJoined net t cells halo (take j connectors) first places links ties →
+    AreJoined net t cells halo (take (j + 1) connectors) first places links (ties ++ tie ∷ [])
+joined-odd net t cells halo connectors first places links ties tie j within odd number tied step has = record {
   only_most = has.only_most;
   links_there = has.links_there;
   joined = λ k d lt.
-      joined-still net cells connectors j (get_or links k d).place within (has.joined k d lt);
-  slow_there = has.slow_there;
-  slowed = slowed-odd net cells connectors j slow_links within odd has.slowed;
-  followed = followed-same (is_listed slow_links) (most_out net cells (take j connectors)) (most_out net cells (take (j + 1) connectors)) places links t
+      joined-more net cells connectors j (get_or links k d).place within
+      ∙ ap (λ b. b || is_link cells (get_or links k d).place (connector_at net.connectors (get_or connectors j 0))) (has.joined k d lt);
+  followed = followed-same (most_out net cells (take j connectors)) (most_out net cells (take (j + 1) connectors)) places links t
       (λ q s. unchained-more net cells connectors j q s within odd) has.followed;
   numbers = map-append (λ tie. tie.connector) ties (tie ∷ []) ∙ ap (λ list. list ++ tie.connector ∷ []) has.numbers
       ∙ ap (λ k. odd_ones net cells (take j connectors) ++ k ∷ []) number ∙ sym (odd-more net cells connectors j false within odd);

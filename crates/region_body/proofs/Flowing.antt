@@ -7,9 +7,9 @@ use Rattle.std.proofs.lemmas.List.Elements.{Contains-get_or}
 use Rattle.signal_plan.specs.Capacity.{capacity_at}
 use Rattle.signal_plan.specs.Speeds.{arriving, speed_at}
 use Rattle.signal_plan.proofs.Sums.{sum_by_places, sum_by-zero}
-use Rattle.network_file.specs.Cells.{is_gate_at}
+use Rattle.network_file.specs.Cells.{is_exit_at, is_gate_at}
 use Rattle.network_file.specs.Connectors.{connector_at, leads_into, leads_out_of}
-use Rattle.network_file.specs.Network.{IsNetwork, Network}
+use Rattle.network_file.specs.Network.{IsNetwork, IsSoundConnector, Network}
 use Rattle.network_file.specs.declared.connector.Connector.{Connector}
 use Rattle.network_file.specs.declared.connector.Connector.TheVariants.{Link}
 use Rattle.flow_model.specs.Flows.{entering, flow_of, inflow, leaving, outflow}
@@ -80,6 +80,15 @@ join net cells connectors p around joined =
           (range-Contains (length cells) p (omega arith)) some.2;
       at = at;
     }
+
+-- nothing is joined to an exit
+pub joined-sends : (net : Network) (cells connectors : List ℕ) (p : ℕ) → IsNetwork net → AreAround net cells connectors → is_joined net cells connectors p ≡ true →
+    is_exit_at net.cells (slice_index cells p) ≡ false
+joined-sends net cells connectors p sound around joined =
+    let at = join net cells connectors p around joined in
+    let is : IsSoundConnector net.cells (Link (slice_index cells p) (slice_index cells (p + 1))) =
+    subst (IsSoundConnector net.cells) at.at.is (connector_at-sound net at.number sound at.there) in
+    (is.up 0 0 (omega arith)).1
 
 joined-by : (net : Network) (cells connectors : List ℕ) (p k : ℕ) (around : AreAround net cells connectors) → k < length net.connectors →
     around.touched k ≡ true → is_link cells p (connector_at net.connectors k) ≡ true → is_joined net cells connectors p ≡ true

@@ -1,6 +1,6 @@
 -- Links whose changes are written one after the other.
-use Rattle.std.specs.Prelude.{All, Bool, ◌⊎◌}
-use Rattle.std.proofs.Common.{◌≡◌, ◌≢◌, false, ℕ, ◌+◌, ◌<◌, ◌≤◌, List, length, sym, ap, ◌∙◌, subst, inl, inr, arith}
+use Rattle.std.specs.Prelude.{All, ◌⊎◌}
+use Rattle.std.proofs.Common.{◌≡◌, ◌≢◌, ℕ, ◌+◌, ◌<◌, ◌≤◌, List, length, refl, sym, ap, ◌∙◌, subst, inl, inr, arith}
 use Rattle.std.proofs.Math.ListN.{get_or, set, length-set}
 use Rattle.std.proofs.lemmas.Bool.{cases_eq}
 use Rattle.std.proofs.lemmas.List.{get_or-set_same, get_or-set_other}
@@ -10,9 +10,11 @@ use Rattle.courses.specs.Links.{most_at}
 use Rattle.region_body.specs.Followed.{AreFollowed, IsChanged, IsCourse, IsFollowed, IsThere, IsUnchanged}
 use Rattle.region_body.specs.declared.followed.FollowedLink.{FollowedLink}
 
--- the first j links are refreshed: all follow on, and where one of the first j follows a place it has the most of step t
-pub record IsRefreshed (apart : ℕ → Bool) (most : ℕ → ℕ → ℕ) (places : List Place) (links : List FollowedLink) (t j : ℕ) : Type 0 where
-  pub followed : AreFollowed apart most places links t
+-- the first j links are refreshed: all follow on, no place has changed but for its most, and where one of the first j
+-- follows a place it has the most of step t
+pub record IsRefreshed (most : ℕ → ℕ → ℕ) (first places : List Place) (links : List FollowedLink) (t j : ℕ) : Type 0 where
+  pub followed : AreFollowed most places links t
+  pub only_most : (p : ℕ) → place_at places p ≡ record (place_at first p) { most = (place_at places p).most }
   pub now : (p m : ℕ) → m < j → IsFollowed most (place_at places p) links t p m → (place_at places p).most ≡ most p t
 
 -- what one link more does to its place
@@ -88,14 +90,14 @@ this-link most places links t j old new after step courses has = record {
 }
 
 -- the place of this step, and the others
-followed-here : (apart : ℕ → Bool) (most : ℕ → ℕ → ℕ) (places : List Place) (links : List FollowedLink) (t j : ℕ) (old new : FollowedLink) (after : Place) →
-    IsStep most places links t j old new after → AreFollowed apart most places links t → apart old.place ≡ false →
+followed-here : (most : ℕ → ℕ → ℕ) (places : List Place) (links : List FollowedLink) (t j : ℕ) (old new : FollowedLink) (after : Place) →
+    IsStep most places links t j old new after → AreFollowed most places links t →
     ((s : ℕ) → t ≤ s → after.most ≡ most old.place s) ⊎ ((m : ℕ) × IsFollowed most after (set links j new) t old.place m)
-followed-here apart most places links t j old new after step followed free =
+followed-here most places links t j old new after step followed =
     let q : ℕ = old.place in
     let before : Place = place_at places q in
     let keeps = kept most places links t j old new after step followed.courses in
-    elim (followed.each q step.there free) [
+    elim (followed.each q step.there) [
       | inl constant ↦ inl (λ s from. kept-constant most before after q t s keeps constant from)
       | inr (m, has) ↦ elim (cases_eq m j) [
         | inl same ↦
@@ -105,10 +107,10 @@ followed-here apart most places links t j old new after step followed free =
       ]
     ]
 
-followed-there : (apart : ℕ → Bool) (most : ℕ → ℕ → ℕ) (places : List Place) (links : List FollowedLink) (t j p : ℕ) (old new : FollowedLink) (after : Place) →
-    IsStep most places links t j old new after → AreFollowed apart most places links t → p < length places → apart p ≡ false → p ≢ old.place →
+followed-there : (most : ℕ → ℕ → ℕ) (places : List Place) (links : List FollowedLink) (t j p : ℕ) (old new : FollowedLink) (after : Place) →
+    IsStep most places links t j old new after → AreFollowed most places links t → p < length places → p ≢ old.place →
     ((s : ℕ) → t ≤ s → (place_at places p).most ≡ most p s) ⊎ ((m : ℕ) × IsFollowed most (place_at places p) (set links j new) t p m)
-followed-there apart most places links t j p old new after step followed lt free other = elim (followed.each p lt free) [
+followed-there most places links t j p old new after step followed lt other = elim (followed.each p lt) [
   | inl constant ↦ inl constant
   | inr (m, has) ↦ elim (cases_eq m j) [
     | inl same ↦
@@ -118,21 +120,20 @@ followed-there apart most places links t j p old new after step followed lt free
   ]
 ]
 
-pub followed-more : (apart : ℕ → Bool) (most : ℕ → ℕ → ℕ) (places : List Place) (links : List FollowedLink) (t j : ℕ) (old new : FollowedLink) (after : Place) →
-    IsStep most places links t j old new after → AreFollowed apart most places links t → AreFollowed apart most (set places old.place after) (set links j new) t
-followed-more apart most places links t j old new after step followed = record {
+pub followed-more : (most : ℕ → ℕ → ℕ) (places : List Place) (links : List FollowedLink) (t j : ℕ) (old new : FollowedLink) (after : Place) →
+    IsStep most places links t j old new after → AreFollowed most places links t → AreFollowed most (set places old.place after) (set links j new) t
+followed-more most places links t j old new after step followed = record {
   courses = courses-more most places links t j old new after step followed.courses;
-  each = λ p lt free. elim (cases_eq p old.place) [
+  each = λ p lt. elim (cases_eq p old.place) [
     | inl same ↦
-        rw (same, get_or-set_same places old.place after no_place step.there)
-        (followed-here apart most places links t j old new after step followed (subst (λ q. apart q ≡ false) same free))
+        rw (same, get_or-set_same places old.place after no_place step.there) (followed-here most places links t j old new after step followed)
     | inr other ↦
         rw (get_or-set_other places old.place p after no_place other)
-        (followed-there apart most places links t j p old new after step followed (omega (arith, length-set places old.place after)) free other)
+        (followed-there most places links t j p old new after step followed (omega (arith, length-set places old.place after)) other)
   ];
 }
 
-pub only_most-more : (first : List Place) (places : List Place) (q p : ℕ) (after : Place) → q < length places →
+only_most-more : (first : List Place) (places : List Place) (q p : ℕ) (after : Place) → q < length places →
     after ≡ record (place_at places q) { most = after.most } →
     ((p : ℕ) → place_at places p ≡ record (place_at first p) { most = (place_at places p).most }) →
     place_at (set places q after) p ≡ record (place_at first p) { most = (place_at (set places q after) p).most }
@@ -144,10 +145,10 @@ only_most-more first places q p after there only before = elim (cases_eq p q) [
 ]
 
 -- the place has the most of step t where one of the first links follows it
-now-here : (apart : ℕ → Bool) (most : ℕ → ℕ → ℕ) (places : List Place) (links : List FollowedLink) (t j m : ℕ) (old new : FollowedLink) (after : Place) →
-    IsStep most places links t j old new after → IsRefreshed apart most places links t j → m < j + 1 →
+now-here : (most : ℕ → ℕ → ℕ) (first places : List Place) (links : List FollowedLink) (t j m : ℕ) (old new : FollowedLink) (after : Place) →
+    IsStep most places links t j old new after → IsRefreshed most first places links t j → m < j + 1 →
     IsFollowed most after (set links j new) t old.place m → after.most ≡ most old.place t
-now-here apart most places links t j m old new after step refreshed below has =
+now-here most first places links t j m old new after step refreshed below has =
     let q : ℕ = old.place in
     elim step.due [
       | inr now ↦ now.most ∙ old-course most places links t j old new after step refreshed.followed.courses t
@@ -166,10 +167,10 @@ now-here apart most places links t j m old new after step refreshed below has =
       ]
     ]
 
-now-there : (apart : ℕ → Bool) (most : ℕ → ℕ → ℕ) (places : List Place) (links : List FollowedLink) (t j p m : ℕ) (old new : FollowedLink) (after : Place) →
-    IsStep most places links t j old new after → IsRefreshed apart most places links t j → p ≢ old.place → m < j + 1 →
+now-there : (most : ℕ → ℕ → ℕ) (first places : List Place) (links : List FollowedLink) (t j p m : ℕ) (old new : FollowedLink) (after : Place) →
+    IsStep most places links t j old new after → IsRefreshed most first places links t j → p ≢ old.place → m < j + 1 →
     IsFollowed most (place_at places p) (set links j new) t p m → (place_at places p).most ≡ most p t
-now-there apart most places links t j p m old new after step refreshed other below has = elim (cases_eq m j) [
+now-there most first places links t j p m old new after step refreshed other below has = elim (cases_eq m j) [
   | inl this ↦
       let its : (get_or (set links j new) j old).place ≡ p = subst (λ k. (get_or (set links j new) k old).place ≡ p) this (has.its old) in
       absurd (other (sym its ∙ ap (λ link. link.place) (get_or-set_same links j new old step.within) ∙ step.its))
@@ -180,13 +181,14 @@ now-there apart most places links t j p m old new after step refreshed other bel
   })
 ]
 
-pub refreshed-more : (apart : ℕ → Bool) (most : ℕ → ℕ → ℕ) (places : List Place) (links : List FollowedLink) (t j : ℕ) (old new : FollowedLink) (after : Place) →
-    IsStep most places links t j old new after → IsRefreshed apart most places links t j →
-    IsRefreshed apart most (set places old.place after) (set links j new) t (j + 1)
-refreshed-more apart most places links t j old new after step refreshed =
+pub refreshed-more : (most : ℕ → ℕ → ℕ) (first places : List Place) (links : List FollowedLink) (t j : ℕ) (old new : FollowedLink) (after : Place) →
+    IsStep most places links t j old new after → IsRefreshed most first places links t j →
+    IsRefreshed most first (set places old.place after) (set links j new) t (j + 1)
+refreshed-more most first places links t j old new after step refreshed =
     let q : ℕ = old.place in
     record {
-      followed = followed-more apart most places links t j old new after step refreshed.followed;
+      followed = followed-more most places links t j old new after step refreshed.followed;
+      only_most = λ p. only_most-more first places q p after step.there step.only_most refreshed.only_most;
       now = λ p m below has. elim (cases_eq p q) [
         | inl same ↦
             let at : place_at (set places q after) p ≡ after =
@@ -194,30 +196,32 @@ refreshed-more apart most places links t j old new after step refreshed =
             let here : IsFollowed most after (set links j new) t q m =
             subst (λ place. IsFollowed most place (set links j new) t q m) at
             (subst (λ k. IsFollowed most (place_at (set places q after) p) (set links j new) t k m) same has) in
-            ap (λ place. place.most) at ∙ now-here apart most places links t j m old new after step refreshed below here
+            ap (λ place. place.most) at ∙ now-here most first places links t j m old new after step refreshed below here
             ∙ ap (λ k. most k t) (sym same)
         | inr other ↦
             let at : place_at (set places q after) p ≡ place_at places p = get_or-set_other places q p after no_place other in
             ap (λ place. place.most) at
-            ∙ now-there apart most places links t j p m old new after step refreshed other below
+            ∙ now-there most first places links t j p m old new after step refreshed other below
             (subst (λ place. IsFollowed most place (set links j new) t p m) at has)
       ];
     }
 
-pub refreshed-none : (apart : ℕ → Bool) (most : ℕ → ℕ → ℕ) (places : List Place) (links : List FollowedLink) (t : ℕ) → AreFollowed apart most places links t →
-    IsRefreshed apart most places links t 0
-refreshed-none apart most places links t followed = record {
+pub refreshed-none : (most : ℕ → ℕ → ℕ) (places : List Place) (links : List FollowedLink) (t : ℕ) → AreFollowed most places links t →
+    IsRefreshed most places places links t 0
+refreshed-none most places links t followed = record {
   followed = followed;
+  only_most = λ p. refl;
   now = λ p m below has. absurd (omega arith);
 }
 
 -- all are refreshed
-pub refreshed-all : (apart : ℕ → Bool) (most : ℕ → ℕ → ℕ) (places : List Place) (links : List FollowedLink) (t j p : ℕ) → IsRefreshed apart most places links t j →
-    length links ≤ j → p < length places → apart p ≡ false → (place_at places p).most ≡ most p t
-refreshed-all apart most places links t j p refreshed all within free = elim (refreshed.followed.each p within free) [
-  | inl constant ↦ constant t (omega arith)
-  | inr (m, has) ↦ let there = has.there in refreshed.now p m (omega arith) has
-]
+pub refreshed-all : (most : ℕ → ℕ → ℕ) (first places : List Place) (links : List FollowedLink) (t j p : ℕ) → IsRefreshed most first places links t j →
+    length links ≤ j → p < length places → place_at places p ≡ record (place_at first p) { most = most p t }
+refreshed-all most first places links t j p refreshed all within =
+    refreshed.only_most p ∙ ap {B = Place} (λ m. record (place_at first p) { most = m }) (elim (refreshed.followed.each p within) [
+      | inl constant ↦ constant t (omega arith)
+      | inr (m, has) ↦ let there = has.there in refreshed.now p m (omega arith) has
+    ])
 
 -- links that are there stay there
 pub there-more : (places t j : ℕ) (links : List FollowedLink) (old new : FollowedLink) → j < length links → get_or links j old ≡ old →

@@ -1,5 +1,5 @@
 -- A place that is joined to the next, and the links that follow.
-use Rattle.std.specs.Prelude.{Bool, slice_index}
+use Rattle.std.specs.Prelude.{slice_index}
 use Rattle.std.proofs.Common.{◌≡◌, ◌≢◌, ℕ, ◌+◌, ◌<◌, ◌≤◌, inl, inr, List, [], ◌∷◌, ◌++◌, length, get_or, set, refl, sym, ap, ◌∙◌, arith}
 use Rattle.std.proofs.lemmas.Bool.{cases_eq}
 use Rattle.std.proofs.lemmas.List.{get_or-set_other, get_or-set_same, get_or_append_left, get_or_push, length-set, length_push}
@@ -32,19 +32,19 @@ others-follow plan cells most later place links after t p q m extends other long
 }
 
 -- the most never changes
-pub joined-constant : (plan : PlanRecords) (cells : List ℕ) (apart : ℕ → Bool) (most later : ℕ → ℕ → ℕ) (places : List Place) (links : List FollowedLink) (t p : ℕ)
+pub joined-constant : (plan : PlanRecords) (cells : List ℕ) (most later : ℕ → ℕ → ℕ) (places : List Place) (links : List FollowedLink) (t p : ℕ)
     (course : LinkValues) (value until : ℕ) → p < length places → IsJoined plan cells p t course value until →
-    ((s u : ℕ) → most_at course s ≡ most_at course u) → AreFollowed apart most places links t → Extends plan cells p links most later →
-    AreFollowed apart later (set places p (record (place_at places p) { most = value })) links t
-joined-constant plan cells apart most later places links t p course value until there joined constant followed extends =
+    ((s u : ℕ) → most_at course s ≡ most_at course u) → AreFollowed most places links t → Extends plan cells p links most later →
+    AreFollowed later (set places p (record (place_at places p) { most = value })) links t
+joined-constant plan cells most later places links t p course value until there joined constant followed extends =
     let place : Place = record (place_at places p) { most = value } in
     record {
       courses = λ k d within s. followed.courses k d within s ∙ sym (extends.linked k d within s);
-      each = λ q lt free. elim (cases_eq q p) [
+      each = λ q lt. elim (cases_eq q p) [
         | inl same ↦ rw (same, get_or-set_same places p place no_place there)
             (inl (λ s from. joined.value_is ∙ constant t s ∙ joined.course_is s ∙ sym (extends.here s)))
         | inr other ↦ rw (get_or-set_other places p q place no_place other)
-            (elim (followed.each q (omega (arith, length-set places p place)) free) [
+            (elim (followed.each q (omega (arith, length-set places p place))) [
               | inl steady ↦ inl (λ s from. steady s from ∙ sym (extends.others q s other))
               | inr (m, has) ↦ inr (m, others-follow plan cells most later (place_at places q) links links t p q m extends other (omega arith) (λ k d within. refl) has)
             ])
@@ -52,18 +52,18 @@ joined-constant plan cells apart most later places links t p course value until 
     }
 
 -- the most changes, and a link follows it
-pub joined-followed : (plan : PlanRecords) (cells : List ℕ) (apart : ℕ → Bool) (most later : ℕ → ℕ → ℕ) (places : List Place) (links : List FollowedLink) (t p : ℕ)
+pub joined-followed : (plan : PlanRecords) (cells : List ℕ) (most later : ℕ → ℕ → ℕ) (places : List Place) (links : List FollowedLink) (t p : ℕ)
     (link : FollowedLink) (value : ℕ) → p < length places → IsJoined plan cells p t link.course value link.until → link.place ≡ p →
-    AreFollowed apart most places links t → Extends plan cells p links most later →
-    AreFollowed apart later (set places p (record (place_at places p) { most = value })) (links ++ link ∷ []) t
-joined-followed plan cells apart most later places links t p link value there joined its followed extends =
+    AreFollowed most places links t → Extends plan cells p links most later →
+    AreFollowed later (set places p (record (place_at places p) { most = value })) (links ++ link ∷ []) t
+joined-followed plan cells most later places links t p link value there joined its followed extends =
     let place : Place = record (place_at places p) { most = value } in
     let after : List FollowedLink = links ++ link ∷ [] in
     let longer = length_push links link in
     record {
       courses = All-push (IsCourse later) links link (λ k d within s. followed.courses k d within s ∙ sym (extends.linked k d within s))
           (λ s. joined.course_is s ∙ sym (extends.here s) ∙ ap (λ q. later q s) (sym its));
-      each = λ q lt free. elim (cases_eq q p) [
+      each = λ q lt. elim (cases_eq q p) [
         | inl same ↦ rw (same, get_or-set_same places p place no_place there)
             (inr (
               length links,
@@ -76,7 +76,7 @@ joined-followed plan cells apart most later places links t p link value there jo
               },
             ))
         | inr other ↦ rw (get_or-set_other places p q place no_place other)
-            (elim (followed.each q (omega (arith, length-set places p place)) free) [
+            (elim (followed.each q (omega (arith, length-set places p place))) [
               | inl steady ↦ inl (λ s from. steady s from ∙ sym (extends.others q s other))
               | inr (m, has) ↦ inr (
                 m,

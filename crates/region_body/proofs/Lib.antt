@@ -1,5 +1,9 @@
 pub mod Neighbours
 pub mod Sets
+pub mod AtSpeeds
+pub mod SpeedCourses
+pub mod RunsMade
+pub mod Swept
 pub mod Factors
 pub mod LinkFlows
 pub mod Boundless
@@ -12,7 +16,6 @@ pub mod Slowed
 pub mod Made
 pub mod Nothing
 pub mod Shares
-pub mod SlowLinks
 pub mod Links
 pub mod Flowing
 pub mod Stepping

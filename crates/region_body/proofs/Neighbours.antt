@@ -24,13 +24,7 @@ pub link_in-first : (places : List Place) → link_in places 0 ≡ 0
 unfolding link_in
 link_in-first places = refl
 
--- one place more is swept
-pub swept-more : (places : List Place) (place next : Place) (p : ℕ) (enters leaves : ℕ) → place ≡ place_at places p →
-    next ≡ place_at places (p + 1) → enters ≡ link_in places p → leaves ≡ carried place next → moved place enters leaves ≡ swept places p
-unfolding link_out
-swept-more places place next p enters leaves here there came went = cc
-
--- and the last
-pub swept-last : (places : List Place) (place : Place) (p : ℕ) (enters : ℕ) → length places ≤ p + 1 → place ≡ place_at places p →
-    enters ≡ link_in places p → moved place enters 0 ≡ swept places p
-swept-last places place p enters last here came = let none = link_out-last places p last in cc
+-- the last place is swept
+pub swept-last : (places sending : List Place) (place : Place) (p : ℕ) (enters : ℕ) → length sending ≤ p + 1 → place ≡ place_at places p →
+    enters ≡ link_in sending p → moved place enters 0 ≡ swept places sending p
+swept-last places sending place p enters last here came = let none = link_out-last sending p last in cc

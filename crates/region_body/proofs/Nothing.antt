@@ -9,11 +9,10 @@ use Rattle.merge_rule.proofs.MergeFacts.{first_flow-room, second_flow-room}
 use Rattle.flow_model.specs.Flows.{diverge_carries, link_carries, merge_carries}
 use Rattle.flow_model.specs.declared.carried.Flow.{Flow}
 use Rattle.region_body.specs.Limits.{AreInForce, AreKept, limits_of_courses, limits_in}
-use Rattle.region_body.specs.Flows.{LimitedValues, carried_by, limited_flow, limits_of, no_flow}
+use Rattle.region_body.specs.Flows.{LimitedValues, carried_by, limited_flow, no_flow}
 use Rattle.courses.specs.Courses.{value_at}
 use Rattle.region_body.specs.declared.limit_courses.LimitCourses.{LimitCourses}
 use Rattle.region_body.specs.declared.limits.Limits.{Limits}
-use Rattle.region_body.proofs.Made.{flow-within}
 
 -- by what their cells have to send
 

@@ -2,7 +2,7 @@
 use Rattle.std.specs.Prelude.{All, None, Option, ◌==◌, ◌⊎◌, map, slice_index, if◌then◌else◌}
 use Rattle.std.specs.List.{range_with_len, sum_by}
 use Rattle.std.proofs.Common.{◌≡◌, Bool, ℕ, zero, suc, ◌+◌, ◌-◌, ◌^◌, ◌<◌, ◌≤◌, inl, inr, true, false, List, [], ◌∷◌, length, get_or, refl, sym, ap, ◌∙◌, subst, zero-add, add-one, arith}
-use Rattle.std.proofs.lemmas.Bool.{cases_Bool, cases_lt}
+use Rattle.std.proofs.lemmas.Bool.{cases_lt}
 use Rattle.std.proofs.lemmas.List.{ext_get_or}
 use Rattle.std.proofs.lemmas.List.FromFn.{get_or-map-range_with_len, length-map-range_with_len}
 use Rattle.signal_plan.proofs.Sums.{sum_by-zero}
@@ -16,27 +16,28 @@ use Rattle.region_body.specs.Flows.{flow_at, no_flow}
 use Rattle.region_body.specs.Places.{carried, link_in, link_out, moved, no_place, place_at}
 use Rattle.region_body.specs.Space.{IsSpaceOf}
 use Rattle.region_body.specs.declared.place.Place.{Place}
-use Rattle.region_body.proofs.Neighbours.{link_in-first, link_in-more, link_out-carried, place_at-past}
-use Rattle.courses.specs.Courses.{value_at}
+use Rattle.region_body.proofs.Neighbours.{link_in-first, link_in-more, place_at-past}
+use Rattle.courses.specs.Cells.{CellValues}
+use Rattle.courses.specs.Courses.{Course, value_at}
 use Rattle.region_body.specs.Followed.{AreFollowed}
 use Rattle.region_body.specs.declared.followed.FollowedLink.{FollowedLink}
 use Rattle.region_body.specs.Carrying.{IsSpotOf, IsThere, IsTie, held_in, spot_at, three_held}
 use Rattle.region_body.specs.Chains.{most_out}
 use Rattle.region_body.specs.Gates.{AreGatesKept, demand_into}
 use Rattle.region_body.specs.Moves.{ArePartsOf, IsScene, IsSeen, in_by, out_by}
-use Rattle.region_body.specs.Pausing.{AreIdle, IsIdleUntil, IsSlowIdle}
+use Rattle.region_body.specs.Pausing.{AreIdle, IsIdleUntil}
 use Rattle.region_body.specs.Placed.{ArePlacesInBounds, ArePlaced, CanAdvance, PlacedCells, WaitThrough}
 use Rattle.region_body.specs.Rows.{IsOf, origin_at, row_of, rows_of}
-use Rattle.region_body.specs.SlowLinks.{AreSlowed, IsSlowThere, SlowLinkValues, is_listed, most_arriving, slow_most}
+use Rattle.region_body.specs.Speeds.{at_speeds, slowed_place, speed_of}
 use Rattle.region_body.specs.Waiting.{waited}
 use Rattle.region_body.specs.declared.gate.GatePlace.{GatePlace}
 use Rattle.region_body.specs.declared.pause.Pause.{Pause}
 use Rattle.region_body.specs.declared.tie.Tie.{Tie}
 use Rattle.region_body.proofs.Parting.{carried-is}
-use Rattle.region_body.proofs.Renewed.{AreRenewed, most_now, renewed-by}
-use Rattle.region_body.proofs.SlowLinks.{listed-at, no_cell, no_link}
+use Rattle.region_body.proofs.AtSpeeds.{link_out-at_speeds}
+use Rattle.region_body.proofs.Renewed.{renewed-of, speeds-later}
 use Rattle.region_body.proofs.Spots.{held-same}
-use Rattle.region_body.proofs.Stays.{length-waited, most-waited, n-waited, place_at-waited, waited-same}
+use Rattle.region_body.proofs.Stays.{length-waited, n-waited, place_at-waited, waited-same}
 use Rattle.region_body.proofs.Ties.{demands-kept, gates-kept}
 use Rattle.region_body.proofs.Whole.{IsMoved, held-sum, length-rows_after, length-rows_of, ready, row-after, row_at-rows_after, row_at-rows_of, steps-moved}
 
@@ -63,95 +64,68 @@ amount_beside-nothing i (a ∷ b ∷ cells) = both (i == a) (i == b) cells
 
 -- the links to neighbours
 
--- the places with what their links carry at most in step t
-abbrev fresh : Network → (cells connectors : List ℕ) → List SlowLinkValues → (t : ℕ) → List Place → List Place
-fresh net cells connectors slow_links t places =
-    map (λ p. record (place_at places p) { most = most_now net cells connectors slow_links t p (place_at places p).n }) (range_with_len 0 (length places))
+-- the places with what the limits let their links carry in step t
+abbrev limited : Network → (cells connectors : List ℕ) → (t : ℕ) → List Place → List Place
+limited net cells connectors t places = map (λ p. record (place_at places p) { most = most_out net cells connectors p t }) (range_with_len 0 (length places))
 
-length-fresh : (net : Network) (cells connectors : List ℕ) (slow_links : List SlowLinkValues) (t : ℕ) (places : List Place) →
-    length (fresh net cells connectors slow_links t places) ≡ length places
-length-fresh net cells connectors slow_links t places =
-    length-map-range_with_len (λ p. record (place_at places p) { most = most_now net cells connectors slow_links t p (place_at places p).n }) 0 (length places)
+length-limited : (net : Network) (cells connectors : List ℕ) (t : ℕ) (places : List Place) → length (limited net cells connectors t places) ≡ length places
+length-limited net cells connectors t places =
+    length-map-range_with_len (λ p. record (place_at places p) { most = most_out net cells connectors p t }) 0 (length places)
 
-fresh-at : (net : Network) (cells connectors : List ℕ) (slow_links : List SlowLinkValues) (t : ℕ) (places : List Place) (p : ℕ) → p < length places →
-    place_at (fresh net cells connectors slow_links t places) p ≡
-    record (place_at places p) { most = most_now net cells connectors slow_links t p (place_at places p).n }
-fresh-at net cells connectors slow_links t places p within =
-    get_or-map-range_with_len (λ p. record (place_at places p) { most = most_now net cells connectors slow_links t p (place_at places p).n }) 0 (length places) p p no_place
-    within (zero-add p)
+limited-at : (net : Network) (cells connectors : List ℕ) (t : ℕ) (places : List Place) (p : ℕ) → p < length places →
+    place_at (limited net cells connectors t places) p ≡ record (place_at places p) { most = most_out net cells connectors p t }
+limited-at net cells connectors t places p within =
+    get_or-map-range_with_len (λ p. record (place_at places p) { most = most_out net cells connectors p t }) 0 (length places) p p no_place within (zero-add p)
 
 -- what a place holds and its space
-fresh-next : (net : Network) (cells connectors : List ℕ) (slow_links : List SlowLinkValues) (t : ℕ) (places : List Place) (p : ℕ) (place : Place) →
-    carried place (place_at (fresh net cells connectors slow_links t places) p) ≡ carried place (place_at places p)
-fresh-next net cells connectors slow_links t places p place = elim (cases_lt p (length places)) [
-  | inl within ↦ ap (carried place) (fresh-at net cells connectors slow_links t places p within)
+limited-next : (net : Network) (cells connectors : List ℕ) (t : ℕ) (places : List Place) (p : ℕ) (place : Place) →
+    carried place (place_at (limited net cells connectors t places) p) ≡ carried place (place_at places p)
+limited-next net cells connectors t places p place = elim (cases_lt p (length places)) [
+  | inl within ↦ ap (carried place) (limited-at net cells connectors t places p within)
   | inr past ↦
-      ap (carried place) (place_at-past (fresh net cells connectors slow_links t places) p (omega (arith, past, length-fresh net cells connectors slow_links t places))
+      ap (carried place) (place_at-past (limited net cells connectors t places) p (omega (arith, past, length-limited net cells connectors t places))
       ∙ sym (place_at-past places p (omega (arith, past))))
 ]
 
 no_followed : FollowedLink
 no_followed = record { place = 0; until = 0; course = record { up = no_cell; down = no_cell; step = 0 } }
+  where
+    no_numbers : Course ℕ
+    no_numbers = record { start = 0; changes = []; step = 0 }
 
--- the place holds nothing, or has already what its link carries at most
-fresh-most : (net : Network) (cells connectors : List ℕ) (t until : ℕ) (places : List Place) (links : List FollowedLink) (slow_links : List SlowLinkValues) (ties : List Tie)
-    (put : List (Option ℕ)) (p : ℕ) → AreSlowed net cells connectors slow_links → All (IsSlowThere (length places) t) slow_links →
-    AreFollowed (is_listed slow_links) (most_out net cells connectors) places links t → AreIdle places links slow_links ties put until → t < until → p < length places →
-    ((place_at places p).n ≡ 0) ⊎ ((place_at places p).most ≡ most_now net cells connectors slow_links t p (place_at places p).n)
-fresh-most net cells connectors t until places links slow_links ties put p slowed there followed idle before within =
-    let place : Place = place_at places p in
-    elim (cases_Bool (is_listed slow_links p)) [
-      | inl listed ↦
-          let at = listed-at slow_links p listed in
-          let own : SlowLinkValues = get_or slow_links at.0 no_link in
-          let here : IsSlowIdle places until own = idle.slow at.0 no_link at.1 in
-          elim here [
-            | inl empty ↦ inl (ap (λ q. (place_at places q).n) (sym at.2) ∙ empty)
-            | inr stays ↦
-                let step = (there at.0 no_link at.1).step in
-                inr (ap (λ q. (place_at places q).most) (sym at.2) ∙ stays t step before ∙ slowed.each at.0 no_link at.1 t (place_at places own.place).n
-                ∙ ap (λ q. most_arriving net cells q t (place_at places q).n) at.2
-                ∙ sym (ap (λ b. if b then most_arriving net cells p t place.n else most_out net cells connectors p t) listed))
-          ]
-      | inr other ↦
-          let same : place.most ≡ most_out net cells connectors p t → place.most ≡ most_now net cells connectors slow_links t p place.n =
-          λ most. most ∙ sym (ap (λ b. if b then most_arriving net cells p t place.n else most_out net cells connectors p t) other) in
-          elim (followed.each p within other) [
-            | inl constant ↦ inr (same (constant t (omega arith)))
-            | inr (m, has) ↦ elim (idle.changes m no_followed has.there) [
-              | inl empty ↦ inl (ap (λ q. (place_at places q).n) (sym (has.its no_followed)) ∙ empty)
-              | inr later ↦ inr (same (has.steady no_followed t (omega arith) (omega (arith, later, before))))
-            ]
-          ]
-    ]
+    no_cell : CellValues
+    no_cell = record { capacity = no_numbers; signal = None }
 
-fresh-still : (net : Network) (cells connectors : List ℕ) (t until : ℕ) (places : List Place) (links : List FollowedLink) (slow_links : List SlowLinkValues) (ties : List Tie)
-    (put : List (Option ℕ)) (p : ℕ) → AreSlowed net cells connectors slow_links → All (IsSlowThere (length places) t) slow_links →
-    AreFollowed (is_listed slow_links) (most_out net cells connectors) places links t → AreIdle places links slow_links ties put until → t < until → p < length places →
-    link_out (fresh net cells connectors slow_links t places) p ≡ 0
-fresh-still net cells connectors t until places links slow_links ties put p slowed there followed idle before within =
+-- the place holds nothing, or the most of its link is that of step t
+limited-most : (net : Network) (cells connectors : List ℕ) (t until speeds_until : ℕ) (places : List Place) (speeds : List (ℕ × ℕ)) (links : List FollowedLink)
+    (ties : List Tie) (put : List (Option ℕ)) (p : ℕ) → AreFollowed (most_out net cells connectors) places links t →
+    AreIdle places speeds speeds_until links ties put until → t < until → p < length places →
+    ((place_at places p).n ≡ 0) ⊎ ((place_at places p).most ≡ most_out net cells connectors p t)
+limited-most net cells connectors t until speeds_until places speeds links ties put p followed idle before within = elim (followed.each p within) [
+  | inl constant ↦ inr (constant t (omega arith))
+  | inr (m, has) ↦ elim (idle.changes m no_followed has.there) [
+    | inl empty ↦ inl (ap (λ q. (place_at places q).n) (sym (has.its no_followed)) ∙ empty)
+    | inr later ↦ inr (has.steady no_followed t (omega arith) (omega (arith, later, before)))
+  ]
+]
+
+limited-still : (net : Network) (cells connectors : List ℕ) (t until speeds_until : ℕ) (places : List Place) (speeds : List (ℕ × ℕ)) (links : List FollowedLink)
+    (ties : List Tie) (put : List (Option ℕ)) (p : ℕ) → AreFollowed (most_out net cells connectors) places links t →
+    AreIdle places speeds speeds_until links ties put until → t < until → p < length places →
+    link_out (at_speeds (limited net cells connectors t places) speeds) p ≡ 0
+limited-still net cells connectors t until speeds_until places speeds links ties put p followed idle before within =
     let place : Place = place_at places p in
-    let most : ℕ = most_now net cells connectors slow_links t p place.n in
-    let is : link_out (fresh net cells connectors slow_links t places) p ≡ carried (record place { most = most }) (place_at places (p + 1)) =
-    link_out-carried (fresh net cells connectors slow_links t places) p
-    ∙ fresh-next net cells connectors slow_links t places (p + 1) (place_at (fresh net cells connectors slow_links t places) p)
-    ∙ ap (λ one. carried one (place_at places (p + 1))) (fresh-at net cells connectors slow_links t places p within) in
-    let still : carried place (place_at places (p + 1)) ≡ 0 = sym (link_out-carried places p) ∙ idle.still p within in
-    elim (fresh-most net cells connectors t until places links slow_links ties put p slowed there followed idle before within) [
+    let now = limited net cells connectors t places in
+    let speed : ℕ × ℕ = speed_of speeds p in
+    let is : link_out (at_speeds now speeds) p ≡ carried (slowed_place (record place { most = most_out net cells connectors p t }) speed) (place_at places (p + 1)) =
+    link_out-at_speeds now speeds p (omega (arith, within, length-limited net cells connectors t places))
+    ∙ limited-next net cells connectors t places (p + 1) (slowed_place (place_at now p) speed)
+    ∙ ap (λ one. carried (slowed_place one speed) (place_at places (p + 1))) (limited-at net cells connectors t places p within) in
+    let still : carried (slowed_place place speed) (place_at places (p + 1)) ≡ 0 = sym (link_out-at_speeds places speeds p within) ∙ idle.still p within in
+    elim (limited-most net cells connectors t until speeds_until places speeds links ties put p followed idle before within) [
       | inl none ↦ is ∙ omega (arith, none)
       | inr same ↦ is ∙ rw (← same) still
     ]
-
--- so each has what its link carries at most
-fresh-renewed : (net : Network) (cells connectors : List ℕ) (t : ℕ) (placed : PlacedCells) → IsNetwork net → AreSlowed net cells connectors placed.slow_links →
-    AreRenewed net cells connectors t placed (fresh net cells connectors placed.slow_links t placed.places)
-fresh-renewed net cells connectors t placed sound slowed =
-    let places : List Place = placed.places in
-    let at = fresh-at net cells connectors placed.slow_links t places in
-    renewed-by net cells connectors t placed (fresh net cells connectors placed.slow_links t places) sound slowed
-    (length-fresh net cells connectors placed.slow_links t places)
-    (λ p within. at p within ∙ ap {B = Place} (λ m. record (place_at places p) { most = m }) (sym (ap (λ place. place.most) (at p within))))
-    (λ p within. ap (λ place. place.most) (at p within))
 
 -- the other connectors
 
@@ -186,8 +160,8 @@ pub still : (net : Network) (t : ℕ) (n : ℕ → ℕ) (cells halo connectors :
     ArePlaced net cells halo connectors t placed → ArePlacesInBounds net cells halo t placed put → IsSeen n cells halo placed.places put → WaitThrough t placed put →
     (p : ℕ) → p < length cells → (outflow net t n (slice_index cells p) ≡ 0) × (inflow net t n (slice_index cells p) ≡ 0)
 still net t n cells halo connectors placed put sound before has bounds seen wait =
-    let idle : AreIdle placed.places placed.links placed.slow_links placed.ties put placed.pause.until =
-    subst (λ put. AreIdle placed.places placed.links placed.slow_links placed.ties put placed.pause.until) wait.same (has.pause.idle t wait.paused) in
+    let idle : AreIdle placed.places placed.speeds placed.speeds_until placed.links placed.ties put placed.pause.until =
+    subst (λ put. AreIdle placed.places placed.speeds placed.speeds_until placed.links placed.ties put placed.pause.until) wait.same (has.pause.idle t wait.paused) in
     let scene : IsScene net t cells halo placed.ties placed.places put = record {
       sound = sound;
       before = before;
@@ -205,13 +179,15 @@ still net t n cells halo connectors placed put sound before has bounds seen wait
       brought = λ p within. sym (sum_by-zero (λ tie. in_by net t n (slice_index cells p) tie.connector) placed.ties
           (λ k d there. none-in net t (slice_index cells p) n (get_or placed.ties k d).connector (flow k d there)));
     } in
-    let places : List Place = fresh net cells connectors placed.slow_links t placed.places in
+    let now : List Place = limited net cells connectors t placed.places in
+    let places : List Place = at_speeds now placed.speeds in
     let none : (p : ℕ) → p < length cells → link_out places p ≡ 0 =
-    λ p within. fresh-still net cells connectors t placed.pause.until placed.places placed.links placed.slow_links placed.ties put p has.slowed has.slow_links has.followed idle
+    λ p within. limited-still net cells connectors t placed.pause.until placed.speeds_until placed.places placed.speeds placed.links placed.ties put p has.followed idle
     wait.paused (omega (arith, has.one_each)) in
     let moves : IsMoved net t n cells places (λ p. 0) (λ p. 0) =
     steps-moved net cells halo connectors t n placed places (λ p. 0) (λ p. 0) (λ p. 0) put sound before has bounds seen
-    (fresh-renewed net cells connectors t placed sound has.slowed) parts
+    (renewed-of net cells connectors t placed.speeds_until placed now placed.speed_courses placed.speeds sound has.around has.one_each
+    (length-limited net cells connectors t placed.places) (limited-at net cells connectors t placed.places) has.speeds (omega (arith, wait.paused, idle.stays))) parts
     (λ p. omega (arith, none-demanded t p placed.gates wait.demand_nothing)) in
     λ p within. (
       omega (arith, moves.leaves p within, none p within),
@@ -284,39 +260,34 @@ next-waited places p place = elim (cases_lt p (length places)) [
       ∙ sym (place_at-past places p (omega (arith, past))))
 ]
 
-out-waited : (places : List Place) (p : ℕ) → p < length places → link_out (map (waited 1) places) p ≡ link_out places p
-out-waited places p within =
-    link_out-carried (map (waited 1) places) p ∙ next-waited places (p + 1) (place_at (map (waited 1) places) p)
-    ∙ ap (λ one. carried one (place_at places (p + 1))) (place_at-waited 1 places p within ∙ waited-same 1 (place_at places p))
-    ∙ sym (link_out-carried places p)
+out-waited : (places : List Place) (speeds : List (ℕ × ℕ)) (p : ℕ) → p < length places → link_out (at_speeds (map (waited 1) places) speeds) p ≡ link_out (at_speeds places speeds) p
+out-waited places speeds p within =
+    link_out-at_speeds (map (waited 1) places) speeds p (omega (arith, within, length-waited 1 places))
+    ∙ next-waited places (p + 1) (slowed_place (place_at (map (waited 1) places) p) (speed_of speeds p))
+    ∙ ap (λ one. carried (slowed_place one (speed_of speeds p)) (place_at places (p + 1))) (place_at-waited 1 places p within ∙ waited-same 1 (place_at places p))
+    ∙ sym (link_out-at_speeds places speeds p within)
 
-idle-waited : (places : List Place) (links : List FollowedLink) (slow_links : List SlowLinkValues) (ties : List Tie) (put : List (Option ℕ)) (until : ℕ) → AreIdle places links slow_links ties put until →
-    AreIdle (map (waited 1) places) links slow_links ties put until
-idle-waited places links slow_links ties put until idle = record {
-  still = λ p within. let here : p < length places = omega (arith, within, length-waited 1 places) in out-waited places p here ∙ idle.still p here;
+idle-waited : (places : List Place) (speeds : List (ℕ × ℕ)) (speeds_until : ℕ) (links : List FollowedLink) (ties : List Tie) (put : List (Option ℕ)) (until : ℕ) →
+    AreIdle places speeds speeds_until links ties put until → AreIdle (map (waited 1) places) speeds speeds_until links ties put until
+idle-waited places speeds speeds_until links ties put until idle = record {
+  still = λ p within. let here : p < length places = omega (arith, within, length-waited 1 places) in out-waited places speeds p here ∙ idle.still p here;
+  stays = idle.stays;
   changes = λ k d within. elim (idle.changes k d within) [
     | inl empty ↦ inl (n-waited 1 places (get_or links k d).place ∙ empty)
     | inr later ↦ inr later
   ];
-  slow = λ k d within.
-      let q : ℕ = (get_or slow_links k d).place in
-      elim (idle.slow k d within) [
-        | inl empty ↦ inl (n-waited 1 places q ∙ empty)
-        | inr stays ↦ inr (λ s from before.
-            most-waited 1 places q ∙ stays s from before ∙ ap (slow_most (get_or slow_links k d) s) (sym (n-waited 1 places q)))
-      ];
   tied = λ k d within s from before.
       ap (flow_at (get_or ties k d).course s) (three-waited (get_or ties k d) places put) ∙ idle.tied k d within s from before;
 }
 
-followed-waited : (apart : ℕ → Bool) (most : ℕ → ℕ → ℕ) (places : List Place) (links : List FollowedLink) (t : ℕ) → AreFollowed apart most places links t →
-    AreFollowed apart most (map (waited 1) places) links (t + 1)
-followed-waited apart most places links t has = record {
+followed-waited : (most : ℕ → ℕ → ℕ) (places : List Place) (links : List FollowedLink) (t : ℕ) → AreFollowed most places links t →
+    AreFollowed most (map (waited 1) places) links (t + 1)
+followed-waited most places links t has = record {
   courses = has.courses;
-  each = λ p within free.
+  each = λ p within.
       let here : p < length places = omega (arith, within, length-waited 1 places) in
       let is = ap (λ place. place.most) (place_at-waited 1 places p here ∙ waited-same 1 (place_at places p)) in
-      elim (has.each p here free) [
+      elim (has.each p here) [
         | inl stays ↦ inl (λ s from. is ∙ stays s (omega (arith, from)))
         | inr (m, by) ↦ inr (m, record { there = by.there; its = by.its; steady = λ d s from before. is ∙ by.steady d s (omega (arith, from)) before })
       ];
@@ -351,13 +322,11 @@ placed-waited net cells t placed put gates before sound in_time wait kept long n
       links = λ k d within.
           let there = has.links k d within in
           record { place = omega (arith, there.place, length-waited 1 placed.places); step = omega (arith, there.step) };
-      slow_links = λ k d within.
-          let there = has.slow_links k d within in
-          record { place = omega (arith, there.place, length-waited 1 placed.places); step = omega (arith, there.step) };
-      slowed = has.slowed;
-      followed = followed-waited (is_listed placed.slow_links) (most_out net cells can.connectors) placed.places placed.links t has.followed;
+      speeds = speeds-later net cells placed.speed_courses placed.speeds t placed.speeds_until has.speeds;
+      runs = has.runs;
+      followed = followed-waited (most_out net cells can.connectors) placed.places placed.links t has.followed;
       pause = record {
-        idle = λ s within. idle-waited placed.places placed.links placed.slow_links placed.ties placed.seen placed.pause.until (has.pause.idle s within);
+        idle = λ s within. idle-waited placed.places placed.speeds placed.speeds_until placed.links placed.ties placed.seen placed.pause.until (has.pause.idle s within);
         owed = omega (arith, has.pause.owed);
         kept = λ some p within.
             let here : p < length placed.places = omega (arith, within, length-waited 1 placed.places) in
@@ -397,8 +366,8 @@ placed-awake net cells halo connectors t placed gates has kept = record {
   gates = gates-kept t placed.gates gates kept ∙ has.gates;
   demands = demands-kept net cells t placed.gates gates kept has.demands;
   links = has.links;
-  slow_links = has.slow_links;
-  slowed = has.slowed;
+  speeds = has.speeds;
+  runs = has.runs;
   followed = has.followed;
   pause = record { idle = λ s none. absurd (omega (arith, none)); owed = omega arith; kept = λ some. absurd (omega (arith, some)) };
   seen_each = has.seen_each;
@@ -433,7 +402,7 @@ places-awake net cells t old mid new gates put is kept =
 -- with another pause the cells are placed as before
 pub placed-paused : (net : Network) (cells halo connectors : List ℕ) (t : ℕ) (placed : PlacedCells) (pause : Pause) (seen : List (Option ℕ)) →
     ArePlaced net cells halo connectors t placed → pause.owed ≡ 0 → length seen ≡ length halo →
-    ((s : ℕ) → s < pause.until → AreIdle placed.places placed.links placed.slow_links placed.ties seen pause.until) →
+    ((s : ℕ) → s < pause.until → AreIdle placed.places placed.speeds placed.speeds_until placed.links placed.ties seen pause.until) →
     ArePlaced net cells halo connectors t (record placed { pause = pause; seen = seen })
 placed-paused net cells halo connectors t placed pause seen has none seen_each idle = record {
   around = has.around;
@@ -450,8 +419,8 @@ placed-paused net cells halo connectors t placed pause seen has none seen_each i
   gates = has.gates;
   demands = has.demands;
   links = has.links;
-  slow_links = has.slow_links;
-  slowed = has.slowed;
+  speeds = has.speeds;
+  runs = has.runs;
   followed = has.followed;
   pause = record { idle = idle; owed = omega (arith, none); kept = λ some. absurd (omega (arith, none, some)) };
   seen_each = seen_each;

@@ -1,117 +1,202 @@
--- Places once each has what its link carries at most in a step.
-use Rattle.std.specs.Prelude.{All, Bool, min, slice_index, if◌then◌else◌}
-use Rattle.std.proofs.Common.{◌≡◌, ℕ, ◌+◌, ◌<◌, ◌≤◌, true, false, inl, inr, List, length, refl, sym, ap, ◌∙◌, arith}
+-- Places, links and speeds as they are renewed for a step.
+use Rattle.std.specs.Prelude.{All, Bool, min, not, ◌&&◌, slice_index}
+use Rattle.std.proofs.Common.{◌≡◌, ℕ, ◌+◌, ◌<◌, true, false, inl, inr, List, length, refl, sym, ap, ◌∙◌, arith}
 use Rattle.std.proofs.lemmas.Bool.{cases_Bool}
 use Rattle.signal_plan.specs.Speeds.{arriving, has_speeds, speed_at}
-use Rattle.signal_plan.proofs.Laws.{arriving-le}
+use Rattle.signal_plan.proofs.Laws.{arriving-le, speed_at-none}
+use Rattle.network_file.specs.Cells.{is_exit_at}
 use Rattle.network_file.specs.Network.{IsNetwork, Network}
 use Rattle.flow_model.proofs.CellLimits.{speed_at-sound}
-use Rattle.courses.specs.Links.{most_between}
-use Rattle.region_body.specs.Places.{place_at}
+use Rattle.courses.specs.Courses.{value_at}
+use Rattle.region_body.specs.Places.{AreSound, place_at}
 use Rattle.region_body.specs.declared.place.Place.{Place}
-use Rattle.region_body.specs.Chains.{is_joined, most_out}
+use Rattle.region_body.specs.Chains.{AreAround, is_joined, most_out}
 use Rattle.region_body.specs.Followed.{AreFollowed, IsThere}
 use Rattle.region_body.specs.declared.followed.FollowedLink.{FollowedLink}
 use Rattle.region_body.specs.Placed.{ArePlaced, PlacedCells}
-use Rattle.region_body.specs.SlowLinks.{AreSlowAsBefore, AreSlowed, IsSlowThere, SlowLinkValues, is_listed, most_arriving, slow_most}
+use Rattle.region_body.specs.Speeds.{AreInForce, AreSpeedsAsBefore, AreSpeedsOf, IsSpeedThere, at_speeds, cell_speed, is_listed, is_slow, slowed_place, speed_of}
+use Rattle.region_body.specs.declared.followed_speed.FollowedSpeed.{FollowedSpeed}
+use Rattle.region_body.proofs.AtSpeeds.{at_speeds-at, length-at_speeds}
 use Rattle.region_body.proofs.Extending.{most-by}
-use Rattle.region_body.proofs.Slowed.{none-slowed}
-use Rattle.region_body.proofs.SlowLinks.{listed-at, no_link, slowed-same}
+use Rattle.region_body.proofs.Flowing.{joined-sends}
+use Rattle.region_body.proofs.SpeedCourses.{listed-at, listed-same, no_speed}
 
--- what the link out of place p carries at most, where its cell holds n parts
-abbrev pub most_now : Network → (cells connectors : List ℕ) → List SlowLinkValues → (t p n : ℕ) → ℕ
-most_now net cells connectors slow_links t p n = if is_listed slow_links p then most_arriving net cells p t n else most_out net cells connectors p t
+-- the speeds in step t
 
--- what is sent within limits, of what comes to the end of the cell
+first-false : (a b : Bool) → a ≡ true → (a && not b) ≡ false → b ≡ true
+first-false true true is free = refl
+first-false true false is free = cc
+first-false false b is free = cc
+
+-- a cell out of which a link leads sends at its speed
+speed-now : (net : Network) (cells : List ℕ) (courses : List FollowedSpeed) (speeds : List (ℕ × ℕ)) (t until p : ℕ) → AreSpeedsOf net cells courses speeds t until →
+    t < until → p < length cells → is_exit_at net.cells (slice_index cells p) ≡ false → speed_of speeds p ≡ cell_speed net cells p t
+speed-now net cells courses speeds t until p are before within sends = elim (cases_Bool (is_listed courses p)) [
+  | inl listed ↦ are.in_force p listed t (omega arith) before
+  | inr other ↦
+      let none : has_speeds net.plan (slice_index cells p) ≡ false = elim (cases_Bool (has_speeds net.plan (slice_index cells p))) [
+        | inl some ↦ elim (cases_Bool (is_slow net cells p)) [
+          | inl slow ↦ absurd (cc (are.whole p within slow, other))
+          | inr free ↦ absurd (cc (first-false (has_speeds net.plan (slice_index cells p)) (is_exit_at net.cells (slice_index cells p)) some free, sends))
+        ]
+        | inr none ↦ none
+      ] in
+      are.others p other ∙ sym (speed_at-none net.plan (slice_index cells p) t none)
+]
+
+-- a place whose cell isn't slow has its road's own speed
+pub speed-free : (net : Network) (cells : List ℕ) (courses : List FollowedSpeed) (speeds : List (ℕ × ℕ)) (t until p : ℕ) → AreSpeedsOf net cells courses speeds t until →
+    is_slow net cells p ≡ false → speed_of speeds p ≡ (1, 1)
+speed-free net cells courses speeds t until p are free = elim (cases_Bool (is_listed courses p)) [
+  | inl listed ↦
+      let at = listed-at courses p listed in
+      absurd (cc (sym (ap (is_slow net cells) at.2) ∙ are.slow at.0 no_speed at.1, free))
+  | inr other ↦ are.others p other
+]
+
+-- a place whose cell is slow is there
+pub speed-there : (net : Network) (cells : List ℕ) (courses : List FollowedSpeed) (speeds : List (ℕ × ℕ)) (t until p : ℕ) → AreSpeedsOf net cells courses speeds t until →
+    p < length cells → is_slow net cells p ≡ true → p < length speeds
+speed-there net cells courses speeds t until p are within slow =
+    let at = listed-at courses p (are.whole p within slow) in
+    rw at.2 at ((are.there at.0 no_speed at.1).place)
+
+-- what is sent out of place p within limits, of what comes to the end of its cell
 abbrev pub sent_now : Network → (cells connectors : List ℕ) → (t p n : ℕ) → ℕ
 sent_now net cells connectors t p n = min (most_out net cells connectors p t) (arriving (speed_at net.plan (slice_index cells p) t) n)
 
-listed-sends : (net : Network) (cells connectors : List ℕ) (slow_links : List SlowLinkValues) (t p n : ℕ) → IsNetwork net →
-    is_joined net cells connectors p ≡ true → min (most_arriving net cells p t n) n ≡ sent_now net cells connectors t p n
-listed-sends net cells connectors slow_links t p n sound joined =
-    let few : arriving (speed_at net.plan (slice_index cells p) t) n ≤ n =
-    arriving-le (speed_at net.plan (slice_index cells p) t) n (speed_at-sound net (slice_index cells p) t sound) in
-    let most = most-by net cells connectors p t true joined in
-    least (most_between net.plan (slice_index cells p) (slice_index cells (p + 1)) t) (arriving (speed_at net.plan (slice_index cells p) t) n) n few
-    ∙ ap (λ m. min m (arriving (speed_at net.plan (slice_index cells p) t) n)) (sym most)
-  where
-    least : (m a n : ℕ) → a ≤ n → min (min m a) n ≡ min m a
-    least m a n few = omega (arith, few)
-
-other-sends : (net : Network) (cells connectors : List ℕ) (t p n : ℕ) (joined : Bool) → is_joined net cells connectors p ≡ joined →
-    (joined ≡ true → has_speeds net.plan (slice_index cells p) ≡ false) → min (most_out net cells connectors p t) n ≡ sent_now net cells connectors t p n
-other-sends net cells connectors t p n true is free = ap (min (most_out net cells connectors p t)) (none-slowed net (slice_index cells p) t n (free refl))
-other-sends net cells connectors t p n false is free =
-    let none : most_out net cells connectors p t ≡ 0 = most-by net cells connectors p t false is in
-    omega (arith, none)
-
-pub sends-now : (net : Network) (cells connectors : List ℕ) (slow_links : List SlowLinkValues) (t p n : ℕ) → IsNetwork net →
-    AreSlowed net cells connectors slow_links → min (most_now net cells connectors slow_links t p n) n ≡ sent_now net cells connectors t p n
-sends-now net cells connectors slow_links t p n sound slowed = elim (cases_Bool (is_listed slow_links p)) [
-  | inl listed ↦
-      let at = listed-at slow_links p listed in
-      let joined : is_joined net cells connectors p ≡ true = ap (is_joined net cells connectors) (sym at.2) ∙ slowed.joined at.0 no_link at.1 in
-      rw listed (listed-sends net cells connectors slow_links t p n sound joined)
-  | inr other ↦
-      rw other
-      (other-sends net cells connectors t p n (is_joined net cells connectors p) refl (λ joined. elim (cases_Bool (has_speeds net.plan (slice_index cells p))) [
-        | inl speeds ↦ absurd (cc (slowed.whole p joined speeds, other))
-        | inr free ↦ free
-      ]))
+pub sends-now : (net : Network) (cells connectors : List ℕ) (courses : List FollowedSpeed) (speeds : List (ℕ × ℕ)) (t until p n : ℕ) → IsNetwork net →
+    AreAround net cells connectors → AreSpeedsOf net cells courses speeds t until → t < until → p < length cells →
+    min (min (most_out net cells connectors p t) (arriving (speed_of speeds p) n)) n ≡ sent_now net cells connectors t p n
+sends-now net cells connectors courses speeds t until p n sound around are before within = elim (cases_Bool (is_joined net cells connectors p)) [
+  | inl joined ↦
+      let few = arriving-le (cell_speed net cells p t) n (speed_at-sound net (slice_index cells p) t sound) in
+      let is = speed-now net cells courses speeds t until p are before within (joined-sends net cells connectors p sound around joined) in
+      rw is (omega (arith, few))
+  | inr apart ↦
+      let none : most_out net cells connectors p t ≡ 0 = most-by net cells connectors p t false apart in
+      omega (arith, none)
 ]
 
--- the places once each has that of step t, and can send so much
+-- places that send in step t what limits and speeds let through
 pub record AreRenewed (net : Network) (cells connectors : List ℕ) (t : ℕ) (placed : PlacedCells) (places : List Place) : Type 0 where
   pub long : length places ≡ length placed.places
   pub only_most : (p : ℕ) → p < length placed.places → place_at places p ≡ record (place_at placed.places p) { most = (place_at places p).most }
   pub sends : (p : ℕ) → p < length placed.places → min (place_at places p).most (place_at placed.places p).n ≡ sent_now net cells connectors t p (place_at placed.places p).n
 
-pub renewed-by : (net : Network) (cells connectors : List ℕ) (t : ℕ) (placed : PlacedCells) (places : List Place) → IsNetwork net →
-    AreSlowed net cells connectors placed.slow_links → length places ≡ length placed.places →
-    ((p : ℕ) → p < length placed.places → place_at places p ≡ record (place_at placed.places p) { most = (place_at places p).most }) →
-    ((p : ℕ) → p < length placed.places → (place_at places p).most ≡ most_now net cells connectors placed.slow_links t p (place_at placed.places p).n) →
-    AreRenewed net cells connectors t placed places
-renewed-by net cells connectors t placed places sound slowed long only most = record {
-  long = long;
-  only_most = only;
-  sends = λ p within.
-      ap (λ m. min m (place_at placed.places p).n) (most p within) ∙ sends-now net cells connectors placed.slow_links t p (place_at placed.places p).n sound slowed;
+-- places of which only the most may be another
+pub record AreKept (placed : PlacedCells) (places : List Place) : Type 0 where
+  pub long : length places ≡ length placed.places
+  pub only_most : (p : ℕ) → p < length placed.places → place_at places p ≡ record (place_at placed.places p) { most = (place_at places p).most }
+
+-- what is renewed
+pub record Renewal : Type 0 where
+  pub places : List Place
+  pub links : List FollowedLink
+  pub courses : List FollowedSpeed
+  pub speeds : List (ℕ × ℕ)
+  pub until : ℕ
+
+-- the places as they send
+abbrev pub sending : Renewal → List Place
+sending new = at_speeds new.places new.speeds
+
+-- what is told of it
+pub record IsRenewal (t : ℕ) (placed : PlacedCells) (new : Renewal) : Type 0 where
+  pub long : length new.places ≡ length placed.places
+  pub there : All (IsThere (length placed.places) t) new.links
+  pub most : (most : ℕ → ℕ → ℕ) → AreFollowed most placed.places placed.links t → (p : ℕ) → p < length placed.places →
+      place_at new.places p ≡ record (place_at placed.places p) { most = most p t }
+  pub followed : (most : ℕ → ℕ → ℕ) → AreFollowed most placed.places placed.links t → AreFollowed most new.places new.links t
+  pub speeds_long : length new.speeds ≡ length placed.speeds
+  pub speeds_there : All (IsSpeedThere (length placed.speeds) t) new.courses
+  pub as_before : AreSpeedsAsBefore placed.speed_courses new.courses
+  pub later : t < new.until
+  pub in_force : (speed : ℕ → ℕ → ℕ × ℕ) → All (λ one. (s : ℕ) → value_at one.course s ≡ speed one.place s) placed.speed_courses →
+      AreInForce speed placed.speed_courses placed.speeds t placed.speeds_until → AreInForce speed placed.speed_courses new.speeds t new.until
+  pub others : (p : ℕ) → is_listed placed.speed_courses p ≡ false → speed_of new.speeds p ≡ speed_of placed.speeds p
+
+-- places, links and speeds in step t
+pub record IsFresh (net : Network) (cells connectors : List ℕ) (t : ℕ) (placed : PlacedCells) (new : Renewal) : Type 0 where
+  pub renewed : AreRenewed net cells connectors t placed (sending new)
+  pub kept : AreKept placed new.places
+  pub links_there : All (IsThere (length new.places) t) new.links
+  pub followed : AreFollowed (most_out net cells connectors) new.places new.links t
+  pub speeds : AreSpeedsOf net cells new.courses new.speeds t new.until
+  pub later : t < new.until
+
+speeds-renewed : (net : Network) (cells : List ℕ) (t : ℕ) (placed : PlacedCells) (new : Renewal) → AreSpeedsOf net cells placed.speed_courses placed.speeds t placed.speeds_until →
+    IsRenewal t placed new → AreSpeedsOf net cells new.courses new.speeds t new.until
+speeds-renewed net cells t placed new has is =
+    let same = λ (p : ℕ). listed-same placed.speed_courses new.courses p is.as_before in
+    record {
+      there = rw is.speeds_long is.speeds_there;
+      values = λ k d within s.
+          let inside : k < length placed.speed_courses = omega (arith, within, is.as_before.long) in
+          let one = is.as_before.each k d inside in
+          one.value s ∙ has.values k d inside s ∙ ap (λ p. cell_speed net cells p s) (sym one.place);
+      slow = λ k d within.
+          let inside : k < length placed.speed_courses = omega (arith, within, is.as_before.long) in
+          ap (is_slow net cells) (is.as_before.each k d inside).place ∙ has.slow k d inside;
+      whole = λ p within slow. same p ∙ has.whole p within slow;
+      in_force = λ p listed. is.in_force (cell_speed net cells) has.values has.in_force p (sym (same p) ∙ listed);
+      others = λ p other. is.others p (sym (same p) ∙ other) ∙ has.others p (sym (same p) ∙ other);
+    }
+
+pub renewed-of : (net : Network) (cells connectors : List ℕ) (t until : ℕ) (placed : PlacedCells) (places : List Place) (courses : List FollowedSpeed) (speeds : List (ℕ × ℕ)) →
+    IsNetwork net → AreAround net cells connectors → length placed.places ≡ length cells → length places ≡ length placed.places →
+    ((p : ℕ) → p < length placed.places → place_at places p ≡ record (place_at placed.places p) { most = most_out net cells connectors p t }) →
+    AreSpeedsOf net cells courses speeds t until → t < until → AreRenewed net cells connectors t placed (at_speeds places speeds)
+renewed-of net cells connectors t until placed places courses speeds sound around one_each long most are before =
+    let at = λ (p : ℕ) (within : p < length placed.places). at_speeds-at places speeds p (omega (arith, within, long)) in
+    record {
+      long = length-at_speeds places speeds ∙ long;
+      only_most = λ p within.
+          let slowed : Place = slowed_place (place_at places p) (speed_of speeds p) in
+          at p within ∙ ap {B = Place} (λ (place : Place). record place { most = slowed.most }) (most p within)
+          ∙ ap {B = Place} (λ m. record (place_at placed.places p) { most = m }) (sym (ap (λ place. place.most) (at p within)));
+      sends = λ p within.
+          let n : ℕ = (place_at placed.places p).n in
+          ap (λ place. min place.most n) (at p within) ∙ ap (λ place. min (slowed_place place (speed_of speeds p)).most n) (most p within)
+          ∙ sends-now net cells connectors courses speeds t until p n sound around are before (omega (arith, within, one_each));
+    }
+
+pub fresh-of : (net : Network) (cells halo connectors : List ℕ) (t : ℕ) (placed : PlacedCells) (new : Renewal) → IsNetwork net → ArePlaced net cells halo connectors t placed →
+    IsRenewal t placed new → IsFresh net cells connectors t placed new
+fresh-of net cells halo connectors t placed new sound has is =
+    let most = is.most (most_out net cells connectors) has.followed in
+    let speeds = speeds-renewed net cells t placed new has.speeds is in
+    record {
+      renewed = renewed-of net cells connectors t new.until placed new.places new.courses new.speeds sound has.around has.one_each is.long most speeds is.later;
+      kept = record {
+        long = is.long;
+        only_most = λ p within. most p within ∙ ap {B = Place} (λ m. record (place_at placed.places p) { most = m }) (sym (ap (λ place. place.most) (most p within)));
+      };
+      links_there = rw is.long is.there;
+      followed = is.followed (most_out net cells connectors) has.followed;
+      speeds = speeds;
+      later = is.later;
+    }
+
+-- speeds that were followed to step t are those of the next step
+pub speeds-later : (net : Network) (cells : List ℕ) (courses : List FollowedSpeed) (speeds : List (ℕ × ℕ)) (t until : ℕ) → AreSpeedsOf net cells courses speeds t until →
+    AreSpeedsOf net cells courses speeds (t + 1) until
+speeds-later net cells courses speeds t until are = record {
+  there = λ k d within. record { place = (are.there k d within).place; step = omega (arith, (are.there k d within).step) };
+  values = are.values;
+  slow = are.slow;
+  whole = are.whole;
+  in_force = λ p listed s from before. are.in_force p listed s (omega (arith, from)) before;
+  others = are.others;
 }
 
--- what is told of places and links once these are renewed
-pub record IsRenewal (t : ℕ) (places fresh : List Place) (first links : List FollowedLink) (first_slow slow_links : List SlowLinkValues) : Type 0 where
-  pub long : length fresh ≡ length places
-  pub there : All (IsThere (length places) t) links
-  pub slow_there : All (IsSlowThere (length places) t) slow_links
-  pub as_before : AreSlowAsBefore first_slow slow_links
-  pub only_most : (p : ℕ) → place_at fresh p ≡ record (place_at places p) { most = (place_at fresh p).most }
-  pub slow : (most : ℕ → ℕ → ℕ → ℕ) → All (λ link. (s n : ℕ) → slow_most link s n ≡ most link.place s n) first_slow → (p : ℕ) →
-      is_listed first_slow p ≡ true → (place_at fresh p).most ≡ most p t (place_at places p).n
-  pub most : (most : ℕ → ℕ → ℕ) → AreFollowed (is_listed first_slow) most places first t → (p : ℕ) → p < length places → is_listed first_slow p ≡ false →
-      (place_at fresh p).most ≡ most p t
-  pub followed : (most : ℕ → ℕ → ℕ) → AreFollowed (is_listed first_slow) most places first t → AreFollowed (is_listed slow_links) most fresh links t
-
--- the places and the links in step t
-pub record IsFresh (net : Network) (cells connectors : List ℕ) (t : ℕ) (placed : PlacedCells) (fresh : List Place) (links : List FollowedLink)
-    (slow_links : List SlowLinkValues) : Type 0 where
-  pub renewed : AreRenewed net cells connectors t placed fresh
-  pub links_there : All (IsThere (length fresh) t) links
-  pub slow_there : All (IsSlowThere (length fresh) t) slow_links
-  pub slowed : AreSlowed net cells connectors slow_links
-  pub followed : AreFollowed (is_listed slow_links) (most_out net cells connectors) fresh links t
-
-pub fresh-of : (net : Network) (cells halo connectors : List ℕ) (t : ℕ) (placed : PlacedCells) (fresh : List Place) (links : List FollowedLink)
-    (slow_links : List SlowLinkValues) → IsNetwork net → ArePlaced net cells halo connectors t placed →
-    IsRenewal t placed.places fresh placed.links links placed.slow_links slow_links → IsFresh net cells connectors t placed fresh links slow_links
-fresh-of net cells halo connectors t placed fresh links slow_links sound has is =
-    let arrives : ℕ → ℕ → ℕ → ℕ = λ p s n. most_arriving net cells p s n in
-    record {
-      renewed = renewed-by net cells connectors t placed fresh sound has.slowed is.long (λ p within. is.only_most p) (λ p within. elim (cases_Bool (is_listed placed.slow_links p)) [
-        | inl listed ↦ rw listed (is.slow arrives has.slowed.each p listed)
-        | inr other ↦ rw other (is.most (most_out net cells connectors) has.followed p within other)
-      ]);
-      links_there = rw is.long is.there;
-      slow_there = rw is.long is.slow_there;
-      slowed = slowed-same net cells connectors placed.slow_links slow_links is.as_before has.slowed;
-      followed = is.followed (most_out net cells connectors) has.followed;
-    }
+-- places that can be swept as they send can be swept
+pub sound-sending : (places : List Place) (speeds : List (ℕ × ℕ)) → AreSound (at_speeds places speeds) → AreSound places
+sound-sending places speeds sound = record {
+  room = λ p within.
+      let at = at_speeds-at places speeds p within in
+      omega (arith, sound.room p (omega (arith, within, length-at_speeds places speeds)), ap (λ place. place.n) at, ap (λ place. place.space.storage) at);
+  gone = λ p within.
+      let at = at_speeds-at places speeds p within in
+      omega (arith, sound.gone p (omega (arith, within, length-at_speeds places speeds)), ap (λ place. place.n) at, ap (λ place. place.gone) at);
+}

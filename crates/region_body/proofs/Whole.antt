@@ -1,5 +1,5 @@
 -- A whole step of places is the step of their cells.
-use Rattle.std.specs.Prelude.{All, Bool, Option, ◌==◌, map, min, slice_index, if◌then◌else◌}
+use Rattle.std.specs.Prelude.{All, Bool, Option, ◌==◌, ◌&&◌, map, min, not, slice_index, if◌then◌else◌}
 use Rattle.std.proofs.lemmas.List.Elements.{Contains-get_or}
 use Rattle.std.specs.List.{Contains, filter, range_with_len, sum_by}
 use Rattle.std.proofs.Common.{◌≡◌, ℕ, ◌+◌, ◌-◌, ◌^◌, ◌<◌, ◌≤◌, inl, inr, true, false, List, length, get_or, refl, sym, ap, ◌∙◌, subst, zero-add, arith}
@@ -8,9 +8,9 @@ use Rattle.std.proofs.lemmas.List.{ext_get_or, get_or-map, length-map}
 use Rattle.std.proofs.lemmas.List.FromFn.{get_or-map-range_with_len, length-map-range_with_len}
 use Rattle.signal_plan.specs.Capacity.{capacity_at}
 use Rattle.signal_plan.specs.Demand.{demand_at}
-use Rattle.signal_plan.specs.Speeds.{arriving, speed_at}
+use Rattle.signal_plan.specs.Speeds.{arriving, has_speeds, speed_at}
 use Rattle.signal_plan.proofs.Sums.{sum_by-filter, sum_by_agree, sum_by_range_one}
-use Rattle.network_file.specs.Cells.{is_gate_at, is_road}
+use Rattle.network_file.specs.Cells.{is_exit_at, is_gate_at, is_road}
 use Rattle.network_file.specs.declared.cell.Cell.{Cell}
 use Rattle.network_file.specs.declared.cell.Kind.{Kind}
 use Rattle.network_file.specs.declared.cell.Kind.TheVariants.{Road, Gate, Exit}
@@ -21,7 +21,7 @@ use Rattle.flow_model.specs.Limits.{room_at, room_by}
 use Rattle.flow_model.specs.Rows.{empty_row, moved_row, next_row}
 use Rattle.flow_model.specs.State.{row_at, rows_after}
 use Rattle.flow_model.specs.declared.row.Row.{Row}
-use Rattle.flow_model.proofs.Bounds.{IsChange, IsSmall, changes, moved_row-in_bounds, small}
+use Rattle.flow_model.proofs.Bounds.{IsChange, IsSmall, changes, held-le, moved_row-in_bounds, small}
 use Rattle.flow_model.proofs.CellKinds.{cell_at}
 use Rattle.flow_model.proofs.CellLimits.{capacity_at-le}
 use Rattle.flow_model.proofs.Flows.{inflow-gate}
@@ -35,12 +35,12 @@ use Rattle.region_body.specs.Followed.{AreFollowed}
 use Rattle.region_body.specs.declared.followed.FollowedLink.{FollowedLink}
 use Rattle.region_cut.proofs.Ranges.{Contains-filter_range}
 use Rattle.region_body.specs.Moves.{ArePartsOf, IsScene, IsSeen, demand_for, in_by, out_by}
-use Rattle.region_body.specs.SlowLinks.{SlowLinkValues, is_listed}
+use Rattle.region_body.specs.Speeds.{CanSweep, is_slow}
 use Rattle.region_body.specs.Rows.{AreSettled, IsOf, origin_at, row_of, rows_of}
 use Rattle.region_body.specs.declared.origin.Origin.{Origin}
 use Rattle.region_body.specs.declared.tie.Tie.{Tie}
 use Rattle.region_body.proofs.Flowing.{HasPlaces, in-gate, in-total, odd_sum, out-total}
-use Rattle.region_body.proofs.Renewed.{AreRenewed, IsFresh}
+use Rattle.region_body.proofs.Renewed.{AreKept, AreRenewed, IsFresh, Renewal, sending, speed-free, speed-there, speeds-later}
 use Rattle.region_body.proofs.Stepping.{row-stepped, stepped-is_of}
 use Rattle.region_body.proofs.Ties.{come-followed, demands-asked, demands-into, gates-asked, numbers-followed, sum_by-map, tied-followed}
 use Rattle.region_body.specs.Carrying.{AreTiesFollowed}
@@ -236,21 +236,45 @@ sound-fresh net t n cells halo connectors placed places put sound before has bou
           omega arith;
     }
 
--- so much leaves each in a step and enters it: it holds so much, and no sum is too large
-pub record CanStep (places : List Place) (outs ins : ℕ → ℕ) : Type 0 where
-  pub held : (p : ℕ) → p < length places → link_out places p + outs p ≤ (place_at places p).n
-  pub gone : (p : ℕ) → p < length places → (place_at places p).gone + (link_out places p + outs p) < 2 ^ 64
-  pub fits : (p : ℕ) → p < length places → (place_at places p).n + (link_in places p + ins p) < 2 ^ 64
+second-false : (a b : Bool) → (a && not b) ≡ true → b ≡ false
+second-false true false is = refl
+second-false true true is = cc
+second-false false b is = cc
 
-pub can_step : (net : Network) (t : ℕ) (n : ℕ → ℕ) (cells halo connectors : List ℕ) (placed : PlacedCells) (places : List Place) (put : List (Option ℕ)) (outs ins : ℕ → ℕ) →
+-- so they can be swept, by their speeds and runs
+pub can-sweep : (net : Network) (t : ℕ) (n : ℕ → ℕ) (cells halo connectors : List ℕ) (placed : PlacedCells) (put : List (Option ℕ)) (new : Renewal) →
     IsNetwork net → t < net.steps → ArePlaced net cells halo connectors t placed → ArePlacesInBounds net cells halo t placed put →
-    IsSeen n cells halo placed.places put → AreRenewed net cells connectors t placed places →
-    IsMoved net t n cells places outs ins →
-    CanStep places outs ins
-can_step net t n cells halo connectors placed places put outs ins sound before has bounds seen renewed moves =
-    let same : length places ≡ length cells = renewed.long ∙ has.one_each in
+    IsSeen n cells halo placed.places put → IsFresh net cells connectors t placed new → CanSweep new.places new.speeds placed.runs
+can-sweep net t n cells halo connectors placed put new sound before has bounds seen now =
+    let same : length new.places ≡ length cells = now.kept.long ∙ has.one_each in
+    record {
+      slow = is_slow net cells;
+      laid = rw same has.runs;
+      free = λ p within free. speed-free net cells new.courses new.speeds t new.until p now.speeds free;
+      known = λ p within slow. speed-there net cells new.courses new.speeds t new.until p now.speeds (omega (arith, within, same)) slow;
+      few = λ p within slow.
+          let i : ℕ = slice_index cells p in
+          let is = ready net t n cells halo connectors placed put p sound before has bounds seen (omega (arith, within, same)) in
+          let n_is = ap (λ place. place.n) (now.kept.only_most p (omega (arith, within, now.kept.long))) in
+          let sends = second-false (has_speeds net.plan i) (is_exit_at net.cells i) slow in
+          omega (arith, n_is, held-le net t i (place_at placed.places p).n sound is.there sends is.row.held);
+    }
+
+-- so much leaves each in a step and enters it: it holds so much, and no sum is too large
+pub record CanStep (places sends : List Place) (outs ins : ℕ → ℕ) : Type 0 where
+  pub held : (p : ℕ) → p < length places → link_out sends p + outs p ≤ (place_at places p).n
+  pub gone : (p : ℕ) → p < length places → (place_at places p).gone + (link_out sends p + outs p) < 2 ^ 64
+  pub fits : (p : ℕ) → p < length places → (place_at places p).n + (link_in sends p + ins p) < 2 ^ 64
+
+pub can_step : (net : Network) (t : ℕ) (n : ℕ → ℕ) (cells halo connectors : List ℕ) (placed : PlacedCells) (places sends : List Place) (put : List (Option ℕ)) (outs ins : ℕ → ℕ) →
+    IsNetwork net → t < net.steps → ArePlaced net cells halo connectors t placed → ArePlacesInBounds net cells halo t placed put →
+    IsSeen n cells halo placed.places put → AreKept placed places →
+    IsMoved net t n cells sends outs ins →
+    CanStep places sends outs ins
+can_step net t n cells halo connectors placed places sends put outs ins sound before has bounds seen kept moves =
+    let same : length places ≡ length cells = kept.long ∙ has.one_each in
     let own = λ (p : ℕ) (within : p < length places). ready net t n cells halo connectors placed put p sound before has bounds seen (omega arith) in
-    let each = λ (p : ℕ) (within : p < length places). renewed.only_most p (omega (arith, within, renewed.long)) in
+    let each = λ (p : ℕ) (within : p < length places). kept.only_most p (omega (arith, within, kept.long)) in
     record {
       held = λ p within.
           let is = own p within in
@@ -303,17 +327,17 @@ pub record AreBrought (net : Network) (cells : List ℕ) (t : ℕ) (n : ℕ → 
   pub demands : (p : ℕ) → ins p ≡ carried p + sum_by (demand_into t p) placed.gates
 
 -- the parts of a step, one after the other
-pub record AreSteps (net : Network) (cells halo connectors : List ℕ) (t : ℕ) (n : ℕ → ℕ) (placed : PlacedCells) (fresh : List Place)
-    (links : List FollowedLink) (slow_links : List SlowLinkValues) (outs carried ins : ℕ → ℕ) (after : List Place) : Type 0 where
-  pub now : IsFresh net cells connectors t placed fresh links slow_links
+pub record AreSteps (net : Network) (cells halo connectors : List ℕ) (t : ℕ) (n : ℕ → ℕ) (placed : PlacedCells) (new : Renewal)
+    (outs carried ins : ℕ → ℕ) (after : List Place) : Type 0 where
+  pub now : IsFresh net cells connectors t placed new
   pub brought : AreBrought net cells t n placed outs carried ins
-  pub long_after : length after ≡ length fresh
-  pub stepped_each : (p : ℕ) → p < length fresh →
-      place_at after p ≡ moved (place_at fresh p) (link_in fresh p + ins p) (link_out fresh p + outs p)
+  pub long_after : length after ≡ length new.places
+  pub stepped_each : (p : ℕ) → p < length new.places →
+      place_at after p ≡ moved (place_at new.places p) (link_in (sending new) p + ins p) (link_out (sending new) p + outs p)
 
 -- what is seen of the places stays so when their most is written
 pub seen-fresh : (net : Network) (t : ℕ) (n : ℕ → ℕ) (cells halo connectors : List ℕ) (placed : PlacedCells) (fresh : List Place) (put : List (Option ℕ)) →
-    ArePlaced net cells halo connectors t placed → IsSeen n cells halo placed.places put → AreRenewed net cells connectors t placed fresh →
+    ArePlaced net cells halo connectors t placed → IsSeen n cells halo placed.places put → AreKept placed fresh →
     IsSeen n cells halo fresh put
 seen-fresh net t n cells halo connectors placed fresh put has seen renewed = record {
   own = λ p within. seen.own p within ∙ sym (ap (λ place. place.n) (renewed.only_most p (omega (arith, has.one_each))));
@@ -323,7 +347,7 @@ seen-fresh net t n cells halo connectors placed fresh put has seen renewed = rec
 -- the scene of the other connectors
 pub scene-fresh : (net : Network) (t : ℕ) (n : ℕ → ℕ) (cells halo connectors : List ℕ) (placed : PlacedCells) (fresh : List Place) (put : List (Option ℕ)) →
     IsNetwork net → t < net.steps → ArePlaced net cells halo connectors t placed → ArePlacesInBounds net cells halo t placed put →
-    IsSeen n cells halo placed.places put → AreRenewed net cells connectors t placed fresh →
+    IsSeen n cells halo placed.places put → AreKept placed fresh →
     IsScene net t cells halo placed.ties fresh put
 scene-fresh net t n cells halo connectors placed fresh put sound before has bounds seen renewed = record {
   sound = sound;
@@ -386,49 +410,47 @@ steps-moved net cells halo connectors t n placed fresh outs carried ins put soun
     ∙ ap (λ x. carried p + x) (demands-into net t cells p placed.gates has.demands ∙ ap (sum_by (demand_for net.plan t cells p)) has.gates))
 
 -- each cell after the step
-pub cell-after : (net : Network) (cells halo connectors : List ℕ) (t : ℕ) (n : ℕ → ℕ) (placed : PlacedCells) (fresh : List Place) (links : List FollowedLink)
-    (slow_links : List SlowLinkValues) (outs carried ins : ℕ → ℕ) (after : List Place) (put : List (Option ℕ)) (p : ℕ) →
+pub cell-after : (net : Network) (cells halo connectors : List ℕ) (t : ℕ) (n : ℕ → ℕ) (placed : PlacedCells) (new : Renewal) (outs carried ins : ℕ → ℕ) (after : List Place) (put : List (Option ℕ)) (p : ℕ) →
     IsNetwork net → t < net.steps → ArePlaced net cells halo connectors t placed → ArePlacesInBounds net cells halo t placed put →
-    IsSeen n cells halo placed.places put → AreSteps net cells halo connectors t n placed fresh links slow_links outs carried ins after → p < length cells →
+    IsSeen n cells halo placed.places put → AreSteps net cells halo connectors t n placed new outs carried ins after → p < length cells →
     (row_of (origin_at placed.origins p) (place_at after p) ≡
     next_row net t n (slice_index cells p) (row_of (origin_at placed.origins p) (place_at placed.places p))) ×
     IsOf net (slice_index cells p) (origin_at placed.origins p) (place_at after p)
-cell-after net cells halo connectors t n placed fresh links slow_links outs carried ins after put p sound before has bounds seen steps within =
+cell-after net cells halo connectors t n placed new outs carried ins after put p sound before has bounds seen steps within =
     let here : p < length placed.places = omega (arith, has.one_each) in
-    let there : p < length fresh = omega (arith, steps.now.renewed.long) in
-    let moves = steps-moved net cells halo connectors t n placed fresh outs carried ins put sound before has bounds seen steps.now.renewed steps.brought.parts steps.brought.demands in
-    row-after net t n (slice_index cells p) (origin_at placed.origins p) (place_at placed.places p) (place_at fresh p) (place_at after p)
-    (place_at fresh p).most (link_in fresh p + ins p) (link_out fresh p + outs p)
-    (ready net t n cells halo connectors placed put p sound before has bounds seen within) (steps.now.renewed.only_most p here) (steps.stepped_each p there)
+    let there : p < length new.places = omega (arith, steps.now.kept.long) in
+    let moves = steps-moved net cells halo connectors t n placed (sending new) outs carried ins put sound before has bounds seen steps.now.renewed steps.brought.parts steps.brought.demands in
+    row-after net t n (slice_index cells p) (origin_at placed.origins p) (place_at placed.places p) (place_at new.places p) (place_at after p)
+    (place_at new.places p).most (link_in (sending new) p + ins p) (link_out (sending new) p + outs p)
+    (ready net t n cells halo connectors placed put p sound before has bounds seen within) (steps.now.kept.only_most p here) (steps.stepped_each p there)
     (moves.enters p within) (moves.leaves p within)
 
 -- the rows after the step
-pub rows-after : (net : Network) (cells halo connectors : List ℕ) (t : ℕ) (n : ℕ → ℕ) (placed : PlacedCells) (fresh : List Place) (links : List FollowedLink)
-    (slow_links : List SlowLinkValues) (outs carried ins : ℕ → ℕ) (after : List Place) (put : List (Option ℕ)) →
+pub rows-after : (net : Network) (cells halo connectors : List ℕ) (t : ℕ) (n : ℕ → ℕ) (placed : PlacedCells) (new : Renewal) (outs carried ins : ℕ → ℕ) (after : List Place) (put : List (Option ℕ)) →
     IsNetwork net → t < net.steps → ArePlaced net cells halo connectors t placed → ArePlacesInBounds net cells halo t placed put →
-    IsSeen n cells halo placed.places put → AreSteps net cells halo connectors t n placed fresh links slow_links outs carried ins after →
+    IsSeen n cells halo placed.places put → AreSteps net cells halo connectors t n placed new outs carried ins after →
     rows_of placed.origins after ≡ rows_after net t n cells (rows_of placed.origins placed.places)
-rows-after net cells halo connectors t n placed fresh links slow_links outs carried ins after put sound before has bounds seen steps =
+rows-after net cells halo connectors t n placed new outs carried ins after put sound before has bounds seen steps =
     ext_get_or empty_row (rows_of placed.origins after) (rows_after net t n cells (rows_of placed.origins placed.places))
     (length-rows_of placed.origins after ∙ has.origin_each ∙ sym (length-rows_after net t n cells (rows_of placed.origins placed.places)))
     (λ p lt.
     let inside : p < length placed.origins = omega (arith, length-rows_of placed.origins after) in
     let within : p < length cells = omega (arith, has.origin_each) in
     row_at-rows_of placed.origins after p inside
-    ∙ (cell-after net cells halo connectors t n placed fresh links slow_links outs carried ins after put p sound before has bounds seen steps within).0
+    ∙ (cell-after net cells halo connectors t n placed new outs carried ins after put p sound before has bounds seen steps within).0
     ∙ sym (row_at-rows_after net t n cells (rows_of placed.origins placed.places) p within
     ∙ ap (next_row net t n (slice_index cells p)) (row_at-rows_of placed.origins placed.places p inside)))
 
 -- the links follow on
 
-follows-later : (apart : ℕ → Bool) (most : ℕ → ℕ → ℕ) (fresh after : List Place) (links : List FollowedLink) (t : ℕ) → length after ≡ length fresh →
-    ((p : ℕ) → p < length fresh → (place_at after p).most ≡ (place_at fresh p).most) → AreFollowed apart most fresh links t → AreFollowed apart most after links (t + 1)
-follows-later apart most fresh after links t long same followed = record {
+follows-later : (most : ℕ → ℕ → ℕ) (fresh after : List Place) (links : List FollowedLink) (t : ℕ) → length after ≡ length fresh →
+    ((p : ℕ) → p < length fresh → (place_at after p).most ≡ (place_at fresh p).most) → AreFollowed most fresh links t → AreFollowed most after links (t + 1)
+follows-later most fresh after links t long same followed = record {
   courses = followed.courses;
-  each = λ p within free.
+  each = λ p within.
       let here : p < length fresh = omega arith in
       let is = same p here in
-      elim (followed.each p here free) [
+      elim (followed.each p here) [
         | inl constant ↦ inl (λ s from. is ∙ constant s (omega arith))
         | inr (m, has) ↦ inr (
           m,
@@ -441,26 +463,28 @@ follows-later apart most fresh after links t long same followed = record {
       ];
 }
 
-pub placed-after : (net : Network) (cells halo connectors : List ℕ) (t : ℕ) (n : ℕ → ℕ) (placed : PlacedCells) (fresh : List Place) (links : List FollowedLink)
-    (slow_links : List SlowLinkValues) (outs carried ins : ℕ → ℕ) (after : List Place) (before_list : List ℕ) (ties : List Tie) (until : ℕ) (gates : List GatePlace) (pause : Pause) (seen_list : List (Option ℕ)) (put : List (Option ℕ)) →
+pub placed-after : (net : Network) (cells halo connectors : List ℕ) (t : ℕ) (n : ℕ → ℕ) (placed : PlacedCells) (new : Renewal) (outs carried ins : ℕ → ℕ) (after : List Place) (before_list : List ℕ) (ties : List Tie) (until : ℕ) (gates : List GatePlace) (pause : Pause) (seen_list : List (Option ℕ)) (put : List (Option ℕ)) →
     IsNetwork net → t < net.steps → ArePlaced net cells halo connectors t placed → ArePlacesInBounds net cells halo t placed put →
-    IsSeen n cells halo placed.places put → AreSteps net cells halo connectors t n placed fresh links slow_links outs carried ins after →
-    length before_list ≡ length placed.before → AreTiesFollowed t placed.ties ties → All (λ tie. until ≤ tie.course.until) ties → AreAsked t placed.gates gates → IsPauseOf after before_list links slow_links ties seen_list (t + 1) pause → length seen_list ≡ length halo →
+    IsSeen n cells halo placed.places put → AreSteps net cells halo connectors t n placed new outs carried ins after →
+    length before_list ≡ length placed.before → AreTiesFollowed t placed.ties ties → All (λ tie. until ≤ tie.course.until) ties → AreAsked t placed.gates gates → IsPauseOf after before_list new.speeds new.until new.links ties seen_list (t + 1) pause → length seen_list ≡ length halo →
     ArePlaced net cells halo connectors (t + 1) (record {
       places = after;
       origins = placed.origins;
       before = before_list;
-      links = links;
-      slow_links = slow_links;
+      speeds = new.speeds;
+      runs = placed.runs;
+      speed_courses = new.courses;
+      speeds_until = new.until;
+      links = new.links;
       ties = ties;
       ties_until = until;
       gates = gates;
       pause = pause;
       seen = seen_list;
     })
-placed-after net cells halo connectors t n placed fresh links slow_links outs carried ins after before_list ties until gates pause seen_list put sound before has bounds seen steps long
+placed-after net cells halo connectors t n placed new outs carried ins after before_list ties until gates pause seen_list put sound before has bounds seen steps long
     ties_are unchanged gates_are pausing seen_each =
-    let same : length after ≡ length cells = steps.long_after ∙ steps.now.renewed.long ∙ has.one_each in
+    let same : length after ≡ length cells = steps.long_after ∙ steps.now.kept.long ∙ has.one_each in
     let ties_long = ties_are.long in
     let gates_long = gates_are.long in
     record {
@@ -472,11 +496,11 @@ placed-after net cells halo connectors t n placed fresh links slow_links outs ca
       origin_each = has.origin_each;
       before_each = long ∙ has.before_each;
       own = λ p within.
-          (cell-after net cells halo connectors t n placed fresh links slow_links outs carried ins after put p sound before has bounds seen steps within).1;
+          (cell-after net cells halo connectors t n placed new outs carried ins after put p sound before has bounds seen steps within).1;
       space = λ p within.
-          let there : p < length fresh = omega (arith, steps.now.renewed.long, has.one_each) in
+          let there : p < length new.places = omega (arith, steps.now.kept.long, has.one_each) in
           let here : p < length placed.places = omega (arith, has.one_each) in
-          let is = ap (λ place. place.space) (steps.stepped_each p there) ∙ ap (λ place. place.space) (steps.now.renewed.only_most p here) in
+          let is = ap (λ place. place.space) (steps.stepped_each p there) ∙ ap (λ place. place.space) (steps.now.kept.only_most p here) in
           subst (λ space. IsSpaceOf space (room_at net.cells (slice_index cells p))) (sym is) (has.space p within);
       come = come-followed t placed.ties ties ties_are;
       unchanged = unchanged;
@@ -485,38 +509,35 @@ placed-after net cells halo connectors t n placed fresh links slow_links outs ca
       links = λ k d within.
           let there = steps.now.links_there k d within in
           record { place = omega (arith, there.place, steps.long_after); step = omega (arith, there.step) };
-      slow_links = λ k d within.
-          let there = steps.now.slow_there k d within in
-          record { place = omega (arith, there.place, steps.long_after); step = omega (arith, there.step) };
-      slowed = steps.now.slowed;
-      followed = follows-later (is_listed slow_links) (most_out net cells connectors) fresh after links t steps.long_after
+      speeds = speeds-later net cells new.courses new.speeds t new.until steps.now.speeds;
+      runs = has.runs;
+      followed = follows-later (most_out net cells connectors) new.places after new.links t steps.long_after
           (λ p there. ap (λ place. place.most) (steps.stepped_each p there)) steps.now.followed;
       pause = pausing;
       seen_each = seen_each;
     }
 
 -- no sum of a place is too large after the step
-pub settled-after : (net : Network) (cells halo connectors : List ℕ) (t : ℕ) (n : ℕ → ℕ) (placed : PlacedCells) (fresh : List Place) (links : List FollowedLink)
-    (slow_links : List SlowLinkValues) (outs carried ins : ℕ → ℕ) (after : List Place) (before_list : List ℕ) (put : List (Option ℕ)) →
+pub settled-after : (net : Network) (cells halo connectors : List ℕ) (t : ℕ) (n : ℕ → ℕ) (placed : PlacedCells) (new : Renewal) (outs carried ins : ℕ → ℕ) (after : List Place) (before_list : List ℕ) (put : List (Option ℕ)) →
     IsNetwork net → t < net.steps → ArePlaced net cells halo connectors t placed → ArePlacesInBounds net cells halo t placed put →
-    IsSeen n cells halo placed.places put → AreSteps net cells halo connectors t n placed fresh links slow_links outs carried ins after →
+    IsSeen n cells halo placed.places put → AreSteps net cells halo connectors t n placed new outs carried ins after →
     length before_list ≡ length placed.before → AreSettled placed.origins after before_list
 unfolding next_row
-settled-after net cells halo connectors t n placed fresh links slow_links outs carried ins after before_list put sound before has bounds seen steps long = record {
-  one_each = steps.long_after ∙ steps.now.renewed.long ∙ has.one_each ∙ sym has.origin_each;
+settled-after net cells halo connectors t n placed new outs carried ins after before_list put sound before has bounds seen steps long = record {
+  one_each = steps.long_after ∙ steps.now.kept.long ∙ has.one_each ∙ sym has.origin_each;
   before_each = long ∙ has.before_each ∙ sym has.origin_each;
   each = λ p inside.
       let within : p < length cells = omega (arith, has.origin_each) in
-      let next = cell-after net cells halo connectors t n placed fresh links slow_links outs carried ins after put p sound before has bounds seen steps within in
+      let next = cell-after net cells halo connectors t n placed new outs carried ins after put p sound before has bounds seen steps within in
       let is = ready net t n cells halo connectors placed put p sound before has bounds seen within in
       let n_is = ap (λ row. row.n) next.0 in
       let gone_is = ap (λ row. row.gone) next.0 in
       let few = is.after.n in
       let few_gone = is.after.gone in
       let i : ℕ = slice_index cells p in
-      let there : p < length fresh = omega (arith, steps.now.renewed.long, has.one_each) in
+      let there : p < length new.places = omega (arith, steps.now.kept.long, has.one_each) in
       let here : p < length placed.places = omega (arith, has.one_each) in
-      let space_is = ap (λ place. place.space) (steps.stepped_each p there) ∙ ap (λ place. place.space) (steps.now.renewed.only_most p here) in
+      let space_is = ap (λ place. place.space) (steps.stepped_each p there) ∙ ap (λ place. place.space) (steps.now.kept.only_most p here) in
       let space : IsSpaceOf (place_at after p).space (room_at net.cells i) =
       subst (λ space. IsSpaceOf space (room_at net.cells i)) (sym space_is) (has.space p within) in
       let held : IsHeldInBounds net (t + 1) i (place_at after p).n = subst (IsHeldInBounds net (t + 1) i) (sym n_is) is.next.held in

@@ -1,5 +1,5 @@
 -- Links between neighbouring places, followed as the most that they carry changes.
-use Rattle.std.specs.Prelude.{◌≡◌, ℕ, ◌<◌, ◌≤◌, ◌⊎◌, Bool, false, All, List, length, slice_index_or}
+use Rattle.std.specs.Prelude.{◌≡◌, ℕ, ◌<◌, ◌≤◌, ◌⊎◌, All, List, length, slice_index_or}
 use Rattle.region_body.specs.Places.{place_at}
 use Rattle.region_body.specs.declared.place.Place.{Place}
 use Rattle.courses.specs.Courses.{IsSteady}
@@ -32,8 +32,8 @@ pub record IsFollowed (most : ℕ → ℕ → ℕ) (place : Place) (links : List
   pub its : (d : FollowedLink) → (slice_index_or links m d).place ≡ p
   pub steady : (d : FollowedLink) (s : ℕ) → t ≤ s → s < (slice_index_or links m d).until → place.most ≡ most p s
 
--- each place but some that stand apart has the most of all steps from t on, or a link follows it
-pub record AreFollowed (apart : ℕ → Bool) (most : ℕ → ℕ → ℕ) (places : List Place) (links : List FollowedLink) (t : ℕ) : Type 0 where
+-- each place has the most of all steps from t on, or a link follows it
+pub record AreFollowed (most : ℕ → ℕ → ℕ) (places : List Place) (links : List FollowedLink) (t : ℕ) : Type 0 where
   pub courses : All (IsCourse most) links
-  pub each : (p : ℕ) → p < length places → apart p ≡ false →
+  pub each : (p : ℕ) → p < length places →
       ((s : ℕ) → t ≤ s → (place_at places p).most ≡ most p s) ⊎ ((m : ℕ) × IsFollowed most (place_at places p) links t p m)

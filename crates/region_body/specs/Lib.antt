@@ -1,5 +1,7 @@
 pub mod Space
 pub mod Places
+pub mod Runs
+pub mod Speeds
 pub mod Sweeping
 pub mod Moving
 pub mod Followed
@@ -11,7 +13,6 @@ pub mod Flows
 pub mod Following
 pub mod Chains
 pub mod SpeedFactors
-pub mod SlowLinks
 pub mod Rows
 pub mod Carrying
 pub mod Moves

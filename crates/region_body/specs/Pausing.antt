@@ -6,7 +6,6 @@ use Rattle.region_body.specs.Places.{place_at}
 use Rattle.region_body.specs.declared.place.Place.{Place}
 use Rattle.region_body.specs.declared.followed.FollowedLink.{FollowedLink}
 use Rattle.region_body.specs.Carrying.{held_in, three_held}
-use Rattle.region_body.specs.SlowLinks.{SlowLinkValues, slow_most}
 use Rattle.region_body.specs.declared.pause.Pause.{Pause}
 use Rattle.region_body.specs.declared.tie.Tie.{Tie}
 
@@ -15,23 +14,17 @@ abbrev pub IsIdleUntil : List Place → (put : List (Option ℕ)) → (until : �
 IsIdleUntil places put until tie =
     (s : ℕ) → tie.course.step ≤ s → s < until → flow_at tie.course s (three_held tie (held_in places put)) ≡ no_flow
 
--- the place of the link is empty, or has as its most what the link carries at most in each step before this one
-abbrev pub IsSlowIdle : List Place → (until : ℕ) → SlowLinkValues → Type 0
-IsSlowIdle places until link =
-    (place_at places link.place).n ≡ 0 ⊎
-    ((s : ℕ) → link.limits.step ≤ s → s < until → (place_at places link.place).most ≡ slow_most link s (place_at places link.place).n)
-
 -- before this step nothing moves by these links between neighbours nor by these connectors, as long as the halo holds this
-pub record AreIdle (places : List Place) (links : List FollowedLink) (slow_links : List SlowLinkValues) (ties : List Tie) (put : List (Option ℕ)) (until : ℕ) : Type 0 where
-  pub still : MoveNothing places
+pub record AreIdle (places : List Place) (speeds : List (ℕ × ℕ)) (speeds_until : ℕ) (links : List FollowedLink) (ties : List Tie) (put : List (Option ℕ)) (until : ℕ) : Type 0 where
+  pub still : MoveNothing places speeds
+  pub stays : until ≤ speeds_until
   -- a link that changes earlier leads out of an empty place
   pub changes : All (λ link. (place_at places link.place).n ≡ 0 ⊎ until ≤ link.until) links
-  pub slow : All (IsSlowIdle places until) slow_links
   pub tied : All (IsIdleUntil places put until) ties
 
 -- the pause of cells with these places and what they held a step before, as step t begins
-pub record IsPauseOf (places : List Place) (earlier : List ℕ) (links : List FollowedLink) (slow_links : List SlowLinkValues) (ties : List Tie) (seen : List (Option ℕ)) (t : ℕ) (pause : Pause) : Type 0 where
-  pub idle : (s : ℕ) → s < pause.until → AreIdle places links slow_links ties seen pause.until
+pub record IsPauseOf (places : List Place) (earlier : List ℕ) (speeds : List (ℕ × ℕ)) (speeds_until : ℕ) (links : List FollowedLink) (ties : List Tie) (seen : List (Option ℕ)) (t : ℕ) (pause : Pause) : Type 0 where
+  pub idle : (s : ℕ) → s < pause.until → AreIdle places speeds speeds_until links ties seen pause.until
   pub owed : pause.owed ≤ t
   -- once they wait they held before what they hold
   pub kept : 1 ≤ pause.owed → (p : ℕ) → p < length places → slice_index earlier p ≡ (place_at places p).n

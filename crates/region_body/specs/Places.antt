@@ -39,9 +39,9 @@ with_left place parts = record place { n = place.n - parts; gone = place.gone + 
 abbrev pub with_entered : Place → (parts : ℕ) → Place
 with_entered place parts = record place { n = place.n + parts }
 
--- place p after a step of the links between neighbours
-abbrev pub swept : List Place → (p : ℕ) → Place
-swept places p = moved (place_at places p) (link_in places p) (link_out places p)
+-- place p after a step of the links between neighbours, in which they send as these do
+abbrev pub swept : (places sending : List Place) → (p : ℕ) → Place
+swept places sending p = moved (place_at places p) (link_in sending p) (link_out sending p)
 
 -- each place can hold what it holds, and what it holds may go
 pub record AreSound (places : List Place) : Type 0 where

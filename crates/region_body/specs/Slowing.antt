@@ -1,5 +1,5 @@
 -- The speeds at which the cells upstream of a connector send.
-use Rattle.std.specs.Prelude.{◌≡◌, ⊤, ℕ, ◌≤◌, ◌<◌, Bool, List, [], ◌∷◌, Option, Some, None, if◌then◌else◌, slice_index}
+use Rattle.std.specs.Prelude.{◌≡◌, ⊤, ℕ, ◌<◌, Bool, List, [], ◌∷◌, Option, Some, None, if◌then◌else◌, slice_index}
 use Rattle.signal_plan.specs.Speeds.{IsSpeed, arriving, speed_at}
 use Rattle.network_file.specs.Network.{Network}
 use Rattle.courses.specs.Courses.{Course, IsSteady, value_at}

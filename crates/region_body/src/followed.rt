@@ -1,4 +1,4 @@
-ghost use Rattle.std.specs.Prelude.{◌≡◌, ◌≤◌, ◌<◌, ◌⊎◌, ℕ, Bool, All, false, length};
+ghost use Rattle.std.specs.Prelude.{◌≡◌, ◌≤◌, ◌<◌, ◌⊎◌, ℕ, All, length};
 ghost use Rattle.region_body.specs.Places.{place_at};
 ghost use Rattle.courses.specs.Links.{most_at};
 ghost use Rattle.region_body.specs.Followed.{AreFollowed, IsChanged, IsThere, IsUnchanged};
@@ -18,17 +18,16 @@ pub(crate) struct FollowedLink {
     pub(crate) course: LinkCourse,
 }
 
-/// Writes the changes that are due at step `t`: each place whose link is followed then has the most that it carries in that step.
+/// Writes the changes that are due at step `t`: each place then has the most that its link carries in that step.
 pub(crate) fn refresh(links: &mut [FollowedLink], places: &mut [Place], t: u64)
     requires there { All (IsThere (length places.old) t) links.old }
     requires in_time { t ≤ MOST_STEPS }
     ensures there { All (IsThere (length places.old) t) links.new }
-    ensures only_most { (p : ℕ) → place_at places.new p ≡ record (place_at places.old p) { most = (place_at places.new p).most } }
 
-    // Where the links follow `most`, each place that doesn't stand apart has the most of step t, and the links still follow it.
-    ensures most { (apart : ℕ → Bool) (most : ℕ → ℕ → ℕ) → AreFollowed apart most places.old links.old t → (p : ℕ) → p < length places.old →
-        apart p ≡ false → (place_at places.new p).most ≡ most p t }
-    ensures followed { (apart : ℕ → Bool) (most : ℕ → ℕ → ℕ) → AreFollowed apart most places.old links.old t → AreFollowed apart most places.new links.new t }
+    // Where the links follow `most`, each place has the most of step t, and the links still follow it.
+    ensures most { (most : ℕ → ℕ → ℕ) → AreFollowed most places.old links.old t → (p : ℕ) → p < length places.old →
+        place_at places.new p ≡ record (place_at places.old p) { most = most p t } }
+    ensures followed { (most : ℕ → ℕ → ℕ) → AreFollowed most places.old links.old t → AreFollowed most places.new links.new t }
 {
     for m in 0..links.len() {
         let p = links[m].place as usize;

@@ -6,27 +6,23 @@ ghost use Rattle.region_body.specs.Places.{place_at};
 ghost use Rattle.region_body.specs.Followed.{AreFollowed, IsThere};
 ghost use Rattle.region_body.specs.Carrying.{IsTie};
 ghost use Rattle.region_body.specs.Chains.{AreDistinct, most_out, odd_ones};
-ghost use Rattle.region_body.specs.SlowLinks.{AreSlowed, IsSlowThere, is_listed};
 ghost use Rattle.region_body.specs.Joining.{AreKnown};
 
 use crate::cells::Cells;
 use crate::chain::chained;
 use crate::followed::FollowedLink;
-use crate::joining::{has_speeds, join_next, slow_link};
+use crate::joining::join_next;
 use crate::place::Place;
-use crate::slow_link::SlowLink;
 use crate::tie::Tie;
 use crate::tying::tied;
 use network_file::Net;
 use no_memory::NoMemory;
 use std::alloc::Global;
 
-/// How a region's cells hang together: the links to neighbouring places whose most changes, those out of cells with speed
-/// records, and the other connectors.
+/// How a region's cells hang together: the links to neighbouring places whose most changes, and the other connectors.
 #[derive(Drop)]
 pub(crate) struct Joints {
     pub(crate) links: Vec<FollowedLink>,
-    pub(crate) slow_links: Vec<SlowLink>,
     pub(crate) ties: Vec<Tie>,
 }
 
@@ -52,34 +48,20 @@ pub(crate) fn join_places(
     requires apart { (p : ℕ) → (place_at places.old p).most ≡ 0 }
     ensures only_most { (q : ℕ) → place_at places.new q ≡ record (place_at places.old q) { most = (place_at places.new q).most } }
     ensures links { IfOk result (λ joints. All (IsThere (length region.now.order.now.placed) t) joints.links.items) }
-    ensures slow_links { IfOk result (λ joints. All (IsSlowThere (length region.now.order.now.placed) t) joints.slow_links.items) }
-    ensures slowed { IfOk result (λ joints. AreSlowed net.now region.now.order.now.placed region.now.connectors.now joints.slow_links.items) }
-    ensures followed { IfOk result (λ joints. AreFollowed (is_listed joints.slow_links.items)
-        (most_out net.now region.now.order.now.placed region.now.connectors.now) places.new joints.links.items t) }
+    ensures followed { IfOk result (λ joints. AreFollowed (most_out net.now region.now.order.now.placed region.now.connectors.now) places.new joints.links.items t) }
     ensures numbers { IfOk result (λ joints. map (λ tie. tie.connector) joints.ties.items ≡ odd_ones net.now region.now.order.now.placed region.now.connectors.now) }
     ensures tied { IfOk result (λ joints. All (IsTie net.now region.now.order.now.placed region.now.halo.now) joints.ties.items) }
     ensures come { IfOk result (λ joints. All (λ tie. tie.course.step ≤ t) joints.ties.items) }
 {
     let _steps = net.steps;
     let mut links = Vec::new(alloc);
-    let mut slow_links = Vec::new(alloc);
     let mut ties = Vec::new(alloc);
     let placed = region.order.placed();
     for k in region.connectors {
         match chained(region, net.connectors[*k as usize]) {
-            Some(p) => {
-                if has_speeds(net, placed, p) {
-                    slow_links.push(slow_link(alloc, net, placed, p)?)?;
-                } else {
-                    join_next(alloc, net, t, placed, p, places, &mut links)?;
-                }
-            }
+            Some(p) => join_next(alloc, net, t, placed, p, places, &mut links)?,
             None => ties.push(tied(alloc, net, *k, region)?)?,
         }
     }
-    Ok(Joints {
-        links,
-        slow_links,
-        ties,
-    })
+    Ok(Joints { links, ties })
 }

@@ -2,9 +2,8 @@
 //!
 //! Each cell has a place, and the cells of a chain of links lie at places side by side. A link from a place to the next one
 //! is kept in the place, as the most that it carries; any other connector is a tie, which has its flow followed by itself. A
-//! step writes what has changed of the most, takes all places through the links in one loop, then each tie, then the demands
-//! of the gates. The most of a link out of a cell with speed records changes with what the cell holds, so it is written in
-//! each step.
+//! step writes what has changed of the most and of the speeds, takes all places through the links in one loop, then each tie,
+//! then the demands of the gates. Places whose cells have speed records lie in runs, and the loop asks for speeds in these alone.
 //!
 //! All amounts are in parts. A step takes no memory.
 #![tactic(auto)]
@@ -19,6 +18,7 @@ mod demands;
 mod first;
 mod follow;
 mod followed;
+mod followed_speed;
 mod gate;
 mod held;
 mod idling;
@@ -35,15 +35,16 @@ mod passing;
 mod pause;
 mod place;
 mod placed;
-mod renew;
 mod rule;
+mod run;
 mod sight;
-mod slow_link;
-mod slow_links;
+mod slow_cell;
 mod slowing;
 mod space;
 mod speed_factor;
+mod speeds;
 mod sweep;
+mod sweep_slowed;
 mod tie;
 mod tying;
 mod waiting;

@@ -1,34 +1,36 @@
-ghost use Rattle.std.specs.Prelude.{◌≡◌, ◌<◌, ◌≤◌, MatchOption, length};
+ghost use Rattle.std.specs.Prelude.{◌≡◌, ◌<◌, ◌≤◌, MatchOption, length, min};
 ghost use Rattle.region_body.specs.Moving.{MoveNothing, MoveNothingIn, MovesAt};
 ghost use Rattle.region_body.specs.Places.{AreSound, link_out};
+ghost use Rattle.region_body.specs.Speeds.{at_speeds, slowed_place, speed_of};
 
 use crate::place::Place;
-use crate::sweep::carried_from;
+use crate::speed_factor::SpeedFactor;
 
-/// A place whose link to the next one carries something, looked for from this one on and round, or none where none does.
-pub(crate) fn moving(places: &[Place], from: usize) -> Option<usize>
+/// A place whose link to the next one carries something at these speeds, looked for from this one on and round, or none where
+/// none does.
+pub(crate) fn moving(places: &[Place], speeds: &[SpeedFactor], from: usize) -> Option<usize>
     requires sound { AreSound places.now }
-    ensures { MatchOption result (MoveNothing places.now) (MovesAt places.now) }
+    ensures { MatchOption result (MoveNothing places.now speeds.now) (MovesAt places.now speeds.now) }
 {
     // Mostly what moved in the step before moves again.
-    if from < places.len() && flow_from(places, from) != 0 {
+    if from < places.len() && flow_from(places, speeds, from) != 0 {
         return Some(from);
     }
     let from = from.min(places.len());
-    match moving_in(places, from, places.len()) {
+    match moving_in(places, speeds, from, places.len()) {
         Some(p) => Some(p),
-        None => moving_in(places, 0, from),
+        None => moving_in(places, speeds, 0, from),
     }
 }
 
 // The first of them from one on, before another.
-fn moving_in(places: &[Place], from: usize, to: usize) -> Option<usize>
+fn moving_in(places: &[Place], speeds: &[SpeedFactor], from: usize, to: usize) -> Option<usize>
     requires sound { AreSound places.now }
     requires within { to ≤ length places.now }
-    ensures { MatchOption result (MoveNothingIn places.now from to) (MovesAt places.now) }
+    ensures { MatchOption result (MoveNothingIn places.now speeds.now from to) (MovesAt places.now speeds.now) }
 {
     for p in from..to {
-        if flow_from(places, p) != 0 {
+        if flow_from(places, speeds, p) != 0 {
             return Some(p);
         }
     }
@@ -36,14 +38,26 @@ fn moving_in(places: &[Place], from: usize, to: usize) -> Option<usize>
 }
 
 // What the link out of a place carries, and nothing out of the last place.
-fn flow_from(places: &[Place], p: usize) -> u64
+fn flow_from(places: &[Place], speeds: &[SpeedFactor], p: usize) -> u64
     requires sound { AreSound places.now }
     requires there { p < length places.now }
-    ensures { result ≡ link_out places.now p }
+    ensures { result ≡ link_out (at_speeds places.now speeds.now) p }
 {
     if p + 1 < places.len() {
-        carried_from(places, p)
+        let next = &places[p + 1];
+        sent_from(&places[p], speeds, p).min(next.space.let_in(next.n))
     } else {
         0
+    }
+}
+
+// What the link out of this place, the p-th, can carry of what it holds.
+fn sent_from(place: &Place, speeds: &[SpeedFactor], p: usize) -> u64
+    ensures { result ≡ min (slowed_place place.now (speed_of speeds.now p)).most place.now.n }
+{
+    if p < speeds.len() {
+        place.most.min(speeds[p].arriving(place.n))
+    } else {
+        place.sent()
     }
 }

@@ -2,13 +2,13 @@ ghost use Rattle.std.specs.Prelude.{◌≡◌, ◌<◌, ◌≤◌, ◌⊎◌, �
 ghost use Rattle.region_body.specs.Flows.{flow_at, no_flow};
 ghost use Rattle.region_body.specs.Places.{AreSound, place_at};
 ghost use Rattle.region_body.specs.Carrying.{IsThere, held_in, spot_at, three_held};
-ghost use Rattle.region_body.specs.Pausing.{AreIdle, IsIdleUntil, IsSlowIdle};
+ghost use Rattle.region_body.specs.Pausing.{AreIdle, IsIdleUntil};
 
 use crate::followed::FollowedLink;
 use crate::movement::moving;
 use crate::place::Place;
 use crate::sight::Sight;
-use crate::slow_link::SlowLink;
+use crate::speed_factor::SpeedFactor;
 use crate::tie::Tie;
 
 /// For how long nothing moves among cells.
@@ -31,23 +31,24 @@ impl Pause {
         mover: 0,
     };
 
-    /// The pause of cells with these places and connectors as they are now, looked for from a place on.
+    /// The pause of cells with these places and connectors as they are now, and with these speeds, which stay before a step. It
+    /// is looked for from a place on.
     pub(crate) fn of(
         mover: usize,
         places: &[Place],
+        speeds: &[SpeedFactor],
+        speeds_until: u64,
         links: &[FollowedLink],
-        slow_links: &[SlowLink],
         ties: &[Tie],
         put: &[Option<u64>],
     ) -> Pause
         requires sound { AreSound places.now }
         requires there { All (λ link. link.place < length places.now) links.now }
-        requires slow_there { All (λ link. link.place < length places.now) slow_links.now }
         requires spots { All (λ tie. (m : ℕ) → m < 3 → IsThere places.now put.now (spot_at tie m)) ties.now }
         ensures none_owed { result.owed ≡ 0 }
-        ensures idle { (s : ℕ) → s < result.until → AreIdle places.now links.now slow_links.now ties.now put.now result.until }
+        ensures idle { (s : ℕ) → s < result.until → AreIdle places.now speeds.now speeds_until links.now ties.now put.now result.until }
     {
-        match moving(places, mover) {
+        match moving(places, speeds, mover) {
             Some(mover) => Pause {
                 owed: 0,
                 until: 0,
@@ -56,7 +57,7 @@ impl Pause {
             None => Pause {
                 owed: 0,
                 until: links_until(links, places)
-                    .min(slow_until(slow_links, places))
+                    .min(speeds_until)
                     .min(ties_until(ties, &Sight { places, put })),
                 mover,
             },
@@ -76,33 +77,6 @@ fn links_until(links: &[FollowedLink], places: &[Place]) -> u64
         }
     }
     until
-}
-
-// A step before which what these links carry at most stays, where their places hold something; 0 where it doesn't.
-fn slow_until(links: &[SlowLink], places: &[Place]) -> u64
-    requires { All (λ link. link.place < length places.now) links.now }
-    ensures { All (IsSlowIdle places.now result) links.now }
-{
-    let mut until = u64::MAX;
-    for link in links {
-        until = until.min(stays_until(link, places));
-    }
-    until
-}
-
-// The same of one of them.
-fn stays_until(link: &SlowLink, places: &[Place]) -> u64
-    requires { link.now.place < length places.now }
-    ensures { IsSlowIdle places.now result link.now }
-{
-    let place = &places[link.place() as usize];
-    if place.n == 0 {
-        u64::MAX
-    } else if place.most == link.most(place.n) {
-        link.until()
-    } else {
-        0
-    }
 }
 
 // A step before which none of these connectors carries anything as long as their cells hold what they do; 0 where one does.

@@ -9,8 +9,7 @@ use crate::space::Space;
 pub(crate) struct Place {
     /// What the cell holds.
     pub(crate) n: u64,
-    /// The most that the link to the next place carries now, or in the last step taken where it leads out of a cell with speed
-    /// records; 0 where no link joins them.
+    /// The most that the limits let the link to the next place carry now, 0 where no link joins them.
     pub(crate) most: u64,
     /// All that has gone out of it.
     pub(crate) gone: u64,

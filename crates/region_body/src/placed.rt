@@ -15,7 +15,8 @@ use crate::carry::carry_all;
 use crate::cells::Cells;
 use crate::demands::{bring_demands, nothing_demanded};
 use crate::follow::follow;
-use crate::followed::FollowedLink;
+use crate::followed::{FollowedLink, refresh};
+use crate::followed_speed::{FollowedSpeed, follow_speeds};
 use crate::gate::GatePlace;
 use crate::held::Held;
 use crate::joints::join_places;
@@ -23,8 +24,9 @@ use crate::opening::{earlier_of, gates_of, nothing_put, origins_of, places_of};
 use crate::origin::Origin;
 use crate::pause::{Pause, hold_the_same, note_seen};
 use crate::place::Place;
-use crate::renew::renew;
-use crate::slow_link::SlowLink;
+use crate::run::Run;
+use crate::speed_factor::SpeedFactor;
+use crate::speeds::speeds_of;
 use crate::sweep::sweep;
 use crate::tie::Tie;
 use crate::waiting::{note_held, wait_all, waited};
@@ -42,10 +44,15 @@ pub struct PlacedRows {
     places: Vec<Place>,
     origins: Vec<Origin>,
     before: Vec<u64>,
+    // The speed at each place, none where no cell has speed records; where places lie whose cells have some; and how these
+    // change, none before a step.
+    speeds: Vec<SpeedFactor>,
+    runs: Vec<Run>,
+    speed_courses: Vec<FollowedSpeed>,
+    speeds_until: u64,
     links: Vec<FollowedLink>,
-    slow_links: Vec<SlowLink>,
     ties: Vec<Tie>,
-    // None of these changes before this step.
+    // None of the ties changes before this step.
     ties_until: u64,
     gates: Vec<GatePlace>,
     pause: Pause,
@@ -65,8 +72,11 @@ impl Model for PlacedRows {
       places = map (waited rows.pause.owed) rows.places.items;
       origins = rows.origins.items;
       before = rows.before.items;
+      speeds = rows.speeds.items;
+      runs = rows.runs.items;
+      speed_courses = rows.speed_courses.items;
+      speeds_until = rows.speeds_until;
       links = rows.links.items;
-      slow_links = rows.slow_links.items;
       ties = rows.ties.items;
       ties_until = rows.ties_until;
       gates = rows.gates.items;
@@ -114,13 +124,17 @@ impl PlacedRows {
         let before = earlier_of(alloc, earlier, cells)?;
         let gates = gates_of(alloc, net, cells)?;
         let joints = join_places(alloc, net, t, region, &mut places)?;
+        let speeds = speeds_of(alloc, net, cells)?;
         let seen = nothing_put(alloc, region.halo.len())?;
         Ok(PlacedRows {
             places,
             origins,
             before,
+            speeds: speeds.now,
+            runs: speeds.runs,
+            speed_courses: speeds.courses,
+            speeds_until: 0,
             links: joints.links,
-            slow_links: joints.slow_links,
             ties: joints.ties,
             ties_until: 0,
             gates,
@@ -267,9 +281,15 @@ impl PlacedRows {
         ensures seen { self.new.seen ≡ self.old.seen }
     {
         let _steps = net.steps;
-        renew(&mut self.links, &mut self.slow_links, &mut self.places, t);
+        refresh(&mut self.links, &mut self.places, t);
+        self.speeds_until = follow_speeds(
+            t,
+            &mut self.speed_courses,
+            &mut self.speeds,
+            self.speeds_until,
+        );
         self.ties_until = follow(t, &mut self.ties, self.ties_until);
-        sweep(&mut self.places, &mut self.before);
+        sweep(&mut self.places, &self.speeds, &self.runs, &mut self.before);
         let held = Held {
             own: &self.before,
             put,
@@ -283,19 +303,19 @@ impl PlacedRows {
         requires none_owed { self.old.pause.owed ≡ 0 }
         requires seen { length self.old.seen ≡ length put.now }
         requires there { All (λ link. link.place < length self.old.places) self.old.links }
-        requires slow_there { All (λ link. link.place < length self.old.places) self.old.slow_links }
         requires spots { All (λ tie. (m : ℕ) → m < 3 → IsThere self.old.places put.now (spot_at tie m)) self.old.ties }
         ensures only_pause { self.new ≡ record self.old { pause = self.new.pause; seen = self.new.seen } }
         ensures one_each { length self.new.seen ≡ length put.now }
         ensures none_owed { self.new.pause.owed ≡ 0 }
         ensures idle { (s : ℕ) → s < self.new.pause.until →
-            AreIdle self.old.places self.old.links self.old.slow_links self.old.ties self.new.seen self.new.pause.until }
+            AreIdle self.old.places self.old.speeds self.old.speeds_until self.old.links self.old.ties self.new.seen self.new.pause.until }
     {
         self.pause = Pause::of(
             self.pause.mover,
             &self.places,
+            &self.speeds,
+            self.speeds_until,
             &self.links,
-            &self.slow_links,
             &self.ties,
             put,
         );

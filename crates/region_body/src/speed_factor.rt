@@ -1,4 +1,4 @@
-ghost use Rattle.std.specs.Prelude.{◌≡◌, ◌<◌, ◌^◌};
+ghost use Rattle.std.specs.Prelude.{◌≡◌, ◌<◌, ◌≤◌, ◌^◌};
 ghost use Rattle.signal_plan.specs.Speeds.{IsSpeed, arriving};
 
 use flow_model::arriving;
@@ -45,7 +45,8 @@ impl SpeedFactor {
     /// Of `n` parts in a cell those that reach its end in a step.
     #[inline(always)]
     pub(crate) fn arriving(self, n: u64) -> u64
-        ensures { result ≡ arriving self n }
+        ensures flow { result ≡ arriving self n }
+        ensures held { result ≤ n }
     {
         if n < 1 << 53 {
             return self.arriving_by_factor(n);
@@ -53,11 +54,12 @@ impl SpeedFactor {
         arriving((self.num, self.den), n)
     }
 
-    // The same of so few parts that the factor will do.
+    /// The same of so few parts that the factor will do.
     #[inline(always)]
-    fn arriving_by_factor(self, n: u64) -> u64
+    pub(crate) fn arriving_by_factor(self, n: u64) -> u64
         requires few { n < 2 ^ 53 }
-        ensures { result ≡ arriving self n }
+        ensures flow { result ≡ arriving self n }
+        ensures held { result ≤ n }
     {
         let wide = u128::from(n) * u128::from(self.factor);
         (wide >> 63) as u64

@@ -17,7 +17,7 @@ joined plan cells p t first course value until is value_is steady same = record 
 }
 
 pub returns-then-is_constant-clause-followed : goal.returns-then-is_constant-clause-followed
-returns-then-is_constant-clause-followed c = λ apart most later followed extends.
+returns-then-is_constant-clause-followed c = λ most later followed extends.
     let plan : PlanRecords = c.args.net.now.plan in
     let cells = c.args.cells.now in
     let p : ℕ = c.args.p in
@@ -25,14 +25,14 @@ returns-then-is_constant-clause-followed c = λ apart most later followed extend
     let course : LinkValues = c.move_to-now.new.self in
     let is : (s : ℕ) → most_at c.in_ok-course.course s ≡ most_between plan (slice_index cells p) (slice_index cells (p + 1)) s =
     λ s. c.in_ok-course.ensures.course s ∙ ap (λ net. most_between net.plan (slice_index cells p) (slice_index cells (p + 1)) s) c.net.view_is in
-    joined-constant plan cells apart most later c.args.places.now c.args.links.now.items t p course c.move_to-now.result.value c.move_to-now.result.until
+    joined-constant plan cells most later c.args.places.now c.args.links.now.items t p course c.move_to-now.result.value c.move_to-now.result.until
     (omega (arith, c.requires.within, c.requires.one_each))
     (joined plan cells p t c.in_ok-course.course course c.move_to-now.result.value c.move_to-now.result.until is c.move_to-now.ensures.value
     c.move_to-now.ensures.steady c.move_to-now.ensures.course)
     (c.is_constant.ensures c.if-is_constant.true) followed extends
 
 pub returns-clause-followed : goal.returns-clause-followed
-returns-clause-followed c = λ apart most later followed extends.
+returns-clause-followed c = λ most later followed extends.
     let plan : PlanRecords = c.args.net.now.plan in
     let cells = c.args.cells.now in
     let p : ℕ = c.args.p in
@@ -41,7 +41,7 @@ returns-clause-followed c = λ apart most later followed extends.
     let is : (s : ℕ) → most_at c.in_ok-course.course s ≡ most_between plan (slice_index cells p) (slice_index cells (p + 1)) s =
     λ s. c.in_ok-course.ensures.course s ∙ ap (λ net. most_between net.plan (slice_index cells p) (slice_index cells (p + 1)) s) c.net.view_is in
     let link : FollowedLink = record { place = p; until = c.move_to-now.result.until; course = course } in
-    let follows = joined-followed plan cells apart most later c.args.places.now c.args.links.now.items t p link c.move_to-now.result.value
+    let follows = joined-followed plan cells most later c.args.places.now c.args.links.now.items t p link c.move_to-now.result.value
     (omega (arith, c.requires.within, c.requires.one_each))
     (joined plan cells p t c.in_ok-course.course course c.move_to-now.result.value c.move_to-now.result.until is c.move_to-now.ensures.value
     c.move_to-now.ensures.steady c.move_to-now.ensures.course)

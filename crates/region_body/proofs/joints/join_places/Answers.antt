@@ -1,17 +1,16 @@
-use Rattle.std.specs.Prelude.{All, slice_index}
-use Rattle.std.proofs.Common.{◌≡◌, ◌<◌, ℕ, true, false, length, get_or, ap, subst, sym, ◌∙◌, arith}
-use Rattle.signal_plan.specs.Speeds.{has_speeds}
+use Rattle.std.specs.Prelude.{All}
+use Rattle.std.proofs.Common.{◌≡◌, ◌<◌, ℕ, true, false, length, get_or, ap, subst, arith}
 use Rattle.network_file.specs.Connectors.{connector_at}
 use Rattle.network_file.proofs.NetworkFacts.{read_connector}
 use Rattle.region_body.specs.Followed.{IsThere}
 use Rattle.region_body.specs.Chains.{is_chained, is_link}
-use Rattle.region_body.proofs.Extending.{joined-chained, joined-none, joined-odd, joined-slow}
-use Rattle.region_body.proofs.joints.join_places.Goals.{in-Some+then-has_speeds+in_ok-slow_link-in-Some+in_ok-push-in-Some, in-Some+else-has_speeds+in_ok-join_next-in-Some, in-None+in_ok-tied-in-None+in_ok-push-in-None}
+use Rattle.region_body.proofs.Extending.{joined-chained, joined-none, joined-odd}
+use Rattle.region_body.proofs.joints.join_places.Goals.{in-Some+in_ok-join_next-in-Some, in-None+in_ok-tied-in-None+in_ok-push-in-None}
 use Rattle.region_body.proofs.joints.join_places.Goals as goal
 
 pub loop-k-init : goal.loop-k-init
 loop-k-init c =
-    rw (c.new-links.ensures.items, c.new-slow_links.ensures.items, c.new-ties.ensures.items)
+    rw (c.new-links.ensures.items, c.new-ties.ensures.items)
     (joined-none c.args.net.now c.args.t c.args.region.now.order.now.placed c.args.region.now.halo.now c.args.region.now.connectors.now c.args.places.now c.requires.apart)
 
 pub loop-k-preserved : goal.loop-k-preserved
@@ -28,28 +27,18 @@ loop-k-preserved c =
     read_connector c.net.inside.connectors.items net.connectors k c.index.result.now (ap (λ net. net.connectors) c.net.view_is)
     (c.requires.connectors j 0 within) c.index.ensures in
     elim c.match-chained.branch [
-      | in-Some+then-has_speeds+in_ok-slow_link-in-Some+in_ok-push-in-Some w ↦
+      | in-Some+in_ok-join_next-in-Some w ↦
           let linked : is_link cells w.in-Some.p (connector_at net.connectors k) ≡ true = rw read w.in-Some.ensures in
-          let link = w.in_ok-slow_link-in-Some.field-0 in
-          let done = w.in_ok-slow_link-in-Some.ensures in
-          rw (w.places-is, w.links-is, w.ties-is, w.slow_links-is, w.in_ok-push-in-Some.ensures.items)
-          (joined-slow net t cells halo connectors c.args.places.now c.loop-k.places c.loop-k.links.items c.loop-k.slow_links.items link c.loop-k.ties.items j w.in-Some.p within
-          c.requires.distinct linked done.place done.step (rw c.placed-placed.ensures at done.link) c.loop-k.invariant)
-      | in-Some+else-has_speeds+in_ok-join_next-in-Some w ↦
-          let linked : is_link cells w.in-Some.p (connector_at net.connectors k) ≡ true = rw read w.in-Some.ensures in
-          let free : has_speeds net.plan (slice_index cells w.in-Some.p) ≡ false = sym (rw c.placed-placed.ensures at w.has_speeds.ensures) ∙ w.if-has_speeds.false in
           let done = w.in_ok-join_next-in-Some.ensures in
           let same : length c.loop-k.places ≡ length cells = omega (arith, c.requires.one_each) in
           let there : All (IsThere (length cells) t) w.join_next.new.links.items =
           subst (λ n. All (IsThere n t) w.join_next.new.links.items) same done.links in
-          rw (w.places-is, w.links-is, w.ties-is, w.slow_links-is)
+          rw (w.places-is, w.links-is, w.ties-is)
           (joined-chained net t cells halo connectors c.args.places.now c.loop-k.places w.join_next.new.places c.loop-k.links.items w.join_next.new.links.items
-          c.loop-k.slow_links.items c.loop-k.ties.items j w.in-Some.p within c.requires.distinct linked free c.loop-k.invariant there done.at w.join_next.ensures.only_most
-          (rw c.placed-placed.ensures at done.followed))
+          c.loop-k.ties.items j w.in-Some.p within c.requires.distinct linked c.loop-k.invariant there done.at w.join_next.ensures.only_most (rw c.placed-placed.ensures at done.followed))
       | in-None+in_ok-tied-in-None+in_ok-push-in-None w ↦
           let odd : is_chained cells (connector_at net.connectors k) ≡ false = rw read w.in-None.ensures in
-          rw (w.places-is, w.links-is, w.slow_links-is, w.ties-is, w.in_ok-push-in-None.ensures.items)
-          (joined-odd net t cells halo connectors c.args.places.now c.loop-k.places c.loop-k.links.items c.loop-k.slow_links.items c.loop-k.ties.items
-          w.in_ok-tied-in-None.field-0 j within odd
+          rw (w.places-is, w.links-is, w.ties-is, w.in_ok-push-in-None.ensures.items)
+          (joined-odd net t cells halo connectors c.args.places.now c.loop-k.places c.loop-k.links.items c.loop-k.ties.items w.in_ok-tied-in-None.field-0 j within odd
           w.in_ok-tied-in-None.ensures.connector w.in_ok-tied-in-None.ensures.tie w.in_ok-tied-in-None.ensures.step c.loop-k.invariant)
     ]

@@ -1,6 +1,11 @@
-use Rattle.std.proofs.Common.{◌*◌}
-use Rattle.region_body.specs.Sweeping.{IsSweptTo}
+use Rattle.std.proofs.Common.{ℕ, List, ◌+◌, ◌*◌}
+use Rattle.region_body.specs.Sweeping.{IsFree, IsSweptTo}
+use Rattle.region_body.specs.declared.place.Place.{Place}
 use Rattle.region_body.proofs.sweep.sweep_fours.Given as goal
 
 abbrev pub invariant-loop-m : goal.invariant-loop-m
-invariant-loop-m l = IsSweptTo l.initial.places (4 * l.m) l.places l.before l.enters
+invariant-loop-m l = record {
+  going : (first : List Place) × (speeds : List (ℕ × ℕ)) × IsSweptTo first speeds (l.from + 4 * l.m) l.places l.before l.flow × IsFree speeds l.from (l.from + 4 * l.fours);
+  swept : (first : List Place) (speeds : List (ℕ × ℕ)) → IsSweptTo first speeds l.from l.initial.places l.initial.before l.enters →
+      IsFree speeds l.from (l.from + 4 * l.fours) → IsSweptTo first speeds (l.from + 4 * l.m) l.places l.before l.flow;
+}

@@ -14,11 +14,14 @@ none-owed c = ap (λ rows. rows.pause.owed) c.self.view_is ∙ c.requires.none_o
 places-are : (c : After-deref-4) → c.deref.result.now ≡ c.args.self.now.places
 places-are c = c.deref.ensures.value ∙ unowed c.self.inside.pause.owed c.self.inside.places.items c.args.self.now.places (ap (λ rows. rows.places) c.self.view_is) (none-owed c)
 
-links-are : (c : After-deref-4) → c.deref-2.result.now ≡ c.args.self.now.links
-links-are c = c.deref-2.ensures.value ∙ ap (λ rows. rows.links) c.self.view_is
+links-are : (c : After-deref-4) → c.deref-3.result.now ≡ c.args.self.now.links
+links-are c = c.deref-3.ensures.value ∙ ap (λ rows. rows.links) c.self.view_is
 
-slow-are : (c : After-deref-4) → c.deref-3.result.now ≡ c.args.self.now.slow_links
-slow-are c = c.deref-3.ensures.value ∙ ap (λ rows. rows.slow_links) c.self.view_is
+speeds-are : (c : After-deref-4) → c.deref-2.result.now ≡ c.args.self.now.speeds
+speeds-are c = c.deref-2.ensures.value ∙ ap (λ rows. rows.speeds) c.self.view_is
+
+until-is : (c : After-deref-4) → c.self.inside.speeds_until ≡ c.args.self.now.speeds_until
+until-is c = ap (λ rows. rows.speeds_until) c.self.view_is
 
 ties-are : (c : After-deref-4) → c.deref-4.result.now ≡ c.args.self.now.ties
 ties-are c = c.deref-4.ensures.value ∙ ap (λ rows. rows.ties) c.self.view_is
@@ -32,9 +35,6 @@ of-self-inside-requires-clause-sound c =
 pub of-self-inside-requires-clause-there : goal.of-self-inside-requires-clause-there
 of-self-inside-requires-clause-there c = rw (places-are c, links-are c) c.requires.there
 
-pub of-self-inside-requires-clause-slow_there : goal.of-self-inside-requires-clause-slow_there
-of-self-inside-requires-clause-slow_there c = rw (places-are c, slow-are c) c.requires.slow_there
-
 pub of-self-inside-requires-clause-spots : goal.of-self-inside-requires-clause-spots
 of-self-inside-requires-clause-spots c = rw (places-are c, ties-are c) c.requires.spots
 
@@ -45,6 +45,6 @@ returns-clause-idle c = λ s before.
     let lasts : nat_lt 0 until ≡ true = grind (arith, nat_tests, before) in
     let same : c.note_seen.new.seen ≡ c.args.put.now = c.note_seen.ensures.same lasts in
     let long : length c.note_seen.new.seen ≡ c.self.inside.seen.len = c.note_seen.auto.seen ∙ c.deref_mut.ensures.len in
-    subst (λ seen. AreIdle c.args.self.now.places c.args.self.now.links c.args.self.now.slow_links c.args.self.now.ties seen until)
+    subst (λ seen. AreIdle c.args.self.now.places c.args.self.now.speeds c.args.self.now.speeds_until c.args.self.now.links c.args.self.now.ties seen until)
     (sym (with_items_is c.self.inside.seen c.note_seen.new.seen long ∙ same))
-    ((rw (places-are e, links-are e, slow-are e, ties-are e) at c.of-self-inside.ensures.idle) s before)
+    ((rw (places-are e, speeds-are e, until-is e, links-are e, ties-are e) at c.of-self-inside.ensures.idle) s before)

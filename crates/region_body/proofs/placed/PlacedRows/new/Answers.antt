@@ -6,7 +6,6 @@ use Rattle.flow_model.specs.Limits.{room_at}
 use Rattle.region_body.specs.Places.{place_at}
 use Rattle.region_body.specs.Space.{IsSpaceOf}
 use Rattle.region_body.specs.Followed.{IsThere}
-use Rattle.region_body.specs.SlowLinks.{IsSlowThere}
 use Rattle.region_body.proofs.Firsts.{AreOpened, opened-cell, opened-rows, opened-settled}
 use Rattle.region_body.proofs.Stays.{waited-none}
 use Rattle.region_body.proofs.placed.PlacedRows.new.Goals as goal
@@ -96,8 +95,8 @@ returns-clause-placed c =
       gates = (rw c.placed-cells.ensures at c.in_ok-gates.ensures.places);
       demands = λ k d within. let is = (rw c.placed-cells.ensures at c.in_ok-gates.ensures.demands) k d within in record { demand = is.demand; step = omega (arith, is.step) };
       links = subst (λ n. All (IsThere n t) c.in_ok-joints.joints.links.items) (sym (after_long ∙ opened.first_each)) c.in_ok-joints.ensures.links;
-      slow_links = subst (λ n. All (IsSlowThere n t) c.in_ok-joints.joints.slow_links.items) (sym (after_long ∙ opened.first_each)) c.in_ok-joints.ensures.slow_links;
-      slowed = c.in_ok-joints.ensures.slowed;
+      speeds = (rw c.placed-cells.ensures at c.in_ok-speeds.ensures.speeds) t;
+      runs = rw c.placed-cells.ensures at c.in_ok-speeds.ensures.runs;
       followed = c.in_ok-joints.ensures.followed;
       pause = record { idle = λ s none. absurd (omega (arith, none)); owed = omega arith; kept = λ some. absurd (omega (arith, some)) };
       seen_each = ap length c.in_ok-seen.ensures ∙ length-replicate (length halo) None;

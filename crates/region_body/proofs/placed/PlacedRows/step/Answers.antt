@@ -57,9 +57,6 @@ placed c =
 pub look-requires-clause-there : goal.look-requires-clause-there
 look-requires-clause-there c = λ k d within. ((placed c c.requires.can).links k d within).place
 
-pub look-requires-clause-slow_there : goal.look-requires-clause-slow_there
-look-requires-clause-slow_there c = λ k d within. ((placed c c.requires.can).slow_links k d within).place
-
 pub look-requires-clause-spots : goal.look-requires-clause-spots
 look-requires-clause-spots c = λ k d within.
     let is = placed c c.requires.can in

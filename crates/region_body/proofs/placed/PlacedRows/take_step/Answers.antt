@@ -2,7 +2,9 @@ use Rattle.std.specs.Prelude.{map, slice_index, sum_by}
 use Rattle.std.proofs.Common.{◌≡◌, ◌<◌, ℕ, List, length, sym, ap, subst, ◌∙◌, arith}
 use Rattle.std.specs.Vec.{with_items}
 use Rattle.std.proofs.lemmas.List.{with_items_is}
+use Rattle.signal_plan.specs.Speeds.{IsSpeed}
 use Rattle.network_file.specs.Network.{IsNetwork}
+use Rattle.flow_model.proofs.CellLimits.{speed_at-sound}
 use Rattle.region_body.specs.Places.{place_at, swept, with_entered}
 use Rattle.region_body.specs.declared.place.Place.{Place}
 use Rattle.region_body.specs.Carrying.{AreTiesFollowed, passed}
@@ -13,8 +15,9 @@ use Rattle.region_body.specs.declared.gate.GatePlace.{GatePlace}
 use Rattle.region_body.specs.declared.tie.Tie.{Tie}
 use Rattle.region_body.proofs.Stays.{waited-unowed}
 use Rattle.region_body.proofs.Stepped.{IsSwept, can-carry-each, can-enter-each, can-pass-each, carried_to, ins_of, outs_of, steps-of}
-use Rattle.region_body.proofs.Renewed.{IsFresh, IsRenewal, fresh-of}
-use Rattle.region_body.proofs.Whole.{AreSteps, gates-there, placed-after, placed-read, rows-after, rows-read, settled-after, sound-fresh}
+use Rattle.region_body.specs.Speeds.{at_speeds}
+use Rattle.region_body.proofs.Renewed.{IsFresh, Renewal, fresh-of, sending, sound-sending}
+use Rattle.region_body.proofs.Whole.{AreSteps, can-sweep, gates-there, placed-after, placed-read, rows-after, rows-read, settled-after, sound-fresh}
 use Rattle.region_body.specs.declared.placed.PlacedRows.TheInside.{Inside}
 use Rattle.region_body.proofs.placed.PlacedRows.take_step.Goals.{After-follow-self-inside}
 use Rattle.region_body.proofs.placed.PlacedRows.take_step.Goals as goal
@@ -25,8 +28,11 @@ opened rows = record {
   places = rows.places.items;
   origins = rows.origins.items;
   before = rows.before.items;
+  speeds = rows.speeds.items;
+  runs = rows.runs.items;
+  speed_courses = rows.speed_courses.items;
+  speeds_until = rows.speeds_until;
   links = rows.links.items;
-  slow_links = rows.slow_links.items;
   ties = rows.ties.items;
   ties_until = rows.ties_until;
   gates = rows.gates.items;
@@ -58,41 +64,52 @@ none-owed c = ap (λ cells. cells.pause.owed) c.self.view_is ∙ c.requires.none
 sound : (c : After-follow-self-inside) → IsNetwork c.args.net.now
 sound c = subst IsNetwork c.net.view_is c.net.invariant
 
-fresh : (c : After-follow-self-inside) (can : Can c) → IsFresh c.args.net.now c.args.cells.now can.connectors c.args.t (opened c.self.inside) c.renew.new.places c.renew.new.links
-    c.renew.new.slow_links
-fresh c can =
-    let is : IsRenewal c.args.t c.deref_mut-3.result.now c.renew.new.places c.deref_mut.result.now c.renew.new.links c.deref_mut-2.result.now c.renew.new.slow_links = record {
-      long = c.renew.auto.places;
-      there = c.renew.ensures.there;
-      slow_there = c.renew.ensures.slow_there;
-      as_before = c.renew.ensures.as_before;
-      only_most = c.renew.ensures.only_most;
-      slow = c.renew.ensures.slow;
-      most = c.renew.ensures.most;
-      followed = c.renew.ensures.followed;
-    } in
-    fresh-of c.args.net.now c.args.cells.now can.halo can.connectors c.args.t (opened c.self.inside) c.renew.new.places c.renew.new.links c.renew.new.slow_links (sound c) can.laid
-    (rw (c.deref_mut-3.ensures.value, c.deref_mut.ensures.value, c.deref_mut-2.ensures.value) at is)
+-- what is renewed for the step
+abbrev renewed : After-follow-self-inside → Renewal
+renewed c = record {
+  places = c.refresh.new.places;
+  links = c.refresh.new.links;
+  courses = c.follow_speeds-self-inside.new.courses;
+  speeds = c.follow_speeds-self-inside.new.speeds;
+  until = c.follow_speeds-self-inside.result;
+}
 
-fresh-is : (c : After-follow-self-inside) → (with_items c.self.inside.places c.renew.new.places).items ≡ c.renew.new.places
-fresh-is c = with_items_is c.self.inside.places c.renew.new.places (c.renew.auto.places ∙ c.deref_mut-3.ensures.len)
+fresh : (c : After-follow-self-inside) (can : Can c) → IsFresh c.args.net.now c.args.cells.now can.connectors c.args.t (opened c.self.inside) (renewed c)
+fresh c can = fresh-of c.args.net.now c.args.cells.now can.halo can.connectors c.args.t (opened c.self.inside) (renewed c) (sound c) can.laid (record {
+  long = c.refresh.auto.places ∙ ap length c.deref_mut-2.ensures.value;
+  there = rw c.deref_mut-2.ensures.value at c.refresh.ensures.there;
+  most = rw (c.deref_mut.ensures.value, c.deref_mut-2.ensures.value) at c.refresh.ensures.most;
+  followed = rw (c.deref_mut.ensures.value, c.deref_mut-2.ensures.value) at c.refresh.ensures.followed;
+  speeds_long = c.follow_speeds-self-inside.auto.speeds ∙ ap length c.deref_mut-4.ensures.value;
+  speeds_there = rw c.deref_mut-4.ensures.value at c.follow_speeds-self-inside.ensures.there;
+  as_before = rw c.deref_mut-3.ensures.value at c.follow_speeds-self-inside.ensures.as_before;
+  later = c.follow_speeds-self-inside.ensures.later;
+  in_force = rw (c.deref_mut-3.ensures.value, c.deref_mut-4.ensures.value) at c.follow_speeds-self-inside.ensures.in_force;
+  others = rw (c.deref_mut-3.ensures.value, c.deref_mut-4.ensures.value) at c.follow_speeds-self-inside.ensures.others;
+})
+
+fresh-is : (c : After-follow-self-inside) → (with_items c.self.inside.places c.refresh.new.places).items ≡ c.refresh.new.places
+fresh-is c = with_items_is c.self.inside.places c.refresh.new.places (c.refresh.auto.places ∙ c.deref_mut-2.ensures.len)
+
+speeds-are : (c : After-follow-self-inside) → (with_items c.self.inside.speeds c.follow_speeds-self-inside.new.speeds).items ≡ c.follow_speeds-self-inside.new.speeds
+speeds-are c = with_items_is c.self.inside.speeds c.follow_speeds-self-inside.new.speeds (c.follow_speeds-self-inside.auto.speeds ∙ c.deref_mut-4.ensures.len)
 
 followed : (c : After-follow-self-inside) → AreTiesFollowed c.args.t (opened c.self.inside).ties c.follow-self-inside.new.ties
-followed c = rw c.deref_mut-4.ensures.value at c.follow-self-inside.ensures.ties
+followed c = rw c.deref_mut-5.ensures.value at c.follow-self-inside.ensures.ties
 
 ties-are : (c : After-follow-self-inside) → (with_items c.self.inside.ties c.follow-self-inside.new.ties).items ≡ c.follow-self-inside.new.ties
-ties-are c = with_items_is c.self.inside.ties c.follow-self-inside.new.ties (c.follow-self-inside.auto.ties ∙ c.deref_mut-4.ensures.len)
+ties-are c = with_items_is c.self.inside.ties c.follow-self-inside.new.ties (c.follow-self-inside.auto.ties ∙ c.deref_mut-5.ensures.len)
 
 -- once the places are swept
 abbrev Swept : (c : After-follow-self-inside) → Can c → (places : List Place) → (before : List ℕ) → Type 0
 Swept c can places before =
-    IsSwept c.args.net.now c.args.cells.now can.halo can.connectors c.args.t can.n (opened c.self.inside) c.args.put.now c.renew.new.places c.renew.new.links
-    c.renew.new.slow_links c.follow-self-inside.new.ties places before
+    IsSwept c.args.net.now c.args.cells.now can.halo can.connectors c.args.t can.n (opened c.self.inside) c.args.put.now (renewed c) c.follow-self-inside.new.ties places before
 
-is-swept : (c : After-follow-self-inside) (can : Can c) (places swept_places : List Place) (before : List ℕ) → places ≡ c.renew.new.places →
-    length swept_places ≡ length places → ((p : ℕ) → p < length places → place_at swept_places p ≡ swept places p) →
+is-swept : (c : After-follow-self-inside) (can : Can c) (places : List Place) (speeds : List (ℕ × ℕ)) (swept_places : List Place) (before : List ℕ) → places ≡ c.refresh.new.places →
+    speeds ≡ c.follow_speeds-self-inside.new.speeds →
+    length swept_places ≡ length places → ((p : ℕ) → p < length places → place_at swept_places p ≡ swept places (at_speeds places speeds) p) →
     ((p : ℕ) → p < length places → slice_index before p ≡ (place_at places p).n) → length before ≡ length (opened c.self.inside).before → Swept c can swept_places before
-is-swept c can places swept_places before same long each noted noted_long = record {
+is-swept c can places speeds swept_places before same quick long each noted noted_long = record {
   sound = sound c;
   in_time = c.requires.in_time;
   laid = can.laid;
@@ -101,24 +118,39 @@ is-swept c can places swept_places before same long each noted noted_long = reco
   now = fresh c can;
   followed = followed c;
   long = long ∙ ap length same;
-  swept_each = rw same at each;
-  noted_long = noted_long ∙ can.laid.before_each ∙ sym can.laid.one_each ∙ sym (fresh c can).renewed.long;
+  swept_each = rw (same, quick) at each;
+  noted_long = noted_long ∙ can.laid.before_each ∙ sym can.laid.one_each ∙ sym (fresh c can).kept.long;
   noted = rw same at noted;
 }
 
-swept-is : (c : After-follow-self-inside) (places swept_places : List Place) → places ≡ c.renew.new.places → length swept_places ≡ length places →
-    (with_items (with_items c.self.inside.places c.renew.new.places) swept_places).items ≡ swept_places
+swept-is : (c : After-follow-self-inside) (places swept_places : List Place) → places ≡ c.refresh.new.places → length swept_places ≡ length places →
+    (with_items (with_items c.self.inside.places c.refresh.new.places) swept_places).items ≡ swept_places
 swept-is c places swept_places same long =
-    with_items_is (with_items c.self.inside.places c.renew.new.places) swept_places (long ∙ ap length same ∙ c.renew.auto.places ∙ c.deref_mut-3.ensures.len)
+    with_items_is (with_items c.self.inside.places c.refresh.new.places) swept_places (long ∙ ap length same ∙ c.refresh.auto.places ∙ c.deref_mut-2.ensures.len)
+
+pub follow_speeds-self-inside-requires-clause-speeds : goal.follow_speeds-self-inside-requires-clause-speeds
+follow_speeds-self-inside-requires-clause-speeds c =
+    let can = subst (λ from. CanAdvance c.args.net.now c.args.cells.now c.args.t from c.args.put.now) (sym (opened-is c.self.inside c.args.self.now c.self.view_is c.requires.none_owed)) c.requires.can in
+    let sound : IsNetwork c.args.net.now = subst IsNetwork c.net.view_is c.net.invariant in
+    rw c.deref_mut-3.ensures.value (λ k d within s. subst IsSpeed (sym (can.laid.speeds.values k d within s)) (speed_at-sound c.args.net.now _ s sound))
 
 pub sweep-requires-clause-sound : goal.sweep-requires-clause-sound
 sweep-requires-clause-sound c =
     let e : After-follow-self-inside = (goal.at.sweep-requires-clause-sound c).After-follow-self-inside in
     let can = can-step e in
     let new = fresh e can in
-    rw (c.deref_mut-5.ensures.value ∙ fresh-is e)
-    (sound-fresh c.args.net.now c.args.t can.n c.args.cells.now can.halo can.connectors (opened c.self.inside) c.renew.new.places c.args.put.now (sound e) c.requires.in_time
-    can.laid can.bounds can.seen new.renewed)
+    rw (c.deref_mut-6.ensures.value ∙ fresh-is e)
+    (sound-sending c.refresh.new.places c.follow_speeds-self-inside.new.speeds
+    (sound-fresh c.args.net.now c.args.t can.n c.args.cells.now can.halo can.connectors (opened c.self.inside) (sending (renewed e)) c.args.put.now (sound e) c.requires.in_time
+    can.laid can.bounds can.seen new.renewed))
+
+pub sweep-requires-clause-can : goal.sweep-requires-clause-can
+sweep-requires-clause-can c =
+    let e : After-follow-self-inside = (goal.at.sweep-requires-clause-can c).After-follow-self-inside in
+    let can = can-step e in
+    rw (c.deref_mut-6.ensures.value ∙ fresh-is e, c.deref.ensures.value ∙ speeds-are e, c.deref-2.ensures.value)
+    (can-sweep c.args.net.now c.args.t can.n c.args.cells.now can.halo can.connectors (opened c.self.inside) c.args.put.now (renewed e) (sound e) c.requires.in_time
+    can.laid can.bounds can.seen (fresh e can))
 
 pub carry_all-requires-clause-each : goal.carry_all-requires-clause-each
 carry_all-requires-clause-each c =
@@ -127,11 +159,10 @@ carry_all-requires-clause-each c =
     let places = c.sweep.new.places in
     let before = c.sweep.new.before in
     let ties : List Tie = c.follow-self-inside.new.ties in
-    let same : c.deref_mut-5.result.now ≡ c.renew.new.places = c.deref_mut-5.ensures.value ∙ fresh-is e in
-    let is = is-swept e can c.deref_mut-5.result.now places before same c.sweep.auto.places c.sweep.ensures.places c.sweep.ensures.before (c.sweep.auto.before ∙ ap length c.deref_mut-6.ensures.value) in
-    rw (c.deref_mut-7.ensures.value ∙ swept-is e c.deref_mut-5.result.now places same c.sweep.auto.places, c.deref-2.ensures.value ∙ ties-are e)
-    (λ k d within. can-carry-each c.args.net.now c.args.cells.now can.halo can.connectors c.args.t can.n (opened c.self.inside) c.args.put.now c.renew.new.places
-    c.renew.new.links c.renew.new.slow_links ties places before k d is within)
+    let same : c.deref_mut-6.result.now ≡ c.refresh.new.places = c.deref_mut-6.ensures.value ∙ fresh-is e in
+    let is = is-swept e can c.deref_mut-6.result.now c.deref.result.now places before same (c.deref.ensures.value ∙ speeds-are e) c.sweep.auto.places c.sweep.ensures.places c.sweep.ensures.before (c.sweep.auto.before ∙ ap length c.deref_mut-7.ensures.value) in
+    rw (c.deref_mut-8.ensures.value ∙ swept-is e c.deref_mut-6.result.now places same c.sweep.auto.places, c.deref-4.ensures.value ∙ ties-are e)
+    (λ k d within. can-carry-each c.args.net.now c.args.cells.now can.halo can.connectors c.args.t can.n (opened c.self.inside) c.args.put.now (renewed e) ties places before k d is within)
 
 pub carry_all-requires-clause-can : goal.carry_all-requires-clause-can
 carry_all-requires-clause-can c =
@@ -140,24 +171,23 @@ carry_all-requires-clause-can c =
     let places = c.sweep.new.places in
     let before = c.sweep.new.before in
     let ties : List Tie = c.follow-self-inside.new.ties in
-    let same : c.deref_mut-5.result.now ≡ c.renew.new.places = c.deref_mut-5.ensures.value ∙ fresh-is e in
-    let is = is-swept e can c.deref_mut-5.result.now places before same c.sweep.auto.places c.sweep.ensures.places c.sweep.ensures.before (c.sweep.auto.before ∙ ap length c.deref_mut-6.ensures.value) in
+    let same : c.deref_mut-6.result.now ≡ c.refresh.new.places = c.deref_mut-6.ensures.value ∙ fresh-is e in
+    let is = is-swept e can c.deref_mut-6.result.now c.deref.result.now places before same (c.deref.ensures.value ∙ speeds-are e) c.sweep.auto.places c.sweep.ensures.places c.sweep.ensures.before (c.sweep.auto.before ∙ ap length c.deref_mut-7.ensures.value) in
     rw (
-      c.deref_mut-7.ensures.value ∙ swept-is e c.deref_mut-5.result.now places same c.sweep.auto.places,
-      c.deref-2.ensures.value ∙ ties-are e,
-      c.deref.ensures.value ∙ with_items_is c.self.inside.before before (c.sweep.auto.before ∙ c.deref_mut-6.ensures.len),
+      c.deref_mut-8.ensures.value ∙ swept-is e c.deref_mut-6.result.now places same c.sweep.auto.places,
+      c.deref-4.ensures.value ∙ ties-are e,
+      c.deref-3.ensures.value ∙ with_items_is c.self.inside.before before (c.sweep.auto.before ∙ c.deref_mut-7.ensures.len),
     )
-    (λ p within. can-pass-each c.args.net.now c.args.cells.now can.halo can.connectors c.args.t can.n (opened c.self.inside) c.args.put.now c.renew.new.places
-    c.renew.new.links c.renew.new.slow_links ties places before p is within)
+    (λ p within. can-pass-each c.args.net.now c.args.cells.now can.halo can.connectors c.args.t can.n (opened c.self.inside) c.args.put.now (renewed e) ties places before p is within)
 
 -- once the ties have carried
 
-carried-is : (c : After-follow-self-inside) (places swept_places before_carry carried : List Place) → places ≡ c.renew.new.places → length swept_places ≡ length places →
+carried-is : (c : After-follow-self-inside) (places swept_places before_carry carried : List Place) → places ≡ c.refresh.new.places → length swept_places ≡ length places →
     before_carry ≡ swept_places → length carried ≡ length before_carry →
-    (with_items (with_items (with_items c.self.inside.places c.renew.new.places) swept_places) carried).items ≡ carried
+    (with_items (with_items (with_items c.self.inside.places c.refresh.new.places) swept_places) carried).items ≡ carried
 carried-is c places swept_places before_carry carried same long same_swept long_carried =
-    with_items_is (with_items (with_items c.self.inside.places c.renew.new.places) swept_places) carried
-    (long_carried ∙ ap length same_swept ∙ long ∙ ap length same ∙ c.renew.auto.places ∙ c.deref_mut-3.ensures.len)
+    with_items_is (with_items (with_items c.self.inside.places c.refresh.new.places) swept_places) carried
+    (long_carried ∙ ap length same_swept ∙ long ∙ ap length same ∙ c.refresh.auto.places ∙ c.deref_mut-2.ensures.len)
 
 pub bring_demands-requires-clause-there : goal.bring_demands-requires-clause-there
 bring_demands-requires-clause-there c =
@@ -165,13 +195,13 @@ bring_demands-requires-clause-there c =
     let can = can-step e in
     let new = fresh e can in
     let places = c.sweep.new.places in
-    let same : c.deref_mut-5.result.now ≡ c.renew.new.places = c.deref_mut-5.ensures.value ∙ fresh-is e in
-    let swept_is : c.deref_mut-7.result.now ≡ places = c.deref_mut-7.ensures.value ∙ swept-is e c.deref_mut-5.result.now places same c.sweep.auto.places in
-    let carried_is : c.deref_mut-9.result.now ≡ c.carry_all.new.places =
-    c.deref_mut-9.ensures.value ∙ carried-is e c.deref_mut-5.result.now places c.deref_mut-7.result.now c.carry_all.new.places same c.sweep.auto.places swept_is c.carry_all.auto.places in
-    let long : length c.deref_mut-9.result.now ≡ length c.args.cells.now =
-    ap length carried_is ∙ c.carry_all.auto.places ∙ ap length swept_is ∙ c.sweep.auto.places ∙ ap length same ∙ new.renewed.long ∙ can.laid.one_each in
-    rw (c.deref_mut-8.ensures.value, long) (gates-there c.args.net.now c.args.cells.now can.halo can.connectors c.args.t (opened c.self.inside) can.laid)
+    let same : c.deref_mut-6.result.now ≡ c.refresh.new.places = c.deref_mut-6.ensures.value ∙ fresh-is e in
+    let swept_is : c.deref_mut-8.result.now ≡ places = c.deref_mut-8.ensures.value ∙ swept-is e c.deref_mut-6.result.now places same c.sweep.auto.places in
+    let carried_is : c.deref_mut-10.result.now ≡ c.carry_all.new.places =
+    c.deref_mut-10.ensures.value ∙ carried-is e c.deref_mut-6.result.now places c.deref_mut-8.result.now c.carry_all.new.places same c.sweep.auto.places swept_is c.carry_all.auto.places in
+    let long : length c.deref_mut-10.result.now ≡ length c.args.cells.now =
+    ap length carried_is ∙ c.carry_all.auto.places ∙ ap length swept_is ∙ c.sweep.auto.places ∙ ap length same ∙ new.kept.long ∙ can.laid.one_each in
+    rw (c.deref_mut-9.ensures.value, long) (gates-there c.args.net.now c.args.cells.now can.halo can.connectors c.args.t (opened c.self.inside) can.laid)
 
 pub bring_demands-requires-clause-fits : goal.bring_demands-requires-clause-fits
 bring_demands-requires-clause-fits c =
@@ -180,113 +210,108 @@ bring_demands-requires-clause-fits c =
     let places = c.sweep.new.places in
     let before = c.sweep.new.before in
     let ties : List Tie = c.follow-self-inside.new.ties in
-    let same : c.deref_mut-5.result.now ≡ c.renew.new.places = c.deref_mut-5.ensures.value ∙ fresh-is e in
-    let is = is-swept e can c.deref_mut-5.result.now places before same c.sweep.auto.places c.sweep.ensures.places c.sweep.ensures.before (c.sweep.auto.before ∙ ap length c.deref_mut-6.ensures.value) in
-    let swept_is : c.deref_mut-7.result.now ≡ places = c.deref_mut-7.ensures.value ∙ swept-is e c.deref_mut-5.result.now places same c.sweep.auto.places in
-    let carried_is : c.deref_mut-9.result.now ≡ c.carry_all.new.places =
-    c.deref_mut-9.ensures.value ∙ carried-is e c.deref_mut-5.result.now places c.deref_mut-7.result.now c.carry_all.new.places same c.sweep.auto.places swept_is c.carry_all.auto.places in
+    let same : c.deref_mut-6.result.now ≡ c.refresh.new.places = c.deref_mut-6.ensures.value ∙ fresh-is e in
+    let is = is-swept e can c.deref_mut-6.result.now c.deref.result.now places before same (c.deref.ensures.value ∙ speeds-are e) c.sweep.auto.places c.sweep.ensures.places c.sweep.ensures.before (c.sweep.auto.before ∙ ap length c.deref_mut-7.ensures.value) in
+    let swept_is : c.deref_mut-8.result.now ≡ places = c.deref_mut-8.ensures.value ∙ swept-is e c.deref_mut-6.result.now places same c.sweep.auto.places in
+    let carried_is : c.deref_mut-10.result.now ≡ c.carry_all.new.places =
+    c.deref_mut-10.ensures.value ∙ carried-is e c.deref_mut-6.result.now places c.deref_mut-8.result.now c.carry_all.new.places same c.sweep.auto.places swept_is c.carry_all.auto.places in
     let passes : (p : ℕ) → p < length places → place_at c.carry_all.new.places p ≡
     passed (place_at places p) (carried_to c.args.t before c.args.put.now ties p) (outs_of c.args.t before c.args.put.now ties p) =
-    rw (swept_is, c.deref-2.ensures.value ∙ ties-are e, c.deref.ensures.value ∙ with_items_is c.self.inside.before before (c.sweep.auto.before ∙ c.deref_mut-6.ensures.len)) at c.carry_all.ensures in
-    rw (carried_is, c.deref_mut-8.ensures.value)
-    (λ p within. can-enter-each c.args.net.now c.args.cells.now can.halo can.connectors c.args.t can.n (opened c.self.inside) c.args.put.now c.renew.new.places
-    c.renew.new.links c.renew.new.slow_links ties places before c.carry_all.new.places p is (c.carry_all.auto.places ∙ ap length swept_is) passes within)
+    rw (swept_is, c.deref-4.ensures.value ∙ ties-are e, c.deref-3.ensures.value ∙ with_items_is c.self.inside.before before (c.sweep.auto.before ∙ c.deref_mut-7.ensures.len)) at c.carry_all.ensures in
+    rw (carried_is, c.deref_mut-9.ensures.value)
+    (λ p within. can-enter-each c.args.net.now c.args.cells.now can.halo can.connectors c.args.t can.n (opened c.self.inside) c.args.put.now (renewed e) ties places before c.carry_all.new.places p is (c.carry_all.auto.places ∙ ap length swept_is) passes within)
 
 -- once the gates have demanded
 
-taken-steps : (c : After-follow-self-inside) (can : Can c) (places swept_places before_carry carried before_demands after : List Place) (before own : List ℕ) (ties : List Tie) →
-    (gates : List GatePlace) → places ≡ c.renew.new.places → length swept_places ≡ length places → ((p : ℕ) → p < length places → place_at swept_places p ≡ swept places p) →
+taken-steps : (c : After-follow-self-inside) (can : Can c) (speeds : List (ℕ × ℕ)) (places swept_places before_carry carried before_demands after : List Place) (before own : List ℕ) (ties : List Tie) →
+    (gates : List GatePlace) → speeds ≡ c.follow_speeds-self-inside.new.speeds → places ≡ c.refresh.new.places → length swept_places ≡ length places → ((p : ℕ) → p < length places → place_at swept_places p ≡ swept places (at_speeds places speeds) p) →
     ((p : ℕ) → p < length places → slice_index before p ≡ (place_at places p).n) → length before ≡ length (opened c.self.inside).before → before_carry ≡ swept_places → ties ≡ c.follow-self-inside.new.ties → own ≡ before →
     length carried ≡ length before_carry →
     ((p : ℕ) → p < length before_carry → place_at carried p ≡
     passed (place_at before_carry p) (carried_to c.args.t own c.args.put.now ties p) (outs_of c.args.t own c.args.put.now ties p)) →
     before_demands ≡ carried → gates ≡ (opened c.self.inside).gates → length after ≡ length before_demands →
     ((p : ℕ) → p < length before_demands → place_at after p ≡ with_entered (place_at before_demands p) (sum_by (demand_into c.args.t p) gates)) →
-    AreSteps c.args.net.now c.args.cells.now can.halo can.connectors c.args.t can.n (opened c.self.inside) c.renew.new.places c.renew.new.links
-    c.renew.new.slow_links (outs_of c.args.t before c.args.put.now c.follow-self-inside.new.ties) (carried_to c.args.t before c.args.put.now c.follow-self-inside.new.ties)
+    AreSteps c.args.net.now c.args.cells.now can.halo can.connectors c.args.t can.n (opened c.self.inside) (renewed c) (outs_of c.args.t before c.args.put.now c.follow-self-inside.new.ties) (carried_to c.args.t before c.args.put.now c.follow-self-inside.new.ties)
     (ins_of c.args.t before c.args.put.now c.follow-self-inside.new.ties (opened c.self.inside)) after
-taken-steps c can places swept_places before_carry carried before_demands after before own ties gates same long each noted noted_long swept_same ties_same own_same long_carried passes
+taken-steps c can speeds places swept_places before_carry carried before_demands after before own ties gates quick same long each noted noted_long swept_same ties_same own_same long_carried passes
     carried_same gates_same long_after enters =
-    let is = is-swept c can places swept_places before same long each noted noted_long in
-    steps-of c.args.net.now c.args.cells.now can.halo can.connectors c.args.t can.n (opened c.self.inside) c.args.put.now c.renew.new.places c.renew.new.links
-    c.renew.new.slow_links c.follow-self-inside.new.ties swept_places before carried after is (long_carried ∙ ap length swept_same) (long_after ∙ ap length carried_same)
+    let is = is-swept c can places speeds swept_places before same quick long each noted noted_long in
+    steps-of c.args.net.now c.args.cells.now can.halo can.connectors c.args.t can.n (opened c.self.inside) c.args.put.now (renewed c) c.follow-self-inside.new.ties swept_places before carried after is (long_carried ∙ ap length swept_same) (long_after ∙ ap length carried_same)
     (rw (swept_same, ties_same, own_same) at passes) (rw (carried_same, gates_same) at enters)
 
 pub returns-clause-rows : goal.returns-clause-rows
 returns-clause-rows c =
     let e : After-follow-self-inside = (goal.at.returns-clause-rows c).After-follow-self-inside in
-    let first = c.renew.new.places in
+    let first = c.refresh.new.places in
     let places = c.sweep.new.places in
     let noted = c.sweep.new.before in
     let carried = c.carry_all.new.places in
     let after = c.bring_demands.new.places in
     let ties : List Tie = c.follow-self-inside.new.ties in
-    let same : c.deref_mut-5.result.now ≡ first = c.deref_mut-5.ensures.value ∙ fresh-is e in
-    let swept_is : c.deref_mut-7.result.now ≡ places = c.deref_mut-7.ensures.value ∙ swept-is e c.deref_mut-5.result.now places same c.sweep.auto.places in
-    let carried_is : c.deref_mut-9.result.now ≡ carried =
-    c.deref_mut-9.ensures.value ∙ carried-is e c.deref_mut-5.result.now places c.deref_mut-7.result.now carried same c.sweep.auto.places swept_is c.carry_all.auto.places in
-    let before_is = with_items_is c.self.inside.before noted (c.sweep.auto.before ∙ c.deref_mut-6.ensures.len) in
+    let same : c.deref_mut-6.result.now ≡ first = c.deref_mut-6.ensures.value ∙ fresh-is e in
+    let swept_is : c.deref_mut-8.result.now ≡ places = c.deref_mut-8.ensures.value ∙ swept-is e c.deref_mut-6.result.now places same c.sweep.auto.places in
+    let carried_is : c.deref_mut-10.result.now ≡ carried =
+    c.deref_mut-10.ensures.value ∙ carried-is e c.deref_mut-6.result.now places c.deref_mut-8.result.now carried same c.sweep.auto.places swept_is c.carry_all.auto.places in
+    let before_is = with_items_is c.self.inside.before noted (c.sweep.auto.before ∙ c.deref_mut-7.ensures.len) in
     let after_is =
     with_items_is (with_items (with_items (with_items c.self.inside.places first) places) carried) after
     (c.bring_demands.auto.places ∙ ap length carried_is ∙ c.carry_all.auto.places ∙ ap length swept_is ∙ c.sweep.auto.places ∙ ap length same
-    ∙ c.renew.auto.places ∙ c.deref_mut-3.ensures.len) in
+    ∙ c.refresh.auto.places ∙ c.deref_mut-2.ensures.len) in
     let steps = λ (can : Can e).
-    taken-steps e can c.deref_mut-5.result.now places c.deref_mut-7.result.now carried c.deref_mut-9.result.now after noted c.deref.result.now c.deref-2.result.now
-    c.deref_mut-8.result.now same c.sweep.auto.places c.sweep.ensures.places c.sweep.ensures.before (c.sweep.auto.before ∙ ap length c.deref_mut-6.ensures.value) swept_is (c.deref-2.ensures.value ∙ ties-are e)
-    (c.deref.ensures.value ∙ before_is) c.carry_all.auto.places c.carry_all.ensures carried_is c.deref_mut-8.ensures.value c.bring_demands.auto.places
+    taken-steps e can c.deref.result.now c.deref_mut-6.result.now places c.deref_mut-8.result.now carried c.deref_mut-10.result.now after noted c.deref-3.result.now c.deref-4.result.now
+    c.deref_mut-9.result.now (c.deref.ensures.value ∙ speeds-are e) same c.sweep.auto.places c.sweep.ensures.places c.sweep.ensures.before (c.sweep.auto.before ∙ ap length c.deref_mut-7.ensures.value) swept_is (c.deref-4.ensures.value ∙ ties-are e)
+    (c.deref-3.ensures.value ∙ before_is) c.carry_all.auto.places c.carry_all.ensures carried_is c.deref_mut-9.ensures.value c.bring_demands.auto.places
     c.bring_demands.ensures.places in
     rw (after_is, waited-unowed c.self.inside.pause.owed after (none-owed e)) (
     rows-read c.args.net.now c.args.cells.now c.args.t (opened c.self.inside) c.args.self.now c.args.put.now c.self.inside.origins.items after (opened-is c.self.inside c.args.self.now c.self.view_is c.requires.none_owed)
     (λ can.
-    rows-after c.args.net.now c.args.cells.now can.halo can.connectors c.args.t can.n (opened c.self.inside) first c.renew.new.links
-    c.renew.new.slow_links (outs_of c.args.t noted c.args.put.now ties) (carried_to c.args.t noted c.args.put.now ties) (ins_of c.args.t noted c.args.put.now ties (opened c.self.inside)) after
+    rows-after c.args.net.now c.args.cells.now can.halo can.connectors c.args.t can.n (opened c.self.inside) (renewed e) (outs_of c.args.t noted c.args.put.now ties) (carried_to c.args.t noted c.args.put.now ties) (ins_of c.args.t noted c.args.put.now ties (opened c.self.inside)) after
     c.args.put.now (sound e) c.requires.in_time can.laid can.bounds can.seen (steps can)))
 
 pub returns-clause-placed : goal.returns-clause-placed
 returns-clause-placed c =
     let e : After-follow-self-inside = (goal.at.returns-clause-placed c).After-follow-self-inside in
-    let first = c.renew.new.places in
+    let first = c.refresh.new.places in
     let places = c.sweep.new.places in
     let noted = c.sweep.new.before in
     let carried = c.carry_all.new.places in
     let after = c.bring_demands.new.places in
     let ties : List Tie = c.follow-self-inside.new.ties in
-    let same : c.deref_mut-5.result.now ≡ first = c.deref_mut-5.ensures.value ∙ fresh-is e in
-    let swept_is : c.deref_mut-7.result.now ≡ places = c.deref_mut-7.ensures.value ∙ swept-is e c.deref_mut-5.result.now places same c.sweep.auto.places in
-    let carried_is : c.deref_mut-9.result.now ≡ carried =
-    c.deref_mut-9.ensures.value ∙ carried-is e c.deref_mut-5.result.now places c.deref_mut-7.result.now carried same c.sweep.auto.places swept_is c.carry_all.auto.places in
-    let before_is = with_items_is c.self.inside.before noted (c.sweep.auto.before ∙ c.deref_mut-6.ensures.len) in
+    let same : c.deref_mut-6.result.now ≡ first = c.deref_mut-6.ensures.value ∙ fresh-is e in
+    let swept_is : c.deref_mut-8.result.now ≡ places = c.deref_mut-8.ensures.value ∙ swept-is e c.deref_mut-6.result.now places same c.sweep.auto.places in
+    let carried_is : c.deref_mut-10.result.now ≡ carried =
+    c.deref_mut-10.ensures.value ∙ carried-is e c.deref_mut-6.result.now places c.deref_mut-8.result.now carried same c.sweep.auto.places swept_is c.carry_all.auto.places in
+    let before_is = with_items_is c.self.inside.before noted (c.sweep.auto.before ∙ c.deref_mut-7.ensures.len) in
     let after_is =
     with_items_is (with_items (with_items (with_items c.self.inside.places first) places) carried) after
     (c.bring_demands.auto.places ∙ ap length carried_is ∙ c.carry_all.auto.places ∙ ap length swept_is ∙ c.sweep.auto.places ∙ ap length same
-    ∙ c.renew.auto.places ∙ c.deref_mut-3.ensures.len) in
+    ∙ c.refresh.auto.places ∙ c.deref_mut-2.ensures.len) in
     let steps = λ (can : Can e).
-    taken-steps e can c.deref_mut-5.result.now places c.deref_mut-7.result.now carried c.deref_mut-9.result.now after noted c.deref.result.now c.deref-2.result.now
-    c.deref_mut-8.result.now same c.sweep.auto.places c.sweep.ensures.places c.sweep.ensures.before (c.sweep.auto.before ∙ ap length c.deref_mut-6.ensures.value) swept_is (c.deref-2.ensures.value ∙ ties-are e)
-    (c.deref.ensures.value ∙ before_is) c.carry_all.auto.places c.carry_all.ensures carried_is c.deref_mut-8.ensures.value c.bring_demands.auto.places
+    taken-steps e can c.deref.result.now c.deref_mut-6.result.now places c.deref_mut-8.result.now carried c.deref_mut-10.result.now after noted c.deref-3.result.now c.deref-4.result.now
+    c.deref_mut-9.result.now (c.deref.ensures.value ∙ speeds-are e) same c.sweep.auto.places c.sweep.ensures.places c.sweep.ensures.before (c.sweep.auto.before ∙ ap length c.deref_mut-7.ensures.value) swept_is (c.deref-4.ensures.value ∙ ties-are e)
+    (c.deref-3.ensures.value ∙ before_is) c.carry_all.auto.places c.carry_all.ensures carried_is c.deref_mut-9.ensures.value c.bring_demands.auto.places
     c.bring_demands.ensures.places in
     let placed : PlacedCells = opened c.self.inside in
-    let links = c.renew.new.links in
     let gates = c.bring_demands.new.gates in
     let pause = c.self.inside.pause in
     let none = none-owed e in
     let until : pause.until ≡ 0 = ap (λ cells. cells.pause.until) c.self.view_is ∙ c.requires.awake in
-    let noted_long : length noted ≡ length placed.before = c.sweep.auto.before ∙ ap length c.deref_mut-6.ensures.value in
+    let noted_long : length noted ≡ length placed.before = c.sweep.auto.before ∙ ap length c.deref_mut-7.ensures.value in
     rw (
       after_is,
       waited-unowed pause.owed after none,
-      with_items_is c.self.inside.links links (c.renew.auto.links ∙ c.deref_mut.ensures.len),
-      with_items_is c.self.inside.slow_links c.renew.new.slow_links (c.renew.auto.slow_links ∙ c.deref_mut-2.ensures.len),
+      with_items_is c.self.inside.links c.refresh.new.links (c.refresh.auto.links ∙ c.deref_mut.ensures.len),
+      with_items_is c.self.inside.speeds c.follow_speeds-self-inside.new.speeds (c.follow_speeds-self-inside.auto.speeds ∙ c.deref_mut-4.ensures.len),
+      with_items_is c.self.inside.speed_courses c.follow_speeds-self-inside.new.courses (c.follow_speeds-self-inside.auto.courses ∙ c.deref_mut-3.ensures.len),
       before_is,
       ties-are e,
-      with_items_is c.self.inside.gates gates (c.bring_demands.auto.gates ∙ c.deref_mut-8.ensures.len),
+      with_items_is c.self.inside.gates gates (c.bring_demands.auto.gates ∙ c.deref_mut-9.ensures.len),
     )
     (placed-read c.args.net.now c.args.cells.now c.args.t placed c.args.self.now c.args.put.now _ (opened-is c.self.inside c.args.self.now c.self.view_is c.requires.none_owed)
     (λ can.
-    placed-after c.args.net.now c.args.cells.now can.halo can.connectors c.args.t can.n placed first links
-    c.renew.new.slow_links (outs_of c.args.t noted c.args.put.now ties) (carried_to c.args.t noted c.args.put.now ties) (ins_of c.args.t noted c.args.put.now ties placed) after
+    placed-after c.args.net.now c.args.cells.now can.halo can.connectors c.args.t can.n placed (renewed e) (outs_of c.args.t noted c.args.put.now ties) (carried_to c.args.t noted c.args.put.now ties) (ins_of c.args.t noted c.args.put.now ties placed) after
     noted ties c.follow-self-inside.result gates pause c.self.inside.seen.items c.args.put.now (sound e) c.requires.in_time can.laid can.bounds can.seen (steps can) noted_long
-    (followed e) c.follow-self-inside.ensures.until (rw c.deref_mut-8.ensures.value at c.bring_demands.ensures.gates)
+    (followed e) c.follow-self-inside.ensures.until (rw c.deref_mut-9.ensures.value at c.bring_demands.ensures.gates)
     (record { idle = λ s less. absurd (omega (arith, less, until)); owed = omega (arith, none); kept = λ some. absurd (omega (arith, none, some)) })
     can.laid.seen_each))
 
@@ -295,40 +320,39 @@ returns-clause-before c = λ p within.
     let e : After-follow-self-inside = (goal.at.returns-clause-before c).After-follow-self-inside in
     let can = can-step e in
     let new = fresh e can in
-    let places : c.deref_mut-5.result.now ≡ c.renew.new.places = c.deref_mut-5.ensures.value ∙ fresh-is e in
+    let places : c.deref_mut-6.result.now ≡ c.refresh.new.places = c.deref_mut-6.ensures.value ∙ fresh-is e in
     let here : p < length c.self.inside.places.items = omega (arith, can.laid.one_each) in
-    let there : p < length c.deref_mut-5.result.now = omega (arith, ap length places, new.renewed.long) in
-    rw (with_items_is c.self.inside.before c.sweep.new.before (c.sweep.auto.before ∙ c.deref_mut-6.ensures.len)) (
-    c.sweep.ensures.before p there ∙ ap (λ list. (place_at list p).n) places ∙ ap (λ place. place.n) (new.renewed.only_most p here)
+    let there : p < length c.deref_mut-6.result.now = omega (arith, ap length places, new.kept.long) in
+    rw (with_items_is c.self.inside.before c.sweep.new.before (c.sweep.auto.before ∙ c.deref_mut-7.ensures.len)) (
+    c.sweep.ensures.before p there ∙ ap (λ list. (place_at list p).n) places ∙ ap (λ place. place.n) (new.kept.only_most p here)
     ∙ ap (λ cells. (place_at cells.places p).n) (opened-is c.self.inside c.args.self.now c.self.view_is c.requires.none_owed)
     )
 
 pub invariant_of-self : goal.invariant_of-self
 invariant_of-self c =
     let e : After-follow-self-inside = (goal.at.invariant_of-self c).After-follow-self-inside in
-    let first = c.renew.new.places in
+    let first = c.refresh.new.places in
     let places = c.sweep.new.places in
     let noted = c.sweep.new.before in
     let carried = c.carry_all.new.places in
     let after = c.bring_demands.new.places in
     let ties : List Tie = c.follow-self-inside.new.ties in
-    let same : c.deref_mut-5.result.now ≡ first = c.deref_mut-5.ensures.value ∙ fresh-is e in
-    let swept_is : c.deref_mut-7.result.now ≡ places = c.deref_mut-7.ensures.value ∙ swept-is e c.deref_mut-5.result.now places same c.sweep.auto.places in
-    let carried_is : c.deref_mut-9.result.now ≡ carried =
-    c.deref_mut-9.ensures.value ∙ carried-is e c.deref_mut-5.result.now places c.deref_mut-7.result.now carried same c.sweep.auto.places swept_is c.carry_all.auto.places in
-    let before_is = with_items_is c.self.inside.before noted (c.sweep.auto.before ∙ c.deref_mut-6.ensures.len) in
+    let same : c.deref_mut-6.result.now ≡ first = c.deref_mut-6.ensures.value ∙ fresh-is e in
+    let swept_is : c.deref_mut-8.result.now ≡ places = c.deref_mut-8.ensures.value ∙ swept-is e c.deref_mut-6.result.now places same c.sweep.auto.places in
+    let carried_is : c.deref_mut-10.result.now ≡ carried =
+    c.deref_mut-10.ensures.value ∙ carried-is e c.deref_mut-6.result.now places c.deref_mut-8.result.now carried same c.sweep.auto.places swept_is c.carry_all.auto.places in
+    let before_is = with_items_is c.self.inside.before noted (c.sweep.auto.before ∙ c.deref_mut-7.ensures.len) in
     let after_is =
     with_items_is (with_items (with_items (with_items c.self.inside.places first) places) carried) after
     (c.bring_demands.auto.places ∙ ap length carried_is ∙ c.carry_all.auto.places ∙ ap length swept_is ∙ c.sweep.auto.places ∙ ap length same
-    ∙ c.renew.auto.places ∙ c.deref_mut-3.ensures.len) in
+    ∙ c.refresh.auto.places ∙ c.deref_mut-2.ensures.len) in
     let steps = λ (can : Can e).
-    taken-steps e can c.deref_mut-5.result.now places c.deref_mut-7.result.now carried c.deref_mut-9.result.now after noted c.deref.result.now c.deref-2.result.now
-    c.deref_mut-8.result.now same c.sweep.auto.places c.sweep.ensures.places c.sweep.ensures.before (c.sweep.auto.before ∙ ap length c.deref_mut-6.ensures.value) swept_is (c.deref-2.ensures.value ∙ ties-are e)
-    (c.deref.ensures.value ∙ before_is) c.carry_all.auto.places c.carry_all.ensures carried_is c.deref_mut-8.ensures.value c.bring_demands.auto.places
+    taken-steps e can c.deref.result.now c.deref_mut-6.result.now places c.deref_mut-8.result.now carried c.deref_mut-10.result.now after noted c.deref-3.result.now c.deref-4.result.now
+    c.deref_mut-9.result.now (c.deref.ensures.value ∙ speeds-are e) same c.sweep.auto.places c.sweep.ensures.places c.sweep.ensures.before (c.sweep.auto.before ∙ ap length c.deref_mut-7.ensures.value) swept_is (c.deref-4.ensures.value ∙ ties-are e)
+    (c.deref-3.ensures.value ∙ before_is) c.carry_all.auto.places c.carry_all.ensures carried_is c.deref_mut-9.ensures.value c.bring_demands.auto.places
     c.bring_demands.ensures.places in
     let can = can-step e in
-    let noted_long : length noted ≡ length (opened c.self.inside).before = c.sweep.auto.before ∙ ap length c.deref_mut-6.ensures.value in
+    let noted_long : length noted ≡ length (opened c.self.inside).before = c.sweep.auto.before ∙ ap length c.deref_mut-7.ensures.value in
     rw (after_is, waited-unowed c.self.inside.pause.owed after (none-owed e), before_is)
-    (settled-after c.args.net.now c.args.cells.now can.halo can.connectors c.args.t can.n (opened c.self.inside) first c.renew.new.links
-    c.renew.new.slow_links (outs_of c.args.t noted c.args.put.now ties) (carried_to c.args.t noted c.args.put.now ties) (ins_of c.args.t noted c.args.put.now ties (opened c.self.inside)) after
+    (settled-after c.args.net.now c.args.cells.now can.halo can.connectors c.args.t can.n (opened c.self.inside) (renewed e) (outs_of c.args.t noted c.args.put.now ties) (carried_to c.args.t noted c.args.put.now ties) (ins_of c.args.t noted c.args.put.now ties (opened c.self.inside)) after
     noted c.args.put.now (sound e) c.requires.in_time can.laid can.bounds can.seen (steps can) noted_long)

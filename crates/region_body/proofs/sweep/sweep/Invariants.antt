@@ -1,5 +1,0 @@
-use Rattle.region_body.specs.Sweeping.{IsSweptTo}
-use Rattle.region_body.proofs.sweep.sweep.Given as goal
-
-abbrev pub invariant-loop-p : goal.invariant-loop-p
-invariant-loop-p l = IsSweptTo l.fn.places l.p l.places l.before l.enters

@@ -1,0 +1,60 @@
+ghost use Rattle.std.specs.Prelude.{◌≡◌, ◌-◌, ◌<◌, ◌^◌, ℕ, All, IfOk, length, true};
+ghost use Rattle.region_body.specs.Runs.{AreRuns};
+ghost use Rattle.region_body.specs.Speeds.{AreSpeedsOf, IsSpeedOpened, is_listed, is_slow};
+
+use crate::followed_speed::FollowedSpeed;
+use crate::run::{Run, runs_of};
+use crate::slow_cell::is_slow;
+use crate::speed_factor::SpeedFactor;
+use courses::speed_of;
+use network_file::Net;
+use no_memory::NoMemory;
+use std::alloc::Global;
+
+/// The speeds of a region's places.
+#[derive(Drop)]
+pub(crate) struct Speeds {
+    /// The speed at each place now, or none where no cell has speed records.
+    pub(crate) now: Vec<SpeedFactor>,
+    /// Where places lie whose cells have some.
+    pub(crate) runs: Vec<Run>,
+    /// The speeds in these cells as they change.
+    pub(crate) courses: Vec<FollowedSpeed>,
+}
+
+/// The speeds of these cells, as they are placed, not followed to any step yet.
+pub(crate) fn speeds_of(alloc: Global, net: &Net, cells: &[u32]) -> Result<Speeds, NoMemory>
+    requires there { All (λ i. i < length net.now.cells) cells.now }
+    requires few { length cells.now < 2 ^ 32 }
+    ensures speeds { IfOk result (λ speeds. (t : ℕ) → AreSpeedsOf net.now cells.now speeds.courses.items speeds.now.items t 0) }
+    ensures runs { IfOk result (λ speeds. AreRuns (is_slow net.now cells.now) (length cells.now - 1) speeds.runs.items) }
+{
+    let _steps = net.steps;
+    let courses = courses_of(alloc, net, cells)?;
+    let count = if courses.is_empty() { 0 } else { cells.len() };
+    Ok(Speeds {
+        now: vec![in alloc; SpeedFactor::new((1, 1)); count]?,
+        runs: runs_of(alloc, net, cells)?,
+        courses,
+    })
+}
+
+// The speeds in those of these cells that have speed records, at step 0.
+fn courses_of(alloc: Global, net: &Net, cells: &[u32]) -> Result<Vec<FollowedSpeed>, NoMemory>
+    requires there { All (λ i. i < length net.now.cells) cells.now }
+    requires few { length cells.now < 2 ^ 32 }
+    ensures opened { IfOk result (λ courses. All (IsSpeedOpened net.now cells.now) courses.items) }
+    ensures whole { IfOk result (λ courses. (p : ℕ) → p < length cells.now → is_slow net.now cells.now p ≡ true → is_listed courses.items p ≡ true) }
+{
+    let _steps = net.steps;
+    let mut courses = Vec::new(alloc);
+    for p in 0..cells.len() {
+        if is_slow(net, cells, p) {
+            courses.push(FollowedSpeed {
+                place: p as u32,
+                course: speed_of(alloc, &net.plan, cells[p])?,
+            })?;
+        }
+    }
+    Ok(courses)
+}
