@@ -8,7 +8,7 @@ use Rattle.signal_plan.proofs.Laws.{arriving-own}
 use Rattle.ordinary_link.specs.LinkFlow.{link_flow_of}
 use Rattle.region_body.specs.Places.{carried, link_out, no_place, place_at}
 use Rattle.region_body.specs.Runs.{end_before, run_at}
-use Rattle.region_body.specs.Space.{let_in}
+use Rattle.connector_flow.specs.Space.{let_in}
 use Rattle.region_body.specs.Speeds.{CanSweep, at_speeds, slowed_place, speed_of}
 use Rattle.region_body.specs.declared.run.Run.{Run}
 use Rattle.region_body.specs.Sweeping.{AreFew, IsFree, IsSweptTo}

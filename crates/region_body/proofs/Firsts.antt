@@ -12,7 +12,7 @@ use Rattle.flow_model.specs.State.{row_at}
 use Rattle.flow_model.specs.declared.row.Row.{Row}
 use Rattle.flow_model.proofs.Bounds.{small}
 use Rattle.region_body.specs.Places.{place_at}
-use Rattle.region_body.specs.Space.{IsSpaceOf}
+use Rattle.connector_flow.specs.Space.{IsSpaceOf}
 use Rattle.region_body.specs.declared.place.Place.{Place}
 use Rattle.region_body.proofs.LinkFlows.{held-fits}
 use Rattle.region_body.specs.First.{IsFirst, IsOriginOf}

@@ -21,7 +21,7 @@ use Rattle.flow_model.proofs.CellFlows.{inflow-by, outflow-by}
 use Rattle.flow_model.proofs.Connectors.{entering-other, leaving-other}
 use Rattle.flow_model.proofs.Locality.{leads_into-touches, leads_out_of-touches}
 use Rattle.region_body.specs.Places.{link_in, link_out, place_at}
-use Rattle.region_body.specs.Space.{HasSpace, IsSpaceOf}
+use Rattle.connector_flow.specs.Space.{HasSpace, IsSpaceOf}
 use Rattle.region_body.specs.declared.place.Place.{Place}
 use Rattle.courses.specs.Links.{most_between}
 use Rattle.region_cut.proofs.Anys.{found, finds, not_false}

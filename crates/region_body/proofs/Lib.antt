@@ -4,17 +4,8 @@ pub mod AtSpeeds
 pub mod SpeedCourses
 pub mod RunsMade
 pub mod Swept
-pub mod Factors
 pub mod LinkFlows
-pub mod Boundless
 pub mod Following
-pub mod Reciprocals
-pub mod Weights
-pub mod Bounding
-pub mod Spaces
-pub mod Slowed
-pub mod Made
-pub mod Nothing
 pub mod Shares
 pub mod Links
 pub mod Flowing

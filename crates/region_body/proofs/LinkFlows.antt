@@ -5,8 +5,8 @@ use Rattle.ordinary_link.specs.LinkFlow.{link_flow_of}
 use Rattle.ordinary_link.specs.Receiving.{receiving_flow}
 use Rattle.ordinary_link.specs.Sending.{sending_flow}
 use Rattle.ordinary_link.specs.declared.space.Room.{Room}
-use Rattle.region_body.specs.Space.{HasSpace, IsSpaceOf, let_in}
-use Rattle.region_body.specs.declared.space.Space.{Space}
+use Rattle.connector_flow.specs.Space.{HasSpace, IsSpaceOf, let_in}
+use Rattle.connector_flow.specs.declared.space.Space.{Space}
 
 lesser : (q_up q_down n_up let_in : ℕ) → min (min (min q_up q_down) n_up) let_in ≡ min (min q_up n_up) (min q_down let_in)
 lesser q_up q_down n_up let_in = omega arith

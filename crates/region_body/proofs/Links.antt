@@ -15,7 +15,7 @@ use Rattle.signal_plan.specs.Speeds.{arriving, speed_at}
 use Rattle.flow_model.specs.Flows.{entering, flow_of, leaving}
 use Rattle.flow_model.specs.Limits.{receiving_at, room_at, sending_at}
 use Rattle.region_body.specs.Places.{carried}
-use Rattle.region_body.specs.Space.{HasSpace, IsSpaceOf, let_in}
+use Rattle.connector_flow.specs.Space.{HasSpace, IsSpaceOf, let_in}
 use Rattle.region_body.specs.declared.place.Place.{Place}
 use Rattle.region_body.proofs.LinkFlows.{link_flow-is}
 use Rattle.courses.specs.Cells.{most_by}

@@ -14,7 +14,7 @@ use Rattle.region_body.specs.Places.{place_at}
 use Rattle.region_body.specs.declared.place.Place.{Place}
 use Rattle.signal_plan.proofs.Sums.{sum_by-same}
 use Rattle.region_cut.specs.ConnectorCells.{three_cells}
-use Rattle.region_body.specs.Following.{rule_of}
+use Rattle.connector_flow.specs.Following.{rule_of}
 use Rattle.region_body.specs.Carrying.{AreSpotsOf, CanCarry, IsSpotOf, IsThere, IsTie, at_spot, brought, brought_by, carried_of, held_in, spot_at, taken, taken_by, three_held}
 use Rattle.region_body.proofs.Spots.{held-halo, held-own}
 use Rattle.region_body.specs.Moves.{AreTied, ArePartsOf, IsScene, IsSeen, in_by, out_by}

@@ -12,9 +12,9 @@ use Rattle.flow_model.specs.Flows.{amount_beside, entering, flow_of, inflow, lea
 use Rattle.flow_model.specs.Limits.{room_at}
 use Rattle.flow_model.specs.State.{rows_after}
 use Rattle.flow_model.specs.Rows.{empty_row, next_row}
-use Rattle.region_body.specs.Flows.{flow_at, no_flow}
+use Rattle.connector_flow.specs.Flows.{flow_at, no_flow}
 use Rattle.region_body.specs.Places.{carried, link_in, link_out, moved, no_place, place_at}
-use Rattle.region_body.specs.Space.{IsSpaceOf}
+use Rattle.connector_flow.specs.Space.{IsSpaceOf}
 use Rattle.region_body.specs.declared.place.Place.{Place}
 use Rattle.region_body.proofs.Neighbours.{link_in-first, link_in-more, place_at-past}
 use Rattle.courses.specs.Cells.{CellValues}

@@ -1,11 +1,11 @@
 -- What a connector takes from a place and brings to it, by each rule.
 use Rattle.std.proofs.Common.{◌≡◌, ℕ, ◌+◌, [], ◌∷◌, refl, sym, ap, ◌∙◌}
 use Rattle.std.specs.Prelude.{Option, Some, None}
-use Rattle.region_body.specs.Flows.{ConnectorValues, carried_by, flow_at, limits_of}
-use Rattle.region_body.specs.Slowing.{SlowingValues, slowed_by}
-use Rattle.region_body.specs.declared.limits.Limits.{Limits}
-use Rattle.region_body.specs.declared.space.Space.{Space}
-use Rattle.region_body.specs.declared.rule.Rule.TheVariants.{Linking, Merging, Diverging}
+use Rattle.connector_flow.specs.Flows.{ConnectorValues, carried_by, flow_at, limits_of}
+use Rattle.connector_flow.specs.Slowing.{SlowingValues, slowed_by}
+use Rattle.connector_flow.specs.declared.limits.Limits.{Limits}
+use Rattle.connector_flow.specs.declared.space.Space.{Space}
+use Rattle.connector_flow.specs.declared.rule.Rule.TheVariants.{Linking, Merging, Diverging}
 use Rattle.flow_model.specs.declared.carried.Flow.{Flow}
 use Rattle.region_body.specs.Carrying.{at_spot, brought, brought_by, carried_of, spot_at, taken, taken_by}
 use Rattle.region_body.specs.declared.tie.Tie.{Tie}

@@ -26,7 +26,7 @@ use Rattle.flow_model.proofs.CellKinds.{cell_at}
 use Rattle.flow_model.proofs.CellLimits.{capacity_at-le}
 use Rattle.flow_model.proofs.Flows.{inflow-gate}
 use Rattle.region_body.specs.Places.{AreSound, link_in, link_out, moved, place_at}
-use Rattle.region_body.specs.Space.{HasSpace, IsSpaceOf, boundless}
+use Rattle.connector_flow.specs.Space.{HasSpace, IsSpaceOf, boundless}
 use Rattle.region_body.specs.declared.place.Place.{Place}
 use Rattle.region_body.proofs.LinkFlows.{held-fits}
 use Rattle.region_body.specs.Chains.{AreAround, most_out, odd_ones}

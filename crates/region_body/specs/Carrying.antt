@@ -3,10 +3,10 @@ use Rattle.std.specs.Prelude.{◌≡◌, ◌==◌, ℕ, ◌+◌, ◌-◌, ◌^�
 use Rattle.network_file.specs.Connectors.{connector_at}
 use Rattle.network_file.specs.Network.{Network}
 use Rattle.network_file.specs.declared.connector.Connector.{Connector}
-use Rattle.region_body.specs.Flows.{flow_at}
-use Rattle.region_body.specs.Following.{IsCourseOf}
-use Rattle.region_body.specs.declared.rule.Rule.{Rule}
-use Rattle.region_body.specs.declared.rule.Rule.TheVariants.{Linking, Merging, Diverging}
+use Rattle.connector_flow.specs.Flows.{flow_at}
+use Rattle.connector_flow.specs.Following.{IsCourseOf}
+use Rattle.connector_flow.specs.declared.rule.Rule.{Rule}
+use Rattle.connector_flow.specs.declared.rule.Rule.TheVariants.{Linking, Merging, Diverging}
 use Rattle.flow_model.specs.declared.carried.Flow.{Flow}
 use Rattle.region_body.specs.Places.{place_at, with_entered, with_left}
 use Rattle.region_body.specs.declared.place.Place.{Place}

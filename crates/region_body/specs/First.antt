@@ -5,7 +5,7 @@ use Rattle.network_file.specs.Network.{Network}
 use Rattle.flow_model.specs.Bounds.{first_at}
 use Rattle.flow_model.specs.Limits.{room_at}
 use Rattle.flow_model.specs.declared.row.Row.{Row}
-use Rattle.region_body.specs.Space.{IsSpaceOf}
+use Rattle.connector_flow.specs.Space.{IsSpaceOf}
 use Rattle.region_body.specs.declared.place.Place.{Place}
 use Rattle.region_body.specs.declared.origin.Origin.{Origin}
 

@@ -1,16 +1,9 @@
-pub mod Space
 pub mod Places
 pub mod Runs
 pub mod Speeds
 pub mod Sweeping
 pub mod Moving
 pub mod Followed
-pub mod Weights
-pub mod Factors
-pub mod Limits
-pub mod Slowing
-pub mod Flows
-pub mod Following
 pub mod Chains
 pub mod SpeedFactors
 pub mod Rows

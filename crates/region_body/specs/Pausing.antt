@@ -1,6 +1,6 @@
 -- Cells among which nothing moves.
 use Rattle.std.specs.Prelude.{◌≡◌, ◌<◌, ◌≤◌, ◌⊎◌, ℕ, All, List, Option, length, slice_index}
-use Rattle.region_body.specs.Flows.{flow_at, no_flow}
+use Rattle.connector_flow.specs.Flows.{flow_at, no_flow}
 use Rattle.region_body.specs.Moving.{MoveNothing}
 use Rattle.region_body.specs.Places.{place_at}
 use Rattle.region_body.specs.declared.place.Place.{Place}

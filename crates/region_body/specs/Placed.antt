@@ -9,7 +9,7 @@ use Rattle.flow_model.specs.Bounds.{IsHeldInBounds, IsRowInBounds}
 use Rattle.flow_model.specs.Limits.{room_at}
 use Rattle.flow_model.specs.State.{row_at}
 use Rattle.region_body.specs.Places.{place_at}
-use Rattle.region_body.specs.Space.{IsSpaceOf}
+use Rattle.connector_flow.specs.Space.{IsSpaceOf}
 use Rattle.region_body.specs.declared.place.Place.{Place}
 use Rattle.courses.specs.Courses.{value_at}
 use Rattle.region_body.specs.Followed.{AreFollowed, IsThere}

@@ -1,7 +1,7 @@
 -- Places side by side, and a step of them.
 use Rattle.std.specs.Prelude.{ℕ, zero, suc, ◌+◌, ◌-◌, ◌%◌, ◌^◌, ◌<◌, ◌≤◌, List, length, min, slice_index_or}
 use Rattle.ordinary_link.specs.LinkFlow.{link_flow_of}
-use Rattle.region_body.specs.Space.{let_in}
+use Rattle.connector_flow.specs.Space.{let_in}
 use Rattle.region_body.specs.declared.place.Place.{Place}
 
 -- a place that holds nothing and lets nothing in

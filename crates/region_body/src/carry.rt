@@ -1,11 +1,11 @@
 ghost use Rattle.std.specs.Prelude.{◌≡◌, ◌≤◌, All, length};
-ghost use Rattle.region_body.specs.declared.rule.Rule.TheVariants.{Diverging, Linking, Merging};
+ghost use Rattle.connector_flow.specs.declared.rule.Rule.TheVariants.{Diverging, Linking, Merging};
 ghost use Rattle.region_body.specs.Carrying.{CanCarry, CanTiePass, CanTiesPass, HasTiePassed, HaveTiesPassed};
 
 use crate::held::Held;
 use crate::passing::{bring, take};
 use crate::place::Place;
-use crate::rule::Rule;
+use connector_flow::Rule;
 use crate::tie::Tie;
 
 /// What all these connectors take from places and bring to them in step `t`, by what their cells held as it began.

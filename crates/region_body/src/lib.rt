@@ -9,11 +9,8 @@
 #![tactic(auto)]
 
 mod carry;
-mod carrying;
-mod cell_space;
 mod cells;
 mod chain;
-mod connector_course;
 mod demands;
 mod first;
 mod follow;
@@ -21,12 +18,8 @@ mod followed;
 mod followed_speed;
 mod gate;
 mod held;
-mod idling;
 mod joining;
 mod joints;
-mod limit_courses;
-mod limited_course;
-mod limits;
 mod movement;
 mod opening;
 mod origin;
@@ -35,12 +28,9 @@ mod passing;
 mod pause;
 mod place;
 mod placed;
-mod rule;
 mod run;
 mod sight;
 mod slow_cell;
-mod slowing;
-mod space;
 mod speed_factor;
 mod speeds;
 mod sweep;
@@ -48,7 +38,6 @@ mod sweep_slowed;
 mod tie;
 mod tying;
 mod waiting;
-mod weight_pair;
 
 pub use cells::Cells;
 pub use opening::nothing_put;

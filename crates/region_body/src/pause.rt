@@ -1,5 +1,5 @@
 ghost use Rattle.std.specs.Prelude.{◌≡◌, ◌<◌, ◌≤◌, ◌⊎◌, ℕ, All, IsTrue, length};
-ghost use Rattle.region_body.specs.Flows.{flow_at, no_flow};
+ghost use Rattle.connector_flow.specs.Flows.{flow_at, no_flow};
 ghost use Rattle.region_body.specs.Places.{AreSound, place_at};
 ghost use Rattle.region_body.specs.Carrying.{IsThere, held_in, spot_at, three_held};
 ghost use Rattle.region_body.specs.Pausing.{AreIdle, IsIdleUntil};

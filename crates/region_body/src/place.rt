@@ -1,7 +1,7 @@
 ghost use Rattle.std.specs.Prelude.{◌≡◌, ◌+◌, ◌<◌, ◌≤◌, ◌^◌, min};
 ghost use Rattle.region_body.specs.Places.{moved, with_entered, with_left};
 
-use crate::space::Space;
+use connector_flow::Space;
 
 /// What a step touches of a cell. No two of the sums that it raises lie side by side, since they would be raised together
 /// then, as one pair, which takes more instructions.

@@ -1,4 +1,4 @@
-use crate::connector_course::ConnectorCourse;
+use connector_flow::ConnectorCourse;
 
 /// A connector that isn't a link from a place to the next, with the spots of its cells in the order of its fields; that of
 /// a link downstream stands twice. The spot of a cell of the region is its place; those of the halo's cells are the numbers

@@ -6,7 +6,7 @@ ghost use Rattle.region_body.specs.Carrying.{IsSpotOf, IsTie, AreSpotsOf};
 ghost use Rattle.region_body.specs.Joining.{AreKnown, IsKnown};
 
 use crate::cells::Cells;
-use crate::connector_course::ConnectorCourse;
+use connector_flow::ConnectorCourse;
 use crate::own_place::own_place;
 use crate::tie::Tie;
 use network_file::Net;

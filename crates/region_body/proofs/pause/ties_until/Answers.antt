@@ -2,7 +2,7 @@ use Rattle.std.specs.Prelude.{All}
 use Rattle.std.proofs.Common.{ℕ, subst, sym, ap, ◌∙◌, arith}
 use Rattle.std.proofs.lemmas.List.{take_all}
 use Rattle.std.proofs.lemmas.List.Elements.{All-more, All-weaker}
-use Rattle.region_body.specs.Flows.{flow_at}
+use Rattle.connector_flow.specs.Flows.{flow_at}
 use Rattle.region_body.specs.Pausing.{IsIdleUntil}
 use Rattle.region_body.specs.declared.tie.Tie.{Tie}
 use Rattle.region_body.proofs.pause.ties_until.Goals as goal

@@ -4,7 +4,7 @@ use Rattle.std.proofs.lemmas.List.{length-map, length-replicate, with_items_is}
 use Rattle.network_file.specs.Network.{IsNetwork}
 use Rattle.flow_model.specs.Limits.{room_at}
 use Rattle.region_body.specs.Places.{place_at}
-use Rattle.region_body.specs.Space.{IsSpaceOf}
+use Rattle.connector_flow.specs.Space.{IsSpaceOf}
 use Rattle.region_body.specs.Followed.{IsThere}
 use Rattle.region_body.proofs.Firsts.{AreOpened, opened-cell, opened-rows, opened-settled}
 use Rattle.region_body.proofs.Stays.{waited-none}

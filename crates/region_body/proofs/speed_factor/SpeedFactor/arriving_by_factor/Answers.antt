@@ -3,7 +3,7 @@ use Rattle.std.proofs.Math.Nat.{mul_comm}
 use Rattle.signal_plan.specs.Speeds.{arriving}
 use Rattle.signal_plan.proofs.Laws.{arriving-le}
 use Rattle.region_body.specs.SpeedFactors.{HasSpeedFactor}
-use Rattle.region_body.proofs.Factors.{factor-exact}
+use Rattle.connector_flow.proofs.Factors.{factor-exact}
 use Rattle.region_body.proofs.speed_factor.SpeedFactor.arriving_by_factor.Goals as goal
 
 by-factor : (num den factor n : ℕ) → HasSpeedFactor (num, den) factor → n < 2 ^ 53 → n * factor / 2 ^ 63 ≡ arriving (num, den) n

@@ -1,0 +1,9 @@
+pub mod Factors
+pub mod Boundless
+pub mod Reciprocals
+pub mod Weights
+pub mod Bounding
+pub mod Spaces
+pub mod Slowed
+pub mod Made
+pub mod Nothing

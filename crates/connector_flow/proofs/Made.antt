@@ -1,0 +1,123 @@
+-- A course that is made of a connector's cells is that of the connector.
+use Rattle.std.specs.Prelude.{All, IfOk, Result, slice_index}
+use Rattle.std.proofs.Common.{◌≡◌, ℕ, zero, suc, ◌<◌, List, [], ◌∷◌, length, get_or, refl, sym, ap, subst, ◌∙◌, arith}
+use Rattle.std.proofs.lemmas.Result.{IfOk-weaker}
+use Rattle.signal_plan.specs.Turning.{shares_at}
+use Rattle.no_memory.specs.declared.memory.NoMemory.{NoMemory}
+use Rattle.network_file.specs.Connectors.{connector_at}
+use Rattle.network_file.specs.Network.{IsNetwork, IsSoundConnector, Network}
+use Rattle.network_file.specs.declared.connector.Connector.{Connector}
+use Rattle.network_file.specs.declared.connector.Connector.TheVariants.{Link, Merge, Diverge}
+use Rattle.network_file.proofs.NetworkFacts.{connector_at-sound, read_connector}
+use Rattle.connector_flow.specs.Limits.{limits_by}
+use Rattle.connector_flow.specs.Flows.{ConnectorValues, LimitedValues, carried_by, flow_at, limited_flow, limits_of}
+use Rattle.connector_flow.specs.Slowing.{slowed_by}
+use Rattle.connector_flow.specs.Following.{IsConnectorOf, IsCourseOf}
+use Rattle.courses.specs.Courses.{Course, value_at}
+use Rattle.connector_flow.specs.declared.limits.Limits.{Limits}
+use Rattle.connector_flow.specs.declared.rule.Rule.{Rule}
+use Rattle.connector_flow.specs.declared.space.Space.{Space}
+use Rattle.connector_flow.specs.declared.rule.Rule.TheVariants.{Linking, Merging, Diverging}
+use Rattle.connector_flow.proofs.Spaces.{receiving-is, sending-is}
+
+-- what is carried within the limits of a step is what the course carries then
+pub flow-within : (course : LimitedValues) (limits : Limits) (t : ℕ) (n : List ℕ) → limits_of course t ≡ limits →
+    carried_by course.rule limits course.second_space course.third_space n ≡ limited_flow course t n
+unfolding limited_flow
+flow-within course limits t n is = ap (λ one. carried_by course.rule one course.second_space course.third_space n) (sym is)
+
+-- the same limits in all steps carry the same
+pub flow-same : (old new : LimitedValues) (t : ℕ) (n : List ℕ) → new.rule ≡ old.rule → new.second_space ≡ old.second_space →
+    new.third_space ≡ old.third_space → limits_of new t ≡ limits_of old t → limited_flow new t n ≡ limited_flow old t n
+unfolding limited_flow
+flow-same old new t n rule second third limits = rw (rule, second, third, limits) refl
+
+flow-made : (net : Network) (rule : Rule) (cells : List ℕ) (weights : Course (ℕ × ℕ)) (course : ConnectorValues) (t : ℕ) (n : List ℕ) →
+    IsConnectorOf net rule cells weights course → t < net.steps →
+    flow_at course t n ≡
+    carried_by rule (limits_by net.plan rule cells weights t) course.limited.second_space course.limited.third_space (slowed_by course.slowing t n)
+unfolding flow_at
+flow-made net rule cells weights course t n has before =
+    let second : Space = course.limited.second_space in
+    let third : Space = course.limited.third_space in
+    let moving : List ℕ = slowed_by course.slowing t n in
+    ap (λ one. carried_by one (limits_of course.limited t) second third moving) has.rule_is
+    ∙ ap (λ limits. carried_by rule limits second third moving) (has.made.limits t before)
+
+pub made-link : (net : Network) (up down : ℕ) (weights : Course (ℕ × ℕ)) (course : ConnectorValues) → IsNetwork net →
+    IsSoundConnector net.cells (Link up down) → IsConnectorOf net Linking (up ∷ down ∷ down ∷ []) weights course → IsCourseOf net (Link up down) course
+made-link net up down weights course sound connector made = record {
+  rule = made.rule_is;
+  flow = λ t n before held.
+      let there : down < length net.cells = (connector.down 0 0 (omega arith)).0 in
+      let s = sending-is net t up (slice_index n 0) in
+      let r = receiving-is net t down (slice_index n 1) course.limited.second_space sound before there made.made.second (held.each 1 (omega arith)) in
+      let moving = made.slowing in
+      flow-made net Linking (up ∷ down ∷ down ∷ []) weights course t n made before ∙ rw (moving.first t n, moving.second t n, s, r) refl;
+}
+
+pub made-merge : (net : Network) (up1 up2 down p1 p2 : ℕ) (weights : Course (ℕ × ℕ)) (course : ConnectorValues) → IsNetwork net →
+    IsSoundConnector net.cells (Merge up1 up2 down p1 p2) → ((t : ℕ) → value_at weights t ≡ (p1, p2)) →
+    IsConnectorOf net Merging (up1 ∷ up2 ∷ down ∷ []) weights course → IsCourseOf net (Merge up1 up2 down p1 p2) course
+made-merge net up1 up2 down p1 p2 weights course sound connector are made = record {
+  rule = made.rule_is;
+  flow = λ t n before held.
+      let there : down < length net.cells = (connector.down 0 0 (omega arith)).0 in
+      let s1 = sending-is net t up1 (slice_index n 0) in
+      let s2 = sending-is net t up2 (slice_index n 1) in
+      let r = receiving-is net t down (slice_index n 2) course.limited.third_space sound before there made.made.third (held.each 2 (omega arith)) in
+      let moving = made.slowing in
+      flow-made net Merging (up1 ∷ up2 ∷ down ∷ []) weights course t n made before
+      ∙ rw (moving.first t n, moving.second t n, moving.third t n, s1, s2, r, are t) refl;
+}
+
+pub made-diverge : (net : Network) (up down1 down2 b1 b2 : ℕ) (weights : Course (ℕ × ℕ)) (course : ConnectorValues) → IsNetwork net →
+    IsSoundConnector net.cells (Diverge up down1 down2 b1 b2) → ((t : ℕ) → value_at weights t ≡ shares_at net.plan up t (b1, b2)) →
+    IsConnectorOf net Diverging (up ∷ down1 ∷ down2 ∷ []) weights course → IsCourseOf net (Diverge up down1 down2 b1 b2) course
+made-diverge net up down1 down2 b1 b2 weights course sound connector are made = record {
+  rule = made.rule_is;
+  flow = λ t n before held.
+      let there1 : down1 < length net.cells = (connector.down 0 0 (omega arith)).0 in
+      let there2 : down2 < length net.cells = (connector.down 1 0 (omega arith)).0 in
+      let s = sending-is net t up (slice_index n 0) in
+      let r1 = receiving-is net t down1 (slice_index n 1) course.limited.second_space sound before there1 made.made.second (held.each 1 (omega arith)) in
+      let r2 = receiving-is net t down2 (slice_index n 2) course.limited.third_space sound before there2 made.made.third (held.each 2 (omega arith)) in
+      let moving = made.slowing in
+      flow-made net Diverging (up ∷ down1 ∷ down2 ∷ []) weights course t n made before
+      ∙ rw (moving.first t n, moving.second t n, moving.third t n, s, r1, r2, are t) refl;
+}
+
+-- the cells of a merge are there, and those of a diverge
+pub merge-cells : (net : Network) (up1 up2 down p1 p2 : ℕ) → IsSoundConnector net.cells (Merge up1 up2 down p1 p2) →
+    All (λ i. i < length net.cells) (up1 ∷ up2 ∷ down ∷ [])
+merge-cells net up1 up2 down p1 p2 sound zero d within = (sound.up 0 d (omega arith)).0
+merge-cells net up1 up2 down p1 p2 sound (suc zero) d within = (sound.up 1 d (omega arith)).0
+merge-cells net up1 up2 down p1 p2 sound (suc (suc zero)) d within = (sound.down 0 d (omega arith)).0
+merge-cells net up1 up2 down p1 p2 sound (suc (suc (suc k))) d within = absurd (omega arith)
+
+pub diverge-cells : (net : Network) (up down1 down2 b1 b2 : ℕ) → IsSoundConnector net.cells (Diverge up down1 down2 b1 b2) →
+    All (λ i. i < length net.cells) (up ∷ down1 ∷ down2 ∷ [])
+diverge-cells net up down1 down2 b1 b2 sound zero d within = (sound.up 0 d (omega arith)).0
+diverge-cells net up down1 down2 b1 b2 sound (suc zero) d within = (sound.down 0 d (omega arith)).0
+diverge-cells net up down1 down2 b1 b2 sound (suc (suc zero)) d within = (sound.down 1 d (omega arith)).0
+diverge-cells net up down1 down2 b1 b2 sound (suc (suc (suc k))) d within = absurd (omega arith)
+
+-- the connector of a number, as it was read
+pub record IsRead (net : Network) (k : ℕ) (connector : Connector) : Type 0 where
+  pub network : IsNetwork net
+  pub is : connector_at net.connectors k ≡ connector
+  pub sound : IsSoundConnector net.cells connector
+
+pub read-as : (net : Network) (items : List Connector) (k : ℕ) (read connector : Connector) → IsNetwork net → items ≡ net.connectors →
+    k < length net.connectors → read ≡ get_or items k read → read ≡ connector → IsRead net k connector
+read-as net items k read connector network same has is_read matched =
+    let is = read_connector items net.connectors k read same has is_read ∙ matched in
+    record { network = network; is = is; sound = subst (IsSoundConnector net.cells) is (connector_at-sound net k network has) }
+
+-- what is made of it is its course
+pub made-read : (net : Network) (k : ℕ) (connector : Connector) (Made : ConnectorValues → Type 0) (result : Result ConnectorValues NoMemory) →
+    IsRead net k connector → ((course : ConnectorValues) → Made course → IsCourseOf net connector course) → IfOk result Made →
+    IfOk result (IsCourseOf net (connector_at net.connectors k))
+made-read net k connector Made result read is made =
+    IfOk-weaker result Made (IsCourseOf net (connector_at net.connectors k))
+    (λ course one. subst (λ at. IsCourseOf net at course) (sym read.is) (is course one)) made

@@ -1,0 +1,61 @@
+-- Connectors that carry nothing.
+use Rattle.std.specs.Prelude.{Option, Some, None, min}
+use Rattle.std.proofs.Common.{◌≡◌, ℕ, ◌+◌, ◌*◌, ◌/◌, ◌<◌, ◌≤◌, List, refl, sym, ap, ◌∙◌, arith}
+use Rattle.std.proofs.Math.Nat.{div-eq_of_lt, zero-mul}
+use Rattle.diverge_rule.specs.Diverge.{diverge_of}
+use Rattle.ordinary_link.specs.LinkFlow.{link_flow_of}
+use Rattle.merge_rule.specs.Merge.{merge_of}
+use Rattle.merge_rule.proofs.MergeFacts.{first_flow-room, second_flow-room}
+use Rattle.flow_model.specs.Flows.{diverge_carries, link_carries, merge_carries}
+use Rattle.flow_model.specs.declared.carried.Flow.{Flow}
+use Rattle.connector_flow.specs.Limits.{AreInForce, AreKept, limits_of_courses, limits_in}
+use Rattle.connector_flow.specs.Flows.{LimitedValues, carried_by, limited_flow, no_flow}
+use Rattle.courses.specs.Courses.{value_at}
+use Rattle.connector_flow.specs.declared.limit_courses.LimitCourses.{LimitCourses}
+use Rattle.connector_flow.specs.declared.limits.Limits.{Limits}
+
+-- by what their cells have to send
+
+pub link-none : (s r : ℕ) → s ≡ 0 → link_carries s r ≡ no_flow
+link-none s r none = let carried : link_flow_of s r ≡ 0 = omega (arith, none) in rw carried refl
+
+pub merge-none : (s1 s2 r p1 p2 : ℕ) → s1 ≡ 0 → s2 ≡ 0 → merge_carries s1 s2 r p1 p2 ≡ no_flow
+unfolding merge_of
+merge-none s1 s2 r p1 p2 none none_second =
+    let room : s1 + s2 ≤ r = omega (arith, none, none_second) in
+    rw (first_flow-room s1 s2 r p1 p2 room, second_flow-room s1 s2 r p1 p2 room, none, none_second) refl
+
+nothing-split : (k b1 b2 : ℕ) → k ≡ 0 → ◌≡◌ {A = Flow} (record { out1 = k * (b1 + b2); out2 = 0; in1 = k * b1; in2 = k * b2 }) no_flow
+nothing-split k b1 b2 none = rw (none, zero-mul (b1 + b2), zero-mul b1, zero-mul b2) refl
+
+pub diverge-none : (s r1 r2 b1 b2 : ℕ) → s < b1 + b2 → diverge_carries s r1 r2 b1 b2 ≡ no_flow
+unfolding diverge_of
+diverge-none s r1 r2 b1 b2 few =
+    let none : s / (b1 + b2) ≡ 0 = div-eq_of_lt few in
+    nothing-split (min (min (s / (b1 + b2)) (r1 / b1)) (r2 / b2)) b1 b2 (omega (arith, none))
+
+-- what bounds a flow stays until its next change
+pub kept-steady : (courses : Option LimitCourses) (limits : Limits) (step until s : ℕ) → AreKept courses limits step until → step ≤ s → s < until →
+    limits_in courses limits s ≡ limits
+unfolding limits_in
+kept-steady None limits step until s has from within = refl
+kept-steady (Some courses) limits step until s has from within = has.steady s from within
+
+-- a connector whose limits never change carries the same in each step
+pub flow-stays : (course : LimitedValues) (s t : ℕ) (n : List ℕ) → course.courses ≡ None → limited_flow course s n ≡ limited_flow course t n
+unfolding limited_flow limits_in
+flow-stays course s t n never = rw never refl
+
+-- the weights of a step are those of its limits
+pub weights-of : (courses : LimitCourses) (s : ℕ) → (limits_of_courses courses s).weights ≡ value_at courses.weights s
+unfolding limits_of_courses
+weights-of courses s = refl
+
+pub weights-in : (courses : LimitCourses) (limits : Limits) (step until : ℕ) → AreInForce courses limits step until → value_at courses.weights step ≡ limits.weights
+weights-in courses limits step until has = sym (weights-of courses step) ∙ ap (λ one. one.weights) (has.steady step (omega arith) has.later)
+
+-- what a connector carries by its courses
+pub flow-some : (course : LimitedValues) (courses : LimitCourses) (s : ℕ) (n : List ℕ) → course.courses ≡ Some courses →
+    limited_flow course s n ≡ carried_by course.rule (limits_of_courses courses s) course.second_space course.third_space n
+unfolding limited_flow limits_in
+flow-some course courses s n some = rw some refl

@@ -1,0 +1,69 @@
+-- What a connector carries by its course.
+use Rattle.std.specs.Prelude.{ℕ, List, Option, Some, None, min, slice_index}
+use Rattle.flow_model.specs.Flows.{diverge_carries, link_carries, merge_carries}
+use Rattle.flow_model.specs.declared.carried.Flow.{Flow}
+use Rattle.connector_flow.specs.Space.{let_in}
+use Rattle.connector_flow.specs.declared.space.Space.{Space}
+use Rattle.connector_flow.specs.Limits.{limits_in}
+use Rattle.connector_flow.specs.Slowing.{SlowingValues, slowed_by}
+use Rattle.connector_flow.specs.declared.limit_courses.LimitCourses.{LimitCourses}
+use Rattle.connector_flow.specs.declared.limits.Limits.{Limits}
+use Rattle.connector_flow.specs.declared.rule.Rule.{Rule}
+use Rattle.connector_flow.specs.declared.rule.Rule.TheVariants.{Linking, Merging, Diverging}
+
+-- a connector within its limits, as contracts see it: its rule, what changes of it, the limits that are in force, the spaces
+-- of its second cell and of its third, the step that was come to, and the first at which these limits may change
+pub record LimitedValues : Type 0 where
+  pub rule : Rule
+  pub courses : Option LimitCourses
+  pub limits : Limits
+  pub second_space : Space
+  pub third_space : Space
+  pub step : ℕ
+  pub until : ℕ
+
+-- what a cell with this space that holds n parts receives of so much at most
+abbrev pub received : (most : ℕ) → Space → (n : ℕ) → ℕ
+received most space n = min most (let_in space n)
+
+-- what it carries within these limits where its cells hold n
+abbrev pub carried_by : Rule → Limits → (second_space third_space : Space) → (n : List ℕ) → Flow
+carried_by Linking limits second_space third_space n =
+    link_carries (min limits.first (slice_index n 0)) (received limits.second second_space (slice_index n 1))
+carried_by Merging limits second_space third_space n =
+    merge_carries (min limits.first (slice_index n 0)) (min limits.second (slice_index n 1))
+    (received limits.third third_space (slice_index n 2)) limits.weights.0 limits.weights.1
+carried_by Diverging limits second_space third_space n =
+    diverge_carries (min limits.first (slice_index n 0)) (received limits.second second_space (slice_index n 1))
+    (received limits.third third_space (slice_index n 2)) limits.weights.0 limits.weights.1
+
+-- nothing is carried
+abbrev pub no_flow : Flow
+no_flow = record { out1 = 0; out2 = 0; in1 = 0; in2 = 0 }
+
+-- what bounds its flow in step t
+abbrev pub limits_of : LimitedValues → (t : ℕ) → Limits
+limits_of course t = limits_in course.courses course.limits t
+
+-- what it carries in step t where so many parts of its cells' come to their ends
+unfoldable pub limited_flow : LimitedValues → (t : ℕ) → (n : List ℕ) → Flow
+limited_flow course t n = carried_by course.rule (limits_of course t) course.second_space course.third_space n
+
+-- the first step at which its limits or its speeds may change
+abbrev pub until_of : LimitedValues → Option SlowingValues → ℕ
+until_of limited None = limited.until
+until_of limited (Some slowing) = min limited.until slowing.until
+
+-- a connector as contracts see it: its rule, its limits, its speeds where it has any, the step that was come to, and the first
+-- at which these limits or speeds may change
+pub record ConnectorValues : Type 0 where
+  pub rule : Rule
+  pub limited : LimitedValues
+  pub slowing : Option SlowingValues
+  pub step : ℕ
+  pub until : ℕ
+
+-- what it carries in step t where its cells hold n
+unfoldable pub flow_at : ConnectorValues → (t : ℕ) → (n : List ℕ) → Flow
+flow_at course t n =
+    carried_by course.rule (limits_of course.limited t) course.limited.second_space course.limited.third_space (slowed_by course.slowing t n)

@@ -1,0 +1,75 @@
+ghost use Rattle.std.specs.Prelude.{◌≡◌, ◌≤◌, ◌<◌, ◌+◌, ◌*◌, ◌/◌, ◌^◌};
+ghost use Rattle.std.specs.Option.{ForSome};
+ghost use Rattle.ordinary_link.specs.Space.{IsRoomHolding};
+ghost use Rattle.connector_flow.specs.Space.{IsSpaceOf, let_in};
+
+use ordinary_link::{MOST_PARTS, Room};
+
+/// A place without a room lets in all that comes as long as it holds no more than this in all, in parts.
+pub(crate) const BOUNDLESS: u64 = 4_611_686_018_427_387_904;
+
+/// The room of a place, as a sweep asks for it: with a factor in place of the ratio, so that no step divides.
+#[derive(Clone, Copy)]
+pub struct Space {
+    /// The most parts that the place holds, and one more where its ratio is 1.
+    pub storage: u64,
+    /// The ratio times 2^64, rounded up.
+    pub factor: u64,
+}
+
+impl Space {
+    /// The space of a place with this room, or of one without a room.
+    pub fn of(room: Option<Room>) -> Space
+        requires ratio { ForSome room (IsRoomHolding 0) }
+        requires amount { ForSome room (λ r. r.most ≤ MOST_PARTS) }
+        ensures { IsSpaceOf result room }
+    {
+        match room {
+            None => Space {
+                storage: BOUNDLESS + 1,
+                factor: u64::MAX,
+            },
+            Some(room) => Space::of_road(room),
+        }
+    }
+
+    // The space of a road. `2^64 - 1` stands for a ratio of 1, which takes one part of the product.
+    fn of_road(room: Room) -> Space
+        requires ratio { IsRoomHolding 0 room }
+        requires amount { room.most ≤ MOST_PARTS }
+        ensures { IsSpaceOf result (Some room) }
+    {
+        if room.num == room.den {
+            Space {
+                storage: room.most + 1,
+                factor: u64::MAX,
+            }
+        } else {
+            Space {
+                storage: room.most,
+                factor: factor_of(room.num, room.den),
+            }
+        }
+    }
+
+    /// What the empty space of a place that holds `n` parts lets in.
+    #[inline(always)]
+    pub fn let_in(self, n: u64) -> u64
+        requires fits { n ≤ self.storage }
+        ensures flow { result ≡ let_in self n }
+        ensures in_room { n + result ≤ self.storage }
+        ensures fits { n + result < 2 ^ 64 }
+    {
+        let wide = u128::from(self.storage - n) * u128::from(self.factor);
+        (wide >> 64) as u64
+    }
+}
+
+// The factor of a ratio below 1: `floor(A * 2^64 / B) + 1`.
+fn factor_of(num: u32, den: u32) -> u64
+    requires positive { 1 ≤ num }
+    requires below { num < den }
+    ensures { result ≡ num * 2 ^ 64 / den + 1 }
+{
+    ((u128::from(num) << 64) / u128::from(den)) as u64 + 1
+}
