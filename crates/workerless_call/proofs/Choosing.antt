@@ -14,8 +14,8 @@ use Rattle.plan_choice.proofs.Cutting.{length-candidates}
 use Rattle.plan_choice.proofs.Sizes.{file-few}
 use Rattle.call_ending.specs.Refusing.{IsRefusalOf, Why}
 use Rattle.call_ending.specs.declared.refusal.Refusal.{Refusal}
+use Rattle.call_beginning.specs.NetworkInput.{IsToldOf}
 use Rattle.workerless_call.specs.ChooseMode.{IsChooseText, IsChosenOf, candidate_refused, choose_refused, plans_refused, why_of_candidate, why_of_candidates}
-use Rattle.workerless_call.specs.NetworkInput.{IsToldOf}
 
 -- nothing stands against the first candidates, which were read as these networks
 pub record AreRead (files : List (List ℕ)) (p : ℕ) (nets : List Network) : Type 0 where

@@ -5,7 +5,7 @@ use Rattle.network_file.specs.Network.{Network}
 use Rattle.network_file.specs.Reading.{network_of}
 use Rattle.line_fields.specs.Fields.{count_field}
 use Rattle.call_ending.specs.Refusing.{Why}
-use Rattle.workerless_call.specs.NetworkInput.{IsNetworkWith, why_of_network}
+use Rattle.call_beginning.specs.NetworkInput.{IsNetworkWith, why_of_network}
 
 abbrev pub check_refused : (input : List ℕ) → Option Why
 check_refused input = why_of_network (network_of input) (λ net. None)

@@ -8,7 +8,7 @@ use Rattle.plan_choice.specs.Choice.{IsChoice, whole_delay}
 use Rattle.plan_choice.specs.Pieces.{candidates_in, most_plans, separators_in}
 use Rattle.call_ending.specs.Refusing.{Why}
 use Rattle.call_ending.specs.declared.status.Status.TheVariants as status
-use Rattle.workerless_call.specs.NetworkInput.{fault_told}
+use Rattle.call_beginning.specs.NetworkInput.{fault_told}
 
 -- an input with so many separators, none or too many
 unfoldable pub plans_line : (separators : ℕ) → List ℕ

@@ -8,9 +8,9 @@ use Rattle.region_cut.specs.Cuttings.{even_cutting, region_at}
 use Rattle.cut_grow.specs.CutConnectors.{cuts}
 use Rattle.cut_grow.specs.Grown.{IsGrown}
 use Rattle.call_ending.specs.Refusing.{Why}
-use Rattle.workerless_call.specs.NetworkInput.{IsNetworkWith, why_of_network}
-use Rattle.workerless_call.specs.Task.{Task}
-use Rattle.workerless_call.specs.UsedCutting.{regions_asked}
+use Rattle.call_beginning.specs.NetworkInput.{IsNetworkWith, why_of_network}
+use Rattle.call_beginning.specs.Task.{Task}
+use Rattle.call_beginning.specs.UsedCutting.{regions_asked}
 
 abbrev pub cut_refused : Task → Option Why
 cut_refused task = why_of_network (network_of task.input) (λ net. None)

@@ -2,10 +2,3 @@ pub mod CheckMode
 pub mod ChooseMode
 pub mod ConvertMode
 pub mod CutMode
-pub mod Input
-pub mod NetworkInput
-pub mod Recording
-pub mod Task
-pub mod UsedCutting
-pub mod UsedRegions
-pub mod Words

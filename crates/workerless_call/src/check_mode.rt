@@ -5,7 +5,7 @@ ghost use Rattle.line_fields.specs.Fields.{count_field};
 ghost use Rattle.call_ending.specs.Refusing.{IsRefusalOf};
 ghost use Rattle.workerless_call.specs.CheckMode.{IsCheckText, check_refused, counts_line, format_word};
 
-use crate::network_input::network_in;
+use call_beginning::network_in;
 use call_ending::Refusal;
 use line_fields::put_count;
 use network_file::Net;

@@ -4,10 +4,10 @@ ghost use Rattle.network_file.specs.declared.limits.TheConstants.{MOST_BYTES};
 ghost use Rattle.line_fields.specs.Fields.{lines_of};
 ghost use Rattle.plan_choice.specs.Pieces.{files_of, most_plans};
 ghost use Rattle.call_ending.specs.Refusing.{IsRefusalOf, Why};
+ghost use Rattle.call_beginning.specs.NetworkInput.{IsToldOf};
 ghost use Rattle.workerless_call.specs.ChooseMode.{IsChooseText, IsChosenAmong, IsChosenOf, candidate_line, candidate_refused, choice_text, choose_refused, plan_line, plans_line, plans_refused, why_of_candidate, why_of_candidates};
-ghost use Rattle.workerless_call.specs.NetworkInput.{IsToldOf};
 
-use crate::network_input::put_fault;
+use call_beginning::put_fault;
 use call_ending::{Cause, Line, Refusal};
 use itoa::Buffer;
 use line_fields::{put_count, put_signed};

@@ -3,7 +3,7 @@ ghost use Rattle.network_file.specs.declared.limits.TheConstants.{MOST_BYTES};
 ghost use Rattle.call_ending.specs.Refusing.{IsRefusalOf};
 ghost use Rattle.workerless_call.specs.ConvertMode.{IsConvertText, convert_refused};
 
-use crate::network_input::refused;
+use call_beginning::refused;
 use call_ending::Refusal;
 use converted_file::convert;
 use std::alloc::Global;

@@ -5,11 +5,10 @@ ghost use Rattle.network_file.specs.declared.limits.TheConstants.{MOST_BYTES, MO
 ghost use Rattle.line_fields.specs.Fields.{lines_of};
 ghost use Rattle.region_cut.specs.Cuttings.{even_cutting, region_at};
 ghost use Rattle.call_ending.specs.Refusing.{IsRefusalOf};
+ghost use Rattle.call_beginning.specs.Task.{task_of};
 ghost use Rattle.workerless_call.specs.CutMode.{IsCutText, ShowsGrown, cut_line, cut_refused, cutting_text, cell_region_line};
-ghost use Rattle.workerless_call.specs.Task.{task_of};
 
-use crate::network_input::network_in;
-use crate::used_regions::regions_wanted;
+use call_beginning::{network_in, regions_wanted};
 use call_ending::Refusal;
 use command_words::Request;
 use cut_grow::{cut_count, grow};

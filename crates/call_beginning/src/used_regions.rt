@@ -1,7 +1,7 @@
 ghost use Rattle.std.specs.Prelude.{◌≡◌, ◌≤◌, length};
 ghost use Rattle.command_words.specs.Words.{IsInRange};
 ghost use Rattle.network_file.specs.declared.limits.TheConstants.{MOST_REGIONS};
-ghost use Rattle.workerless_call.specs.UsedRegions.{chosen_regions, regions_wanted};
+ghost use Rattle.call_beginning.specs.UsedRegions.{chosen_regions, regions_wanted};
 
 use command_words::Request;
 use network_file::Net;

@@ -2,7 +2,7 @@ use Rattle.std.specs.Prelude.{min}
 use Rattle.std.proofs.Common.{◌≡◌, length, ap, arith, subst, sym, ◌∙◌}
 use Rattle.region_cut.proofs.Cuttings.{cutting-alone}
 use Rattle.cut_grow.specs.Grown.{IsGrown}
-use Rattle.workerless_call.proofs.used_cutting.grown_cut.Goals as goal
+use Rattle.call_beginning.proofs.used_cutting.grown_cut.Goals as goal
 
 pub known-requires : goal.known-requires
 known-requires c = cutting-alone c.in_ok-list.ensures.cutting

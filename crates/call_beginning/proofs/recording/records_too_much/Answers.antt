@@ -2,7 +2,7 @@ use Rattle.std.proofs.Common.{◌≡◌, ◌≤◌, ◌*◌, ◌^◌, length, ar
 use Rattle.std.proofs.Math.Nat.{mul-le-mul_right}
 use Rattle.network_file.specs.Network.{IsNetwork}
 use Rattle.network_file.proofs.NetworkFacts.{few_cells}
-use Rattle.workerless_call.proofs.recording.records_too_much.Goals as goal
+use Rattle.call_beginning.proofs.recording.records_too_much.Goals as goal
 
 pub overflow_mul-result : goal.overflow_mul-result
 overflow_mul-result c =

@@ -4,7 +4,7 @@ use Rattle.command_words.specs.declared.request.Request.{Request}
 use Rattle.network_file.specs.Network.{Network}
 use Rattle.region_cut.specs.Cuttings.{even_cutting}
 use Rattle.cut_grow.specs.Grown.{IsGrown}
-use Rattle.workerless_call.specs.UsedRegions.{regions_wanted}
+use Rattle.call_beginning.specs.UsedRegions.{regions_wanted}
 
 -- into how many regions a network is cut: as many as are wanted, or as there are cells
 abbrev pub regions_asked : Network → Request → ℕ

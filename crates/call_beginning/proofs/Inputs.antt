@@ -9,7 +9,7 @@ use Rattle.net_make.specs.Made.{made}
 use Rattle.call_ending.specs.Refusing.{IsRefusalOf, Why}
 use Rattle.call_ending.specs.declared.refusal.Refusal.{Refusal}
 use Rattle.call_ending.specs.declared.refusal.Refusal.TheVariants as refusal
-use Rattle.workerless_call.specs.Input.{IsInput, IsInputOf, large_input, most_input, most_read, reads_source, why_long}
+use Rattle.call_beginning.specs.Input.{IsInput, IsInputOf, large_input, most_input, most_read, reads_source, why_long}
 
 pub too_long : (mode : Mode) (input : List ℕ) → most_input mode < length input → why_long mode input ≡ Some large_input
 too_long mode input large = search rules

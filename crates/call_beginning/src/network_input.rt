@@ -3,7 +3,7 @@ ghost use Rattle.network_file.specs.Network.{Network};
 ghost use Rattle.network_file.specs.Reading.{network_of};
 ghost use Rattle.network_file.specs.declared.limits.TheConstants.{MOST_BYTES};
 ghost use Rattle.call_ending.specs.Refusing.{IsRefusalOf, Why};
-ghost use Rattle.workerless_call.specs.NetworkInput.{IsToldOf, fault_told, network_line, network_refused, why_of_network};
+ghost use Rattle.call_beginning.specs.NetworkInput.{IsToldOf, fault_told, network_line, network_refused, why_of_network};
 
 use call_ending::{Cause, Line, Refusal};
 use itoa::Buffer;
@@ -48,7 +48,7 @@ fn fault_line(alloc: Global, fault: NetFault) -> Result<Vec<u8>, NoMemory>
 
 /// Appends where a network's fault stands and what it is.
 #[tactic(auto, unfolding(crate::specs::NetworkInput::fault_told))]
-pub(crate) fn put_fault(line: &mut Vec<u8>, fault: NetFault) -> Result<(), NoMemory>
+pub fn put_fault(line: &mut Vec<u8>, fault: NetFault) -> Result<(), NoMemory>
     ensures { OnOk result (line.new.items ≡ line.old.items ++ fault_told fault) }
 {
     let mut digits = Buffer::new();

@@ -1,5 +1,5 @@
 ghost use Rattle.std.specs.Prelude.{◌≡◌, Some, nat_lt};
-ghost use Rattle.workerless_call.specs.Recording.{large_record, recorded_values};
+ghost use Rattle.call_beginning.specs.Recording.{large_record, recorded_values};
 ghost use Rattle.call_ending.specs.Refusing.{IsRefusalOf};
 
 use call_ending::{Cause, Line, Refusal};

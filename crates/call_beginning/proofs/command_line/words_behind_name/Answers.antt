@@ -3,8 +3,8 @@ use Rattle.std.specs.Vec.Iter.{into_iter_items}
 use Rattle.std.proofs.lemmas.Iterator.{items_from_drains}
 use Rattle.std.proofs.lemmas.Iterator.Adapters.{YieldsList-from_vec}
 use Rattle.std.proofs.lemmas.List.{map-id}
-use Rattle.workerless_call.proofs.WordsBehind.{behind_first}
-use Rattle.workerless_call.proofs.command_line.words_behind_name.Goals as goal
+use Rattle.call_beginning.proofs.WordsBehind.{behind_first}
+use Rattle.call_beginning.proofs.command_line.words_behind_name.Goals as goal
 
 pub returns-in_ok-collect-in-Ok-clause-words : goal.returns-in_ok-collect-in-Ok-clause-words
 returns-in_ok-collect-in-Ok-clause-words c =

@@ -1,6 +1,6 @@
 ghost use Rattle.std.specs.Prelude.{◌≡◌, IfErr, IfOk, Some};
 ghost use Rattle.command_words.specs.Words.{IsInRange};
-ghost use Rattle.workerless_call.specs.Words.{IsOfWords, requested};
+ghost use Rattle.call_beginning.specs.Words.{IsOfWords, requested};
 
 use call_ending::{Cause, Line, Refusal};
 use command_words::{Request, WordsRefusal, read_words};

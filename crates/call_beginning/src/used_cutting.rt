@@ -2,7 +2,7 @@ ghost use Rattle.std.specs.Prelude.{◌≡◌, ◌≤◌, IfOk, length, min};
 ghost use Rattle.command_words.specs.Words.{IsInRange};
 ghost use Rattle.network_file.specs.declared.limits.TheConstants.{MOST_REGIONS};
 ghost use Rattle.cut_grow.specs.Grown.{IsGrown};
-ghost use Rattle.workerless_call.specs.UsedCutting.{IsCuttingOf};
+ghost use Rattle.call_beginning.specs.UsedCutting.{IsCuttingOf};
 
 use crate::used_regions::regions_wanted;
 use command_words::Request;

@@ -1,7 +1,7 @@
 use Rattle.std.proofs.Common.{sym, ◌∙◌}
 use Rattle.net_make.specs.Made.{made}
-use Rattle.workerless_call.proofs.Inputs.{allowed, long_input, made_input_is, read_input_is, some_input, too_long}
-use Rattle.workerless_call.proofs.input.input_of.Goals as goal
+use Rattle.call_beginning.proofs.Inputs.{allowed, long_input, made_input_is, read_input_is, some_input, too_long}
+use Rattle.call_beginning.proofs.input.input_of.Goals as goal
 
 pub returns-in-Err-clause-refusal : goal.returns-in-Err-clause-refusal
 returns-in-Err-clause-refusal g c = (

@@ -4,7 +4,7 @@ ghost use Rattle.ctm_ports.specs.ReadEnd.{LosesAtMost};
 ghost use Rattle.command_words.specs.Words.{IsInRange};
 ghost use Rattle.net_make.specs.Made.{made};
 ghost use Rattle.call_ending.specs.Refusing.{IsRefusalOf};
-ghost use Rattle.workerless_call.specs.Input.{IsInput, IsReadWhole, IsUnread, Reads, large_input, most_input, most_read, reads_source, why_long};
+ghost use Rattle.call_beginning.specs.Input.{IsInput, IsReadWhole, IsUnread, Reads, large_input, most_input, most_read, reads_source, why_long};
 
 use call_ending::{Cause, Line, Refusal};
 use command_words::{Mode, Request};
