@@ -18,7 +18,7 @@ use run_modes::{run_text, sample_text, watch_text};
 use saved_modes::{recut_text, resume_text, save_text};
 use std::alloc::Global;
 use std::thread::Threads;
-use workerless_call::{check_text, choose_text, convert_text, cut_text};
+use workerless_modes::{check_text, choose_text, convert_text, cut_text};
 
 /// The text that answers the words over the input that the source gives, or why there is none.
 pub(crate) fn answer<R: Threads + Sync, S: Source, W: Observer>(
