@@ -22,7 +22,7 @@ use Rattle.region_step.proofs.Ground.{ground}
 use Rattle.region_step.proofs.Lists.{map_same}
 use Rattle.snapshot.specs.Rooms.{RoomValue, ShowsRegion}
 use Rattle.snapshot.proofs.Showing.{shown-before, shown-row}
-use Rattle.saved_run.specs.EvenStart.{HaveComeTo, IsEvenStart, IsTrueBelow}
+use Rattle.even_start.specs.EvenStart.{HaveComeTo, IsEvenStart, IsTrueBelow}
 
 -- a room shows all regions of a chart
 abbrev pub AllShown : ChartLists → List RegionValue → RoomValue → Type 0

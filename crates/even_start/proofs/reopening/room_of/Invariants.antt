@@ -2,7 +2,7 @@ use Rattle.std.specs.Prelude.{slice_index_or}
 use Rattle.std.proofs.Common.{ℕ, ◌<◌}
 use Rattle.region_step.specs.Region.{RegionValue}
 use Rattle.snapshot.specs.Rooms.{IsRoomFor, ShowsRegion}
-use Rattle.saved_run.proofs.reopening.room_of.Given as goal
+use Rattle.even_start.proofs.reopening.room_of.Given as goal
 
 -- the first regions are shown
 abbrev pub invariant-loop-r : goal.invariant-loop-r

@@ -4,9 +4,9 @@ use Rattle.network_file.specs.Network.{IsNetwork}
 use Rattle.region_cut.specs.Cuttings.{region_count}
 use Rattle.region_step.specs.Setup.{setup_of}
 use Rattle.region_step.specs.Start.{StartLists}
-use Rattle.saved_run.specs.EvenStart.{HaveComeTo}
-use Rattle.saved_run.proofs.EvenStarts.{even-fits, even-lawful, even-true, is-even, step-is}
-use Rattle.saved_run.proofs.reopening.even_start.Goals as goal
+use Rattle.even_start.specs.EvenStart.{HaveComeTo}
+use Rattle.even_start.proofs.EvenStarts.{even-fits, even-lawful, even-true, is-even, step-is}
+use Rattle.even_start.proofs.reopening.even_start.Goals as goal
 
 -- all steps are those of the first region
 steps-are : (c : goal.After-drop-room-inside-4) (start : StartLists) (every u : ℕ) → HaveComeTo (setup_of c.args.old.now start every) u c.args.regions.now →

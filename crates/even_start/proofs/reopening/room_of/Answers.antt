@@ -10,7 +10,7 @@ use Rattle.region_step.specs.Start.{StartLists}
 use Rattle.region_step.proofs.GridStates.{grid_state-number}
 use Rattle.snapshot.specs.Rooms.{RoomValue, ShowsRegion}
 use Rattle.snapshot.proofs.Showing.{shows-stays}
-use Rattle.saved_run.proofs.reopening.room_of.Goals as goal
+use Rattle.even_start.proofs.reopening.room_of.Goals as goal
 
 pub loop-r-init : goal.loop-r-init
 loop-r-init c = (c.in_ok-room.ensures.room, λ q region none. absurd (omega (arith, none)))

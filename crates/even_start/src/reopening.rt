@@ -6,7 +6,7 @@ ghost use Rattle.region_step.specs.Setup.{setup_of};
 ghost use Rattle.region_step.specs.Standing.{AllStand};
 ghost use Rattle.region_step.specs.Start.{Fits, IsTrueStart, StartLists};
 ghost use Rattle.snapshot.specs.Rooms.{IsRoomFor, ShowsRegion};
-ghost use Rattle.saved_run.specs.EvenStart.{HaveComeTo, IsEvenStart, IsTrueBelow};
+ghost use Rattle.even_start.specs.EvenStart.{HaveComeTo, IsEvenStart, IsTrueBelow};
 
 use no_memory::NoMemory;
 use region_cut::Layout;
