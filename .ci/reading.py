@@ -13,9 +13,9 @@ from promises import Source
 from tokens import antt_tokens
 
 # In the order in which they are read: each mode with the crate and the file where it begins.
-MODES = [("run", "run_modes", "RunMode"), ("check", "workerless_call", "CheckMode"),
-         ("convert", "workerless_call", "ConvertMode"), ("choose", "workerless_call", "ChooseMode"),
-         ("cut", "workerless_call", "CutMode"), ("sample", "run_modes", "SampleMode"), ("watch", "run_modes", "WatchMode"),
+MODES = [("run", "run_modes", "RunMode"), ("check", "workerless_modes", "CheckMode"),
+         ("convert", "workerless_modes", "ConvertMode"), ("choose", "workerless_modes", "ChooseMode"),
+         ("cut", "workerless_modes", "CutMode"), ("sample", "run_modes", "SampleMode"), ("watch", "run_modes", "WatchMode"),
          ("save", "saved_modes", "SaveMode"), ("resume", "saved_modes", "ResumeMode"), ("recut", "saved_modes", "RecutMode")]
 CALL = Path("crates/ctm_call/src/call.rt")
 

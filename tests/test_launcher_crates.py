@@ -86,7 +86,7 @@ def test_each_mode_has_the_options_that_the_crate_takes():
 
 
 def test_the_input_of_each_mode_is_as_long_as_in_the_crates():
-    path = "workerless_call/src/input.rt"
+    path = "call_beginning/src/input.rt"
     reads, most = arms(function(path, "reads_source")), arms(function(path, "most_input"))
     lengths = {"MOST_BYTES": constant("network_file/src/limits.rt", "MOST_BYTES"),
                "MOST_SAVED_BYTES": constant(path, "MOST_SAVED_BYTES")}
@@ -154,8 +154,8 @@ def test_the_kinds_of_records_have_as_many_fields_as_in_the_crate():
 
 @pytest.mark.parametrize("text, known", [
     ("The input has more than {} bytes", constant("network_file/src/limits.rt", "MOST_BYTES")),
-    ("more than {} of a saved text", constant("workerless_call/src/input.rt", "MOST_SAVED_BYTES")),
-    ("the run would record more than\n{} values", constant("workerless_call/src/recording.rt", "MOST_RECORDED")),
+    ("more than {} of a saved text", constant("call_beginning/src/input.rt", "MOST_SAVED_BYTES")),
+    ("the run would record more than\n{} values", constant("call_beginning/src/recording.rt", "MOST_RECORDED")),
     ("the shots would show more than {} rows", constant("run_modes/src/watch_mode.rt", "MOST_SHOWN")),
     ("has no plans, or more than {}.", constant("plan_choice/src/pieces.rt", "MOST_PLANS")),
 ], ids=lambda it: it if isinstance(it, str) else "")
@@ -179,11 +179,11 @@ def test_the_most_plans_are_those_of_the_crate_wherever_they_are_told():
 
 
 @pytest.mark.parametrize("text, known", [
-    ("A run may record {} values", constant("workerless_call/src/recording.rt", "MOST_RECORDED")),
+    ("A run may record {} values", constant("call_beginning/src/recording.rt", "MOST_RECORDED")),
     ("A watch may show {} rows", constant("run_modes/src/watch_mode.rt", "MOST_SHOWN")),
-    ("for a network of fewer than {} cells,", constant("workerless_call/src/used_regions.rt", "FEWEST_CELLS")),
-    ("and else {} for each worker,", constant("workerless_call/src/used_regions.rt", "EACH")),
-    ("the number of cells divided by {},", constant("workerless_call/src/used_regions.rt", "FEWEST_OF_A_REGION")),
+    ("for a network of fewer than {} cells,", constant("call_beginning/src/used_regions.rt", "FEWEST_CELLS")),
+    ("and else {} for each worker,", constant("call_beginning/src/used_regions.rt", "EACH")),
+    ("the number of cells divided by {},", constant("call_beginning/src/used_regions.rt", "FEWEST_OF_A_REGION")),
     ("and behind {} comes 1.", constant("network_file/src/limits.rt", "MOST_REGIONS")),
 ], ids=lambda it: it if isinstance(it, str) else "")
 def test_the_limits_of_what_options_ask_for_are_those_of_the_crates(text, known):
@@ -192,8 +192,8 @@ def test_the_limits_of_what_options_ask_for_are_those_of_the_crates(text, known)
 
 @pytest.mark.parametrize("text, known", [
     ("the input has more than {} bytes, or with", constant("network_file/src/limits.rt", "MOST_BYTES")),
-    ("or with `resume` more than {} |", constant("workerless_call/src/input.rt", "MOST_SAVED_BYTES")),
-    ("would record more than {} values", constant("workerless_call/src/recording.rt", "MOST_RECORDED")),
+    ("or with `resume` more than {} |", constant("call_beginning/src/input.rt", "MOST_SAVED_BYTES")),
+    ("would record more than {} values", constant("call_beginning/src/recording.rt", "MOST_RECORDED")),
     ("would show more than {} rows", constant("run_modes/src/watch_mode.rt", "MOST_SHOWN")),
     ("has no [separator](#plans) or more than {};", constant("plan_choice/src/pieces.rt", "MOST_PLANS")),
     ("| Most cells, connectors, limits and demands | {} of each |",
@@ -216,9 +216,9 @@ def test_the_limits_of_what_options_ask_for_are_those_of_the_crates(text, known)
     ("| amount | 1 to {} ASCII digits,", constant("fixed_flow/src/spelling.rt", "MOST_WHOLE_DIGITS")),
     ("followed by `.` and 1 to {} ASCII digits", constant("fixed_flow/src/spelling.rt", "MOST_DECIMALS")),
     ("| name | 1 to {} bytes,", constant("record_fields/src/name.rt", "LONGEST")),
-    ("for a network of fewer than {} cells. Else", constant("workerless_call/src/used_regions.rt", "FEWEST_CELLS")),
-    ("Else it is {}·W,", constant("workerless_call/src/used_regions.rt", "EACH")),
-    ("the number of cells divided by {},", constant("workerless_call/src/used_regions.rt", "FEWEST_OF_A_REGION")),
+    ("for a network of fewer than {} cells. Else", constant("call_beginning/src/used_regions.rt", "FEWEST_CELLS")),
+    ("Else it is {}·W,", constant("call_beginning/src/used_regions.rt", "EACH")),
+    ("the number of cells divided by {},", constant("call_beginning/src/used_regions.rt", "FEWEST_OF_A_REGION")),
     ("A *number* is 1 to {} ASCII digits", constant("saved_run/src/number.rt", "MOST_DIGITS")),
 ], ids=lambda it: it if isinstance(it, str) else "")
 def test_the_limits_of_the_page_are_those_of_the_crates(text, known):

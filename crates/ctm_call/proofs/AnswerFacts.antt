@@ -11,10 +11,10 @@ use Rattle.call_ending.specs.declared.refusal.Refusal.TheVariants as refusal
 use Rattle.std.specs.Prelude.{IsOk}
 use Rattle.ctm_call.specs.Telling.{IsAnswered, IsToldBy}
 use Rattle.ctm_call.specs.Answer.{IsTextBy, answer_of, answer_to, answer_unless, why_by, why_in}
-use Rattle.workerless_call.specs.Input.{IsInput, IsInputOf, Reads, large_input, most_input, why_long}
-use Rattle.workerless_call.specs.Task.{Task, task_of}
-use Rattle.workerless_call.specs.Words.{IsOfWords, requested, words_refused}
-use Rattle.workerless_call.proofs.Inputs.{allowed, some_input_of}
+use Rattle.call_beginning.specs.Input.{IsInput, IsInputOf, Reads, large_input, most_input, why_long}
+use Rattle.call_beginning.specs.Task.{Task, task_of}
+use Rattle.call_beginning.specs.Words.{IsOfWords, requested, words_refused}
+use Rattle.call_beginning.proofs.Inputs.{allowed, some_input_of}
 use Rattle.network_run.specs.Telling.{Telling, TellingOfShots}
 
 pub answer_of-words : (words : List (String Global)) (input : List ℕ) → requested words ≡ None → answer_of words input ≡ Err words_refused

@@ -8,8 +8,8 @@ use Rattle.call_ending.proofs.Ended.{ended-unwritten, ended-written}
 use Rattle.network_run.specs.Telling.{Telling, TellingOfShots}
 use Rattle.ctm_call.specs.Answer.{answer_of, why_in}
 use Rattle.ctm_call.specs.Telling.{IsAnswered}
-use Rattle.workerless_call.specs.Input.{IsInputOf}
-use Rattle.workerless_call.specs.Words.{requested}
+use Rattle.call_beginning.specs.Input.{IsInputOf}
+use Rattle.call_beginning.specs.Words.{requested}
 
 pub called : {A : Type 0} (words : List (String Global)) (left : Option (List ℕ)) (IsRead ReadFailed : Type 0) (status : Status) (out err : SinkUse) (held freed : Telling) (watched : TellingOfShots)
     (items : A → List ℕ) (answer : Result A Refusal) →

@@ -9,9 +9,9 @@ use Rattle.network_file.specs.Network.{Network}
 use Rattle.network_file.specs.Reading.{network_of}
 use Rattle.network_file.specs.declared.fault.NetFault.{NetFault}
 use Rattle.call_ending.specs.Refusing.{Why}
-use Rattle.workerless_call.specs.Input.{large_input, most_input}
-use Rattle.workerless_call.specs.NetworkInput.{IsNetworkWith}
-use Rattle.workerless_call.specs.Task.{Task, task_of}
+use Rattle.call_beginning.specs.Input.{large_input, most_input}
+use Rattle.call_beginning.specs.NetworkInput.{IsNetworkWith}
+use Rattle.call_beginning.specs.Task.{Task, task_of}
 use Rattle.run_modes.proofs.PlainRun.{run_refused-plain, run_text-plain}
 use Rattle.saved_modes.specs.SaveMode.{IsSavedRun, IsSaveText}
 use Rattle.ctm_call.specs.Answer.{IsTextBy, IsTextOf, answer_to, answer_unless, why_by}

@@ -19,14 +19,14 @@ use Rattle.call_ending.specs.declared.status.Status.{Status}
 use Rattle.call_ending.specs.declared.status.Status.TheVariants as status
 use Rattle.ctm_call.specs.Telling.{IsAnswered}
 use Rattle.ctm_call.specs.Answer.{answer_of, answer_to, answer_unless, why_by, why_in}
-use Rattle.workerless_call.specs.ChooseMode.{choose_refused, plans_refused, why_of_candidate, why_of_candidates}
-use Rattle.workerless_call.specs.Input.{Reads, large_input, most_input}
-use Rattle.workerless_call.specs.NetworkInput.{why_of_network}
+use Rattle.workerless_modes.specs.ChooseMode.{choose_refused, plans_refused, why_of_candidate, why_of_candidates}
+use Rattle.call_beginning.specs.Input.{Reads, large_input, most_input}
+use Rattle.call_beginning.specs.NetworkInput.{why_of_network}
 use Rattle.saved_modes.specs.ResumeMode.{why_by_content, why_by_cutting, why_unstarted}
-use Rattle.workerless_call.specs.Recording.{large_record, recorded_values, why_unrecorded}
-use Rattle.workerless_call.specs.Task.{Task, task_of}
+use Rattle.call_beginning.specs.Recording.{large_record, recorded_values, why_unrecorded}
+use Rattle.call_beginning.specs.Task.{Task, task_of}
 use Rattle.run_modes.specs.WatchMode.{first_why, large_shots, shown_rows, why_unshown}
-use Rattle.workerless_call.specs.Words.{requested}
+use Rattle.call_beginning.specs.Words.{requested}
 use Rattle.network_run.specs.Telling.{Telling, TellingOfShots}
 use Rattle.ctm_call.proofs.AnswerFacts.{answer_of-request, answer_of-words}
 

@@ -5,19 +5,19 @@ use Rattle.command_words.specs.declared.mode.Mode.{Mode}
 use Rattle.command_words.specs.declared.mode.Mode.TheVariants.{Run, Watch, Sample, Save, Resume, Choose, Recut, Cut, Check, Convert}
 use Rattle.command_words.specs.declared.request.Request.{Request}
 use Rattle.call_ending.specs.Refusing.{Why}
-use Rattle.workerless_call.specs.CheckMode.{IsCheckText, check_refused}
-use Rattle.workerless_call.specs.ChooseMode.{IsChooseText, choose_refused}
-use Rattle.workerless_call.specs.ConvertMode.{IsConvertText, convert_refused}
-use Rattle.workerless_call.specs.CutMode.{IsCutText, cut_refused}
-use Rattle.workerless_call.specs.Input.{large_input, most_input}
+use Rattle.workerless_modes.specs.CheckMode.{IsCheckText, check_refused}
+use Rattle.workerless_modes.specs.ChooseMode.{IsChooseText, choose_refused}
+use Rattle.workerless_modes.specs.ConvertMode.{IsConvertText, convert_refused}
+use Rattle.workerless_modes.specs.CutMode.{IsCutText, cut_refused}
+use Rattle.call_beginning.specs.Input.{large_input, most_input}
 use Rattle.saved_modes.specs.RecutMode.{IsRecutText, recut_refused}
 use Rattle.saved_modes.specs.ResumeMode.{IsResumeText, resume_refused}
 use Rattle.run_modes.specs.RunMode.{IsRunText, run_refused}
 use Rattle.run_modes.specs.SampleMode.{IsSampleText, sample_refused}
 use Rattle.saved_modes.specs.SaveMode.{IsSaveText, save_refused}
-use Rattle.workerless_call.specs.Task.{Task, task_of}
+use Rattle.call_beginning.specs.Task.{Task, task_of}
 use Rattle.run_modes.specs.WatchMode.{IsWatchText, watch_refused}
-use Rattle.workerless_call.specs.Words.{requested, words_refused}
+use Rattle.call_beginning.specs.Words.{requested, words_refused}
 
 -- a task is answered by a text on out, and else there is a line on err
 abbrev pub Answer : Type 0

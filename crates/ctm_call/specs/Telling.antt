@@ -4,8 +4,8 @@ use Rattle.command_words.specs.declared.mode.Mode.{Mode}
 use Rattle.command_words.specs.declared.mode.Mode.TheVariants.{Run, Watch, Sample, Save, Resume, Choose, Recut, Cut, Check, Convert}
 use Rattle.network_file.specs.Reading.{network_of}
 use Rattle.saved_run.specs.Reading.{content_of}
-use Rattle.workerless_call.specs.NetworkInput.{IsNetworkWith}
-use Rattle.workerless_call.specs.Task.{Task}
+use Rattle.call_beginning.specs.NetworkInput.{IsNetworkWith}
+use Rattle.call_beginning.specs.Task.{Task}
 use Rattle.network_run.specs.Telling.{Telling, TellingOfShots}
 use Rattle.run_modes.specs.Told.{HasToldRun, HasToldSample, HasToldWatch}
 use Rattle.saved_modes.specs.Told.{HasToldRecut, HasToldResume, HasToldSave}

@@ -5,10 +5,11 @@ ghost use Rattle.command_words.specs.Words.{IsInRange};
 ghost use Rattle.call_ending.specs.Refusing.{IsRefusalOf};
 ghost use Rattle.ctm_call.specs.Answer.{IsTextBy, answer_of, why_by, why_in};
 ghost use Rattle.ctm_call.specs.Telling.{IsAnswered, IsToldBy};
-ghost use Rattle.workerless_call.specs.Input.{IsInputOf, IsReadWhole, IsUnread, Reads, most_input, most_read};
-ghost use Rattle.workerless_call.specs.Task.{task_of};
-ghost use Rattle.workerless_call.specs.Words.{requested};
+ghost use Rattle.call_beginning.specs.Input.{IsInputOf, IsReadWhole, IsUnread, Reads, most_input, most_read};
+ghost use Rattle.call_beginning.specs.Task.{task_of};
+ghost use Rattle.call_beginning.specs.Words.{requested};
 
+use call_beginning::{input_of, request_of};
 use call_ending::Refusal;
 use command_words::{Mode, Request};
 use ctm_ports::Source;
@@ -17,7 +18,7 @@ use run_modes::{run_text, sample_text, watch_text};
 use saved_modes::{recut_text, resume_text, save_text};
 use std::alloc::Global;
 use std::thread::Threads;
-use workerless_call::{check_text, choose_text, convert_text, cut_text, input_of, request_of};
+use workerless_modes::{check_text, choose_text, convert_text, cut_text};
 
 /// The text that answers the words over the input that the source gives, or why there is none.
 pub(crate) fn answer<R: Threads + Sync, S: Source, W: Observer>(

@@ -5,8 +5,8 @@ ghost use Rattle.call_ending.specs.Ending.{HasEnded, sink_use};
 ghost use Rattle.call_ending.specs.declared.status.Status.TheVariants as status;
 ghost use Rattle.ctm_call.specs.Answer.{answer_of, why_in};
 ghost use Rattle.ctm_call.specs.Telling.{IsAnswered};
-ghost use Rattle.workerless_call.specs.Input.{IsInputOf, IsReadWhole, IsUnread, Reads, most_read};
-ghost use Rattle.workerless_call.specs.Words.{requested};
+ghost use Rattle.call_beginning.specs.Input.{IsInputOf, IsReadWhole, IsUnread, Reads, most_read};
+ghost use Rattle.call_beginning.specs.Words.{requested};
 
 use crate::answer::answer;
 use call_ending::{Status, end};

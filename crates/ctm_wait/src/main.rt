@@ -1,12 +1,12 @@
 //! The program `ctm_wait`: the call of `wait_call` over the real streams (docs/FORMAT.md, "A run whose workers wait").
 #![tactic(auto)]
 
+use call_beginning::given_words;
 use call_ending::{Refusal, tell};
 use ctm_ports::{StdSink, StdSource};
 use region_slots::NoObserver;
 use std::process::ExitCode;
 use wait_call::ctm_wait;
-use workerless_call::given_words;
 
 fn main(rt: HostRuntime) -> ExitCode {
     let mut source = StdSource::new(rt.stdin());

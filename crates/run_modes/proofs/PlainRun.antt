@@ -6,9 +6,9 @@ use Rattle.network_file.specs.Reading.{network_of}
 use Rattle.delay_report.specs.Report.{report_of}
 use Rattle.delay_report.proofs.RecordedSteps.{recorded-none}
 use Rattle.command_words.specs.declared.request.Request.{Request}
-use Rattle.workerless_call.specs.NetworkInput.{IsNetworkWith, why_of_network}
-use Rattle.workerless_call.specs.Recording.{large_record, recorded_values, why_unrecorded}
-use Rattle.workerless_call.specs.Task.{task_of}
+use Rattle.call_beginning.specs.NetworkInput.{IsNetworkWith, why_of_network}
+use Rattle.call_beginning.specs.Recording.{large_record, recorded_values, why_unrecorded}
+use Rattle.call_beginning.specs.Task.{task_of}
 use Rattle.run_modes.specs.RunMode.{IsRunText, run_refused}
 
 recorded_values-none : (net : Network) → recorded_values net 0 ≡ 0

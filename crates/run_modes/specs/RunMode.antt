@@ -3,9 +3,9 @@ use Rattle.std.specs.Prelude.{◌≡◌, ℕ, List, Option}
 use Rattle.network_file.specs.Reading.{network_of}
 use Rattle.delay_report.specs.Report.{report_of}
 use Rattle.call_ending.specs.Refusing.{Why}
-use Rattle.workerless_call.specs.NetworkInput.{IsNetworkWith, why_of_network}
-use Rattle.workerless_call.specs.Recording.{why_unrecorded}
-use Rattle.workerless_call.specs.Task.{Task}
+use Rattle.call_beginning.specs.NetworkInput.{IsNetworkWith, why_of_network}
+use Rattle.call_beginning.specs.Recording.{why_unrecorded}
+use Rattle.call_beginning.specs.Task.{Task}
 
 abbrev pub run_refused : Task → Option Why
 run_refused task = why_of_network (network_of task.input) (λ net. why_unrecorded net task.request.every)

@@ -6,8 +6,8 @@ use Rattle.flow_model.specs.State.{state_at}
 use Rattle.line_fields.specs.Fields.{count_field}
 use Rattle.delay_report.specs.Report.{total_line}
 use Rattle.call_ending.specs.Refusing.{Why}
-use Rattle.workerless_call.specs.NetworkInput.{IsNetworkWith, why_of_network}
-use Rattle.workerless_call.specs.Task.{Task}
+use Rattle.call_beginning.specs.NetworkInput.{IsNetworkWith, why_of_network}
+use Rattle.call_beginning.specs.Task.{Task}
 
 abbrev pub sample_refused : Task → Option Why
 sample_refused task = why_of_network (network_of task.input) (λ net. None)

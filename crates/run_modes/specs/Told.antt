@@ -4,7 +4,7 @@ use Rattle.command_words.specs.declared.request.Request.{Request}
 use Rattle.network_file.specs.Network.{Network}
 use Rattle.region_cut.specs.Cuttings.{even_cutting}
 use Rattle.network_run.specs.Telling.{HasTold, HasToldShots, Telling, TellingOfShots, zero_run}
-use Rattle.workerless_call.specs.UsedCutting.{IsCuttingOf, regions_asked}
+use Rattle.call_beginning.specs.UsedCutting.{IsCuttingOf, regions_asked}
 
 -- each step of the network in the cutting that the request asks for
 pub record HasToldRun (held freed : Telling) (net : Network) (request : Request) : Type 0 where

@@ -7,10 +7,10 @@ use Rattle.shot_lines.specs.Shots.{AreShots}
 use Rattle.delay_report.specs.Report.{report_of}
 use Rattle.call_ending.specs.Refusing.{Why}
 use Rattle.call_ending.specs.declared.status.Status.TheVariants as status
-use Rattle.workerless_call.specs.NetworkInput.{IsNetworkWith, why_of_network}
-use Rattle.workerless_call.specs.Recording.{why_unrecorded}
-use Rattle.workerless_call.specs.Task.{Task}
-use Rattle.workerless_call.specs.UsedCutting.{IsCuttingOf}
+use Rattle.call_beginning.specs.NetworkInput.{IsNetworkWith, why_of_network}
+use Rattle.call_beginning.specs.Recording.{why_unrecorded}
+use Rattle.call_beginning.specs.Task.{Task}
+use Rattle.call_beginning.specs.UsedCutting.{IsCuttingOf}
 
 -- how many rows the shots show: cells times shots
 abbrev pub shown_rows : Network → (shots : ℕ) → ℕ

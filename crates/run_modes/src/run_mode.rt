@@ -4,11 +4,12 @@ ghost use Rattle.network_file.specs.declared.limits.TheConstants.{MOST_BYTES};
 ghost use Rattle.delay_report.specs.Report.{report_of};
 ghost use Rattle.call_ending.specs.Refusing.{IsRefusalOf};
 ghost use Rattle.run_modes.specs.RunMode.{IsRunText, run_refused};
-ghost use Rattle.workerless_call.specs.Task.{task_of};
+ghost use Rattle.call_beginning.specs.Task.{task_of};
 ghost use Rattle.network_file.specs.Reading.{network_of};
-ghost use Rattle.workerless_call.specs.NetworkInput.{IsNetworkWith};
+ghost use Rattle.call_beginning.specs.NetworkInput.{IsNetworkWith};
 ghost use Rattle.run_modes.specs.Told.{HasToldRun};
 
+use call_beginning::{large_record, layout_asked, network_in, records_too_much};
 use call_ending::Refusal;
 use command_words::Request;
 use delay_report::run_report;
@@ -18,7 +19,6 @@ use no_memory::NoMemory;
 use region_slots::Observer;
 use std::alloc::Global;
 use std::thread::Threads;
-use workerless_call::{large_record, layout_asked, network_in, records_too_much};
 
 /// The report of a network that workers take through all its steps, in regions.
 pub fn run_text<R: Threads + Sync, W: Observer>(

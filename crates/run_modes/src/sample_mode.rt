@@ -3,11 +3,12 @@ ghost use Rattle.command_words.specs.Words.{IsInRange};
 ghost use Rattle.network_file.specs.declared.limits.TheConstants.{MOST_BYTES};
 ghost use Rattle.call_ending.specs.Refusing.{IsRefusalOf};
 ghost use Rattle.run_modes.specs.SampleMode.{IsSampleText, sample_line, sample_of, sample_refused};
-ghost use Rattle.workerless_call.specs.Task.{task_of};
+ghost use Rattle.call_beginning.specs.Task.{task_of};
 ghost use Rattle.network_file.specs.Reading.{network_of};
-ghost use Rattle.workerless_call.specs.NetworkInput.{IsNetworkWith};
+ghost use Rattle.call_beginning.specs.NetworkInput.{IsNetworkWith};
 ghost use Rattle.run_modes.specs.Told.{HasToldSample};
 
+use call_beginning::{network_in, regions_wanted};
 use call_ending::Refusal;
 use command_words::Request;
 use delay_report::put_last_totals;
@@ -19,7 +20,6 @@ use region_cut::charted;
 use region_slots::Observer;
 use std::alloc::Global;
 use std::thread::Threads;
-use workerless_call::{network_in, regions_wanted};
 
 /// What is in a made network, and its totals once workers have taken it through all its steps, in regions.
 pub fn sample_text<R: Threads + Sync, W: Observer>(

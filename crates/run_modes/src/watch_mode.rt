@@ -2,12 +2,13 @@ ghost use Rattle.std.specs.Prelude.{◌≡◌, ◌≤◌, IfErr, IfOk, IsOk, Non
 ghost use Rattle.command_words.specs.Words.{IsInRange};
 ghost use Rattle.network_file.specs.declared.limits.TheConstants.{MOST_BYTES};
 ghost use Rattle.call_ending.specs.Refusing.{IsRefusalOf};
-ghost use Rattle.workerless_call.specs.Task.{task_of};
+ghost use Rattle.call_beginning.specs.Task.{task_of};
 ghost use Rattle.run_modes.specs.WatchMode.{HasShotsAndReport, IsWatchText, large_shots, shown_rows, watch_refused};
 ghost use Rattle.network_file.specs.Reading.{network_of};
-ghost use Rattle.workerless_call.specs.NetworkInput.{IsNetworkWith};
+ghost use Rattle.call_beginning.specs.NetworkInput.{IsNetworkWith};
 ghost use Rattle.run_modes.specs.Told.{HasToldWatch};
 
+use call_beginning::{large_record, layout_asked, network_in, records_too_much};
 use call_ending::{Cause, Line, Refusal};
 use command_words::Request;
 use delay_report::run_report;
@@ -17,7 +18,6 @@ use no_memory::NoMemory;
 use region_slots::Observer;
 use std::alloc::Global;
 use std::thread::Threads;
-use workerless_call::{large_record, layout_asked, network_in, records_too_much};
 
 /// The most rows that a run's shots may show: cells times shots.
 const MOST_SHOWN: u64 = 4_000_000;

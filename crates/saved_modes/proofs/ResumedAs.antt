@@ -24,7 +24,7 @@ use Rattle.saved_run.proofs.Starting.{decide_start}
 use Rattle.delay_report.specs.FromStart.{last_rows, report_from}
 use Rattle.delay_report.specs.Report.{report_of, report_with, state_note}
 use Rattle.delay_report.proofs.FromStart.{report_with-none}
-use Rattle.workerless_call.specs.NetworkInput.{why_of_network}
+use Rattle.call_beginning.specs.NetworkInput.{why_of_network}
 use Rattle.saved_modes.specs.ResumedAs.{IsResumedAs}
 use Rattle.saved_modes.specs.ResumeMode.{IsGoneOnFrom, why_by_content, why_by_cutting}
 use Rattle.saved_modes.proofs.Resumed.{resumed-report}

@@ -8,7 +8,7 @@ use Rattle.saved_run.specs.Loading.{CanStart, IsLoaded, cutting_in, start_in}
 use Rattle.saved_run.proofs.Starting.{decide_start}
 use Rattle.delay_report.specs.FromStart.{report_from}
 use Rattle.delay_report.specs.Report.{report_of}
-use Rattle.workerless_call.specs.NetworkInput.{why_of_network}
+use Rattle.call_beginning.specs.NetworkInput.{why_of_network}
 use Rattle.network_run.specs.Telling.{HasTold, Telling}
 use Rattle.saved_modes.specs.Told.{HasToldResume}
 use Rattle.saved_modes.specs.ResumeMode.{IsGoneOnFrom, why_by_content, why_by_cutting, why_unstarted}

@@ -3,8 +3,8 @@ use Rattle.std.specs.Prelude.{◌≡◌, ℕ, List, Option, None}
 use Rattle.network_file.specs.Reading.{network_of}
 use Rattle.delay_report.specs.Report.{report_of}
 use Rattle.call_ending.specs.Refusing.{Why}
-use Rattle.workerless_call.specs.NetworkInput.{IsNetworkWith, why_of_network}
-use Rattle.workerless_call.specs.Task.{Task}
+use Rattle.call_beginning.specs.NetworkInput.{IsNetworkWith, why_of_network}
+use Rattle.call_beginning.specs.Task.{Task}
 
 abbrev pub recut_refused : Task → Option Why
 recut_refused task = why_of_network (network_of task.input) (λ net. None)

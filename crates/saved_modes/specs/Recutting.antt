@@ -6,7 +6,7 @@ use Rattle.network_file.specs.Network.{Network}
 use Rattle.region_cut.specs.Cuttings.{even_cutting}
 use Rattle.region_step.specs.Setup.{setup_of}
 use Rattle.region_step.specs.Start.{StartLists}
-use Rattle.saved_run.specs.EvenStart.{HaveComeTo, IsTrueBelow}
+use Rattle.even_start.specs.EvenStart.{HaveComeTo, IsTrueBelow}
 use Rattle.saved_modes.specs.declared.recutting.Part.{Part}
 
 -- the cutting of part i of a run, from 1 on: the even one in one region more for each part, at most as many as there are

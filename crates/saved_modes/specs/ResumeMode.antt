@@ -13,8 +13,8 @@ use Rattle.delay_report.specs.FromStart.{report_from}
 use Rattle.delay_report.specs.Report.{report_of}
 use Rattle.call_ending.specs.Refusing.{Why}
 use Rattle.call_ending.specs.declared.status.Status.TheVariants as status
-use Rattle.workerless_call.specs.NetworkInput.{network_refused, why_of_network}
-use Rattle.workerless_call.specs.Task.{Task}
+use Rattle.call_beginning.specs.NetworkInput.{network_refused, why_of_network}
+use Rattle.call_beginning.specs.Task.{Task}
 
 abbrev pub saved_refused : (line : List ℕ) → Why
 saved_refused line = record { status = status.Saved; line = line }

@@ -3,8 +3,8 @@ use Rattle.std.specs.Prelude.{◌≡◌, ◌≤◌, ◌↔◌, ℕ, List, None, 
 use Rattle.command_words.specs.declared.mode.Mode.TheVariants.{Resume}
 use Rattle.command_words.specs.declared.request.Request.{Request}
 use Rattle.saved_modes.specs.ResumeMode.{IsResumeText, resume_refused}
-use Rattle.workerless_call.specs.Input.{most_input}
-use Rattle.workerless_call.specs.Task.{task_of}
+use Rattle.call_beginning.specs.Input.{most_input}
+use Rattle.call_beginning.specs.Task.{task_of}
 
 -- whatever else `resume` is asked with, it reads the saved text whole, nothing stands against it, and the report is the one
 -- text that answers

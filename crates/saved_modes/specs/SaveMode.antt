@@ -15,9 +15,9 @@ use Rattle.saved_run.specs.declared.row_line.RowLine.{RowLine}
 use Rattle.network_run.specs.Near.{near_end}
 use Rattle.delay_report.specs.Report.{report_of}
 use Rattle.call_ending.specs.Refusing.{Why}
-use Rattle.workerless_call.specs.NetworkInput.{IsNetworkWith, why_of_network}
-use Rattle.workerless_call.specs.Task.{Task}
-use Rattle.workerless_call.specs.UsedCutting.{IsCuttingOf}
+use Rattle.call_beginning.specs.NetworkInput.{IsNetworkWith, why_of_network}
+use Rattle.call_beginning.specs.Task.{Task}
+use Rattle.call_beginning.specs.UsedCutting.{IsCuttingOf}
 use Rattle.saved_modes.specs.ResumedAs.{IsResumedAs}
 
 abbrev pub save_refused : Task → Option Why

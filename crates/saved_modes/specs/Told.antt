@@ -9,8 +9,8 @@ use Rattle.snapshot.specs.Shots.{goal_of}
 use Rattle.saved_run.specs.Content.{Content}
 use Rattle.saved_run.specs.Loading.{IsCutSo, start_in}
 use Rattle.network_run.specs.Telling.{HasTold, Telling, zero_run}
-use Rattle.workerless_call.specs.UsedCutting.{IsCuttingOf}
-use Rattle.workerless_call.specs.UsedRegions.{regions_wanted}
+use Rattle.call_beginning.specs.UsedCutting.{IsCuttingOf}
+use Rattle.call_beginning.specs.UsedRegions.{regions_wanted}
 use Rattle.saved_modes.specs.Recutting.{part_cuttings}
 
 -- each step of the network in the cutting that the request asks for, before the one near which the run is saved

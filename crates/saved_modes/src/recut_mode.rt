@@ -7,10 +7,11 @@ ghost use Rattle.call_ending.specs.Refusing.{IsRefusalOf};
 ghost use Rattle.saved_modes.specs.RecutMode.{IsRecutText, recut_refused};
 ghost use Rattle.saved_modes.specs.Recutting.{part_cutting, part_cuttings};
 ghost use Rattle.saved_modes.specs.Told.{HasToldRecut};
-ghost use Rattle.workerless_call.specs.NetworkInput.{IsNetworkWith};
-ghost use Rattle.workerless_call.specs.Task.{task_of};
+ghost use Rattle.call_beginning.specs.NetworkInput.{IsNetworkWith};
+ghost use Rattle.call_beginning.specs.Task.{task_of};
 
 use crate::recutting::recut_report;
+use call_beginning::{network_in, regions_wanted};
 use call_ending::Refusal;
 use command_words::Request;
 use network_file::{MOST_REGIONS, Net};
@@ -19,7 +20,6 @@ use region_cut::Cut;
 use region_slots::Observer;
 use std::alloc::Global;
 use std::thread::Threads;
-use workerless_call::{network_in, regions_wanted};
 
 /// The report of a network that workers take through its steps in parts, each in another cutting.
 pub fn recut_text<R: Threads + Sync, W: Observer>(

@@ -11,13 +11,13 @@ ghost use Rattle.saved_modes.specs.Recutting.{IsLastPart, IsPart, step_of};
 ghost use Rattle.saved_modes.specs.Told.{HasToldPart, HasToldParts};
 
 use delay_report::report_from;
+use even_start::even_start;
 use network_file::Net;
 use network_run::regions_from;
 use no_memory::NoMemory;
 use region_cut::{Cut, Layout};
 use region_slots::Observer;
 use region_step::{Region, Setup, Start};
-use saved_run::even_start;
 use std::alloc::Global;
 use std::thread::Threads;
 

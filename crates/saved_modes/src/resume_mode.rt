@@ -11,8 +11,9 @@ ghost use Rattle.call_ending.specs.Refusing.{IsRefusalOf};
 ghost use Rattle.saved_modes.specs.ResumeMode.{IsResumeText, resume_refused, saved_refused, why_of_fault};
 ghost use Rattle.network_run.specs.Telling.{HasTold};
 ghost use Rattle.saved_modes.specs.Told.{HasToldResume};
-ghost use Rattle.workerless_call.specs.Task.{task_of};
+ghost use Rattle.call_beginning.specs.Task.{task_of};
 
+use call_beginning::refused;
 use call_ending::{Cause, Line, Refusal};
 use command_words::Request;
 use delay_report::report_from;
@@ -25,7 +26,6 @@ use region_step::{Region, Setup, Start};
 use saved_run::{LoadFault, LoadRefusal, Saved, load};
 use std::alloc::Global;
 use std::thread::Threads;
-use workerless_call::refused;
 
 /// The report of a saved run that workers take on to the last step.
 pub fn resume_text<R: Threads + Sync, W: Observer>(

@@ -5,9 +5,10 @@ ghost use Rattle.network_file.specs.declared.limits.TheConstants.{MOST_BYTES};
 ghost use Rattle.call_ending.specs.Refusing.{IsRefusalOf};
 ghost use Rattle.saved_modes.specs.SaveMode.{IsSaveText, IsSavedRun, save_refused};
 ghost use Rattle.saved_modes.specs.Told.{HasToldSave};
-ghost use Rattle.workerless_call.specs.NetworkInput.{IsNetworkWith};
-ghost use Rattle.workerless_call.specs.Task.{task_of};
+ghost use Rattle.call_beginning.specs.NetworkInput.{IsNetworkWith};
+ghost use Rattle.call_beginning.specs.Task.{task_of};
 
+use call_beginning::{layout_asked, network_in};
 use call_ending::Refusal;
 use command_words::Request;
 use network_file::Net;
@@ -17,7 +18,6 @@ use region_slots::Observer;
 use saved_run::save;
 use std::alloc::Global;
 use std::thread::Threads;
-use workerless_call::{layout_asked, network_in};
 
 /// The saved text of a network whose regions workers take near a step.
 pub fn save_text<R: Threads + Sync, W: Observer>(

@@ -10,4 +10,3 @@ pub mod Starts
 pub mod Futures
 pub mod Deciding
 pub mod Starting
-pub mod EvenStarts

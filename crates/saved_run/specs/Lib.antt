@@ -10,4 +10,3 @@ pub mod Charting
 pub mod Loading
 pub mod Laws
 pub mod Futures
-pub mod EvenStart

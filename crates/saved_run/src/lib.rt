@@ -1,7 +1,9 @@
 //! A saved run: its regions at steps of their own, written as text with the network's file and read again.
 //!
-//! `save` writes the text and `load` reads it. `even_start` opens a run again in another cutting of the network, from
-//! regions that all stand at one step.
+//! - `saving` has [`save`], which writes the text line by line (`saved_lines`).
+//! - `loading` has [`load`], which reads it, or tells its first fault. `reading` takes the text apart: `head` has its lines,
+//!   `lines` the fields of one, and `number` what a field spells.
+//! - `layout_in` cuts the network as the row lines say, and `start_in` has where its regions start.
 #![tactic(auto)]
 
 mod fault;
@@ -11,7 +13,6 @@ mod lines;
 mod loading;
 mod number;
 mod reading;
-mod reopening;
 mod row_line;
 mod saved;
 mod saved_head;
@@ -21,7 +22,6 @@ mod start_in;
 
 pub use fault::{LoadFault, LoadRefusal};
 pub use loading::load;
-pub use reopening::even_start;
 pub use row_line::RowLine;
 pub use saved::Saved;
 pub use saving::save;

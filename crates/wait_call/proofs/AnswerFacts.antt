@@ -6,10 +6,10 @@ use Rattle.network_file.specs.declared.fault.NetFault.{NetFault}
 use Rattle.call_ending.specs.Refusing.{IsRefusalOf, Why}
 use Rattle.call_ending.specs.declared.refusal.Refusal.{Refusal}
 use Rattle.call_ending.specs.declared.refusal.Refusal.TheVariants as refusal
-use Rattle.workerless_call.specs.Input.{large_input}
-use Rattle.workerless_call.specs.NetworkInput.{why_of_network}
-use Rattle.workerless_call.specs.Words.{words_refused}
-use Rattle.workerless_call.proofs.Inputs.{allowed, some_input}
+use Rattle.call_beginning.specs.Input.{large_input}
+use Rattle.call_beginning.specs.NetworkInput.{why_of_network}
+use Rattle.call_beginning.specs.Words.{words_refused}
+use Rattle.call_beginning.proofs.Inputs.{allowed, some_input}
 use Rattle.network_run.specs.Telling.{Telling}
 use Rattle.wait_call.specs.Answer.{answer_by, answer_of, answer_of_file, answer_to, most_input, why_in}
 use Rattle.wait_call.specs.Telling.{IsAnswered}

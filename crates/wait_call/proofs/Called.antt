@@ -10,7 +10,7 @@ use Rattle.call_ending.specs.declared.refusal.Refusal.{Refusal}
 use Rattle.call_ending.specs.declared.status.Status.{Status}
 use Rattle.call_ending.specs.declared.status.Status.TheVariants as status
 use Rattle.call_ending.proofs.Ended.{ended-unwritten, ended-written}
-use Rattle.workerless_call.specs.Input.{large_input}
+use Rattle.call_beginning.specs.Input.{large_input}
 use Rattle.network_run.specs.Telling.{Telling}
 use Rattle.wait_call.specs.Answer.{answer_by, answer_of, answer_of_file, most_input, why_in}
 use Rattle.wait_call.specs.Telling.{IsAnswered}

@@ -6,9 +6,9 @@ use Rattle.network_file.specs.Reading.{network_of}
 use Rattle.network_file.specs.declared.fault.NetFault.{NetFault}
 use Rattle.delay_report.specs.Report.{report_of}
 use Rattle.call_ending.specs.Refusing.{Why}
-use Rattle.workerless_call.specs.Input.{large_input}
-use Rattle.workerless_call.specs.NetworkInput.{network_refused}
-use Rattle.workerless_call.specs.Words.{words_refused}
+use Rattle.call_beginning.specs.Input.{large_input}
+use Rattle.call_beginning.specs.NetworkInput.{network_refused}
+use Rattle.call_beginning.specs.Words.{words_refused}
 use Rattle.wait_call.specs.Words.{workers_asked}
 
 -- the network whose report is the text on out, or why there is none

@@ -5,6 +5,7 @@ ghost use Rattle.wait_call.specs.Answer.{answer_to, most_input, why_in};
 ghost use Rattle.wait_call.specs.Telling.{HasToldRun, IsAnswered};
 
 use crate::waiting_run::last_regions;
+use call_beginning::network_in;
 use call_ending::Refusal;
 use delay_report::run_report;
 use network_file::Net;
@@ -14,7 +15,6 @@ use region_slots::Observer;
 use std::alloc::Global;
 use std::sync::Wait;
 use std::thread::Threads;
-use workerless_call::network_in;
 
 /// In how many regions a network is run whose file gives none, where it has as many cells.
 const REGIONS: u32 = 64;

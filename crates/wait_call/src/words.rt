@@ -1,7 +1,7 @@
 ghost use Rattle.std.specs.Prelude.{◌≡◌, ◌≤◌, IfErr, IfOk, IfSome, None, Some};
 ghost use Rattle.call_ending.specs.Refusing.{IsRefusalOf, status_of};
 ghost use Rattle.call_ending.specs.declared.status.Status.TheVariants as status;
-ghost use Rattle.workerless_call.specs.Words.{words_refused};
+ghost use Rattle.call_beginning.specs.Words.{words_refused};
 ghost use Rattle.wait_call.specs.Words.{workers_asked};
 
 use call_ending::{Cause, Line, Refusal};

@@ -1,4 +1,4 @@
-use Rattle.workerless_call.specs.Recording.{why_unrecorded}
+use Rattle.call_beginning.specs.Recording.{why_unrecorded}
 use Rattle.run_modes.proofs.run_mode.run_text.Goals as goal
 
 pub returns-in-Err-clause-refusal : goal.returns-in-Err-clause-refusal

@@ -1,4 +1,4 @@
-use Rattle.workerless_call.specs.Recording.{why_unrecorded}
+use Rattle.call_beginning.specs.Recording.{why_unrecorded}
 use Rattle.run_modes.specs.WatchMode.{first_why, why_unshown}
 use Rattle.run_modes.proofs.watch_mode.watch_text.Goals as goal
 

@@ -1,5 +1,5 @@
 use Rattle.std.proofs.Common.{refl}
-use Rattle.workerless_call.proofs.Inputs.{long_input, some_input}
+use Rattle.call_beginning.proofs.Inputs.{long_input, some_input}
 use Rattle.wait_call.specs.Answer.{most_input}
 use Rattle.wait_call.proofs.AnswerFacts.{answer_to-too_large}
 use Rattle.wait_call.proofs.input.input_of.Goals as goal

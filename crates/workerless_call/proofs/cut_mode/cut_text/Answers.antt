@@ -1,5 +1,0 @@
-use Rattle.std.proofs.Common.{None}
-use Rattle.workerless_call.proofs.cut_mode.cut_text.Goals as goal
-
-pub returns-in-Err-clause-refusal : goal.returns-in-Err-clause-refusal
-returns-in-Err-clause-refusal c = c.in-Err.ensures.refusal (λ net. None)

@@ -1,0 +1,42 @@
+-- A grown cutting of a network: why there is none, and its text.
+use Rattle.std.specs.Prelude.{◌≡◌, ℕ, ◌≤◌, ◌++◌, List, Option, None, codes, length}
+use Rattle.network_file.specs.Cells.{name_at}
+use Rattle.network_file.specs.Network.{Network}
+use Rattle.network_file.specs.Reading.{network_of}
+use Rattle.line_fields.specs.Fields.{count_field, lines_of}
+use Rattle.region_cut.specs.Cuttings.{even_cutting, region_at}
+use Rattle.cut_grow.specs.CutConnectors.{cuts}
+use Rattle.cut_grow.specs.Grown.{IsGrown}
+use Rattle.call_ending.specs.Refusing.{Why}
+use Rattle.call_beginning.specs.NetworkInput.{IsNetworkWith, why_of_network}
+use Rattle.call_beginning.specs.Task.{Task}
+use Rattle.call_beginning.specs.UsedCutting.{regions_asked}
+
+abbrev pub cut_refused : Task → Option Why
+cut_refused task = why_of_network (network_of task.input) (λ net. None)
+
+-- `cut,k,E,G`: into how many regions, and how many connectors the even and the grown cutting cut
+unfoldable pub cut_line : (k even grown : ℕ) → List ℕ
+cut_line k even grown = codes "cut" ++ count_field k ++ count_field even ++ count_field grown ++ codes "\n"
+
+-- `cell,name,region`
+unfoldable pub cell_region_line : (name : List ℕ) → (region : ℕ) → List ℕ
+cell_region_line name region = codes "cell," ++ name ++ count_field region ++ codes "\n"
+
+-- the text of a cutting into k regions, which a list has for each cell
+unfoldable pub cutting_text : Network → (k : ℕ) → (list : List ℕ) → List ℕ
+cutting_text net k list =
+    cut_line k (cuts (even_cutting (length net.cells) k) net) (cuts list net)
+    ++ lines_of (λ i. cell_region_line (name_at net.cells i) (region_at list i)) (length net.cells)
+
+-- the text of a grown cutting
+pub record ShowsGrown (net : Network) (k : ℕ) (text : List ℕ) : Type 0 where
+  pub list : List ℕ
+  pub grown : IsGrown net k list
+  -- it cuts no more than the even one
+  pub no_more : cuts list net ≤ cuts (even_cutting (length net.cells) k) net
+  pub text_is : text ≡ cutting_text net k list
+
+-- the regions of the file aren't looked at
+abbrev pub IsCutText : Task → List ℕ → Type 0
+IsCutText task text = IsNetworkWith (network_of task.input) (λ net. ShowsGrown net (regions_asked net task.request) text)

@@ -1,0 +1,4 @@
+pub mod CheckMode
+pub mod ChooseMode
+pub mod ConvertMode
+pub mod CutMode
