@@ -21,7 +21,7 @@ fn is_exit(net: &Net, i: u32) -> bool
 {
     let cell = &net.cells[i as usize];
     match cell.kind {
-        Kind::Road => false,
+        Kind::Road { .. } => false,
         Kind::Gate => false,
         Kind::Exit => true,
     }
