@@ -51,8 +51,8 @@ pub record AreSpeedsAsBefore (old new : List FollowedSpeed) : Type 0 where
   pub each : (k : ℕ) (d : FollowedSpeed) → k < length old → IsSpeedAsBefore (slice_index_or old k d) (slice_index_or new k d)
 
 -- from step t until another each of these places has its speed
-abbrev pub AreInForce : (speed : ℕ → ℕ → ℕ × ℕ) → (courses : List FollowedSpeed) → (speeds : List (ℕ × ℕ)) → (t until : ℕ) → Type 0
-AreInForce speed courses speeds t until =
+abbrev pub AreSpeedsNow : (speed : ℕ → ℕ → ℕ × ℕ) → (courses : List FollowedSpeed) → (speeds : List (ℕ × ℕ)) → (t until : ℕ) → Type 0
+AreSpeedsNow speed courses speeds t until =
     (p : ℕ) → is_listed courses p ≡ true → (s : ℕ) → t ≤ s → s < until → speed_of speeds p ≡ speed p s
 
 -- the speed in the p-th of these cells in step t
@@ -76,5 +76,5 @@ pub record AreSpeedsOf (net : Network) (cells : List ℕ) (courses : List Follow
   pub values : All (λ one. (s : ℕ) → value_at one.course s ≡ cell_speed net cells one.place s) courses
   pub slow : All (λ one. is_slow net cells one.place ≡ true) courses
   pub whole : (p : ℕ) → p < length cells → is_slow net cells p ≡ true → is_listed courses p ≡ true
-  pub in_force : AreInForce (cell_speed net cells) courses speeds t until
+  pub in_force : AreSpeedsNow (cell_speed net cells) courses speeds t until
   pub others : (p : ℕ) → is_listed courses p ≡ false → speed_of speeds p ≡ (1, 1)

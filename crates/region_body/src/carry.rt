@@ -5,8 +5,8 @@ ghost use Rattle.region_body.specs.Carrying.{CanCarry, CanTiePass, CanTiesPass, 
 use crate::held::Held;
 use crate::passing::{bring, take};
 use crate::place::Place;
-use connector_flow::Rule;
 use crate::tie::Tie;
+use connector_flow::Rule;
 
 /// What all these connectors take from places and bring to them in step `t`, by what their cells held as it began.
 #[inline(never)]

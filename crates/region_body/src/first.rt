@@ -3,9 +3,9 @@ ghost use Rattle.flow_model.specs.Bounds.{IsRowInBounds, first_at};
 ghost use Rattle.network_file.specs.Cells.{is_exit_at};
 ghost use Rattle.region_body.specs.First.{IsFirst, IsOriginOf};
 
-use connector_flow::space_of;
 use crate::origin::Origin;
 use crate::place::Place;
+use connector_flow::space_of;
 use flow_model::Row;
 use network_file::{Kind, Net};
 

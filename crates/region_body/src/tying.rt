@@ -6,9 +6,9 @@ ghost use Rattle.region_body.specs.Carrying.{IsSpotOf, IsTie, AreSpotsOf};
 ghost use Rattle.region_body.specs.Joining.{AreKnown, IsKnown};
 
 use crate::cells::Cells;
-use connector_flow::ConnectorCourse;
 use crate::own_place::own_place;
 use crate::tie::Tie;
+use connector_flow::ConnectorCourse;
 use network_file::Net;
 use no_memory::NoMemory;
 use region_cut::{place, three_cells};
