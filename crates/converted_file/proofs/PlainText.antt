@@ -11,7 +11,7 @@ use Rattle.fixed_flow.specs.Spelling.{amount_of, is_amount, is_digits, is_point,
 use Rattle.record_fields.specs.CellName.{allowed_in_name, is_name}
 use Rattle.network_file.specs.Cells.{cell_named}
 use Rattle.network_file.specs.declared.cell.Cell.{Cell}
-use Rattle.network_file.specs.declared.cell.Kind.TheVariants.{Road}
+use Rattle.network_file.specs.declared.cell.Kind.TheVariants.{Gate}
 
 -- such a text, with at least one byte
 pub record IsPlain (text : List ℕ) : Type 0 where
@@ -95,7 +95,7 @@ amount_of-plain text n spelled = elim (cases_Bool (is_amount text)) [
 ]
 
 no_cell : Cell
-no_cell = record { name = []; kind = Road; room = 0; num = 1; den = 1; first = 0 }
+no_cell = record { name = []; kind = Gate; first = 0 }
 
 -- the name of a cell is plain, where the names of all cells are
 pub cell_named-plain : (cells : List Cell) (text : List ℕ) (i : ℕ) → All (λ cell. IsPlain cell.name) cells → cell_named cells text ≡ Some i → IsPlain text

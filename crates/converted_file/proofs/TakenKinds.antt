@@ -7,7 +7,7 @@ use Rattle.signal_plan.specs.Limits.{most_steps}
 use Rattle.network_file.specs.Draft.{Draft}
 use Rattle.record_fields.specs.Fields.{field, whole_within, range_within, ratio, weights, amount_within}
 use Rattle.network_file.specs.CellFields.{new_name, known_cell, upstream, downstream, signal_cell, demand_gate, turn_cell, speed_road, region_cell}
-use Rattle.network_file.specs.Taking.{take_demand, take_diverge, take_exit, take_gate, take_limit, take_link, take_merge, take_region, take_road, take_signal, take_speed, take_steps, take_turn, without_room}
+use Rattle.network_file.specs.Taking.{take_demand, take_diverge, take_exit, take_gate, take_limit, take_link, take_merge, take_region, take_road, take_signal, take_speed, take_steps, take_turn}
 use Rattle.network_file.specs.Limits.{most_capacity, most_regions, most_room}
 use Rattle.network_file.specs.declared.cell.Cell.{Cell}
 use Rattle.network_file.specs.declared.cell.Kind.TheVariants as kind
@@ -94,7 +94,7 @@ take_road-alike other draft more fields names taken =
             (bind-as (ratio most_ratio (field fields 4) (field fields 5)) _ pair _ is_pair
             (bind-as (amount_within room (field fields 6)) _ first _ is_first
             (same_in_format other _ more taken5)))))),
-        names_kept draft.format _ more refl taken5 (All-push (λ (cell : Cell). IsPlain cell.name) draft.cells (record { name = name; kind = kind.Road; room = room; num = pair.0; den = pair.1; first = first }) names (subst IsPlain same plain)),
+        names_kept draft.format _ more refl taken5 (All-push (λ (cell : Cell). IsPlain cell.name) draft.cells (record { name = name; kind = kind.Road room pair.0 pair.1; first = first }) names (subst IsPlain same plain)),
       ),
     )
 
@@ -117,7 +117,7 @@ take_gate-alike other draft more fields names taken =
             (bind-as (amount_within most_capacity (field fields 2)) _ capacity _ is_capacity
             (bind-as (amount_within most_parts (field fields 3)) _ first _ is_first
             (same_in_format other _ more taken3)))),
-        names_kept draft.format _ more refl taken3 (All-push (λ (cell : Cell). IsPlain cell.name) draft.cells (without_room name kind.Gate first) names (subst IsPlain same plain)),
+        names_kept draft.format _ more refl taken3 (All-push (λ (cell : Cell). IsPlain cell.name) draft.cells (record { name = name; kind = kind.Gate; first = first }) names (subst IsPlain same plain)),
       ),
     )
 
@@ -135,7 +135,7 @@ take_exit-alike other draft more fields names taken =
         (bind-as (new_name draft.cells (field fields 1)) _ name _ is_name
             (bind-as (amount_within most_capacity (field fields 2)) _ capacity _ is_capacity
             (same_in_format other _ more taken2))),
-        names_kept draft.format _ more refl taken2 (All-push (λ (cell : Cell). IsPlain cell.name) draft.cells (without_room name kind.Exit 0) names (subst IsPlain same plain)),
+        names_kept draft.format _ more refl taken2 (All-push (λ (cell : Cell). IsPlain cell.name) draft.cells (record { name = name; kind = kind.Exit; first = 0 }) names (subst IsPlain same plain)),
       ),
     )
 

@@ -9,7 +9,7 @@ use Rattle.network_file.specs.Network.{IsNetwork, IsSoundCell, Network}
 use Rattle.flow_model.specs.Bounds.{IsRowInBounds, first_at}
 use Rattle.flow_model.specs.State.{occupancy, row_at}
 use Rattle.flow_model.specs.declared.row.Row.{Row}
-use Rattle.flow_model.proofs.CellKinds.{All-at, cell_at, exit_at-no_gate}
+use Rattle.flow_model.proofs.CellKinds.{All-at, cell_at, exit_at-no_gate, first-none}
 use Rattle.flow_model.proofs.States.{state_at-in_bounds}
 use Rattle.flow_ledger.specs.Flight.{come_of, gone_of}
 use Rattle.flow_ledger.specs.UnevenSteps.{StandAt}
@@ -27,7 +27,7 @@ first-exit net i sound has exit =
     let here = cell_at net.cells i has in
     let cell_sound = All-at IsSoundCell net.cells i here.0 here.1 sound.sound.sound_cells in
     let is_exit_here = rw here.1 at exit in
-    rw here.1 (cell_sound.exit is_exit_here)
+    rw here.1 (first-none here.0.kind here.0.first cell_sound.kind is_exit_here)
 
 -- what came into a cell by connectors, since demand comes to gates alone
 abbrev pub brought : Network → List Row → (i : ℕ) → ℕ

@@ -53,7 +53,7 @@ fn added_by(net: &Net, rows: &[Row], cell: usize) -> (u64, u64, u64)
     ensures left { result.2 ≡ (if is_exit_at net.now.cells cell then occupancy rows.now cell else 0) }
 {
     match net.cells[cell].kind {
-        Kind::Road => (rows[cell].n, 0, 0),
+        Kind::Road { .. } => (rows[cell].n, 0, 0),
         Kind::Gate => (rows[cell].n, rows[cell].come, 0),
         Kind::Exit => (0, 0, rows[cell].n),
     }

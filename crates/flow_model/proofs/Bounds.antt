@@ -6,14 +6,16 @@ use Rattle.signal_plan.specs.Demand.{demand_at}
 use Rattle.signal_plan.specs.Limits.{most_steps}
 use Rattle.signal_plan.proofs.Laws.{demand_from_more}
 use Rattle.network_file.specs.Cells.{is_gate_at, is_exit_at, is_road_at}
-use Rattle.network_file.specs.Network.{Network, IsNetwork, IsSoundCell}
+use Rattle.network_file.specs.Network.{Network, IsNetwork, IsSoundCell, IsSoundKind}
 use Rattle.network_file.specs.Limits.{most_capacity, most_room}
+use Rattle.network_file.specs.declared.cell.Kind.{Kind}
+use Rattle.network_file.specs.declared.cell.Kind.TheVariants.{Road, Gate, Exit}
 use Rattle.flow_model.specs.Flows.{inflow, outflow}
 use Rattle.flow_model.specs.Rows.{moved_row}
 use Rattle.flow_model.specs.Bounds.{room_parts_at, IsHeldInBounds, IsRowInBounds}
 use Rattle.flow_model.specs.declared.row.Row.{Row}
 use Rattle.flow_model.proofs.CellKinds.{cell_at, All-at, kinds_at, road_at-alone, exit_at-no_gate}
-use Rattle.flow_model.proofs.CellLimits.{sending_at-le-held, sending_at-le-capacity, receiving_at-le-capacity, capacity_at-le, add-receiving_at-le-most}
+use Rattle.flow_model.proofs.CellLimits.{most_of, sending_at-le-held, sending_at-le-capacity, receiving_at-le-capacity, capacity_at-le, add-receiving_at-le-most}
 use Rattle.flow_model.proofs.Flows.{outflow-le, inflow-le, outflow-exit}
 
 -- what a step may bring to a cell that holds n, and what it may take
@@ -44,10 +46,15 @@ changes net t i n enters leaves sound has demand brings takes =
     }
 
 -- the room of a cell is within its limit
+most_of-le : (kind : Kind) (first : ℕ) → IsSoundKind kind first → most_of kind ≤ most_room
+most_of-le (Road room num den) first sound = sound.limit
+most_of-le Gate first sound = omega arith
+most_of-le Exit first sound = omega arith
+
 room_parts_at-le : (net : Network) (i : ℕ) → IsNetwork net → i < length net.cells → room_parts_at net.cells i ≤ most_room
 room_parts_at-le net i sound has =
     let here = cell_at net.cells i has in
-    rw here.1 ((All-at IsSoundCell net.cells i here.0 here.1 sound.sound.sound_cells).room)
+    rw here.1 (most_of-le here.0.kind here.0.first (All-at IsSoundCell net.cells i here.0 here.1 sound.sound.sound_cells).kind)
 
 -- what a cell that is no exit holds
 pub held-le : (net : Network) (t i n : ℕ) → IsNetwork net → i < length net.cells → is_exit_at net.cells i ≡ false →

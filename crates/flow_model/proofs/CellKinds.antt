@@ -4,6 +4,7 @@ use Rattle.std.specs.Option.{option_map_or}
 use Rattle.std.proofs.Common.{◌≡◌, ℕ, ◌<◌, ◌⊎◌, inl, inr, true, false, List, length, arith, refl, subst}
 use Rattle.std.proofs.lemmas.Option.{slice_get_cases, slice_get_within, get_or_from_slice_get}
 use Rattle.network_file.specs.Cells.{is_road, is_gate, is_exit, is_gate_at, is_exit_at, is_road_at}
+use Rattle.network_file.specs.Network.{IsSoundKind}
 use Rattle.network_file.specs.declared.cell.Cell.{Cell}
 use Rattle.network_file.specs.declared.cell.Kind.{Kind}
 use Rattle.network_file.specs.declared.cell.Kind.TheVariants.{Road, Gate, Exit}
@@ -19,7 +20,7 @@ All-at P xs i x found all =
     subst P (get_or_from_slice_get xs i x x found) (all i x (slice_get_within xs i x found))
 
 kinds : (k : Kind) → (is_road k ≡ true) ⊎ ((is_gate k ≡ true) ⊎ (is_exit k ≡ true))
-kinds Road = inl refl
+kinds (Road room num den) = inl refl
 kinds Gate = inr (inl refl)
 kinds Exit = inr (inr refl)
 
@@ -35,7 +36,7 @@ road_alone None road = (refl, refl)
 road_alone (Some cell) road = alone cell.kind road
   where
     alone : (k : Kind) → is_road k ≡ true → (is_gate k ≡ false) × (is_exit k ≡ false)
-    alone Road road = (refl, refl)
+    alone (Road room num den) road = (refl, refl)
     alone Gate road = cc
     alone Exit road = cc
 
@@ -49,12 +50,18 @@ exit_alone None exit = refl
 exit_alone (Some cell) exit = alone cell.kind exit
   where
     alone : (k : Kind) → is_exit k ≡ true → is_gate k ≡ false
-    alone Road exit = refl
+    alone (Road room num den) exit = refl
     alone Gate exit = cc
     alone Exit exit = refl
 
 pub exit_at-no_gate : (cells : List Cell) (i : ℕ) → is_exit_at cells i ≡ true → is_gate_at cells i ≡ false
 exit_at-no_gate cells i exit = exit_alone (slice_get cells i) exit
+
+-- an exit starts empty
+pub first-none : (kind : Kind) (first : ℕ) → IsSoundKind kind first → is_exit kind ≡ true → first ≡ 0
+first-none (Road room num den) first sound exit = cc
+first-none Gate first sound exit = cc
+first-none Exit first sound exit = sound
 
 -- a road is there
 there : (cells : List Cell) (i : ℕ) (o : Option Cell) → slice_get cells i ≡ o →

@@ -1,8 +1,8 @@
 -- What a cell can send and receive is within what it holds, its capacity and its room.
 use Rattle.std.proofs.Common.{All, ◌≡◌, ℕ, ◌+◌, ◌<◌, ◌≤◌, true, length, arith}
+use Rattle.std.specs.Option.{option_map_or}
 use Rattle.std.proofs.lemmas.List.Elements.{All-weaker}
 use Rattle.ordinary_link.specs.Receiving.{receiving_flow}
-use Rattle.ordinary_link.specs.Space.{IsRoomHolding}
 use Rattle.ordinary_link.proofs.Bounds.{sending_flow-le-held, sending_flow-le-capacity, receiving_flow-le-capacity, add-receiving_flow-le-most}
 use Rattle.signal_plan.specs.Capacity.{capacity_at}
 use Rattle.signal_plan.specs.Green.{green_at}
@@ -12,12 +12,11 @@ use Rattle.signal_plan.specs.Speeds.{IsSpeed, arriving, speed_at}
 use Rattle.signal_plan.specs.Limits.{most_steps}
 use Rattle.signal_plan.proofs.Laws as plan
 use Rattle.network_file.specs.Cells.{is_road, is_road_at}
-use Rattle.network_file.specs.Network.{Network, IsNetwork, IsPlannedCell, IsSoundCell}
+use Rattle.network_file.specs.Network.{Network, IsNetwork, IsPlannedCell, IsSoundCell, IsSoundKind}
 use Rattle.network_file.specs.Limits.{most_capacity}
-use Rattle.network_file.specs.declared.cell.Cell.{Cell}
 use Rattle.network_file.specs.declared.cell.Kind.{Kind}
 use Rattle.network_file.specs.declared.cell.Kind.TheVariants.{Road, Gate, Exit}
-use Rattle.flow_model.specs.Limits.{room_by, room_at, sending_at, receiving_at}
+use Rattle.flow_model.specs.Limits.{room_of, room_at, sending_at, receiving_at}
 use Rattle.flow_model.specs.Bounds.{room_parts_at}
 use Rattle.flow_model.proofs.CellKinds.{cell_at, All-at}
 
@@ -54,21 +53,23 @@ capacity_at-le net t i sound has =
     (All-weaker (λ (l : LimitRecord). (l.to ≤ most_steps) × (l.capacity ≤ most_capacity)) (λ l. l.capacity ≤ most_capacity) (λ l both. both.1)
     (records_at net.plan i).limits fits.limits)
 
--- a road's room is one that the flow rules can take
-pub road_room : (cell : Cell) (n : ℕ) → IsSoundCell cell → n ≤ cell.room →
-    IsRoomHolding n (record { most = cell.room; num = cell.num; den = cell.den })
-road_room cell n sound within =
-    record { within = within; positive = sound.positive; ratio = sound.ratio; small = sound.small }
+-- the most that a cell of this kind may hold, where it is a road
+abbrev pub most_of : Kind → ℕ
+most_of kind = option_map_or (λ room. room.most) (room_of kind) 0
 
-road_receives : (cell : Cell) (n q : ℕ) → IsSoundCell cell → is_road cell.kind ≡ true → n ≤ cell.room →
-    n + receiving_flow n q (room_by cell.kind cell) ≤ cell.room
-road_receives cell n q sound road within = of_kind cell.kind road
-  where
-    of_kind : (k : Kind) → is_road k ≡ true →
-        n + receiving_flow n q (room_by k cell) ≤ cell.room
-    of_kind Road road = add-receiving_flow-le-most n q _ (road_room cell n sound within)
-    of_kind Gate road = cc
-    of_kind Exit road = cc
+-- a road starts within its room
+pub first-within : (kind : Kind) (first : ℕ) → IsSoundKind kind first → is_road kind ≡ true → first ≤ most_of kind
+first-within (Road room num den) first sound road = sound.within
+first-within Gate first sound road = cc
+first-within Exit first sound road = cc
+
+-- a road receives no more than it has room for
+road_receives : (kind : Kind) (n q first : ℕ) → IsSoundKind kind first → is_road kind ≡ true → n ≤ most_of kind →
+    n + receiving_flow n q (room_of kind) ≤ most_of kind
+road_receives (Road room num den) n q first sound road within =
+    add-receiving_flow-le-most n q _ (record { within = within; positive = sound.positive; ratio = sound.ratio; small = sound.small })
+road_receives Gate n q first sound road within = cc
+road_receives Exit n q first sound road within = cc
 
 -- a road keeps within its room, whatever it receives
 pub add-receiving_at-le-most : (net : Network) (t i n : ℕ) → IsNetwork net → i < length net.cells →
@@ -79,4 +80,4 @@ add-receiving_at-le-most net t i n sound has road within =
     let cell_sound = All-at IsSoundCell net.cells i here.0 here.1 sound.sound.sound_cells in
     let is_road_here = rw here.1 at road in
     let within_here = rw here.1 at within in
-    rw here.1 (road_receives here.0 n (capacity_at net.plan i t) cell_sound is_road_here within_here)
+    rw here.1 (road_receives here.0.kind n (capacity_at net.plan i t) here.0.first cell_sound.kind is_road_here within_here)

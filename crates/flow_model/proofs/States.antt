@@ -17,9 +17,10 @@ use Rattle.flow_model.specs.Rows.{empty_row, first_row, next_row}
 use Rattle.flow_model.specs.State.{row_at, occupancy, next_rows, state_at}
 use Rattle.flow_model.specs.Bounds.{IsRowInBounds, AreInBounds, KeepsRooms}
 use Rattle.flow_model.specs.declared.row.Row.{Row}
-use Rattle.flow_model.proofs.CellKinds.{cell_at, All-at, road_at-there}
+use Rattle.flow_model.proofs.CellKinds.{cell_at, All-at, first-none, road_at-there}
 use Rattle.flow_model.proofs.FirstConnectors.{inflow-all, outflow-all}
 use Rattle.flow_model.proofs.Flows.{inflow-gate}
+use Rattle.flow_model.proofs.CellLimits.{first-within}
 use Rattle.flow_model.proofs.Bounds.{changes, moved_row-in_bounds}
 use Rattle.flow_model.proofs.Moves.{length-rows_moved, next_rows-moved, next_rows-with_connectors, row_at-rows_moved, rows_moved-from_each, rows_moved-same}
 
@@ -113,13 +114,13 @@ first_row-in_bounds net i cell sound found =
     let load = load-at net i cell sound has (get_or_from_slice_get net.cells i cell cell found) in
     record {
       held = record {
-        road = λ road. let is_road_here = rw found at road in rw found (cell_sound.road is_road_here);
+        road = λ road. let is_road_here = rw found at road in rw found (first-within cell.kind cell.first cell_sound.kind is_road_here);
         gate = λ gate. load;
-        exit = λ exit. let is_exit_here = rw found at exit in omega (arith, cell_sound.exit is_exit_here);
+        exit = λ exit. let is_exit_here = rw found at exit in omega (arith, first-none cell.kind cell.first cell_sound.kind is_exit_here);
       };
       road_come = λ road. omega arith;
       gate_come = λ gate. omega (arith, load);
-      exit_come = λ exit. let is_exit_here = rw found at exit in sym (cell_sound.exit is_exit_here);
+      exit_come = λ exit. let is_exit_here = rw found at exit in sym (first-none cell.kind cell.first cell_sound.kind is_exit_here);
       exit_gone = λ exit. refl;
       exit_wait = λ exit. refl;
       gone = omega arith;

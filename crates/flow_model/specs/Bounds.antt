@@ -7,12 +7,13 @@ use Rattle.network_file.specs.Network.{Network}
 use Rattle.network_file.specs.declared.cell.Cell.{Cell}
 use Rattle.fixed_flow.specs.Limits.{most_parts}
 use Rattle.network_file.specs.Limits.{most_capacity}
+use Rattle.flow_model.specs.Limits.{room_at}
 use Rattle.flow_model.specs.State.{row_at, occupancy}
 use Rattle.flow_model.specs.declared.row.Row.{Row}
 
 -- the room of the cell of this number, in parts
 abbrev pub room_parts_at : List Cell → ℕ → ℕ
-room_parts_at cells i = option_map_or (λ cell. cell.room) (slice_get cells i) 0
+room_parts_at cells i = option_map_or (λ room. room.most) (room_at cells i) 0
 
 -- what the cell of this number holds at step 0
 abbrev pub first_at : List Cell → ℕ → ℕ

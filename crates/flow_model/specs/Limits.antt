@@ -12,14 +12,14 @@ use Rattle.network_file.specs.declared.cell.Kind.{Kind}
 use Rattle.network_file.specs.declared.cell.Kind.TheVariants.{Road, Gate, Exit}
 
 -- the room of a cell of this kind: a road alone has one
-abbrev pub room_by : Kind → Cell → Option Room
-room_by Road cell = Some (record { most = cell.room; num = cell.num; den = cell.den })
-room_by Gate cell = None
-room_by Exit cell = None
+abbrev pub room_of : Kind → Option Room
+room_of (Road room num den) = Some (record { most = room; num = num; den = den })
+room_of Gate = None
+room_of Exit = None
 
 -- the room of the cell of this number
 abbrev pub room_at : List Cell → ℕ → Option Room
-room_at cells i = option_and_then (λ cell. room_by cell.kind cell) (slice_get cells i)
+room_at cells i = option_and_then (λ cell. room_of cell.kind) (slice_get cells i)
 
 -- S(i,t,n): what cell i can send at step t where it holds n parts: of those that reach its end at the speed of the step;
 -- nothing at red

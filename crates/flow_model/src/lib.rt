@@ -14,6 +14,6 @@ mod step;
 
 pub use carried::Flow;
 pub use connector_flow::flow;
-pub use limits::arriving;
+pub use limits::{arriving, room_of};
 pub use row::Row;
 pub use step::{first_rows, plain_step};

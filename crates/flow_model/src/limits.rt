@@ -1,21 +1,21 @@
 ghost use Rattle.std.specs.Prelude.{◌≡◌, ◌<◌, length};
 ghost use Rattle.signal_plan.specs.Speeds.{IsSpeed, arriving};
-ghost use Rattle.flow_model.specs.Limits.{room_by, sending_at, receiving_at};
+ghost use Rattle.flow_model.specs.Limits.{room_of, sending_at, receiving_at};
 ghost use Rattle.flow_model.specs.Bounds.{IsHeldInBounds};
 
 use fixed_flow::share_floor;
-use network_file::{Cell, Kind, Net};
+use network_file::{Kind, Net};
 use ordinary_link::{Room, receiving, sending};
 
-/// The room of a cell. A road alone has one.
-fn room(cell: &Cell) -> Option<Room>
-    ensures { result ≡ room_by cell.now.kind cell.now }
+/// The room of a cell of this kind. A road alone has one.
+pub fn room_of(kind: Kind) -> Option<Room>
+    ensures { result ≡ room_of kind }
 {
-    match cell.kind {
-        Kind::Road => Some(Room {
-            most: cell.room,
-            num: cell.num,
-            den: cell.den,
+    match kind {
+        Kind::Road { room, num, den } => Some(Room {
+            most: room,
+            num,
+            den,
         }),
         Kind::Gate | Kind::Exit => None,
     }
@@ -53,6 +53,6 @@ pub(crate) fn receiving_at(net: &Net, t: u64, cell: u32, n: u64) -> u64
     requires held { IsHeldInBounds net.now t cell n }
     ensures { result ≡ receiving_at net.now t cell n }
 {
-    let room = room(&net.cells[cell as usize]);
+    let room = room_of(net.cells[cell as usize].kind);
     receiving(n, net.plan.capacity(cell, t), room)
 }

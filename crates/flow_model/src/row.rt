@@ -32,7 +32,7 @@ impl Row {
             ..self
         };
         match kind {
-            Kind::Road => waiting,
+            Kind::Road { .. } => waiting,
             Kind::Gate => {
                 let demand = net.plan.demand(cell, t);
                 Row {

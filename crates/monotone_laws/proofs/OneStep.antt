@@ -1,23 +1,23 @@
 -- One step of a link in two networks of which the second is eased.
 use Rattle.std.specs.Prelude.{slice_get, Some}
-use Rattle.std.proofs.Common.{◌≡◌, ℕ, min, true, ◌+◌, ◌-◌, ◌<◌, ◌≤◌, length, arith, ap, refl, subst, sym, false}
+use Rattle.std.proofs.Common.{◌≡◌, ℕ, min, true, ◌+◌, ◌-◌, ◌<◌, ◌≤◌, length, arith, refl, subst, sym, false, ◌∙◌}
 use Rattle.ordinary_link.specs.Receiving.{receiving_flow}
 use Rattle.signal_plan.specs.Capacity.{capacity_at}
 use Rattle.signal_plan.specs.Green.{green_at}
 use Rattle.signal_plan.specs.Speeds.{arriving, speed_at}
 use Rattle.network_file.specs.Cells.{is_exit, is_exit_at, is_gate, is_gate_at, is_road, is_road_at}
 use Rattle.network_file.specs.Connectors.{connector_at}
-use Rattle.network_file.specs.Network.{IsNetwork, IsSoundCell, Network}
+use Rattle.network_file.specs.Network.{IsNetwork, IsSoundCell, IsSoundKind, Network}
 use Rattle.network_file.specs.declared.cell.Cell.{Cell}
 use Rattle.network_file.specs.declared.cell.Kind.{Kind}
 use Rattle.network_file.specs.declared.cell.Kind.TheVariants.{Road, Gate, Exit}
 use Rattle.network_file.specs.declared.connector.Connector.TheVariants.{Link}
 use Rattle.flow_model.specs.Bounds.{first_at, room_parts_at}
-use Rattle.flow_model.specs.Limits.{receiving_at, room_by, sending_at}
+use Rattle.flow_model.specs.Limits.{receiving_at, room_of, sending_at}
 use Rattle.flow_model.proofs.CellKinds.{All-at, cell_at, road_at-alone}
-use Rattle.flow_model.proofs.CellLimits.{speed_at-sound}
+use Rattle.flow_model.proofs.CellLimits.{most_of, speed_at-sound}
 use Rattle.flow_model.proofs.States.{state_at-in_bounds}
-use Rattle.monotone_laws.specs.Eased.{IsEased, IsRoomier}
+use Rattle.monotone_laws.specs.Eased.{IsEased, IsRoomier, IsRoomierKind}
 use Rattle.monotone_laws.specs.Links.{HasLinksAlone}
 use Rattle.monotone_laws.proofs.Linked.{IsLinked, linked-down, linked-up}
 use Rattle.monotone_laws.proofs.Curves.{carried, come, come-linked, gone, gone-linked, held, held-gone}
@@ -38,15 +38,23 @@ beside one two i eased has =
     let there = cell_at two.cells i (omega (arith, eased.one_each)) in
     (here.0, there.0, here.1, there.1, eased.cells i here.0 there.0 here.1 there.1)
 
+-- cells of which one is roomier are of one sort
+same_sort : (one two : Kind) → IsRoomierKind one two →
+    (is_exit two ≡ is_exit one) × (is_gate two ≡ is_gate one) × (is_road two ≡ is_road one) × (most_of one ≤ most_of two)
+same_sort (Road room num den) (Road room_too num_too den_too) roomier = (refl, refl, refl, roomier.0)
+same_sort Gate Gate roomier = (refl, refl, refl, omega arith)
+same_sort Exit Exit roomier = (refl, refl, refl, omega arith)
+same_sort one two roomier = absurd roomier
+
 pub same-exit : (one two : Network) (i : ℕ) → IsEased one two → i < length one.cells → is_exit_at two.cells i ≡ is_exit_at one.cells i
 same-exit one two i eased has =
     let both = beside one two i eased has in
-    rw (both.2, both.3) (ap is_exit both.4.kind)
+    rw (both.2, both.3) (same_sort both.0.kind both.1.kind both.4.kind).0
 
 pub same-gate : (one two : Network) (i : ℕ) → IsEased one two → i < length one.cells → is_gate_at two.cells i ≡ is_gate_at one.cells i
 same-gate one two i eased has =
     let both = beside one two i eased has in
-    rw (both.2, both.3) (ap is_gate both.4.kind)
+    rw (both.2, both.3) (same_sort both.0.kind both.1.kind both.4.kind).1
 
 pub same-first : (one two : Network) (i : ℕ) → IsEased one two → i < length one.cells → first_at two.cells i ≡ first_at one.cells i
 same-first one two i eased has =
@@ -83,17 +91,18 @@ sends one two t i r s u both before has stays gone_i come_i receives =
     (green_at one.plan i t) (green_at two.plan i t) gone_i (omega (arith, arrive)) (both.eased.capacity i t has before) (both.eased.green i t has before) receives
 
 -- what a cell of this kind receives
-receives_on : (kind : Kind) (a b : Cell) (g h m n q p u : ℕ) → IsSoundCell a → IsSoundCell b → IsRoomier a b → q ≤ p → g ≤ h + u →
-    (is_road kind ≡ true → a.room - m + g ≤ b.room - n + (h + u)) →
-    g + receiving_flow m q (room_by kind a) ≤ h + receiving_flow n p (room_by kind b) + u
-receives_on Road a b g h m n q p u sound sound_too roomier capacity gone_i space =
-    let some : 1 ≤ a.den = omega (arith, sound.positive, sound.ratio) in
-    let too : 1 ≤ b.den = omega (arith, sound_too.positive, sound_too.ratio) in
-    let more = space_on a.num a.den (a.room - m) (b.room - n) g (h + u) some sound.ratio (space refl) gone_i in
-    let wider = ratio_on a.num a.den b.num b.den (b.room - n) some too roomier.ratio in
+receives_on : (one two : Kind) (first second g h m n q p u : ℕ) → IsSoundKind one first → IsSoundKind two second → IsRoomierKind one two → q ≤ p →
+    g ≤ h + u → (is_road one ≡ true → most_of one - m + g ≤ most_of two - n + (h + u)) →
+    g + receiving_flow m q (room_of one) ≤ h + receiving_flow n p (room_of two) + u
+receives_on (Road room num den) (Road room_too num_too den_too) first second g h m n q p u sound sound_too roomier capacity gone_i space =
+    let some : 1 ≤ den = omega (arith, sound.positive, sound.ratio) in
+    let too : 1 ≤ den_too = omega (arith, sound_too.positive, sound_too.ratio) in
+    let more = space_on num den (room - m) (room_too - n) g (h + u) some sound.ratio (space refl) gone_i in
+    let wider = ratio_on num den num_too den_too (room_too - n) some too roomier.1 in
     omega (arith, more, wider)
-receives_on Gate a b g h m n q p u sound sound_too roomier capacity gone_i space = omega arith
-receives_on Exit a b g h m n q p u sound sound_too roomier capacity gone_i space = omega arith
+receives_on Gate Gate first second g h m n q p u sound sound_too roomier capacity gone_i space = omega arith
+receives_on Exit Exit first second g h m n q p u sound sound_too roomier capacity gone_i space = omega arith
+receives_on one two first second g h m n q p u sound sound_too roomier capacity gone_i space = absurd roomier
 
 -- the empty space of the road downstream, and what has come into it
 space : (one two : Network) (t i j u : ℕ) → AreEased one two → IsLinked one i j → t ≤ one.steps → is_road_at one.cells j ≡ true →
@@ -126,14 +135,15 @@ receives one two t i j u both linked before gone_i gone_j =
     let b : Cell = cells.1 in
     let sound : IsSoundCell a = All-at IsSoundCell one.cells j a cells.2 both.first.sound.sound_cells in
     let sound_too : IsSoundCell b = All-at IsSoundCell two.cells j b cells.3 both.second.sound.sound_cells in
-    let room : is_road a.kind ≡ true → a.room - held one t j + gone one t i ≤ b.room - held two t j + (gone two t i + u) = λ road.
+    let sort = same_sort a.kind b.kind cells.4.kind in
+    let room : is_road a.kind ≡ true → most_of a.kind - held one t j + gone one t i ≤ most_of b.kind - held two t j + (gone two t i + u) = λ road.
     let road_here : is_road_at one.cells j ≡ true = rw cells.2 road in
-    let road_there : is_road_at two.cells j ≡ true = rw cells.3 (rw cells.4.kind road) in
-    let more : room_parts_at one.cells j ≤ room_parts_at two.cells j = rw (cells.2, cells.3) (cells.4.room) in
+    let road_there : is_road_at two.cells j ≡ true = rw cells.3 (sort.2 ∙ road) in
+    let more : room_parts_at one.cells j ≤ room_parts_at two.cells j = rw (cells.2, cells.3) sort.3 in
     rw (cells.2, cells.3) at (space one two t i j u both linked (omega arith) road_here road_there more gone_j) in
-    rw (cells.2, cells.3, cells.4.kind) (
-    receives_on a.kind a b (gone one t i) (gone two t i) (held one t j) (held two t j) (capacity_at one.plan j t) (capacity_at two.plan j t) u
-    sound sound_too cells.4 (both.eased.capacity j t has before) gone_i room
+    rw (cells.2, cells.3) (
+    receives_on a.kind b.kind a.first b.first (gone one t i) (gone two t i) (held one t j) (held two t j) (capacity_at one.plan j t) (capacity_at two.plan j t) u
+    sound.kind sound_too.kind cells.4.kind (both.eased.capacity j t has before) gone_i room
     )
 
 -- the step: by u at most what has gone out of the cell passes what has in the eased network

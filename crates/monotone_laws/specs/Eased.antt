@@ -1,17 +1,24 @@
 -- When a network lets through no less than another.
-use Rattle.std.specs.Prelude.{◌≡◌, ℕ, ◌*◌, ◌<◌, ◌≤◌, length, slice_get, Some, true}
+use Rattle.std.specs.Prelude.{◌≡◌, ℕ, ◌*◌, ◌<◌, ◌≤◌, length, slice_get, Some, true, ⊤}
 use Rattle.signal_plan.specs.Capacity.{capacity_at}
 use Rattle.signal_plan.specs.Green.{green_at}
 use Rattle.signal_plan.specs.Speeds.{speed_at}
 use Rattle.network_file.specs.Network.{Network}
 use Rattle.network_file.specs.declared.cell.Cell.{Cell}
+use Rattle.network_file.specs.declared.cell.Kind.{Kind}
+use Rattle.network_file.specs.declared.cell.Kind.TheVariants.{Road, Gate, Exit}
 
--- the second cell has no less room and no lower ratio A/B, and else they are the same but for their names
+-- both are roads, of which the second has no less room and no lower ratio A/B, or both are gates, or both exits
+abbrev pub IsRoomierKind : (one two : Kind) → Type 0
+IsRoomierKind (Road room num den) (Road room_too num_too den_too) = (room ≤ room_too) × (num * den_too ≤ num_too * den)
+IsRoomierKind Gate Gate = ⊤
+IsRoomierKind Exit Exit = ⊤
+IsRoomierKind one two = ⊥
+
+-- the second cell has no less room and no lower ratio, and else they are the same but for their names
 pub record IsRoomier (one two : Cell) : Type 0 where
-  pub kind : two.kind ≡ one.kind
+  pub kind : IsRoomierKind one.kind two.kind
   pub first : two.first ≡ one.first
-  pub room : one.room ≤ two.room
-  pub ratio : one.num * two.den ≤ two.num * one.den
 
 -- the second network has the same links, no fewer steps, rooms, ratios, capacities and speeds no less, and green wherever the
 -- first has it; nothing is said of the demands

@@ -14,17 +14,17 @@ abbrev pub name_at : List Cell → (i : ℕ) → List ℕ
 name_at cells i = slice_index_or (map (λ c. c.name) cells) i []
 
 abbrev pub is_road : Kind → Bool
-is_road Road = true
+is_road (Road room num den) = true
 is_road Gate = false
 is_road Exit = false
 
 abbrev pub is_gate : Kind → Bool
-is_gate Road = false
+is_gate (Road room num den) = false
 is_gate Gate = true
 is_gate Exit = false
 
 abbrev pub is_exit : Kind → Bool
-is_exit Road = false
+is_exit (Road room num den) = false
 is_exit Gate = false
 is_exit Exit = true
 

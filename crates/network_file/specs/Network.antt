@@ -1,5 +1,5 @@
 -- A network as contracts see it, and what holds of every network.
-use Rattle.std.specs.Prelude.{◌≡◌, ℕ, ◌+◌, ◌<◌, ◌≤◌, ◌⊎◌, List, [], length, map, eqb, bytes_eq, All, count_by, sum_by, IfSome, true, false}
+use Rattle.std.specs.Prelude.{◌≡◌, ℕ, ◌+◌, ◌<◌, ◌≤◌, ◌⊎◌, List, [], length, map, eqb, bytes_eq, All, count_by, sum_by, IfSome, true, false, ⊤}
 use Rattle.std.specs.List.{IsDistinct, list_any}
 use Rattle.fixed_flow.specs.Limits.{most_parts, most_ratio}
 use Rattle.signal_plan.specs.Counts.{demand_count, limit_count, speed_count, turn_count}
@@ -7,12 +7,14 @@ use Rattle.signal_plan.specs.Records.{PlannedCell, PlanRecords}
 use Rattle.signal_plan.specs.Sound.{IsSoundSpeed, IsSoundTurn}
 use Rattle.signal_plan.specs.Total.{total_demand}
 use Rattle.signal_plan.specs.Limits.{most_steps}
-use Rattle.network_file.specs.Cells.{is_road, is_exit, is_exit_at, is_gate_at, is_road_at}
+use Rattle.network_file.specs.Cells.{is_exit_at, is_gate_at, is_road_at}
 use Rattle.network_file.specs.Connectors.{diverges_from, upstream_of, downstream_of, weights_of, leads_into, leads_out_of}
 use Rattle.network_file.specs.Cutting.{IsCutting}
 use Rattle.network_file.specs.Formats.{IsFormat, most_records}
 use Rattle.network_file.specs.Limits.{most_capacity, most_room}
 use Rattle.network_file.specs.declared.cell.Cell.{Cell}
+use Rattle.network_file.specs.declared.cell.Kind.{Kind}
+use Rattle.network_file.specs.declared.cell.Kind.TheVariants.{Road, Gate, Exit}
 use Rattle.network_file.specs.declared.connector.Connector.{Connector}
 
 pub record Network : Type 0 where
@@ -27,19 +29,24 @@ pub record Network : Type 0 where
   -- the number of each cell's region, where the file gives them, and else nothing
   pub regions : List ℕ
 
+-- a road within the ranges of the format, which starts within its room
+pub record IsSoundRoad (room num den first : ℕ) : Type 0 where
+  pub limit : room ≤ most_room
+  pub positive : 1 ≤ num
+  pub ratio : num ≤ den
+  pub small : den ≤ most_ratio
+  pub within : first ≤ room
+
+-- what a cell of this kind may hold at first: an exit starts empty
+abbrev pub IsSoundKind : Kind → (first : ℕ) → Type 0
+IsSoundKind (Road room num den) first = IsSoundRoad room num den first
+IsSoundKind Gate first = ⊤
+IsSoundKind Exit first = first ≡ 0
+
 -- a cell within the ranges of the format
 pub record IsSoundCell (cell : Cell) : Type 0 where
-  pub room : cell.room ≤ most_room
-  pub positive : 1 ≤ cell.num
-  pub ratio : cell.num ≤ cell.den
-  pub small : cell.den ≤ most_ratio
-  -- a gate and an exit have no room, and the ratio 1 to 1
-  pub no_room : is_road cell.kind ≡ false → cell.room ≡ 0
-  pub no_ratio : is_road cell.kind ≡ false → cell.den ≡ 1
-  -- a road starts within its room, and an exit starts empty
+  pub kind : IsSoundKind cell.kind cell.first
   pub first : cell.first ≤ most_parts
-  pub road : is_road cell.kind ≡ true → cell.first ≤ cell.room
-  pub exit : is_exit cell.kind ≡ true → cell.first ≡ 0
 
 -- a connector between cells that are there: out of no exit and into no gate
 pub record IsSoundConnector (cells : List Cell) (connector : Connector) : Type 0 where

@@ -10,8 +10,6 @@ use Rattle.record_fields.specs.RecordKinds.{field_count, record_kind_of}
 use Rattle.network_file.specs.CellFields.{new_name, known_cell, upstream, downstream, signal_cell, demand_gate, turn_cell, speed_road, region_cell}
 use Rattle.network_file.specs.Formats.{most_records}
 use Rattle.network_file.specs.Limits.{most_capacity, most_regions, most_room}
-use Rattle.network_file.specs.declared.cell.Cell.{Cell}
-use Rattle.network_file.specs.declared.cell.Kind.{Kind}
 use Rattle.network_file.specs.declared.cell.Kind.TheVariants as kind
 use Rattle.record_fields.specs.declared.code.Code.{Code}
 use Rattle.record_fields.specs.declared.code.Code.TheVariants.{BadKind, BadCount, TooMany, Repeated}
@@ -48,24 +46,20 @@ take_road draft fields = do
   capacity ← amount_within most_capacity (field fields 3)
   (num, den) ← ratio most_ratio (field fields 4) (field fields 5)
   first ← amount_within room (field fields 6)
-  Ok (add_cell draft (record { name = name; kind = kind.Road; room = room; num = num; den = den; first = first }) capacity)
-
--- a gate or an exit, which has no room
-abbrev pub without_room : List ℕ → Kind → (first : ℕ) → Cell
-without_room name of_kind first = record { name = name; kind = of_kind; room = 0; num = 1; den = 1; first = first }
+  Ok (add_cell draft (record { name = name; kind = kind.Road room num den; first = first }) capacity)
 
 unfoldable pub take_gate : Draft → List (List ℕ) → Result Draft Code
 take_gate draft fields = do
   name ← new_name draft.cells (field fields 1)
   capacity ← amount_within most_capacity (field fields 2)
   first ← amount_within most_parts (field fields 3)
-  Ok (add_cell draft (without_room name kind.Gate first) capacity)
+  Ok (add_cell draft (record { name = name; kind = kind.Gate; first = first }) capacity)
 
 unfoldable pub take_exit : Draft → List (List ℕ) → Result Draft Code
 take_exit draft fields = do
   name ← new_name draft.cells (field fields 1)
   capacity ← amount_within most_capacity (field fields 2)
-  Ok (add_cell draft (without_room name kind.Exit 0) capacity)
+  Ok (add_cell draft (record { name = name; kind = kind.Exit; first = 0 }) capacity)
 
 unfoldable pub take_link : Draft → List (List ℕ) → Result Draft Code
 take_link draft fields = do

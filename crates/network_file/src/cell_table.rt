@@ -107,7 +107,7 @@ impl CellTable {
         ensures { result ≡ is_road_at self.now cell }
     {
         match self.parts.cells.get(cell as usize) {
-            Some(cell) => matches!(cell.kind, Kind::Road),
+            Some(cell) => matches!(cell.kind, Kind::Road { .. }),
             None => false,
         }
     }

@@ -106,14 +106,8 @@ fn read_road(draft: &NetDraft, row: &FileRecord) -> Result<Entry, RecordRefusal>
     let capacity = amount_within(MOST_CAPACITY, row.field(3))?;
     let (num, den) = ratio(MOST_RATIO, row.field(4), row.field(5))?;
     let first = amount_within(room, row.field(6))?;
-    let cell = Cell {
-        name,
-        kind: Kind::Road,
-        room,
-        num,
-        den,
-        first,
-    };
+    let kind = Kind::Road { room, num, den };
+    let cell = Cell { name, kind, first };
     Ok(Entry::Cell(cell, capacity))
 }
 
@@ -126,7 +120,8 @@ fn read_gate(draft: &NetDraft, row: &FileRecord) -> Result<Entry, RecordRefusal>
     let name = new_name(&draft.cells, row.field(1))?;
     let capacity = amount_within(MOST_CAPACITY, row.field(2))?;
     let first = amount_within(MOST_PARTS, row.field(3))?;
-    let cell = Cell::without_room(name, Kind::Gate, first);
+    let kind = Kind::Gate;
+    let cell = Cell { name, kind, first };
     Ok(Entry::Cell(cell, capacity))
 }
 
@@ -138,7 +133,11 @@ fn read_exit(draft: &NetDraft, row: &FileRecord) -> Result<Entry, RecordRefusal>
 {
     let name = new_name(&draft.cells, row.field(1))?;
     let capacity = amount_within(MOST_CAPACITY, row.field(2))?;
-    let cell = Cell::without_room(name, Kind::Exit, 0);
+    let cell = Cell {
+        name,
+        kind: Kind::Exit,
+        first: 0,
+    };
     Ok(Entry::Cell(cell, capacity))
 }
 

@@ -29,11 +29,11 @@ impl Change {
         let kind = net.cells[cell as usize].kind;
         let enters = match kind {
             Kind::Gate => net.plan.demand(cell, t),
-            Kind::Road | Kind::Exit => self.enters,
+            Kind::Road { .. } | Kind::Exit => self.enters,
         };
         let waits = match kind {
             Kind::Exit => 0,
-            Kind::Road | Kind::Gate => row.n - self.leaves,
+            Kind::Road { .. } | Kind::Gate => row.n - self.leaves,
         };
         Row {
             n: row.n + enters - self.leaves,

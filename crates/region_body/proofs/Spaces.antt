@@ -9,14 +9,13 @@ use Rattle.signal_plan.specs.Green.{green_at}
 use Rattle.signal_plan.specs.Speeds.{arriving, speed_at}
 use Rattle.network_file.specs.Cells.{is_exit, is_gate, is_road}
 use Rattle.network_file.specs.Network.{IsNetwork, Network}
-use Rattle.network_file.specs.declared.cell.Cell.{Cell}
 use Rattle.network_file.specs.declared.cell.Kind.{Kind}
 use Rattle.network_file.specs.declared.cell.Kind.TheVariants.{Road, Gate, Exit}
 use Rattle.network_file.specs.Limits.{most_capacity}
 use Rattle.flow_model.specs.Bounds.{IsHeldInBounds}
-use Rattle.flow_model.specs.Limits.{receiving_at, room_at, room_by, sending_at}
+use Rattle.flow_model.specs.Limits.{receiving_at, room_at, room_of, sending_at}
 use Rattle.flow_model.proofs.CellKinds.{cell_at}
-use Rattle.flow_model.proofs.CellLimits.{capacity_at-le}
+use Rattle.flow_model.proofs.CellLimits.{capacity_at-le, most_of}
 use Rattle.region_body.specs.Space.{HasSpace, IsSpaceOf, boundless, let_in}
 use Rattle.region_body.specs.declared.space.Space.{Space}
 use Rattle.courses.specs.Cells.{most_by}
@@ -46,13 +45,13 @@ has-space net t i n sound before has bounds =
     let road = rw here.1 at bounds.road in
     let gate = rw here.1 at bounds.gate in
     let exit = rw here.1 at bounds.exit in
-    rw here.1 (of_kind here.0 here.0.kind n q road (λ is. omega (arith, gate is)) (λ is. omega (arith, exit is)))
+    rw here.1 (of_kind here.0.kind n q road (λ is. omega (arith, gate is)) (λ is. omega (arith, exit is)))
   where
-    of_kind : (cell : Cell) (kind : Kind) (n q : ℕ) → (is_road kind ≡ true → n ≤ cell.room) → (is_gate kind ≡ true → n + q ≤ boundless) →
-        (is_exit kind ≡ true → n + q ≤ boundless) → HasSpace n q (room_by kind cell)
-    of_kind cell Road n q road gate exit = road refl
-    of_kind cell Gate n q road gate exit = gate refl
-    of_kind cell Exit n q road gate exit = exit refl
+    of_kind : (kind : Kind) (n q : ℕ) → (is_road kind ≡ true → n ≤ most_of kind) → (is_gate kind ≡ true → n + q ≤ boundless) →
+        (is_exit kind ≡ true → n + q ≤ boundless) → HasSpace n q (room_of kind)
+    of_kind (Road room num den) n q road gate exit = road refl
+    of_kind Gate n q road gate exit = gate refl
+    of_kind Exit n q road gate exit = exit refl
 
 pub receiving-is : (net : Network) (t i n : ℕ) (space : Space) → IsNetwork net → t < net.steps → i < length net.cells →
     IsSpaceOf space (room_at net.cells i) → IsHeldInBounds net t i n → received (most_by net.plan i false t) space n ≡ receiving_at net t i n

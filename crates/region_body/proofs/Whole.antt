@@ -11,19 +11,18 @@ use Rattle.signal_plan.specs.Demand.{demand_at}
 use Rattle.signal_plan.specs.Speeds.{arriving, speed_at}
 use Rattle.signal_plan.proofs.Sums.{sum_by-filter, sum_by_agree, sum_by_range_one}
 use Rattle.network_file.specs.Cells.{is_gate_at, is_road}
-use Rattle.network_file.specs.declared.cell.Cell.{Cell}
 use Rattle.network_file.specs.declared.cell.Kind.{Kind}
 use Rattle.network_file.specs.declared.cell.Kind.TheVariants.{Road, Gate, Exit}
 use Rattle.network_file.specs.Network.{IsNetwork, Network}
 use Rattle.flow_model.specs.Bounds.{IsHeldInBounds, IsRowInBounds}
 use Rattle.flow_model.specs.Flows.{inflow, outflow}
-use Rattle.flow_model.specs.Limits.{room_at, room_by}
+use Rattle.flow_model.specs.Limits.{room_at, room_of}
 use Rattle.flow_model.specs.Rows.{empty_row, moved_row, next_row}
 use Rattle.flow_model.specs.State.{row_at, rows_after}
 use Rattle.flow_model.specs.declared.row.Row.{Row}
 use Rattle.flow_model.proofs.Bounds.{IsChange, IsSmall, changes, moved_row-in_bounds, small}
 use Rattle.flow_model.proofs.CellKinds.{cell_at}
-use Rattle.flow_model.proofs.CellLimits.{capacity_at-le}
+use Rattle.flow_model.proofs.CellLimits.{capacity_at-le, most_of}
 use Rattle.flow_model.proofs.Flows.{inflow-gate}
 use Rattle.region_body.specs.Places.{AreSound, link_in, link_out, moved, place_at}
 use Rattle.region_body.specs.Space.{HasSpace, IsSpaceOf, boundless}
@@ -131,12 +130,12 @@ pub has-space : (net : Network) (t i n q : ℕ) → i < length net.cells → IsH
 has-space net t i n q has bounds few =
     let here = cell_at net.cells i has in
     let room = rw here.1 at bounds.road in
-    rw here.1 (of_kind here.0 here.0.kind n q room few)
+    rw here.1 (of_kind here.0.kind n q room few)
   where
-    of_kind : (cell : Cell) (kind : Kind) (n q : ℕ) → (is_road kind ≡ true → n ≤ cell.room) → n + q ≤ boundless → HasSpace n q (room_by kind cell)
-    of_kind cell Road n q road few = road refl
-    of_kind cell Gate n q road few = few
-    of_kind cell Exit n q road few = few
+    of_kind : (kind : Kind) (n q : ℕ) → (is_road kind ≡ true → n ≤ most_of kind) → n + q ≤ boundless → HasSpace n q (room_of kind)
+    of_kind (Road room num den) n q road few = road refl
+    of_kind Gate n q road few = few
+    of_kind Exit n q road few = few
 
 -- what holds of one cell as a step begins
 pub record IsReady (net : Network) (t : ℕ) (n : ℕ → ℕ) (i : ℕ) (origin : Origin) (place : Place) : Type 0 where

@@ -3,22 +3,13 @@ ghost use Rattle.flow_model.specs.Limits.{room_at};
 ghost use Rattle.region_body.specs.Space.{IsSpaceOf};
 
 use crate::space::Space;
-use network_file::{Kind, Net};
-use ordinary_link::Room;
+use flow_model::room_of;
+use network_file::Net;
 
 /// The space of cell `i`.
 pub(crate) fn space_of(net: &Net, i: u32) -> Space
     requires there { i < length net.now.cells }
     ensures { IsSpaceOf result (room_at net.now.cells i) }
 {
-    let cell = &net.cells[i as usize];
-    match cell.kind {
-        Kind::Road => Space::of(Some(Room {
-            most: cell.room,
-            num: cell.num,
-            den: cell.den,
-        })),
-        Kind::Gate => Space::of(None),
-        Kind::Exit => Space::of(None),
-    }
+    Space::of(room_of(net.cells[i as usize].kind))
 }

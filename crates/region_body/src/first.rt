@@ -17,7 +17,7 @@ pub(crate) fn origin_of(net: &Net, i: u32) -> Origin
     let cell = &net.cells[i as usize];
     Origin {
         first: cell.first,
-        is_exit: cell.kind == Kind::Exit,
+        is_exit: matches!(cell.kind, Kind::Exit),
     }
 }
 

@@ -105,7 +105,7 @@ fn is_gate(net: &Net, i: u32) -> bool
 {
     let cell = &net.cells[i as usize];
     match cell.kind {
-        Kind::Road => false,
+        Kind::Road { .. } => false,
         Kind::Gate => true,
         Kind::Exit => false,
     }

@@ -43,7 +43,7 @@ fn is_held_in_bounds(net: &Net, t: u64, i: u32, n: u64) -> bool
     let steps = net.steps;
     let cell = &net.cells[i as usize];
     match cell.kind {
-        Kind::Road => n <= cell.room,
+        Kind::Road { room, .. } => n <= room,
         Kind::Gate => u128::from(n) + net.plan.demand_from(i, t, steps) <= u128::from(MOST_PARTS),
         Kind::Exit => n <= t * MOST_CAPACITY,
     }
@@ -58,7 +58,7 @@ fn is_come_in_bounds(net: &Net, t: u64, i: u32, row: &Row) -> bool
     let steps = net.steps;
     let cell = &net.cells[i as usize];
     match cell.kind {
-        Kind::Road => row.come <= t * MOST_CAPACITY,
+        Kind::Road { .. } => row.come <= t * MOST_CAPACITY,
         Kind::Gate => {
             u128::from(row.come) + net.plan.demand_from(i, t, steps) <= u128::from(MOST_PARTS)
         }
@@ -72,6 +72,6 @@ fn is_balanced(net: &Net, i: u32, row: &Row) -> bool
     ensures { IsTrue result ↔ IsRowBalanced net.now i row.now }
 {
     let cell = &net.cells[i as usize];
-    cell.kind == Kind::Exit
+    matches!(cell.kind, Kind::Exit)
         || u128::from(row.n) + u128::from(row.gone) == u128::from(cell.first) + u128::from(row.come)
 }

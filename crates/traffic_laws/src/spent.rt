@@ -31,7 +31,7 @@ fn passed_on(net: &Net, rows: &[Row], cell: usize) -> u64
     ensures { result ≡ (if not (is_exit_at net.now.cells cell) then gone_of rows.now cell else 0) }
 {
     match net.cells[cell].kind {
-        Kind::Road | Kind::Gate => rows[cell].gone,
+        Kind::Road { .. } | Kind::Gate => rows[cell].gone,
         Kind::Exit => 0,
     }
 }
