@@ -8,6 +8,7 @@ use crate::place::Place;
 use crate::speed_factor::SpeedFactor;
 
 /// Takes the places from one up to another through a step, each of which sends at its speed.
+#[inline(always)]
 pub(crate) fn sweep_slowed(
     places: &mut [Place],
     speeds: &[SpeedFactor],
