@@ -12,6 +12,7 @@ from ctmtools.assignment.departures import Departures, departures_of
 from ctmtools.assignment.diversion import divert
 from ctmtools.assignment.forks import Fork, Rounded, pairs_of, parts_of
 from ctmtools.assignment.loading import moved, share_bounds
+from ctmtools.assignment.passing import Passing, _finer
 from ctmtools.assignment.searching import Search
 from ctmtools.assignment.swapping import Pace, swap
 from ctmtools.assignment.times import Gap, times_of
@@ -82,6 +83,18 @@ def test_who_is_in_a_closed_stretch_or_comes_to_it_waits_until_it_opens(tmp_path
     # Closed from step 120 to 300. Who set out at step 91 has left the four closed cells then, who set out from 92 to 95 is in them, and
     # the next is before them: these wait for 180 steps. The step of 299 takes in nobody, and that of 300 who comes to it then.
     assert (moments - begins)[0] == pytest.approx([60, 240, 240, 240, 61, 60])
+
+
+def test_behind_the_run_it_takes_as_long_as_at_its_end():
+    legs = SimpleNamespace(legs=[SimpleNamespace(chains=[0])])
+    passing = Passing(legs, numpy.array([0.0, 10, 20]), numpy.array([[5.0, 15, 30]]))
+    assert passing.through(numpy.array([0]), numpy.array([[0.0, 15, 20, 30, 60, 80]])).tolist() == [[5, 22.5, 30, 40, 70, 90]]
+
+
+def test_between_records_there_are_moments_for_about_800_but_none_within_a_step():
+    # Of 101 records each tenth step 8 parts of each are 800, and of 11 the most are a step each.
+    assert _finer(numpy.arange(0.0, 1001, 10)).tolist() == [1.25 * number for number in range(801)]
+    assert _finer(numpy.arange(0.0, 101, 10)).tolist() == list(range(101))
 
 
 def test_the_time_of_an_interval_is_the_mean_over_those_who_set_out():

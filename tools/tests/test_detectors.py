@@ -315,6 +315,7 @@ def test_rows_from_second_to_second(tmp_path):
     (HEAD + "a,06:00,5\na,06:05,x\n", 'line 3, count: expected a count, found "x"'), (HEAD + "a,06:00,5\na,soon,5\n", 'line 3, time: expected a time such as'),
     (HEAD + "a,06:00,5\na,,5\n", 'line 3, time: expected a time such as'),
     (HEAD + "a,06:00:01,5\na,06:00:00,5\n", "is of an earlier time than"),
+    ("station,time,end,count\na,06:00,06:05,5\na,06:05,06:15,5\n", "line 3 is of 600 s, and line 2 of 300 s; the intervals are of one length"),
     (HEAD + "a,06:00,5\na,06:05\n", "line 3 has too few columns"), (HEAD + "a,06:00,5\na,06:05,5,7\n", "line 3 has 4 fields, and line 1 has 3"),
     (HEAD + "a,06:00,5\na,06:05,-5\n", "line 3, count: a count isn't negative"),
     (HEAD + "a,06:00,5\na,06:05,5\na,06:10,5\na,06:12,5\n", "line 5 is 120 s behind the row before it, which isn't some intervals of 300 s"),
