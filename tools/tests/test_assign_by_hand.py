@@ -14,6 +14,7 @@ from ctmtools.assignment.forks import Fork, Rounded, pairs_of, parts_of
 from ctmtools.assignment.loading import moved, share_bounds
 from ctmtools.assignment.passing import Passing, _finer
 from ctmtools.assignment.searching import Search
+from ctmtools.assignment.shared_network import SharedNetwork
 from ctmtools.assignment.swapping import Pace, swap
 from ctmtools.assignment.times import Gap, times_of
 from ctmtools.assignment.ways_file import WayRow
@@ -155,6 +156,14 @@ def test_three_ways_out_are_parted_one_by_one():
     # 500 of 1,000 go the first way, and 300 of the other 500 the second; a third is 1 to 2, and a millionth 1 in 1,001.
     parts = numpy.array([[500_000, 333_333, 1], [300_000, 333_333, 500_000], [200_000, 333_334, 499_999]])
     assert list(pairs_of(parts)) == [[(1, 1), (1, 2), (1, 1000)], [(3, 2), (1, 1), (1, 1)]]
+
+
+def test_a_network_has_the_shares_of_the_first_span_and_turns_where_others_hold():
+    text = "ctm,1\nsteps,90\ndiverge,m,a,b,7,9\n"
+    parts = numpy.array([[500_000, 250_000, 250_000], [500_000, 750_000, 750_000]])
+    made = SharedNetwork(SimpleNamespace(build=lambda: SimpleNamespace(text=text)))
+    content = made.content([Fork("diverges[1]", 0, (0, 1), (0, 1), ("m",))], [parts], numpy.array([0, 30, 60, 90]))
+    assert content.decode() == "ctm,2\nsteps,90\ndiverge,m,a,b,1,1\nturn,m,30,90,1,3\n"
 
 
 def test_the_rows_of_the_ways_have_all_drivers_and_their_minutes(tmp_path):

@@ -8,6 +8,7 @@ import pytest
 
 from ctmtools import build, read_study
 from ctmtools.imports import sumolib_net
+from ctmtools.imports.giving_way import GivesWay
 from ctmtools.imports.streets import LEFT, RIGHT, THROUGH
 from ctmtools.imports.sumo import read_network
 from ctmtools.imports.turning import turn_of
@@ -115,6 +116,14 @@ def test_signs_turns_and_roundabouts_say_the_kind(import_net, terms, wanted):
     import_net(**terms)
     found = yields_of(study()["junctions"][0])["s", "p"]
     assert found == {"yields_to": [["w", "p"]], **wanted}
+
+
+def test_an_entry_into_two_lanes_or_more_of_a_roundabout_has_the_gaps_of_those():
+    one, two, three = ("\n".join(GivesWay({}, "roundabout", 2, 4, False, lanes).terms()) for lanes in (1, 2, 3))
+    assert one == 'kind = "roundabout"' and two == three
+    # By Siegloch 3600/f·exp(-(c - f/2)·v/3600) pass, which the manual has as 1,420·exp(-0.00085·v) (2016, chapter 22).
+    critical, follow_up = (tomllib.loads(two)[key] for key in ("critical_gap", "follow_up"))
+    assert (3600 / follow_up, (critical - follow_up / 2) / 3600) == pytest.approx((1420, 0.00085), rel=1e-3)
 
 
 def test_a_left_turn_where_three_streets_meet_has_the_gaps_of_that(import_net):
