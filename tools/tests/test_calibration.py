@@ -134,6 +134,8 @@ def test_what_was_tried_is_not_run_again(tmp_path, recording_program):
     again = calibrate(study(tmp_path), observed, ranges, **terms)
     assert (again.values, again.distance, again.as_well) == (whole.values, whole.distance, whole.as_well)
     assert again.runs == whole.runs - 5
+    kept = calibrate(study(tmp_path), observed, ranges, **terms)
+    assert kept.runs == 0 and kept.modelled.equals(whole.modelled)
     assert Calibration(study(tmp_path, 2000), observed, ranges, folder=tmp_path / "kept").earlier == 0
 
 

@@ -469,6 +469,7 @@ def test_one_table_in_many_spellings(tmp_path, content, terms):
     (HEAD + DATED + HEAD, {}, 'line 8, time: expected a time such as'), (HEAD + DATED + DATED, {}, "line 8 has the same time as line 2 of station a"),
     ((HEAD + DATED).replace(",", ";").replace(";3\n", ";3,5\n"), {}, 'line 5, count: expected a count, found "3,5"; say decimal = ","'),
     (HEAD + DATED.replace(",3\n", ",1e400\n"), {}, 'line 5, count: expected a count, found "1e400"'), (HEAD + DATED, {"separator": ";;"}, "a separator is one character"),
+    (HEAD + "a,2019-12-31T06:00Z,1\na,31.12.2019 06:05Z,1\n", {"zone": "Europe/Berlin"}, "line 3, time: a time with a zone has a date such as 2019-12-04"),
     (HEAD + "a,2019-02-30T06:00Z,1\n", {"zone": "Europe/Berlin"}, "2019-02-30T06:00Z is of no date"), (HEAD + "a,2019-12-04 06:00,\n", {"interval": "5 min"}, "has no flow in any row"),
     (HEAD + "a,23:55,1\na,00:00,2\n", {}, "line 3 is of an earlier time than line 2, and no dates tell of which day"), ("\ufeff", {}, "no column of times"),
     (HEAD + DATED.replace("2019-12-04 ", ""), {"dates": ["weekdays"]}, "has no dates"), (HEAD + DATED, {"interval": "0 s"}, "an interval is above 0")])
