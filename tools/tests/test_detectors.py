@@ -232,6 +232,9 @@ def test_times_with_an_offset_are_shown_by_the_clocks_of_the_road(tmp_path):
     (tmp_path / "z.csv").write_text("station,time,count\n" + "".join(f"a,2019-12-04T05:{m:02d}:00Z,{m}\n" for m in range(0, 60, 5)))
     found = read_detectors(tmp_path / "z.csv", zone="Europe/Berlin")
     assert found.time.iloc[0] == pandas.Timestamp("2019-12-04 06:00") and len(found) == 12
+    # 05:30 by clocks 8 hours behind is 14:30 in Berlin.
+    (tmp_path / "z.csv").write_text("station,time,count\na,2019-12-04T05:30-08:00,1\na,2019-12-04T05:35-08:00,1\n")
+    assert read_detectors(tmp_path / "z.csv", zone="Europe/Berlin").time.iloc[0] == pandas.Timestamp("2019-12-04 14:30")
     (tmp_path / "z.csv").write_text("station,time,count\na,2019-10-27T02:30+02:00,1\na,2019-10-27T02:30+01:00,2\na,2019-10-27T03:30+01:00,3\n")
     assert "several zones, +01:00, +02:00" in problem(read_detectors, tmp_path / "z.csv")
     found = read_detectors(tmp_path / "z.csv", zone="Europe/Berlin")
@@ -351,6 +354,7 @@ def test_midnight_as_24_00_is_of_the_next_day(tmp_path):
 
 @pytest.mark.parametrize("terms, told", [
     ({"leave_out": ["broken"]}, '--leave-out: expected all or repeated, observed'), ({"leave_out": ["observed=x"]}, "expected observed=NUMBER"),
+    ({"leave_out": ["observed=-0.5"]}, "expected observed=NUMBER"),
     ({"leave_out": ["no-flow=3"]}, "expected no-flow, found"), ({"station": "9"}, "has no station 9, it has 101, 102, 103"),
     ({"dates": ["2019-12-09"]}, "has no 2019-12-09, it has 2019-12-03, 2019-12-04"), ({"dates": ["sunday"]}, "no day of it is of sunday"),
     ({"per": "hour"}, 'count is in vehicles, and per = "hour" is asked'), ({"interval": "7 min"}, "isn't some intervals of 420 s"),
