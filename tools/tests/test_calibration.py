@@ -165,7 +165,7 @@ def test_what_the_model_passes_where_a_detector_stands(tmp_path, recording_progr
     observed = read_observed(tmp_path / "two.csv")
     found = modelled(report, observed)
     # One lane passes 2,160 of the 2,700 vehicles/h; half an hour after the peak all 900 pass freely.
-    assert found.flow.tolist() == pytest.approx([2160, 900], abs=1) and found.speed.tolist() == pytest.approx([90, 90], abs=0.5)
+    assert found.flow.tolist() == pytest.approx([2160, 900], abs=0.01) and found.speed.tolist() == pytest.approx([90, 90], abs=0.5)
     # Off by 160 of 2,000 and by none; the mean of the observed is 1,450.
     assert distance(found, observed) == pytest.approx(160 / 1450 / 2 ** 0.5, abs=1e-3)
 
