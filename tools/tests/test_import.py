@@ -145,6 +145,19 @@ def test_a_movement_that_is_never_green_is_closed(tool, files):
     assert report.cells.gone["b-c1"] == 0 and report.cells.gone["a-c1"] > 300
 
 
+def test_a_road_whose_only_way_on_is_never_green_is_closed_in_its_last_cell(tool, files):
+    light = '<tlLogic id="D" type="static" programID="0" offset="0"><phase duration="60" state="r"/></tlLogic>'
+    text = net().replace('from="d" to="g" fromLane="0" toLane="0"', 'from="d" to="g" fromLane="0" toLane="0" tl="D" linkIndex="0"')
+    text = text.replace("<connection", light + "<connection", 1).replace('to="D"><lane index="0" speed="12.5" shape="0,0 9,9" length="250"',
+                                                                        'to="D"><lane index="0" speed="12.5" shape="0,0 9,9" length="1000"')
+    (files / "town.net.xml").write_text(text)
+    (files / "town.rou.xml").write_text('<routes><vehicle id="1" depart="0"><route edges="a d g"/></vehicle></routes>')
+    tool("import", "sumo", "town.net.xml", "--routes", "town.rou.xml", "--step", "2", "--until", "60 min", "-o", "town.toml")
+    limits = [line.split(",") for line in build(read_study("town.toml")).text.splitlines() if line.startswith("limit")]
+    # In 2 s one drives 25 m, a fortieth of 1 km.
+    assert [(row[1], row[2], row[4]) for row in limits] == [("d40", "0", "0")]
+
+
 def test_a_movement_at_a_signal_that_it_does_not_control_is_free(tool, files):
     (files / "town.net.xml").write_text(net().replace('toLane="0" tl="J" linkIndex="2"', 'toLane="0"'))
     out = tool("import", "sumo", "town.net.xml", "--routes", "town.rou.xml", "-o", "town.toml")[1]
