@@ -18,6 +18,7 @@ from ctmtools.uncertainty.messages import plan_lines
 from ctmtools.uncertainty.reliability import DELAY, buffer_index, planning_time_index, spread
 from ctmtools.uncertainty.results import Results
 from ctmtools.uncertainty.task import Asked, figures
+from ctmtools.uncertainty.uncertainty import Varying
 
 from .corridor import corridor
 from .examples import EXAMPLES
@@ -81,6 +82,15 @@ def test_what_is_drawn_stands_in_the_study(tmp_path):
                       'key = "roads.m.sections.lanes"\nvalue = "given"\nvalues = [1]', base=BASE.replace("17.5", '"17500 m"'))
     made = with_drawn(read_values(tmp_path / "s.toml"), found.varying, drawn(found, 1, 1))
     assert made["roads"]["m"]["length"] == "19250.000000000 m" and made["roads"]["m"]["sections"] == [{"from": Fraction(15), "lanes": 1}]
+
+
+def test_one_of_a_list_is_drawn_by_its_number_from_1():
+    values = {"signals": [{"offset": 1}, {"offset": 2}]}
+    varying = [Varying("signals.2.offset", False, Given((7,), (1,)))]
+    assert with_drawn(values, varying, {"signals.2.offset": 7}) == {"signals": [{"offset": 1}, {"offset": 7}]}
+    for number in (0, 3):
+        with pytest.raises(Problem, match="there are 2 of these"):
+            with_drawn(values, [Varying(f"signals.{number}.offset", False, Given((7,), (1,)))], {f"signals.{number}.offset": 7})
 
 
 def test_values_that_are_given_may_be_texts(tmp_path):
