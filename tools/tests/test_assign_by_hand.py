@@ -57,6 +57,8 @@ def test_ways_are_sought_for_the_middle_of_the_time_in_which_drivers_set_out(tmp
     # 30 steps an interval; the last of three ends with the trips, at step 72.
     assert [departures.middle(number) for number in range(departures.intervals)] == [15, 45, 66]
     assert departures.by_interval.tolist() == [pytest.approx([250, 250, 100])]
+    early = begun(tmp_path, TWO_WAYS.replace('"08:00", 3000', '"07:04", 3000')).study
+    assert departures_of(early, 720).by_interval.tolist() == [pytest.approx([200])]
 
 
 def test_the_quickest_way_changes_with_the_time_of_setting_out(tmp_path):
