@@ -5,7 +5,7 @@ from types import SimpleNamespace
 
 import pytest
 
-from ctmtools import Problem, read_study
+from ctmtools import Problem, build, read_study
 from ctmtools.amounts import PARTS
 from ctmtools.moments.actuated_signals import ActuatedSignals
 from ctmtools.program import ask
@@ -99,7 +99,15 @@ def test_a_green_of_two_streets_lasts_until_the_longer_queue_is_gone(tmp_path, r
 def test_greens_that_need_less_last_the_least(tmp_path, recording_program):
     # Where few come 0.02·(28 - 4) + 4 = 4.5 s would do.
     found = opened(write(tmp_path, 36, 36, "{ least = 10, most = 40, gap = 4 }"))
-    assert settled_greens(found) == [10, 10, 28] and set(found.units.cycles.values()) == {28}
+    # Roads of 300 m have 30 cells of 10 m.
+    assert settled_greens(found) == [10, 10, 28] and found.units.cycles == {"a30": 28, "b30": 28}
+
+
+def test_all_stop_lines_are_red_until_the_first_green_begins(tmp_path):
+    path = write(tmp_path)
+    path.write_text(path.read_text().replace("cycle = 60", "cycle = 76").replace('{ from = ["a"]', '{ from = ["a"], start = 10'))
+    study = read_study(path)
+    assert ActuatedSignals(build(study), study, None).reds == ["limit,a30,0,10,0", "limit,b30,0,10,0"]
 
 
 def test_a_bar_is_told_how_far_greens_have_come_and_there_is_none_without_runs(tmp_path, recording_program):
@@ -207,7 +215,8 @@ def test_a_stop_line_alone_has_its_red_between_its_greens(tmp_path, recording_pr
 
 @pytest.mark.parametrize("second, why", [
     ("actuated = { least = 50, most = 40, gap = 4 }", "signals[2].actuated.least: must be above 0 s and at most the most, 40 s"),
-    ('start = "07:05"', "signals[2].actuated: greens that follow traffic do so for the whole study, without start and end")])
+    ('start = "07:05"', "signals[2].actuated: greens that follow traffic do so for the whole study, without start and end"),
+    ('end = "07:05"', "signals[2].actuated: greens that follow traffic do so for the whole study, without start and end")])
 def test_signals_that_cant_follow_traffic_are_refused(tmp_path, second, why):
     with pytest.raises(Problem) as refused:
         read_study(signals(tmp_path, second=second))

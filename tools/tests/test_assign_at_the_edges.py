@@ -12,6 +12,7 @@ from ctmtools.assignment.passing import _queued
 from ctmtools.assignment.task import measures
 from ctmtools.assignment.times import Gap
 from ctmtools.assignment.ways_file import WayRow, read_ways
+from ctmtools.plots.assignment import draw_gap
 from ctmtools.study.reading import read_values
 from ctmtools.units import Units
 
@@ -253,6 +254,12 @@ def test_what_has_not_settled_is_told_with_what_it_is_above(gap, moved, limits, 
                           report=SimpleNamespace(total=SimpleNamespace(inside=0)))
     line, = not_settled(own, [Round(2, Gap(100 + 100 * gap, 100, 500), moved, 0, 0, limits)], 0.01)
     assert line.startswith(f"warning: after 2 rounds {told} it still falls") and Round(2, Gap(100, 100, 500), 0, 0, 0).settled(0.01)
+
+
+def test_the_picture_of_the_rounds_has_the_gap_above_and_the_delay_below():
+    rounds = [Round(number, Gap(100 + more, 100, 0), 0, delay, 0) for number, more, delay in ((1, 10, 7), (2, 1, 5))]
+    drawn = [[line.get_xydata().tolist() for line in axes.lines] for axes in draw_gap(rounds, "s").axes]
+    assert drawn == [[[[1, pytest.approx(0.1)], [2, pytest.approx(0.01)]]], [[[1, 7], [2, 5]]]]
 
 
 def test_of_the_roads_of_a_way_sixty_letters_are_told():

@@ -12,7 +12,9 @@ from ctmtools.assignment.departures import Departures, departures_of
 from ctmtools.assignment.diversion import divert
 from ctmtools.assignment.forks import Fork, Rounded, pairs_of, parts_of
 from ctmtools.assignment.loading import moved, share_bounds
+from ctmtools.assignment.passing import Passing, _finer
 from ctmtools.assignment.searching import Search
+from ctmtools.assignment.shared_network import SharedNetwork
 from ctmtools.assignment.swapping import Pace, swap
 from ctmtools.assignment.times import Gap, times_of
 from ctmtools.assignment.ways_file import WayRow
@@ -55,6 +57,8 @@ def test_ways_are_sought_for_the_middle_of_the_time_in_which_drivers_set_out(tmp
     # 30 steps an interval; the last of three ends with the trips, at step 72.
     assert [departures.middle(number) for number in range(departures.intervals)] == [15, 45, 66]
     assert departures.by_interval.tolist() == [pytest.approx([250, 250, 100])]
+    early = begun(tmp_path, TWO_WAYS.replace('"08:00", 3000', '"07:04", 3000')).study
+    assert departures_of(early, 720).by_interval.tolist() == [pytest.approx([200])]
 
 
 def test_the_quickest_way_changes_with_the_time_of_setting_out(tmp_path):
@@ -82,6 +86,18 @@ def test_who_is_in_a_closed_stretch_or_comes_to_it_waits_until_it_opens(tmp_path
     # Closed from step 120 to 300. Who set out at step 91 has left the four closed cells then, who set out from 92 to 95 is in them, and
     # the next is before them: these wait for 180 steps. The step of 299 takes in nobody, and that of 300 who comes to it then.
     assert (moments - begins)[0] == pytest.approx([60, 240, 240, 240, 61, 60])
+
+
+def test_behind_the_run_it_takes_as_long_as_at_its_end():
+    legs = SimpleNamespace(legs=[SimpleNamespace(chains=[0])])
+    passing = Passing(legs, numpy.array([0.0, 10, 20]), numpy.array([[5.0, 15, 30]]))
+    assert passing.through(numpy.array([0]), numpy.array([[0.0, 15, 20, 30, 60, 80]])).tolist() == [[5, 22.5, 30, 40, 70, 90]]
+
+
+def test_between_records_there_are_moments_for_about_800_but_none_within_a_step():
+    # Of 101 records each tenth step 8 parts of each are 800, and of 11 the most are a step each.
+    assert _finer(numpy.arange(0.0, 1001, 10)).tolist() == [1.25 * number for number in range(801)]
+    assert _finer(numpy.arange(0.0, 101, 10)).tolist() == list(range(101))
 
 
 def test_the_time_of_an_interval_is_the_mean_over_those_who_set_out():
@@ -142,6 +158,14 @@ def test_three_ways_out_are_parted_one_by_one():
     # 500 of 1,000 go the first way, and 300 of the other 500 the second; a third is 1 to 2, and a millionth 1 in 1,001.
     parts = numpy.array([[500_000, 333_333, 1], [300_000, 333_333, 500_000], [200_000, 333_334, 499_999]])
     assert list(pairs_of(parts)) == [[(1, 1), (1, 2), (1, 1000)], [(3, 2), (1, 1), (1, 1)]]
+
+
+def test_a_network_has_the_shares_of_the_first_span_and_turns_where_others_hold():
+    text = "ctm,1\nsteps,90\ndiverge,m,a,b,7,9\n"
+    parts = numpy.array([[500_000, 250_000, 250_000], [500_000, 750_000, 750_000]])
+    made = SharedNetwork(SimpleNamespace(build=lambda: SimpleNamespace(text=text)))
+    content = made.content([Fork("diverges[1]", 0, (0, 1), (0, 1), ("m",))], [parts], numpy.array([0, 30, 60, 90]))
+    assert content.decode() == "ctm,2\nsteps,90\ndiverge,m,a,b,1,1\nturn,m,30,90,1,3\n"
 
 
 def test_the_rows_of_the_ways_have_all_drivers_and_their_minutes(tmp_path):

@@ -49,6 +49,11 @@ def started(program, code="from ctmtools.command_line import main"):
                             preexec_fn=heeds_an_interrupt)
 
 
+@pytest.mark.parametrize("times, told", [([0, 1, 2], " with each step recorded"), ([0, 6, 12], " recorded every 6 steps")])
+def test_it_is_told_how_often_a_run_is_recorded(times, told):
+    assert run._recorded(SimpleNamespace(recorded=True, times=times)) == told
+
+
 @pytest.mark.parametrize("reached, begun", [(None, (0, "at 00:00")), (720, (2, "at 02:00"))])
 def test_the_bar_begins_behind_the_stretches_that_were_kept(monkeypatch, tmp_path, reached, begun):
     shown = []

@@ -37,6 +37,11 @@ def test_lanes_of_closures_that_overlap_add_up(tmp_path, works):
     assert delay(made) == pytest.approx(720 * 180 / 2 + 720 + 720 * 360 / 2, abs=0.01)
 
 
+def test_a_closure_lies_on_its_cells_behind_a_change_of_lanes_too(tmp_path):
+    narrow = '[[roads.m.sections]]\nfrom = 0.25\nlanes = 2\n'
+    assert limits(corridor(tmp_path, narrow + WORKS, lanes=3)) == [["m3", "0", "360", "6"]]
+
+
 def test_what_is_left_is_never_below_nothing(tmp_path):
     made = corridor(tmp_path, 2 * CRASH.replace("lanes = 1", "lanes = 2"), lanes=3)
     assert limits(made) == [["m3", "60", "240", "0"]]

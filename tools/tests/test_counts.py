@@ -230,6 +230,12 @@ def test_a_day_without_dates_serves_a_study_that_passes_midnight(tmp_path):
     assert demands(counted(tmp_path, night, head=NIGHT, end="00:30")) == FLOWS
 
 
+def test_a_night_that_is_mostly_of_the_next_day_begins_with_the_last_rows_of_a_day_without_dates(tmp_path):
+    rows = "time,n\n00:00,180\n00:15,270\n00:30,360\n" + "".join(
+        f"{minutes // 60:02d}:{minutes % 60:02d},0\n" for minutes in range(45, 23 * 60 + 45, 15)) + "23:45,90\n"
+    assert demands(counted(tmp_path, rows, head=HEAD.replace("06:00", "23:45"), end="00:45")) == FLOWS
+
+
 @pytest.mark.parametrize("terms, wanted", [
     ('missing = "none"', 'gates.g.demand.missing: expected error or zero or interpolate, found "none"'),
     ('per = "day"', "gates.g.demand.per: expected interval or hour"), ('separator = ";;"', "expected one character"),

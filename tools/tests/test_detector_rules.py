@@ -3,6 +3,7 @@
 import pandas
 import pytest
 
+from ctmtools import Problem
 from ctmtools.detectors.rules import broken, rules_of
 
 SOUND = {"station": "1", "day": "a", "interval": 300.0, "flow": 1200.0, "occupancy": 10.0, "speed": 90.0, "density": float("nan"),
@@ -32,6 +33,12 @@ def left_out(rows, *words):
     ("no-speed", {"speed": 0, "flow": 0}, {"speed": 0, "flow": 12})])
 def test_a_value_at_its_limit_is_kept_and_one_beyond_is_left_out(word, kept, gone):
     assert left_out([{}, kept, gone, {}], word) == [2]
+
+
+def test_lanes_are_needed_where_vehicles_passed_alone():
+    assert left_out([{"flow": 0, "lanes": float("nan")}, {"flow": 6001}], "capacity") == [1]
+    with pytest.raises(Problem, match="needs the number of lanes"):
+        left_out([{"flow": 1, "lanes": float("nan")}], "capacity")
 
 
 SAME, STILL = {"flow": 600}, {"flow": 0, "occupancy": 0, "speed": 0}

@@ -232,6 +232,9 @@ def test_times_with_an_offset_are_shown_by_the_clocks_of_the_road(tmp_path):
     (tmp_path / "z.csv").write_text("station,time,count\n" + "".join(f"a,2019-12-04T05:{m:02d}:00Z,{m}\n" for m in range(0, 60, 5)))
     found = read_detectors(tmp_path / "z.csv", zone="Europe/Berlin")
     assert found.time.iloc[0] == pandas.Timestamp("2019-12-04 06:00") and len(found) == 12
+    # 05:30 by clocks 8 hours behind is 14:30 in Berlin.
+    (tmp_path / "z.csv").write_text("station,time,count\na,2019-12-04T05:30-08:00,1\na,2019-12-04T05:35-08:00,1\n")
+    assert read_detectors(tmp_path / "z.csv", zone="Europe/Berlin").time.iloc[0] == pandas.Timestamp("2019-12-04 14:30")
     (tmp_path / "z.csv").write_text("station,time,count\na,2019-10-27T02:30+02:00,1\na,2019-10-27T02:30+01:00,2\na,2019-10-27T03:30+01:00,3\n")
     assert "several zones, +01:00, +02:00" in problem(read_detectors, tmp_path / "z.csv")
     found = read_detectors(tmp_path / "z.csv", zone="Europe/Berlin")
@@ -315,6 +318,7 @@ def test_rows_from_second_to_second(tmp_path):
     (HEAD + "a,06:00,5\na,06:05,x\n", 'line 3, count: expected a count, found "x"'), (HEAD + "a,06:00,5\na,soon,5\n", 'line 3, time: expected a time such as'),
     (HEAD + "a,06:00,5\na,,5\n", 'line 3, time: expected a time such as'),
     (HEAD + "a,06:00:01,5\na,06:00:00,5\n", "is of an earlier time than"),
+    ("station,time,end,count\na,06:00,06:05,5\na,06:05,06:15,5\n", "line 3 is of 600 s, and line 2 of 300 s; the intervals are of one length"),
     (HEAD + "a,06:00,5\na,06:05\n", "line 3 has too few columns"), (HEAD + "a,06:00,5\na,06:05,5,7\n", "line 3 has 4 fields, and line 1 has 3"),
     (HEAD + "a,06:00,5\na,06:05,-5\n", "line 3, count: a count isn't negative"),
     (HEAD + "a,06:00,5\na,06:05,5\na,06:10,5\na,06:12,5\n", "line 5 is 120 s behind the row before it, which isn't some intervals of 300 s"),
@@ -350,6 +354,7 @@ def test_midnight_as_24_00_is_of_the_next_day(tmp_path):
 
 @pytest.mark.parametrize("terms, told", [
     ({"leave_out": ["broken"]}, '--leave-out: expected all or repeated, observed'), ({"leave_out": ["observed=x"]}, "expected observed=NUMBER"),
+    ({"leave_out": ["observed=-0.5"]}, "expected observed=NUMBER"),
     ({"leave_out": ["no-flow=3"]}, "expected no-flow, found"), ({"station": "9"}, "has no station 9, it has 101, 102, 103"),
     ({"dates": ["2019-12-09"]}, "has no 2019-12-09, it has 2019-12-03, 2019-12-04"), ({"dates": ["sunday"]}, "no day of it is of sunday"),
     ({"per": "hour"}, 'count is in vehicles, and per = "hour" is asked'), ({"interval": "7 min"}, "isn't some intervals of 420 s"),
@@ -468,6 +473,7 @@ def test_one_table_in_many_spellings(tmp_path, content, terms):
     (HEAD + DATED + HEAD, {}, 'line 8, time: expected a time such as'), (HEAD + DATED + DATED, {}, "line 8 has the same time as line 2 of station a"),
     ((HEAD + DATED).replace(",", ";").replace(";3\n", ";3,5\n"), {}, 'line 5, count: expected a count, found "3,5"; say decimal = ","'),
     (HEAD + DATED.replace(",3\n", ",1e400\n"), {}, 'line 5, count: expected a count, found "1e400"'), (HEAD + DATED, {"separator": ";;"}, "a separator is one character"),
+    (HEAD + "a,2019-12-31T06:00Z,1\na,31.12.2019 06:05Z,1\n", {"zone": "Europe/Berlin"}, "line 3, time: a time with a zone has a date such as 2019-12-04"),
     (HEAD + "a,2019-02-30T06:00Z,1\n", {"zone": "Europe/Berlin"}, "2019-02-30T06:00Z is of no date"), (HEAD + "a,2019-12-04 06:00,\n", {"interval": "5 min"}, "has no flow in any row"),
     (HEAD + "a,23:55,1\na,00:00,2\n", {}, "line 3 is of an earlier time than line 2, and no dates tell of which day"), ("\ufeff", {}, "no column of times"),
     (HEAD + DATED.replace("2019-12-04 ", ""), {"dates": ["weekdays"]}, "has no dates"), (HEAD + DATED, {"interval": "0 s"}, "an interval is above 0")])

@@ -1,9 +1,13 @@
 """Files of detectors that are odd in one way each: what is read of them, or how they are refused."""
 
+from itertools import product
+
 import numpy
+import pandas
 import pytest
 
 from ctmtools import Problem, read_detectors
+from ctmtools.detectors.missing import _places
 
 HEAD = "station,time,count\n"
 
@@ -64,6 +68,11 @@ def test_stations_whose_clocks_differ_keep_their_rows_where_gaps_are_filled(tmp_
     found = read_detectors(path, missing=missing)
     assert found[["station", "flow"]].values.tolist() == [["a", 12], ["a", 24], ["a", 36], ["b", 36], ["b", flow], ["b", 60]]
     assert found.time.dt.minute.tolist() == [0, 5, 10, 2, 7, 12]
+
+
+def test_each_station_day_and_second_has_a_number_of_its_own():
+    rows = pandas.DataFrame(product("abc", "de", (0, 86400)), columns=["station", "day", "second"])
+    assert len(set(_places(rows.astype({"station": "category", "day": "category"})))) == 12
 
 
 def test_a_day_is_whole_by_the_flows_that_a_station_has(tmp_path):

@@ -4,6 +4,7 @@ import csv
 import importlib.util
 import re
 from fractions import Fraction
+from types import SimpleNamespace
 
 import numpy
 import pandas
@@ -316,6 +317,13 @@ def test_the_picture_can_be_read(program):
         ["A lane drop, demand uncertain", "The same with a hard shoulder"]
     across = [line.get_ydata()[0] for line in picture.axes[1].lines if list(line.get_xdata()) == [0, 1]]
     assert across == picture.axes[1].get_yticks().tolist()[1:] == [0.5, 0.8, 0.95]
+
+
+def test_the_picture_rises_by_a_part_at_each_delay():
+    results = SimpleNamespace(succeeded={"s": numpy.array([5.0, 2.0, 3.0, 9.0])}, titles={"s": "s"}, title="s", count=4)
+    below = draws.draw(results).axes[1]
+    rise = next(line for line in below.lines if len(line.get_xdata()) == 6)
+    assert list(rise.get_xdata())[1:-1] == [2, 3, 5, 9] and list(rise.get_ydata()) == [0, 0.25, 0.5, 0.75, 1, 1]
 
 
 def test_the_function_for_python_gives_what_the_command_writes(tool, program, tmp_path):

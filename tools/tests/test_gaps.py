@@ -6,7 +6,7 @@ from types import SimpleNamespace
 import pytest
 
 from ctmtools.study.gap_kinds import KINDS
-from ctmtools.study.plan import Gaps
+from ctmtools.study.plan import Gaps, Permission
 from ctmtools.yielding.gaps import harders, in_two_stages, passing, siegloch
 from ctmtools.yielding.permitted import Opposing, PermittedGreen, in_span
 
@@ -40,6 +40,14 @@ def test_the_queue_of_those_who_come_towards_clears_as_it_does_by_hand():
     # So its queue is gone at 18.571 s: in no part of the step from 16 to 18 s, in 0.2143 of that to 19 s, and in all of that to 21 s.
     parts = [PermittedGreen._free(SimpleNamespace(cycle=60, step=2), time, later) for time in (17, 18, 20)]
     assert parts == pytest.approx([0, 0.2143, 1], abs=0.0005)
+
+
+def test_nobody_turns_while_the_queue_of_those_who_come_towards_clears():
+    # Of 600 vehicles/h the queue of 30 s of red clears in 600·30/1,200 = 15 s, half of the step around it. Then 600·exp(-0.75)/(1 -
+    # exp(-0.41667)) = 600·0.47237/0.34076 turn.
+    one = SimpleNamespace(gaps=Gaps(Fraction(9, 2), Fraction(5, 2), "harders"))
+    green = PermittedGreen(one, Permission(60, 0, (0, 30), [(0, 30)], 0), 2, 1800)
+    assert green.rates([Opposing((0, 30), 600, 600, 1800)]).tolist()[:15] == [0] * 7 + [pytest.approx(415.9, abs=0.1)] + [pytest.approx(831.7, abs=0.1)] * 7
 
 
 @pytest.mark.parametrize("time, within", [(49, False), (50, True), (5, True), (65, True), (10, False), (20, False)])

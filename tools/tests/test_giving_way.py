@@ -8,6 +8,8 @@ import pytest
 
 from ctmtools import build, read_study
 from ctmtools.imports import sumolib_net
+from ctmtools.imports.gmns import read_folder
+from ctmtools.imports.giving_way import GivesWay
 from ctmtools.imports.streets import LEFT, RIGHT, THROUGH
 from ctmtools.imports.sumo import read_network
 from ctmtools.imports.turning import turn_of
@@ -115,6 +117,14 @@ def test_signs_turns_and_roundabouts_say_the_kind(import_net, terms, wanted):
     import_net(**terms)
     found = yields_of(study()["junctions"][0])["s", "p"]
     assert found == {"yields_to": [["w", "p"]], **wanted}
+
+
+def test_an_entry_into_two_lanes_or_more_of_a_roundabout_has_the_gaps_of_those():
+    one, two, three = ("\n".join(GivesWay({}, "roundabout", 2, 4, False, lanes).terms()) for lanes in (1, 2, 3))
+    assert one == 'kind = "roundabout"' and two == three
+    # By Siegloch 3600/f·exp(-(c - f/2)·v/3600) pass, which the manual has as 1,420·exp(-0.00085·v) (2016, chapter 22).
+    critical, follow_up = (tomllib.loads(two)[key] for key in ("critical_gap", "follow_up"))
+    assert (3600 / follow_up, (critical - follow_up / 2) / 3600) == pytest.approx((1420, 0.00085), rel=1e-3)
 
 
 def test_a_left_turn_where_three_streets_meet_has_the_gaps_of_that(import_net):
@@ -293,6 +303,15 @@ def test_a_control_that_gmns_doesnt_know_is_refused_with_its_place(tool, tmp_pat
     status, _, err = gmns(tool, tmp_path, {**TABLES, "movement": TABLES["movement"].replace("c,signal,\n", "c,yeld,\n")})
     assert status == 2 and 'movement.csv: line 4, ctrl_type: expected no_control, signal, yield, stop, stop_2_way, stop_4_way' in err
     assert 'found "yeld"' in err and not (tmp_path / "n.toml").exists()
+
+
+# In the ring beside it a first phase and 5 s, and then from 15 to 45 s or from 35 to 65 s the one of the street that a to d meets.
+@pytest.mark.parametrize("first, wanted", [(10, {("b", "c")}), (30, set())])
+def test_a_permitted_phase_of_gmns_gives_way_to_greens_that_begin_within_it(tool, tmp_path, first, wanted):
+    phases = TABLES["signal_timing_phase"].partition("p4")[0] + f"p5,day,5,{first},5,2,1,1\np6,day,6,30,5,2,1,2\n"
+    gmns(tool, tmp_path, {**TABLES, "signal_timing_phase": phases, "signal_phase_mvmt": TABLES["signal_phase_mvmt"].replace("p4", "p6")})
+    found = read_folder(tmp_path / "town")
+    assert found.ways["a", "d"].permitted == [(0, 25)] and found.ways["a", "d"].yields == wanted
 
 
 def test_a_permitted_phase_of_gmns_gives_way_in_its_green(tool, tmp_path):

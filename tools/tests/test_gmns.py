@@ -76,6 +76,12 @@ def test_speeds_of_working_days_are_speed_limits(tool, folder):
     assert read_folder(folder).streets["a"].speed == pytest.approx(72.42048)
 
 
+def test_a_speed_of_a_segment_is_none_of_its_link(folder):
+    (folder / "segment_tod.csv").write_text("segment_tod_id,segment_id,link_id,time_day,free_speed\n1,s,a,01111100_0600_0900,30\n")
+    found = read_folder(folder)
+    assert not found.limits and any(note.startswith("segment_tod.csv: 1 speeds by time at links a are left out") for note in found.notes)
+
+
 @pytest.mark.parametrize("start, spans", [("23:00", [(0, 3)]), ("00:00", [(0, 2), (22, 24)]), ("12:00", [(10, 14)])])
 def test_a_limit_over_midnight(start, spans):
     limit = SpeedSpan("a", 22 * 3600, 26 * 3600, 20, by_clock=True)

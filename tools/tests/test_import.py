@@ -145,6 +145,37 @@ def test_a_movement_that_is_never_green_is_closed(tool, files):
     assert report.cells.gone["b-c1"] == 0 and report.cells.gone["a-c1"] > 300
 
 
+def test_two_streets_that_meet_at_a_signal_and_go_on_as_one_have_its_greens(tool, files):
+    text = net().replace('<connection from="a" to="d" fromLane="2" toLane="0"', "<x").replace('"GGr"', '"Grr"')
+    (files / "town.net.xml").write_text(text)
+    tool("import", "sumo", "town.net.xml", "--routes", "town.rou.xml", "--step", "2", "-o", "town.toml")
+    signals = [line.split(",")[1:] for line in build(read_study("town.toml")).text.splitlines() if line.startswith("signal,")]
+    # The cycle of 30 steps begins at step 5: a is green for 15 steps, and b from 17 steps on for 13.
+    assert signals == [["a10", "30", "25", "0", "15"], ["b10", "30", "8", "0", "13"]]
+
+
+def test_who_sets_out_where_two_streets_meet_drives_with_them(tool, files):
+    (files / "town.rou.xml").write_text(ROUTES.replace("</routes>", '<flow id="8" begin="0" end="3600" number="36" from="c" to="e"/></routes>'))
+    (files / "town.net.xml").write_text(net().replace('tl="J"', "").replace('<connection from="a" to="d" fromLane="2" toLane="0"', "<x"))
+    tool("import", "sumo", "town.net.xml", "--routes", "town.rou.xml", "-o", "town.toml")
+    made = build(read_study("town.toml"))
+    report = report_of(plain_model.report(made.text.encode(), 1))
+    assert report.cells.come["in-c"] == pytest.approx(36) and report.total.inside == pytest.approx(0, abs=0.01)
+
+
+def test_a_road_whose_only_way_on_is_never_green_is_closed_in_its_last_cell(tool, files):
+    light = '<tlLogic id="D" type="static" programID="0" offset="0"><phase duration="60" state="r"/></tlLogic>'
+    text = net().replace('from="d" to="g" fromLane="0" toLane="0"', 'from="d" to="g" fromLane="0" toLane="0" tl="D" linkIndex="0"')
+    text = text.replace("<connection", light + "<connection", 1).replace('to="D"><lane index="0" speed="12.5" shape="0,0 9,9" length="250"',
+                                                                        'to="D"><lane index="0" speed="12.5" shape="0,0 9,9" length="1000"')
+    (files / "town.net.xml").write_text(text)
+    (files / "town.rou.xml").write_text('<routes><vehicle id="1" depart="0"><route edges="a d g"/></vehicle></routes>')
+    tool("import", "sumo", "town.net.xml", "--routes", "town.rou.xml", "--step", "2", "--until", "60 min", "-o", "town.toml")
+    limits = [line.split(",") for line in build(read_study("town.toml")).text.splitlines() if line.startswith("limit")]
+    # In 2 s one drives 25 m, a fortieth of 1 km.
+    assert [(row[1], row[2], row[4]) for row in limits] == [("d40", "0", "0")]
+
+
 def test_a_movement_at_a_signal_that_it_does_not_control_is_free(tool, files):
     (files / "town.net.xml").write_text(net().replace('toLane="0" tl="J" linkIndex="2"', 'toLane="0"'))
     out = tool("import", "sumo", "town.net.xml", "--routes", "town.rou.xml", "-o", "town.toml")[1]

@@ -12,13 +12,15 @@ import shutil
 import subprocess
 from math import cos, pi, sin
 from pathlib import Path
+from types import SimpleNamespace
 
 import pytest
 
 from ctmtools import Problem, build, import_osm, queues_of, read_report, read_study
-from ctmtools.imports.osm import box_of, read_map
+from ctmtools.imports.osm import Reader, box_of, read_map
 from ctmtools.imports.osm_roads import CLASSES, classes_of
 from ctmtools.imports.road_names import short_name
+from ctmtools.imports.streets import Street
 
 from .examples import EXAMPLES
 
@@ -96,6 +98,15 @@ def test_a_roundabout_of_one_or_two_arms_is_one(tmp_path, arms):
     assert [street.speed for name, street in found.streets.items() if name.startswith("9")] == [pytest.approx(47.2, abs=0.2)] * 2
     entering = {pair: way for pair, way in found.ways.items() if pair[0] in map(str, arms) and pair[1].startswith("9")}
     assert len(entering) == len(arms) and all(way.ring == 1 and len(way.yields) == 1 for way in entering.values())
+
+
+def test_a_roundabout_of_several_names_has_that_of_its_first_street():
+    streets = {name: Street(name, *ends, 0.05, 1, 30, [(11, 48), (11.001, 48)], title=title)
+               for name, ends, title in (("8", "ab", "Nordring"), ("9", "ba", "Südring"))}
+    ways = dict.fromkeys(streets, SimpleNamespace(tags={"maxspeed": "30"}))
+    own = SimpleNamespace(streets=SimpleNamespace(streets=streets), ways=ways, places=[])
+    Reader._take_roundabout(own, ["a", "b"])
+    assert [(place.kind, place.street) for place in own.places] == [("roundabout", "Nordring")]
 
 
 def test_what_became_of_the_map_is_told_with_its_place():

@@ -39,6 +39,8 @@ def test_an_approach_of_three_movements_parts_twice(tmp_path):
     assert records(made, "merge") == [["n-x1", "w-x1", "x1", "1", "1"], ["n-y1", "e-y1", "y1", "1", "1"],
                                       ["n-z1", "w-z1", "z1", "1", "1"]]
     assert not any(row[0] in ("e-x1", "e-z1", "w-y1") for row in records(made, "road"))
+    # A cell of its own is a road of 250 m, the way of a step at 90 km/h.
+    assert [(made.units.cells[name]["from_km"], made.units.cells[name]["to_km"]) for name in ("n-x1", "n-fork1.1")] == [(0, 0.25)] * 2
     assert made.remarks == ["junctions[1]: 6 movements, 7 cells of its own; driving through takes 10 to 20 s more, a step "
                             "in each cell"]
 

@@ -95,6 +95,7 @@ def test_the_command_and_a_study_with_meters(tool, program, tmp_path):
     rows = list(csv.DictReader((tmp_path / "rates.csv").open()))
     assert [row["time"] for row in rows[:3]] == ["06:00:00", "06:01:00", "06:02:00"] and rows[2]["rate"] == "1214.07"
     report = read_report(tmp_path / "study-metered.report")
+    assert not list(tmp_path.glob("*.png"))
     assert report.recorded and report.title.endswith(", metered") and report.network.limits.cell.tolist().count("r") == 60
     # All of them are held up by the same 4 vehicles a step, wherever they wait.
     assert "The meters don't lower the delay" in out and "isn't metered" not in out

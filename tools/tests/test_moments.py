@@ -10,6 +10,7 @@ from ctmtools.moments.moment import Moment, Row, moment_of
 from ctmtools.network_file.editing import with_records, with_steps
 from ctmtools.network_file.naming import Naming
 from ctmtools.network_file.network import network_of
+from ctmtools.units import Units
 
 from .examples import EXAMPLES
 
@@ -49,6 +50,12 @@ def test_a_network_with_other_steps_and_with_more_records():
     assert with_records(CORRIDOR[:-1], ["limit,in,0,1,1"]) == CORRIDOR + b"limit,in,0,1,1\n"
     with pytest.raises(Problem, match="isn't closed"):
         with_records(CORRIDOR[:-2] + b'"4', ["limit,in,0,1,1"])
+
+
+def test_a_cell_has_the_name_of_its_road_where_the_seconds_of_a_step_are_known_too():
+    cells = {"a": {"road": "m", "from_km": 0.25, "to_km": 0.5}}
+    names = [Naming(network_of(CORRIDOR), Units(step=step, cells=cells)).cell("a") for step in (None, 10)]
+    assert names == ["the road a", "road m from km 0.25 to 0.5"]
 
 
 def plainly(content, steps):

@@ -110,6 +110,19 @@ def test_a_search_that_was_stopped_goes_on(tmp_path, choosing_program):
     assert more.hours(more.run(3, 16)) <= whole.hours(best) and more.runs > 0
 
 
+def test_only_plans_are_tried_that_the_timing_may_have(monkeypatch, program):
+    def judged(self, points):
+        for point in points:
+            self.tried.put(point, Fraction(sum(point)))
+        return [self.tried.delays[point] for point in points]
+
+    # The search goes to the least of all numbers, where the delay is their sum.
+    monkeypatch.setattr(Search, "_judged", judged)
+    search = Search(EXAMPLES / "four-arms.toml")
+    assert sum(search.run(40, 16)) < sum(search.timing.start)
+    assert all(0 <= number <= most for point in search.tried.delays for number, most in zip(point, search.timing.most))
+
+
 def test_rows_of_another_search_stay(tmp_path):
     one = Tried(tmp_path / "tried.csv", "a")
     one.put((1, 2), Fraction(5, 2))

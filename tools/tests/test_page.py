@@ -255,6 +255,11 @@ def test_roads_lie_on_the_map_behind_them(tmp_path, said, own, points):
     data = data_of([reported(corridor(tmp_path, head=head))], Background(said))
     line = next(cell["line"] for cell in cells_of(data) if cell["name"] == "b1")
     assert line[0] == pytest.approx([9 / 180 * 20037508.34, 0], abs=1) and line[1][0] - line[0][0] == pytest.approx(250, rel=0.001)
+    assert not data["schematic"]
+
+
+def test_without_points_the_map_is_schematic(tmp_path):
+    assert data_of([reported(corridor(tmp_path))])["schematic"]
 
 
 def test_a_title_can_not_end_the_script(tmp_path):

@@ -64,6 +64,13 @@ def signalled(*demands):
     return plain_report(text)
 
 
+@pytest.mark.parametrize("vehicles, steps", [(0.15, [9]), (0.09, [])])
+def test_a_tenth_of_a_vehicle_that_waits_for_a_step_stands_in_a_queue(vehicles, steps):
+    # Who comes in step 7 stands before the red of step 9, and leaves in step 10.
+    text = (f"ctm,1\nsteps,40\ngate,g,9,0\nroad,a,60,9,1,5,0\nexit,x,9\nlink,g,a\nlink,a,x\nsignal,a,10,0,0,5\ndemand,g,7,8,{vehicles}\n")
+    assert standing(plain_report(text)).a.to_numpy().nonzero()[0].tolist() == steps
+
+
 def test_a_queue_that_stays_away_for_more_than_two_cycles_is_another():
     # A vehicle stands at the stop line two steps after it came to the gate. The last red before the pause ends with
     # step 39; the first behind it begins with step 55 or 85.

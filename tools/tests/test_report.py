@@ -1,5 +1,8 @@
 """What is read from a report: its records, states, queues, routes and comparisons, against figures on paper."""
 
+import warnings
+from types import SimpleNamespace
+
 import pandas
 import pytest
 
@@ -11,6 +14,7 @@ from ctmtools.report.routes import kilometres, route_of
 from ctmtools.units import Units
 
 from .examples import EXAMPLES, save_report
+from .plain_reports import at_a_light
 
 
 def test_the_states_are_in_the_units_of_the_road(report):
@@ -146,6 +150,19 @@ def test_compare(report):
     assert frame.delay_rise.sum() == pytest.approx(-26.25)
     other = compare(report("event-one"), report("event"))
     assert other.loc["town", "gone_second"] == pytest.approx(3002.000956) and other.loc["e01"].isna().any()
+
+
+def test_where_nobody_waits_nothing_is_divided():
+    with warnings.catch_warnings():
+        warnings.simplefilter("error")
+        assert not at_a_light(0).waited.to_numpy().any()
+
+
+def test_a_cell_of_one_report_alone_rises_from_nothing_or_falls_to_it():
+    one, two = (SimpleNamespace(units=Units(), cells=pandas.DataFrame({"wait": wait, "gone": gone, "come": gone}, index=names))
+                for names, wait, gone in ((["a", "b"], [3, 1], [5, 7]), (["b", "c"], [2, 9], [8, 6])))
+    frame = compare(one, two)
+    assert frame.delay_rise.to_dict() == {"c": 9, "a": -3, "b": 1} and frame.gone_rise.to_dict() == {"c": 6, "a": -5, "b": 1}
 
 
 def test_totals_of_a_report_without_records():

@@ -5,6 +5,7 @@ import subprocess
 import pytest
 
 from ctmtools.files import network_target, report_target
+from ctmtools.first_few import first_few
 from ctmtools.units import units_path
 
 from .corridor import corridor_text
@@ -46,6 +47,10 @@ SLIPS = {
     "closures that overlap": (STUDY + 2 * '[[closures]]\nroad = "m"\nlanes = 1\n',
                               "closures[1] and closures[2] overlap on road m from km 0 to 1, 06:00 to 07:00: 0 of 2 lanes"),
 }
+
+
+def test_of_many_names_three_are_told_and_how_many_more_there_are():
+    assert [first_few("abcde"[:count]) for count in (1, 3, 4, 5)] == ["a", "a, b, c", "a, b, c and 1 more", "a, b, c and 2 more"]
 
 
 @pytest.mark.parametrize("slip", SLIPS)

@@ -3,6 +3,7 @@
 from fractions import Fraction
 
 import numpy
+import pandas
 import pytest
 from scipy import stats
 
@@ -13,8 +14,11 @@ from ctmtools.uncertainty.draw import drawn
 from ctmtools.uncertainty.incident import happened
 from ctmtools.uncertainty.interval import of_mean, of_percentile, of_probability, within
 from ctmtools.uncertainty.key import is_demand, with_drawn
-from ctmtools.uncertainty.reliability import buffer_index, planning_time_index, spread
+from ctmtools.uncertainty.messages import plan_lines
+from ctmtools.uncertainty.reliability import DELAY, buffer_index, planning_time_index, spread
+from ctmtools.uncertainty.results import Results
 from ctmtools.uncertainty.task import Asked, figures
+from ctmtools.uncertainty.uncertainty import Varying
 
 from .corridor import corridor
 from .examples import EXAMPLES
@@ -80,6 +84,15 @@ def test_what_is_drawn_stands_in_the_study(tmp_path):
     assert made["roads"]["m"]["length"] == "19250.000000000 m" and made["roads"]["m"]["sections"] == [{"from": Fraction(15), "lanes": 1}]
 
 
+def test_one_of_a_list_is_drawn_by_its_number_from_1():
+    values = {"signals": [{"offset": 1}, {"offset": 2}]}
+    varying = [Varying("signals.2.offset", False, Given((7,), (1,)))]
+    assert with_drawn(values, varying, {"signals.2.offset": 7}) == {"signals": [{"offset": 1}, {"offset": 7}]}
+    for number in (0, 3):
+        with pytest.raises(Problem, match="there are 2 of these"):
+            with_drawn(values, [Varying(f"signals.{number}.offset", False, Given((7,), (1,)))], {f"signals.{number}.offset": 7})
+
+
 def test_values_that_are_given_may_be_texts(tmp_path):
     found = uncertain(tmp_path, 'key = "roads.m.length"\nvalue = "given"\nvalues = ["17500 m"]')
     assert drawn(found, 1, 1) == {"roads.m.length": "17500 m"}
@@ -125,6 +138,13 @@ def test_indices_of_ten_times():
     times = spread([*(float(time) for time in range(1, 10)), 20.0])
     assert times.percentiles == {50: pytest.approx(5.5), 80: pytest.approx(8.2), 95: pytest.approx(15.05)}
     assert planning_time_index(times, 0.5) == pytest.approx(30.1) and buffer_index(times) == pytest.approx((15.05 - 6.5) / 6.5)
+
+
+@pytest.mark.parametrize("inside, told", [([0, 0], []), ([3, 0], ["In 1 draw vehicles are"]), ([3, 4], ["In 2 draws vehicles are"])])
+def test_it_is_told_in_how_many_draws_vehicles_are_inside_at_the_end(inside, told):
+    rows = pandas.DataFrame({"plan": "s", "draw": [1, 2], "error": "", DELAY: 5.0, "inside_vehicles": inside})
+    found = Results("s", {}, 1, 2, 2, (), {}, {"s": {DELAY: 5.0}}, {"s": {}}, rows, {})
+    assert list(plan_lines(found, "s")) == [f"{line} inside at the end: a part of their delay is still to come." for line in told]
 
 
 def test_intervals_of_textbooks():

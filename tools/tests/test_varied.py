@@ -14,7 +14,7 @@ from .examples import EXAMPLES
 def test_values_are_numbers_or_texts():
     assert variation_of("start", ["06:00", "07:00"]).values == ("06:00", "07:00")
     # What Python adds up in halves of a bit is the decimal that it stands for.
-    assert variation_of("demand", [0.1 + 0.2, 1, "x"]).values == (Fraction(3, 10), 1, "x")
+    assert variation_of("demand", [0.1 + 0.2, 100000.1 + 200000.2, 1, "x"]).values == (Fraction(3, 10), Fraction(3000003, 10), 1, "x")
     assert variation_of("demand", "0:1:0.5").values == (0, Fraction(1, 2), 1)
     assert variation("a=1:2:x").values == ("1:2:x",) and variation("a=1,b, 2").values == (1, "b", 2)
 

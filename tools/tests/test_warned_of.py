@@ -44,6 +44,13 @@ def test_whole_lines(text, line):
     assert line in lines(text)
 
 
+def test_of_a_limit_that_is_the_roads_own_capacity_nothing_more_is_told():
+    # A road of Q 20 that carries 18 for long is told, limit or not.
+    wide = WHOLE.replace("108,18,1,5,0\nexit", "108,20,1,5,0\nexit")
+    assert lines(wide + "limit,b,3,5,20\n") == lines(wide) and len(lines(wide)) == 1
+    assert len(lines(wide + "limit,b,3,5,20.000001\n")) == 2
+
+
 def test_lines_in_the_units_of_a_study():
     assert lines(WHOLE.replace(",6\n", ",37\n"), UNITS) == ["line 10: the demand of gate g from 06:00 on, 13,320 vehicles/h, is far above its capacity of "
                                                             "6,480 vehicles/h"]

@@ -11,6 +11,7 @@ from ctmtools import Problem, read_study
 from ctmtools.program import ask
 from ctmtools.report.queues import queues_in
 from ctmtools.running import run, settled_by_runs
+from ctmtools.study.network_text import Builder
 from ctmtools.yielding.conflicts import flow_of
 from ctmtools.yielding.yielding import Yielding
 
@@ -257,6 +258,12 @@ def test_what_a_study_cant_mean_is_refused_with_its_place(tmp_path, more, why):
     with pytest.raises(Problem) as refused:
         read_study(write(tmp_path, CROSSING.format(more=more)))
     assert why in str(refused.value) and "junctions[1]" in str(refused.value)
+
+
+def test_of_many_who_do_not_give_way_eight_are_told_and_how_many_more_there_are():
+    study = SimpleNamespace(meters=[], actuated=[], yields=[SimpleNamespace(name=f"y{number}", capacities=None) for number in range(10)])
+    told = list(Builder._left_out(SimpleNamespace(study=study)))
+    assert len(told) == 9 and told[7].startswith("y7: ") and told[8] == "and 2 more who don't give way in this network"
 
 
 def test_build_tells_that_nobody_gives_way_yet(tmp_path, tool):

@@ -6,6 +6,7 @@ import datetime
 import re
 import zoneinfo
 from dataclasses import dataclass
+from typing import TypeGuard
 
 import numpy
 import pandas
@@ -89,6 +90,11 @@ def _days(source: Source, found: Format, rows: pandas.DataFrame,
     return [one.day if one else None for one in moments], codes
 
 
+def _has_year(one: Day | None) -> TypeGuard[tuple[int, int, int]]:
+    """Whether a day begins with its year."""
+    return isinstance(one, tuple) and one[0] > 31
+
+
 def _local(source: Source, found: Format, times: pandas.Series, moments: list[Moment | None],
            zone: zoneinfo.ZoneInfo) -> tuple[list[Moment | None], list[bool]]:
     """Moments with an offset as the clocks of a zone show them, and which are of an hour that comes a second time."""
@@ -99,10 +105,10 @@ def _local(source: Source, found: Format, times: pandas.Series, moments: list[Mo
             local.append(None)
             folds.append(False)
             continue
-        line = times.index[(times == text).to_numpy().argmax()] if one.zone is None or one.day is None else 0
+        line = times.index[(times == text).to_numpy().argmax()] if one.zone is None or not _has_year(one.day) else 0
         if one.zone is None:
             raise Problem(f"{source.path}: line {line}, {found.time.name}: has no zone, and others have one")
-        if one.day is None or isinstance(one.day, str) or one.day[0] <= 31:
+        if not _has_year(one.day):
             raise Problem(f"{source.path}: line {line}, {found.time.name}: a time with a zone has a date such as 2019-12-04")
         offset = re.fullmatch(r"([+-])([0-9]{2}):?([0-9]{2})", "+00:00" if one.zone == "Z" else one.zone)
         assert offset
