@@ -1,14 +1,14 @@
--- The space of a place, and the room that it stands for.
+-- The space of a cell, and the room that it stands for.
 use Rattle.std.specs.Prelude.{◌≡◌, ℕ, ◌+◌, ◌-◌, ◌*◌, ◌/◌, ◌^◌, ◌≤◌, Option, Some, None}
 use Rattle.ordinary_link.specs.Space.{space_flow}
 use Rattle.ordinary_link.specs.declared.space.Room.{Room}
 use Rattle.connector_flow.specs.declared.space.Space.{Space}
 
--- what a place without a room may hold in all, 2^62 parts
+-- what a cell without a room may hold in all, 2^62 parts
 abbrev pub boundless : ℕ
 boundless = 4_611_686_018_427_387_904
 
--- what the empty space of a place that holds `n` parts lets in: the high word of a product of 64 bits each
+-- what the empty space of a cell that holds `n` parts lets in: the high word of a product of 64 bits each
 abbrev pub let_in : Space → (n : ℕ) → ℕ
 let_in space n = (space.storage - n) * space.factor / 2 ^ 64
 

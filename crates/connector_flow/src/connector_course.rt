@@ -127,7 +127,7 @@ impl ConnectorCourse {
     }
 
     /// A step before which the connector carries nothing as long as its cells hold `n` parts: 0 where it carries something.
-    /// Where no speed slows it, it is `u64::MAX` if nothing changes, or nothing is there to send.
+    /// Where no cell upstream has speed records, it is `u64::MAX` if nothing changes, or nothing is there to send.
     pub fn idle_until(&self, n: [u64; 3]) -> u64
         ensures { (s : ℕ) → self.now.step ≤ s → s < result → flow_at self.now s n ≡ no_flow }
     {

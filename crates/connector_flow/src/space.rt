@@ -5,20 +5,20 @@ ghost use Rattle.connector_flow.specs.Space.{IsSpaceOf, let_in};
 
 use ordinary_link::{MOST_PARTS, Room};
 
-/// A place without a room lets in all that comes as long as it holds no more than this in all, in parts.
+/// A cell without a room lets in all that comes as long as it holds no more than this in all, in parts.
 pub(crate) const BOUNDLESS: u64 = 4_611_686_018_427_387_904;
 
-/// The room of a place, as a sweep asks for it: with a factor in place of the ratio, so that no step divides.
+/// The room of a cell, as a flow asks for it: with a factor in place of the ratio, so that no step divides.
 #[derive(Clone, Copy)]
 pub struct Space {
-    /// The most parts that the place holds, and one more where its ratio is 1.
+    /// The most parts that the cell holds, and one more where its ratio is 1.
     pub storage: u64,
-    /// The ratio times 2^64, rounded up.
+    /// The ratio times 2^64, rounded up or one more; `u64::MAX` where the ratio is 1 or there is no room.
     pub factor: u64,
 }
 
 impl Space {
-    /// The space of a place with this room, or of one without a room.
+    /// The space of a cell with this room, or of one without a room.
     pub fn of(room: Option<Room>) -> Space
         requires ratio { ForSome room (IsRoomHolding 0) }
         requires amount { ForSome room (λ r. r.most ≤ MOST_PARTS) }
@@ -52,7 +52,7 @@ impl Space {
         }
     }
 
-    /// What the empty space of a place that holds `n` parts lets in.
+    /// What the empty space of a cell that holds `n` parts lets in.
     #[inline(always)]
     pub fn let_in(self, n: u64) -> u64
         requires fits { n ≤ self.storage }

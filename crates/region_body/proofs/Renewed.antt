@@ -14,7 +14,7 @@ use Rattle.region_body.specs.Chains.{AreAround, is_joined, most_out}
 use Rattle.region_body.specs.Followed.{AreFollowed, IsThere}
 use Rattle.region_body.specs.declared.followed.FollowedLink.{FollowedLink}
 use Rattle.region_body.specs.Placed.{ArePlaced, PlacedCells}
-use Rattle.region_body.specs.Speeds.{AreSpeedsNow, AreSpeedsAsBefore, AreSpeedsOf, IsSpeedThere, at_speeds, cell_speed, is_listed, is_slow, slowed_place, speed_of}
+use Rattle.region_body.specs.Speeds.{AreSpeedsInForce, AreSpeedsAsBefore, AreSpeedsOf, IsSpeedThere, at_speeds, cell_speed, is_listed, is_slow, slowed_place, speed_of}
 use Rattle.region_body.specs.declared.followed_speed.FollowedSpeed.{FollowedSpeed}
 use Rattle.region_body.proofs.AtSpeeds.{at_speeds-at, length-at_speeds}
 use Rattle.region_body.proofs.Extending.{most-by}
@@ -113,7 +113,7 @@ pub record IsRenewal (t : ℕ) (placed : PlacedCells) (new : Renewal) : Type 0 w
   pub as_before : AreSpeedsAsBefore placed.speed_courses new.courses
   pub later : t < new.until
   pub in_force : (speed : ℕ → ℕ → ℕ × ℕ) → All (λ one. (s : ℕ) → value_at one.course s ≡ speed one.place s) placed.speed_courses →
-      AreSpeedsNow speed placed.speed_courses placed.speeds t placed.speeds_until → AreSpeedsNow speed placed.speed_courses new.speeds t new.until
+      AreSpeedsInForce speed placed.speed_courses placed.speeds t placed.speeds_until → AreSpeedsInForce speed placed.speed_courses new.speeds t new.until
   pub others : (p : ℕ) → is_listed placed.speed_courses p ≡ false → speed_of new.speeds p ≡ speed_of placed.speeds p
 
 -- places, links and speeds in step t

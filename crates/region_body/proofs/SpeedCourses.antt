@@ -6,7 +6,7 @@ use Rattle.std.proofs.lemmas.List.{get_or_default, get_or-set_other, get_or-set_
 use Rattle.std.proofs.lemmas.List.Folds.{Any-from_list_any, list_any-append, list_any_more}
 use Rattle.signal_plan.specs.Speeds.{IsSpeed}
 use Rattle.courses.specs.Courses.{Course, value_at}
-use Rattle.region_body.specs.Speeds.{AreSpeedsNow, AreSpeedsAsBefore, IsSpeedAsBefore, IsSpeedThere, is_listed, speed_of}
+use Rattle.region_body.specs.Speeds.{AreSpeedsInForce, AreSpeedsAsBefore, IsSpeedAsBefore, IsSpeedThere, is_listed, speed_of}
 use Rattle.region_body.specs.declared.followed_speed.FollowedSpeed.{FollowedSpeed}
 
 -- one speed more
@@ -37,7 +37,7 @@ pub record AreWritten (first_courses courses : List FollowedSpeed) (first speeds
   pub as_before : AreSpeedsAsBefore first_courses courses
   pub later : t < until
   pub in_force : (speed : ℕ → ℕ → ℕ × ℕ) → All (λ one. (s : ℕ) → value_at one.course s ≡ speed one.place s) first_courses →
-      AreSpeedsNow speed (take j first_courses) speeds t until
+      AreSpeedsInForce speed (take j first_courses) speeds t until
   pub others : (p : ℕ) → is_listed (take j first_courses) p ≡ false → speed_of speeds p ≡ speed_of first p
 
 -- one more

@@ -23,7 +23,7 @@ slowed_place place speed = record place { most = min place.most (arriving speed 
 unfoldable pub at_speeds : List Place → (speeds : List (ℕ × ℕ)) → List Place
 at_speeds places speeds = map (λ p. slowed_place (place_at places p) (speed_of speeds p)) (range_with_len 0 (length places))
 
--- runs of places outside of which all speeds are 1/1, and inside of which the factors of the speeds will do
+-- runs of places outside of which, but for the last place, all speeds are 1/1, and inside of which the factors of the speeds will do
 pub record CanSweep (places : List Place) (speeds : List (ℕ × ℕ)) (runs : List Run) : Type 0 where
   pub slow : ℕ → Bool
   pub laid : AreRuns slow (length places - 1) runs
@@ -51,15 +51,15 @@ pub record AreSpeedsAsBefore (old new : List FollowedSpeed) : Type 0 where
   pub each : (k : ℕ) (d : FollowedSpeed) → k < length old → IsSpeedAsBefore (slice_index_or old k d) (slice_index_or new k d)
 
 -- from step t until another each of these places has its speed
-abbrev pub AreSpeedsNow : (speed : ℕ → ℕ → ℕ × ℕ) → (courses : List FollowedSpeed) → (speeds : List (ℕ × ℕ)) → (t until : ℕ) → Type 0
-AreSpeedsNow speed courses speeds t until =
+abbrev pub AreSpeedsInForce : (speed : ℕ → ℕ → ℕ × ℕ) → (courses : List FollowedSpeed) → (speeds : List (ℕ × ℕ)) → (t until : ℕ) → Type 0
+AreSpeedsInForce speed courses speeds t until =
     (p : ℕ) → is_listed courses p ≡ true → (s : ℕ) → t ≤ s → s < until → speed_of speeds p ≡ speed p s
 
 -- the speed in the p-th of these cells in step t
 abbrev pub cell_speed : Network → (cells : List ℕ) → (p t : ℕ) → ℕ × ℕ
 cell_speed net cells p t = speed_at net.plan (slice_index cells p) t
 
--- whether it has speed records that count: out of an exit nothing is sent
+-- whether it has speed records and is no exit: an exit has none, which IsNetwork doesn't say
 abbrev pub is_slow : Network → (cells : List ℕ) → (p : ℕ) → Bool
 is_slow net cells p = has_speeds net.plan (slice_index cells p) && not (is_exit_at net.cells (slice_index cells p))
 
@@ -76,5 +76,5 @@ pub record AreSpeedsOf (net : Network) (cells : List ℕ) (courses : List Follow
   pub values : All (λ one. (s : ℕ) → value_at one.course s ≡ cell_speed net cells one.place s) courses
   pub slow : All (λ one. is_slow net cells one.place ≡ true) courses
   pub whole : (p : ℕ) → p < length cells → is_slow net cells p ≡ true → is_listed courses p ≡ true
-  pub in_force : AreSpeedsNow (cell_speed net cells) courses speeds t until
+  pub in_force : AreSpeedsInForce (cell_speed net cells) courses speeds t until
   pub others : (p : ℕ) → is_listed courses p ≡ false → speed_of speeds p ≡ (1, 1)

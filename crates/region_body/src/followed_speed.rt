@@ -1,7 +1,7 @@
 ghost use Rattle.std.specs.Prelude.{◌≡◌, ◌<◌, ◌≤◌, ℕ, All, false, length};
 ghost use Rattle.signal_plan.specs.Speeds.{IsSpeed};
 ghost use Rattle.courses.specs.Courses.{value_at};
-ghost use Rattle.region_body.specs.Speeds.{AreSpeedsNow, AreSpeedsAsBefore, IsSpeedAsBefore, IsSpeedThere, is_listed, speed_of};
+ghost use Rattle.region_body.specs.Speeds.{AreSpeedsInForce, AreSpeedsAsBefore, IsSpeedAsBefore, IsSpeedThere, is_listed, speed_of};
 
 use crate::speed_factor::SpeedFactor;
 use courses::Timeline;
@@ -16,7 +16,7 @@ pub(crate) struct FollowedSpeed {
     pub(crate) course: Timeline<(u32, u32)>,
 }
 
-/// Follows these speeds to step `t`, where one of them may change by then, and tells up to which step none does.
+/// Follows these speeds to step `t` and tells up to which step none changes. Before `until` none does, and nothing is done.
 pub(crate) fn follow_speeds(
     t: u64,
     courses: &mut [FollowedSpeed],
@@ -32,7 +32,7 @@ pub(crate) fn follow_speeds(
 
     // Where the speed is `speed` by place and step, it is in force up to the step that is told.
     ensures in_force { (speed : ℕ → ℕ → ℕ × ℕ) → All (λ one. (s : ℕ) → value_at one.course s ≡ speed one.place s) courses.old →
-        AreSpeedsNow speed courses.old speeds.old t until → AreSpeedsNow speed courses.old speeds.new t result }
+        AreSpeedsInForce speed courses.old speeds.old t until → AreSpeedsInForce speed courses.old speeds.new t result }
     ensures others { (p : ℕ) → is_listed courses.old p ≡ false → speed_of speeds.new p ≡ speed_of speeds.old p }
 {
     if t < until {
@@ -50,7 +50,7 @@ fn follow_all_speeds(t: u64, courses: &mut [FollowedSpeed], speeds: &mut [SpeedF
     ensures as_before { AreSpeedsAsBefore courses.old courses.new }
     ensures later { t < result }
     ensures in_force { (speed : ℕ → ℕ → ℕ × ℕ) → All (λ one. (s : ℕ) → value_at one.course s ≡ speed one.place s) courses.old →
-        AreSpeedsNow speed courses.old speeds.new t result }
+        AreSpeedsInForce speed courses.old speeds.new t result }
     ensures others { (p : ℕ) → is_listed courses.old p ≡ false → speed_of speeds.new p ≡ speed_of speeds.old p }
 {
     let mut until = u64::MAX;

@@ -51,7 +51,7 @@ fn flow_from(places: &[Place], speeds: &[SpeedFactor], p: usize) -> u64
     }
 }
 
-// What the link out of this place, the p-th, can carry of what it holds.
+// What the link out of this place, the `p`-th, can carry of what comes to the end of its cell.
 fn sent_from(place: &Place, speeds: &[SpeedFactor], p: usize) -> u64
     ensures { result ≡ min (slowed_place place.now (speed_of speeds.now p)).most place.now.n }
 {

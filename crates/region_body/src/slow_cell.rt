@@ -4,7 +4,7 @@ ghost use Rattle.region_body.specs.Speeds.{is_slow};
 
 use network_file::{Kind, Net};
 
-/// Whether the `p`-th of these cells has speed records that count: out of an exit nothing is sent.
+/// Whether the `p`-th of these cells has speed records and is no exit. An exit has none, which `IsNetwork` doesn't say.
 pub(crate) fn is_slow(net: &Net, cells: &[u32], p: usize) -> bool
     requires within { p < length cells.now }
     requires there { All (λ i. i < length net.now.cells) cells.now }

@@ -4,8 +4,8 @@ ghost use Rattle.signal_plan.specs.Speeds.{IsSpeed, arriving};
 use flow_model::arriving;
 use std::marker::Model;
 
-/// A speed as a ratio to that of its road, at most 1/1, with a factor in place of the ratio, so that a step divides only where a
-/// cell holds more than a road may. The factor is of 2^63: of 2^64 that of 1/1 would be too large.
+/// A speed as a ratio to that of its road, at most 1/1, with a factor beside the ratio, so that a step divides only where a
+/// cell holds 2^53 parts or more. The factor is of 2^63: of 2^64 that of 1/1 would be too large.
 #[derive(Clone, Copy)]
 pub(crate) struct SpeedFactor {
     num: u32,

@@ -14,15 +14,15 @@ use std::alloc::Global;
 /// The speeds of a region's places.
 #[derive(Drop)]
 pub(crate) struct Speeds {
-    /// The speed at each place now, or none where no cell has speed records.
+    /// The speed at each place, 1/1 until it is followed; none where no cell has speed records.
     pub(crate) now: Vec<SpeedFactor>,
-    /// Where places lie whose cells have some.
+    /// Where places lie whose cells have some, but for the last place.
     pub(crate) runs: Vec<Run>,
     /// The speeds in these cells as they change.
     pub(crate) courses: Vec<FollowedSpeed>,
 }
 
-/// The speeds of these cells, as they are placed, not followed to any step yet.
+/// The speeds of these cells, as they are placed, followed to step 0 and none written yet.
 pub(crate) fn speeds_of(alloc: Global, net: &Net, cells: &[u32]) -> Result<Speeds, NoMemory>
     requires there { All (λ i. i < length net.now.cells) cells.now }
     requires few { length cells.now < 2 ^ 32 }

@@ -1,5 +1,5 @@
-//! The modes that take no regions through their steps: `check`, `convert`, `cut` and `choose`. Each has a file here and its
-//! definition of the same name in specs/, and answers an input with the text, or says why there is none.
+//! The modes without workers of a field: `check`, `convert`, `cut` and `choose`. Each has a file here and its definition of
+//! the same name in specs/, and answers an input with the text, or says why there is none.
 //!
 //! A choice runs its networks in one region each.
 #![tactic(auto)]
