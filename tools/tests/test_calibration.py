@@ -225,6 +225,11 @@ def test_the_triangle_of_known_states_is_found(tmp_path, noise, off):
     assert found.rows == 280 and found.queued == pytest.approx(80, abs=6 if noise else 1)
 
 
+def test_flows_and_densities_of_all_lanes_are_parted_among_them(tmp_path):
+    (tmp_path / "d.csv").write_text("Flow,Density\n" + 4 * "1800,18\n3600,90\n")
+    assert read_states(tmp_path / "d.csv", lanes=3)[["flow", "density"]].values.tolist() == 4 * [[600, 6], [1200, 30]]
+
+
 def test_three_rows_of_queued_traffic_are_enough_for_a_triangle():
     """Free traffic of 100 km/h up to 2,000 vehicles/h, and waves of 20 km/h from a jam of 120 vehicles/km."""
     free, queued = numpy.arange(2, 21, 2), numpy.array([60, 80, 100])

@@ -169,7 +169,7 @@ def test_two_plans_have_the_same_draws_and_are_compared_draw_by_draw(tool, progr
     demand = 1500 * frame.demand.s
     less = delay(demand) - numpy.where(demand > 1400, demand * (demand - 1400) / 2800, 0)
     assert numpy.abs(frame.delay_vehicle_hours.s - frame.delay_vehicle_hours.wide - less).max() < 0.1
-    assert "wide has less delay than s in 100% of draws (95 % interval 91 to 100 %)" in out
+    assert "\ns:\n" in out and "\nwide:\n" in out and "wide has less delay than s in 100% of draws (95 % interval 91 to 100 %)" in out
     told = re.search(r"It has ([\d.]+) vehicle-hours less in the mean, 95 % interval ([\d.]+) to ([\d.]+); in 95 % of draws ([\d.]+) to ([\d.]+)", out)
     mean, low, high, least, most = map(float, told.groups())
     assert mean == pytest.approx(less.mean(), abs=0.1)
@@ -324,6 +324,9 @@ def test_the_picture_rises_by_a_part_at_each_delay():
     below = draws.draw(results).axes[1]
     rise = next(line for line in below.lines if len(line.get_xdata()) == 6)
     assert list(rise.get_xdata())[1:-1] == [2, 3, 5, 9] and list(rise.get_ydata()) == [0, 0.25, 0.5, 0.75, 1, 1]
+    # Halfway, four fifths and 0.95 of the three ways between them lie 1.5, 2.4 and 2.85 ways behind the first.
+    marks = next(line for line in below.lines if line.get_marker() == "o")
+    assert list(marks.get_xdata()) == pytest.approx([4, 6.6, 8.4]) and list(marks.get_ydata()) == pytest.approx([0.5, 0.8, 0.95])
 
 
 def test_the_function_for_python_gives_what_the_command_writes(tool, program, tmp_path):

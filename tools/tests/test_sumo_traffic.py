@@ -238,3 +238,8 @@ def test_networks_that_cannot_be_meant_are_refused(tool, tmp_path, text, wanted)
     (tmp_path / "n.net.xml").write_text(text)
     status, out, err = tool("import", "sumo", "n.net.xml")
     assert status == 2 and wanted in err and len(err.splitlines()) == 1 and not (tmp_path / "n.toml").exists()
+
+
+@pytest.mark.parametrize("kind, may", [("bus", True), ("taxi", True), ("passenger", False), ("ignoring", True)])
+def test_who_may_drive_where_buses_and_taxis_do(kind, may):
+    assert Routes._may(frozenset({"bus", "taxi"}), kind) == may
