@@ -203,6 +203,6 @@ def test_a_queue_passes_the_places_that_it_stood_before(tmp_path):
 
 
 def test_too_many_incidents_are_told(tmp_path, report):
-    found = uncertain(tmp_path, 'incidents = "m"\nrate = 40_000_000\nduration = "20 min"\nlanes = 1', base=(EXAMPLES / "bottleneck.toml").read_text())
-    with pytest.raises(Problem, match="3,870,000 incidents in a run; it is for a million vehicle-km"):
+    found = uncertain(tmp_path, 'incidents = "m"\nrate = 12_000\nduration = "20 min"\nlanes = 1', base=(EXAMPLES / "bottleneck.toml").read_text())
+    with pytest.raises(Problem, match="1,161 incidents in a run; it is for a million vehicle-km"):
         happened(found.incidents, report("bottleneck"), read_study(EXAMPLES / "bottleneck.toml"), 1, 1)
