@@ -11,3 +11,4 @@ pub mod Opened
 pub mod Advance
 pub mod Laws
 pub mod Standing
+pub mod Regions

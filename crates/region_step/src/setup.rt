@@ -12,31 +12,31 @@ use std::marker::Model;
 /// What regions are opened with: a network that is cut, where they start, each at a step of its own, and how often they are
 /// recorded. They fit the network, and neighbours start at most one step apart.
 #[derive(Drop)]
-pub struct Setup<'l> {
-    layout: &'l Layout<'l>,
+pub struct Setup<'n> {
+    layout: Layout<'n>,
     start: Start,
     every: u64,
 }
 
-impl<'l> Model for Setup<'l> {
+impl<'n> Model for Setup<'n> {
     ghost use Rattle.region_cut.specs.LawfulSteps.{AreLawful};
-    ghost use Rattle.region_step.specs.Setup.{SetupValue};
+    ghost use Rattle.region_step.specs.Setup.{SetupValue, setup_of};
     ghost use Rattle.region_step.specs.Start.{Fits};
 
     ghost Value = { SetupValue };
 
-    ghost view = { λ setup. record { net = setup.layout.now.net; chart = setup.layout.now.chart; start = setup.start; every = setup.every } };
+    ghost view = { λ setup. setup_of setup.layout setup.start setup.every };
 
-    ghost invariant = { λ setup. Fits setup.layout.now.net setup.layout.now.chart.cut setup.start
-        × AreLawful setup.layout.now.net setup.layout.now.chart.cut setup.start.steps };
+    ghost invariant = { λ setup. Fits setup.layout.net setup.layout.chart.cut setup.start
+        × AreLawful setup.layout.net setup.layout.chart.cut setup.start.steps };
 }
 
-impl<'l> Setup<'l> {
+impl<'n> Setup<'n> {
     /// Regions that start so. They are recorded at each step that `every` divides and at the last one, never where `every` is 0.
-    pub fn new(layout: &'l Layout<'l>, start: Start, every: u64) -> Setup<'l>
-        requires fits { Fits layout.now.net layout.now.chart.cut start }
-        requires lawful { AreLawful layout.now.net layout.now.chart.cut start.steps }
-        ensures { result ≡ setup_of layout.now start every }
+    pub fn new(layout: Layout<'n>, start: Start, every: u64) -> Setup<'n>
+        requires fits { Fits layout.net layout.chart.cut start }
+        requires lawful { AreLawful layout.net layout.chart.cut start.steps }
+        ensures { result ≡ setup_of layout.entry start every }
     {
         Setup {
             layout,
@@ -46,19 +46,20 @@ impl<'l> Setup<'l> {
     }
 
     /// Regions that all start at step 0.
-    pub fn zero(alloc: Global, layout: &'l Layout<'l>, every: u64) -> Result<Setup<'l>, NoMemory>
-        ensures setup { IfOk result (λ setup. setup ≡ zero_setup layout.now every) }
+    pub fn zero(alloc: Global, layout: Layout<'n>, every: u64) -> Result<Setup<'n>, NoMemory>
+        ensures setup { IfOk result (λ setup. setup ≡ zero_setup layout.entry every) }
+        ensures true_start { IfOk result (λ setup. IsTrueStart setup.net setup.chart.cut setup.start) }
     {
-        let start = Start::zero(alloc, layout)?;
+        let start = Start::zero(alloc, &layout)?;
         Ok(Setup::new(layout, start, every))
     }
 
     /// The network that is cut.
-    pub fn layout(&self) -> &'l Layout<'l>
+    pub fn layout(&self) -> &Layout<'n>
         ensures network { result.now.net ≡ self.now.net }
         ensures chart { result.now.chart ≡ self.now.chart }
     {
-        self.layout
+        &self.layout
     }
 
     /// Where the regions start.
