@@ -1,14 +1,13 @@
 ghost use Rattle.std.specs.Prelude.{◌≡◌, ◌+◌, ◌<◌, ◌≤◌, ◌^◌, IfOk, IsOk, [], length};
 ghost use Rattle.region_cut.specs.Cuttings.{region_count};
-ghost use Rattle.region_step.specs.Setup.{zero_setup};
 ghost use Rattle.region_step.specs.Regions.{AreAtLast};
-ghost use Rattle.region_step.specs.Start.{IsTrueStart, zero_start};
+ghost use Rattle.region_step.specs.Start.{zero_start};
 ghost use Rattle.snapshot.specs.Rooms.{IsRoomFor};
 ghost use Rattle.snapshot.specs.Shots.{goal_of};
 ghost use Rattle.shot_lines.specs.Shots.{AreShots};
 ghost use Rattle.worker_claim.specs.Driving.{AllReach};
 ghost use Rattle.region_slots.specs.Moments.{AreTold, cut_run};
-ghost use Rattle.network_run.specs.Telling.{HasTold, HasToldShots, zero_run};
+ghost use Rattle.network_run.specs.Telling.{HasTold, HasToldShots};
 
 use crate::run::Run;
 use network_file::Net;
@@ -30,28 +29,26 @@ pub struct Watched<'n> {
     pub regions: Regions<'n>,
 }
 
-/// As `last_regions`, with so many shots on the way. The goals divide the steps evenly, rounded down; each shot is taken
-/// between a goal and the next, and at no step past it. All memory but that of the text is taken before the first step,
-/// but for what the workers' deques may ask for and do without.
+/// The regions of a setup at the last step, taken there from step 0 by so many workers, with so many shots on the way. The
+/// goals divide the steps evenly, rounded down; each shot is taken between a goal and the next, and at no step past it. All
+/// memory but that of the text is taken before the first step, but for what the workers' deques may ask for and do without.
 pub fn watched_regions<'n, R: Threads + Sync, W: Observer>(
     rt: &R,
     alloc: Global,
-    layout: Layout<'n>,
-    every: u64,
+    setup: Setup<'n>,
     workers: u32,
     shots: u32,
     observer: &W,
 ) -> Result<Watched<'n>, NoMemory>
+    requires zero { setup.start ≡ zero_start setup.net setup.chart.cut }
     requires workers { (1 ≤ workers) × (workers ≤ 16) }
     requires shots { (1 ≤ shots) × (shots + 1 < 2 ^ 32) }
-    ensures shots { IfOk result (λ watched. AreShots layout.entry.net layout.entry.chart.cut shots watched.shots.items) }
-    ensures setup { IfOk result (λ watched. watched.regions.setup ≡ zero_setup layout.entry every) }
-    ensures true_start { IfOk result (λ watched. IsTrueStart watched.regions.setup.net watched.regions.setup.chart.cut watched.regions.setup.start) }
+    ensures setup { IfOk result (λ watched. watched.regions.setup ≡ setup.entry) }
     ensures last { IfOk result (λ watched. AreAtLast watched.regions) }
-    ensures told { IsOk result → HasTold (W.told_held observer.now) (W.told_freed observer.now) (zero_run layout.entry.net layout.entry.chart.cut every) layout.entry.net.steps }
-    ensures told_shots { IsOk result → HasToldShots (W.told_watched observer.now) (zero_run layout.entry.net layout.entry.chart.cut every) shots }
+    ensures shots { IfOk result (λ watched. AreShots setup.entry.net setup.entry.chart.cut shots watched.shots.items) }
+    ensures told { IsOk result → HasTold (W.told_held observer.now) (W.told_freed observer.now) (cut_run setup.entry) setup.entry.net.steps }
+    ensures told_shots { IsOk result → HasToldShots (W.told_watched observer.now) (cut_run setup.entry) shots }
 {
-    let setup = Setup::zero(alloc, layout, every)?;
     let mut room = ShotRoom::new(alloc, setup.layout())?;
     let mut run = Run::open(alloc, &setup, workers)?;
     let mut text = Vec::new(alloc);
