@@ -40,7 +40,7 @@ pub(crate) fn on_field<R: Abort + Threads + Sync>(
     assert!(rt; text.len() <= MOST_BYTES);
     let net = Net::read(alloc, text)?;
     let layout = charted(alloc, &net, 1)?;
-    open(rt, alloc, &layout, trial)?;
+    open(rt, alloc, layout, trial)?;
     Ok(())
 }
 
@@ -48,11 +48,11 @@ pub(crate) fn on_field<R: Abort + Threads + Sync>(
 fn open<R: Abort + Threads + Sync>(
     rt: &R,
     alloc: Global,
-    layout: &Layout,
+    layout: Layout<'_>,
     trial: Trial,
 ) -> Result<(), NoMemory> {
     let net = layout.net();
-    let mut room = ShotRoom::new(alloc, layout)?;
+    let mut room = ShotRoom::new(alloc, &layout)?;
     let setup = Setup::zero(alloc, layout, 0)?;
     let (field, pass) = Field::open(alloc, &setup, 2)?;
     make(rt, alloc, net, field, pass, &mut room, trial);

@@ -1,9 +1,7 @@
 -- What contracts see of a run.
-use Rattle.std.specs.Prelude.{ℕ, ◌+◌, ◌<◌, ◌≤◌, List, slice_index}
+use Rattle.std.specs.Prelude.{◌≡◌, ℕ, ◌+◌, ◌<◌, ◌≤◌, List, replicate, slice_index}
 use Rattle.std.specs.List.{Contains}
 use Rattle.region_cut.specs.Cuttings.{region_count}
-use Rattle.region_step.specs.Region.{RegionValue}
-use Rattle.region_step.specs.Standing.{AllStandAt}
 use Rattle.border_rows.specs.declared.view.PublishedStep.{PublishedStep}
 use Rattle.border_rows.specs.declared.view.Terms.{Terms}
 use Rattle.border_rows.specs.declared.view.View.{View}
@@ -19,12 +17,12 @@ abbrev pub HasLogged : (count : ℕ) → (starts : List ℕ) → (goal : ℕ) �
 HasLogged count starts goal log =
     (r s : ℕ) → r < count → slice_index starts r ≤ s → s < goal → Contains log (record { region = r; step = s + 1 })
 
--- its regions stand at any goal that all have come to, where none started or went past it
-abbrev pub StandWhereTheyCame : RunValue → List RegionValue → Type 0
-StandWhereTheyCame run regions =
+-- at these steps its regions are at any goal that all have come to, where none started or went past it
+abbrev pub AreWhereTheyCame : RunValue → (steps : List ℕ) → Type 0
+AreWhereTheyCame run steps =
     (goal : ℕ) → AllReach (region_count run.terms.setup.now.chart.cut) goal run.knows → run.knows.reach ≤ goal →
     ((r : ℕ) → r < region_count run.terms.setup.now.chart.cut → slice_index run.terms.setup.now.start.steps r ≤ goal) →
-    AllStandAt run.terms.setup.now goal regions
+    steps ≡ replicate (region_count run.terms.setup.now.chart.cut) goal
 
 -- and up to such a goal its log is whole
 abbrev pub IsLoggedWhereTheyCame : RunValue → Type 0

@@ -7,7 +7,7 @@ ghost use Rattle.snapshot.specs.Snapshots.{IsSnapshot};
 ghost use Rattle.worker_claim.specs.Driving.{AllReach};
 ghost use Rattle.region_slots.specs.Moments.{AreTold, cut_run};
 ghost use Rattle.network_run.specs.Near.{near_end};
-ghost use Rattle.network_run.specs.Telling.{HasTold, zero_run};
+ghost use Rattle.network_run.specs.Telling.{HasTold};
 
 use crate::run::Run;
 use no_memory::NoMemory;
@@ -21,29 +21,30 @@ use std::thread::Threads;
 /// How many steps past a step its snapshot may show a region.
 const NEAR: u64 = 4;
 
-/// A room with a snapshot of the regions of a layout near the step `until`, or near the last step where that comes first. So
+/// A room with a snapshot of the regions of a setup near the step `until`, or near the last step where that comes first. So
 /// many workers take all regions there from step 0. Then the snapshot is taken while they go on, so it has each region at
 /// that step or at most four steps past it. The observer is told of each step before `until`.
 pub fn room_near<R: Threads + Sync, W: Observer>(
     rt: &R,
     alloc: Global,
-    layout: &Layout,
+    setup: &Setup,
     until: u64,
     workers: u32,
     observer: &W,
 ) -> Result<ShotRoom, NoMemory>
     requires workers { (1 ≤ workers) × (workers ≤ 16) }
-    ensures room { IfOk result (IsRoomFor layout.now.chart) }
-    ensures snapshot { IfOk result (IsSnapshot layout.now.net layout.now.chart.cut (zero_start layout.now.net layout.now.chart.cut)) }
-    ensures near { IfOk result (λ room. AreStepsBetween layout.now.net layout.now.chart.cut (min until layout.now.net.steps) (near_end layout.now.net until) room.steps) }
-    ensures told { IsOk result → HasTold (W.told_held observer.now) (W.told_freed observer.now) (zero_run layout.now.net layout.now.chart.cut 0) (min until layout.now.net.steps) }
+    requires zero { setup.now.start ≡ zero_start setup.now.net setup.now.chart.cut }
+    ensures room { IfOk result (IsRoomFor setup.now.chart) }
+    ensures snapshot { IfOk result (IsSnapshot setup.now.net setup.now.chart.cut (zero_start setup.now.net setup.now.chart.cut)) }
+    ensures near { IfOk result (λ room. AreStepsBetween setup.now.net setup.now.chart.cut (min until setup.now.net.steps) (near_end setup.now.net until) room.steps) }
+    ensures told { IsOk result → HasTold (W.told_held observer.now) (W.told_freed observer.now) (cut_run setup.now) (min until setup.now.net.steps) }
 {
+    let layout = setup.layout();
     let net = layout.net();
-    let setup = Setup::zero(alloc, layout, 0)?;
     let mut room = ShotRoom::new(alloc, layout)?;
-    let mut run = Run::open(alloc, &setup, workers)?;
+    let mut run = Run::open(alloc, setup, workers)?;
     run.show_near(rt, layout, &mut room, until.min(net.steps), observer);
-    let _regions = run.close();
+    let _closed = run.close();
     Ok(room)
 }
 

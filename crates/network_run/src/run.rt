@@ -1,7 +1,7 @@
 use crate::crew::Crew;
 use no_memory::NoMemory;
 use region_slots::{Closed, Field, Observer, Pass, Shot};
-use region_step::{Region, Setup};
+use region_step::Setup;
 use snapshot::ShotRoom;
 use std::alloc::Global;
 use std::marker::Model;
@@ -40,7 +40,8 @@ impl<'a> Run<'a> {
     ghost use Rattle.region_slots.specs.Opening.{first_view};
     ghost use Rattle.worker_claim.specs.Driving.{AllReach};
     ghost use Rattle.region_slots.specs.Moments.{AreTold, cut_run};
-    ghost use Rattle.network_run.specs.Run.{IsLoggedWhereTheyCame, StandWhereTheyCame};
+    ghost use Rattle.network_run.specs.Run.{AreWhereTheyCame, IsLoggedWhereTheyCame};
+    ghost use Rattle.region_step.specs.Regions.{HaveCome};
 
     /// A run of the regions of a setup by so many workers.
     pub(crate) fn open(
@@ -112,9 +113,11 @@ impl<'a> Run<'a> {
         }
     }
 
-    /// Its regions, which stand at any goal that all have come to, where none has gone past it.
-    pub(crate) fn close(self) -> Vec<Region>
-        ensures stand { StandWhereTheyCame self.entry result.items }
+    /// The step of each region and the regions, which have come there from where they start. The step is any goal that all
+    /// have come to, where none has gone past it.
+    pub(crate) fn close(self) -> Closed
+        ensures come { HaveCome self.entry.terms.setup.now result.steps.items result.regions.items }
+        ensures steps { AreWhereTheyCame self.entry result.steps.items }
         ensures logged { IsLoggedWhereTheyCame self.entry }
     {
         let Run {
@@ -122,7 +125,6 @@ impl<'a> Run<'a> {
             pass,
             crew: _,
         } = self;
-        let Closed { steps: _, regions } = field.close(pass);
-        regions
+        field.close(pass)
     }
 }

@@ -1,21 +1,20 @@
 ghost use Rattle.std.specs.Prelude.{◌≡◌, ◌+◌, ◌<◌, ◌≤◌, ◌^◌, IfOk, IsOk, [], length};
 ghost use Rattle.region_cut.specs.Cuttings.{region_count};
-ghost use Rattle.region_step.specs.Setup.{zero_setup};
-ghost use Rattle.region_step.specs.Standing.{AllStandAtLast};
+ghost use Rattle.region_step.specs.Regions.{AreAtLast};
 ghost use Rattle.region_step.specs.Start.{zero_start};
 ghost use Rattle.snapshot.specs.Rooms.{IsRoomFor};
 ghost use Rattle.snapshot.specs.Shots.{goal_of};
 ghost use Rattle.shot_lines.specs.Shots.{AreShots};
 ghost use Rattle.worker_claim.specs.Driving.{AllReach};
 ghost use Rattle.region_slots.specs.Moments.{AreTold, cut_run};
-ghost use Rattle.network_run.specs.Telling.{HasTold, HasToldShots, zero_run};
+ghost use Rattle.network_run.specs.Telling.{HasTold, HasToldShots};
 
 use crate::run::Run;
 use network_file::Net;
 use no_memory::NoMemory;
 use region_cut::Layout;
-use region_slots::Observer;
-use region_step::{Region, Setup};
+use region_slots::{Closed, Observer};
+use region_step::{Regions, Setup};
 use shot_lines::shot_text;
 use snapshot::ShotRoom;
 use std::alloc::Global;
@@ -23,40 +22,41 @@ use std::thread::Threads;
 
 /// What comes of a run that is watched.
 #[derive(Drop)]
-pub struct Watched {
+pub struct Watched<'n> {
     /// The text of its shots (docs/FORMAT.md, "The shots").
     pub shots: Vec<u8>,
     /// Its regions at the last step.
-    pub regions: Vec<Region>,
+    pub regions: Regions<'n>,
 }
 
-/// As `last_regions`, with so many shots on the way. The goals divide the steps evenly, rounded down; each shot is taken
-/// between a goal and the next, and at no step past it. All memory but that of the text is taken before the first step,
-/// but for what the workers' deques may ask for and do without.
-pub fn watched_regions<R: Threads + Sync, W: Observer>(
+/// The regions of a setup at the last step, taken there from step 0 by so many workers, with so many shots on the way. The
+/// goals divide the steps evenly, rounded down; each shot is taken between a goal and the next, and at no step past it. All
+/// memory but that of the text is taken before the first step, but for what the workers' deques may ask for and do without.
+pub fn watched_regions<'n, R: Threads + Sync, W: Observer>(
     rt: &R,
     alloc: Global,
-    layout: &Layout,
-    every: u64,
+    setup: Setup<'n>,
     workers: u32,
     shots: u32,
     observer: &W,
-) -> Result<Watched, NoMemory>
+) -> Result<Watched<'n>, NoMemory>
+    requires zero { setup.start ≡ zero_start setup.net setup.chart.cut }
     requires workers { (1 ≤ workers) × (workers ≤ 16) }
     requires shots { (1 ≤ shots) × (shots + 1 < 2 ^ 32) }
-    ensures shots { IfOk result (λ watched. AreShots layout.now.net layout.now.chart.cut shots watched.shots.items) }
-    ensures stand { IfOk result (λ watched. AllStandAtLast (zero_setup layout.now every) watched.regions.items) }
-    ensures told { IsOk result → HasTold (W.told_held observer.now) (W.told_freed observer.now) (zero_run layout.now.net layout.now.chart.cut every) layout.now.net.steps }
-    ensures told_shots { IsOk result → HasToldShots (W.told_watched observer.now) (zero_run layout.now.net layout.now.chart.cut every) shots }
+    ensures setup { IfOk result (λ watched. watched.regions.setup ≡ setup.entry) }
+    ensures last { IfOk result (λ watched. AreAtLast watched.regions) }
+    ensures shots { IfOk result (λ watched. AreShots setup.entry.net setup.entry.chart.cut shots watched.shots.items) }
+    ensures told { IsOk result → HasTold (W.told_held observer.now) (W.told_freed observer.now) (cut_run setup.entry) setup.entry.net.steps }
+    ensures told_shots { IsOk result → HasToldShots (W.told_watched observer.now) (cut_run setup.entry) shots }
 {
-    let setup = Setup::zero(alloc, layout, every)?;
-    let mut room = ShotRoom::new(alloc, layout)?;
+    let mut room = ShotRoom::new(alloc, setup.layout())?;
     let mut run = Run::open(alloc, &setup, workers)?;
     let mut text = Vec::new(alloc);
-    run.take_shots(rt, layout, &mut room, shots, observer, &mut text)?;
+    run.take_shots(rt, setup.layout(), &mut room, shots, observer, &mut text)?;
+    let Closed { steps, regions } = run.close();
     Ok(Watched {
         shots: text,
-        regions: run.close(),
+        regions: Regions::new(setup, steps, regions),
     })
 }
 

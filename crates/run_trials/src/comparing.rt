@@ -22,26 +22,27 @@ const SEATS: u32 = 5;
 pub(crate) fn compare_rows<R: Abort + Threads + Sync>(
     rt: &R,
     alloc: Global,
-    layout: &Layout,
+    layout: Layout<'_>,
     found: &Found,
 ) -> Result<(), NoMemory> {
     let net = layout.net();
     let rows = whole_steps(alloc, net)?;
-    compare_with(rt, alloc, layout, found, &rows)
+    let setup = Setup::zero(alloc, layout, 0)?;
+    compare_with(rt, alloc, &setup, found, &rows)
 }
 
 // The same with these rows.
 fn compare_with<R: Abort + Threads + Sync>(
     rt: &R,
     alloc: Global,
-    layout: &Layout,
+    setup: &Setup,
     found: &Found,
     rows: &[Row],
 ) -> Result<(), NoMemory> {
+    let layout = setup.layout();
     let net = layout.net();
     let mut room = ShotRoom::new(alloc, layout)?;
-    let setup = Setup::zero(alloc, layout, 0)?;
-    let (field, mut pass) = Field::open(alloc, &setup, SEATS)?;
+    let (field, mut pass) = Field::open(alloc, setup, SEATS)?;
     let last = net.steps;
     call_at_once(rt, alloc, layout, &field, &mut pass, found, last);
     show_last(rt, &field, &mut pass, &mut room, last);

@@ -49,16 +49,15 @@ fn layout_in<'n>(alloc: Global, net: &'n Net, cut: &[u32]) -> Result<Layout<'n>,
 fn start_at_two<R: Threads + Sync>(
     rt: &R,
     alloc: Global,
-    old: &Layout,
+    old: Layout<'_>,
     new: &Layout,
 ) -> Result<Start, NoMemory>
-    requires one_network { new.now.net ≡ old.now.net }
-    requires in_time { 2 ≤ old.now.net.steps }
+    requires one_network { new.now.net ≡ old.net }
+    requires in_time { 2 ≤ old.net.steps }
 {
-    let start = Start::zero(alloc, old)?;
-    let setup = Setup::new(old, start, 0);
-    let regions = regions_from(rt, alloc, &setup, 2, 1, &NoObserver)?;
-    even_start(alloc, old, &regions, new)
+    let setup = Setup::zero(alloc, old, 0)?;
+    let regions = regions_from(rt, alloc, setup, 2, 1, &NoObserver)?;
+    even_start(alloc, &regions, new)
 }
 
 #[test]
@@ -67,7 +66,7 @@ fn a_run_goes_on_evenly_in_another_cutting(rt: HostRuntime) -> Result<(), Fail> 
     assert!(rt; net.steps >= 2);
     let old = layout_in(rt.alloc(), &net, &[0, 1, 1])?;
     let new = layout_in(rt.alloc(), &net, &[0, 0, 1])?;
-    let start = start_at_two(&rt, rt.alloc(), &old, &new)?;
+    let start = start_at_two(&rt, rt.alloc(), old, &new)?;
     assert_eq!(rt; start.steps.as_slice(), [2, 2].as_slice());
     assert_eq!(rt; start.rows.as_slice(), ROWS.as_slice());
     assert_eq!(rt; start.earlier.as_slice(), [4_000_000, 0, 0].as_slice());

@@ -9,7 +9,7 @@ use network_run::regions_from;
 use no_memory::NoMemory;
 use region_cut::{Cut, Layout};
 use region_slots::NoObserver;
-use region_step::{Note, Region, Setup, Start};
+use region_step::{Note, Regions, Setup, Start};
 use std::alloc::{AllocError, Global};
 use std::process::Abort;
 use std::test::Fail;
@@ -69,12 +69,12 @@ fn gate_ahead(alloc: Global) -> Result<Start, AllocError> {
 }
 
 // The regions of the corridor at its last step, gone on from there and recorded so.
-fn recorded_from_there<R: Abort + Threads + Sync>(
+fn recorded_from_there<'n, R: Abort + Threads + Sync>(
     rt: &R,
     alloc: Global,
-    net: &Net,
+    net: &'n Net,
     every: u64,
-) -> Result<Vec<Region>, NoMemory> {
+) -> Result<Regions<'n>, NoMemory> {
     match Cut::of(alloc, net, &[0, 1, 1]) {
         Ok(cut) => recorded_in(rt, alloc, net, cut, every),
         Err(_) => Err(NoMemory),
@@ -82,37 +82,37 @@ fn recorded_from_there<R: Abort + Threads + Sync>(
 }
 
 // The same in the regions of a cutting.
-fn recorded_in<R: Abort + Threads + Sync>(
+fn recorded_in<'n, R: Abort + Threads + Sync>(
     rt: &R,
     alloc: Global,
-    net: &Net,
+    net: &'n Net,
     cut: Cut,
     every: u64,
-) -> Result<Vec<Region>, NoMemory>
+) -> Result<Regions<'n>, NoMemory>
     requires { length cut ≡ length net.now.cells }
 {
     let layout = Layout::new(alloc, net, cut)?;
     let start = gate_ahead(alloc)?;
     assert!(rt; start.fits(&layout));
     assert!(rt; is_lawful(&start.steps, &layout));
-    last_from(rt, alloc, &layout, start, every)
+    last_from(rt, alloc, layout, start, every)
 }
 
 // The regions at the last step, taken there by two workers.
-fn last_from<R: Threads + Sync>(
+fn last_from<'n, R: Threads + Sync>(
     rt: &R,
     alloc: Global,
-    layout: &Layout,
+    layout: Layout<'n>,
     start: Start,
     every: u64,
-) -> Result<Vec<Region>, NoMemory>
-    requires fits { Fits layout.now.net layout.now.chart.cut start }
-    requires lawful { AreLawful layout.now.net layout.now.chart.cut start.steps }
+) -> Result<Regions<'n>, NoMemory>
+    requires fits { Fits layout.net layout.chart.cut start }
+    requires lawful { AreLawful layout.net layout.chart.cut start.steps }
 {
     let net = layout.net();
     let last = net.steps;
     let setup = Setup::new(layout, start, every);
-    regions_from(rt, alloc, &setup, last, 2, &NoObserver)
+    regions_from(rt, alloc, setup, last, 2, &NoObserver)
 }
 
 // Looks at the notes of the two regions, recorded so.
@@ -124,7 +124,8 @@ fn check_notes<R: Abort + Threads + Sync>(
     gate: &[Note],
     rest: &[Note],
 ) -> Result<(), NoMemory> {
-    let regions = recorded_from_there(rt, alloc, net, every)?;
+    let taken = recorded_from_there(rt, alloc, net, every)?;
+    let regions = taken.list();
     assert!(rt; regions.len() == 2);
     assert_eq!(rt; regions[0].trail(), gate, "every {every}");
     assert_eq!(rt; regions[1].trail(), rest, "every {every}");

@@ -30,7 +30,7 @@ fn compare<R: Abort + Threads + Sync>(
     requires few { regions ≤ MOST_REGIONS }
 {
     let layout = charted(alloc, net, regions)?;
-    compare_rows(rt, alloc, &layout, found)
+    compare_rows(rt, alloc, layout, found)
 }
 
 #[test]

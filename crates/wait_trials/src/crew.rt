@@ -23,7 +23,7 @@ pub(crate) fn two_members<R: Abort + Threads + Wait + Sync>(
     assert!(rt; text.len() <= MOST_BYTES);
     let net = Net::read(alloc, text)?;
     let layout = charted(alloc, &net, 4)?;
-    on_field(rt, alloc, &layout)?;
+    on_field(rt, alloc, layout)?;
     Ok(())
 }
 
@@ -31,7 +31,7 @@ pub(crate) fn two_members<R: Abort + Threads + Wait + Sync>(
 fn on_field<R: Abort + Threads + Wait + Sync>(
     rt: &R,
     alloc: Global,
-    layout: &Layout,
+    layout: Layout<'_>,
 ) -> Result<(), NoMemory> {
     let last = layout.net().steps;
     let setup = Setup::zero(alloc, layout, 0)?;

@@ -1,17 +1,16 @@
 use Rattle.std.proofs.Common.{◌≡◌, [], ap, arith, subst, sym, ◌∙◌}
 use Rattle.region_cut.specs.Cuttings.{region_count}
-use Rattle.region_step.specs.Setup.{SetupValue}
 use Rattle.border_rows.specs.declared.view.Terms.{Terms}
 use Rattle.border_rows.specs.declared.view.View.{View}
 use Rattle.region_slots.specs.Moments.{AreTold, cut_run}
-use Rattle.network_run.specs.Telling.{HasTold, Telling, zero_run}
+use Rattle.network_run.specs.Telling.{HasTold, Telling}
 use Rattle.network_run.proofs.Told.{told-logged}
 use Rattle.network_run.proofs.near.room_near.Goals as goal
 
 pub returns-clause-near : goal.returns-clause-near
 returns-clause-near g c =
-    let same : c.in_ok-run.run'.terms.setup.now.chart.cut ≡ c.args.layout.now.chart.cut = ap (λ (t : Terms). t.setup.now.chart.cut) c.in_ok-run.ensures.terms ∙ ap (λ (s : SetupValue). s.chart.cut) c.in_ok-setup.ensures.setup in
-    let steps : c.net.inside.steps ≡ c.args.layout.now.net.steps = ap (λ n. n.steps) (c.net.view_is ∙ c.net-net.ensures.network) in
+    let same : c.in_ok-run.run'.terms.setup.now.chart.cut ≡ c.args.setup.now.chart.cut = ap (λ (t : Terms). t.setup.now.chart.cut) c.in_ok-run.ensures.terms in
+    let steps : c.net.inside.steps ≡ c.args.setup.now.net.steps = ap (λ n. n.steps) (c.net.view_is ∙ c.net-net.ensures.network ∙ c.layout-layout.ensures.network) in
     let near = rw same at c.show_near.ensures.near in
     record {
       lawful = near.lawful;
@@ -31,9 +30,8 @@ returns-clause-told g c = λ done.
     subst (λ own. AreTold (held (cut_run terms.setup.now)) (freed (cut_run terms.setup.now)) own log) (ap (λ (v : View). v.log) c.in_ok-run.ensures.knows)
     (subst (λ (t : Terms). AreTold (held (cut_run t.setup.now)) (freed (cut_run t.setup.now)) c.in_ok-run.run'.knows.log log) (sym c.show_near.ensures.terms) c.show_near.ensures.told) in
     let came : HasTold held freed (cut_run terms.setup.now) c.min.result =
-    told-logged held freed (cut_run terms.setup.now) c.min.result log (c.close-regions.ensures.logged c.min.result (λ r there. c.show_near.ensures.done r (omega (arith, there, first)))) told in
-    let steps : c.net.inside.steps ≡ c.args.layout.now.net.steps = ap (λ n. n.steps) (c.net.view_is ∙ c.net-net.ensures.network) in
-    let run : HasTold held freed (zero_run c.args.layout.now.net c.args.layout.now.chart.cut 0) c.min.result =
-    subst (λ (setup : SetupValue). HasTold held freed (cut_run setup) c.min.result) c.in_ok-setup.ensures.setup
-    (subst (λ (t : Terms). HasTold held freed (cut_run t.setup.now) c.min.result) (c.show_near.ensures.terms ∙ c.in_ok-run.ensures.terms) came) in
+    told-logged held freed (cut_run terms.setup.now) c.min.result log (c.close.ensures.logged c.min.result (λ r there. c.show_near.ensures.done r (omega (arith, there, first)))) told in
+    let steps : c.net.inside.steps ≡ c.args.setup.now.net.steps = ap (λ n. n.steps) (c.net.view_is ∙ c.net-net.ensures.network ∙ c.layout-layout.ensures.network) in
+    let run : HasTold held freed (cut_run c.args.setup.now) c.min.result =
+    subst (λ (t : Terms). HasTold held freed (cut_run t.setup.now) c.min.result) (c.show_near.ensures.terms ∙ c.in_ok-run.ensures.terms) came in
     λ r s within started below. run r s within started (omega (arith, below, c.min.ensures, steps))

@@ -1,21 +1,26 @@
-use Rattle.std.specs.Prelude.{slice_index}
-use Rattle.std.proofs.Common.{◌≡◌, [], ap, subst, sym, ◌∙◌, arith}
+use Rattle.std.specs.Prelude.{slice_index, replicate}
+use Rattle.std.proofs.Common.{◌≡◌, ℕ, List, [], ap, subst, sym, ◌∙◌, arith}
 use Rattle.region_cut.specs.Cuttings.{region_count}
+use Rattle.region_step.specs.Regions.{HaveCome}
 use Rattle.border_rows.specs.declared.view.Terms.{Terms}
 use Rattle.border_rows.specs.declared.view.View.{View}
 use Rattle.region_slots.specs.Moments.{AreTold, cut_run}
 use Rattle.network_run.specs.Telling.{HasTold, Telling}
 use Rattle.network_run.proofs.Told.{told-logged}
-use Rattle.region_step.specs.Standing.{AllStandAt}
 use Rattle.network_run.proofs.taken_regions.regions_from.Goals as goal
 
-pub returns-clause-stand : goal.returns-clause-stand
-returns-clause-stand g c =
+pub new-requires : goal.new-requires
+new-requires g c =
+    let same = c.take_to.ensures.terms ∙ c.in_ok-run.ensures.terms in
+    subst (λ (t : Terms). HaveCome t.setup.now c.close.result.steps.items c.close.result.regions.items) same c.close.ensures.come
+
+pub returns-clause-at : goal.returns-clause-at
+returns-clause-at g c =
     let same = c.take_to.ensures.terms ∙ c.in_ok-run.ensures.terms in
     let first : region_count c.take_to.new.self.terms.setup.now.chart.cut ≡ region_count c.in_ok-run.run'.terms.setup.now.chart.cut = ap (λ (t : Terms). region_count t.setup.now.chart.cut) c.take_to.ensures.terms in
-    let count : region_count c.take_to.new.self.terms.setup.now.chart.cut ≡ region_count c.args.setup.now.chart.cut = ap (λ (t : Terms). region_count t.setup.now.chart.cut) same in
-    subst (λ (t : Terms). AllStandAt t.setup.now c.args.goal c.close.result.items) same
-    (c.close.ensures.stand c.args.goal (λ r there. c.take_to.ensures.done r (omega (arith, there, first))) c.take_to.ensures.reach
+    let count : region_count c.take_to.new.self.terms.setup.now.chart.cut ≡ region_count c.args.setup.chart.cut = ap (λ (t : Terms). region_count t.setup.now.chart.cut) same in
+    subst (λ n. c.close.result.steps.items ≡ replicate n c.args.goal) count
+    (c.close.ensures.steps c.args.goal (λ r there. c.take_to.ensures.done r (omega (arith, there, first))) c.take_to.ensures.reach
     (λ r there. omega (arith, ap (λ (t : Terms). slice_index t.setup.now.start.steps r) same, c.requires.before r (omega (arith, there, count)))))
 
 pub returns-clause-told : goal.returns-clause-told

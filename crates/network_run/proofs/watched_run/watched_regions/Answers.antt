@@ -1,8 +1,8 @@
-use Rattle.std.specs.Prelude.{slice_index}
+use Rattle.std.specs.Prelude.{slice_index, replicate}
 use Rattle.std.proofs.Common.{◌≡◌, ℕ, [], refl, ap, subst, sym, ◌∙◌, arith}
 use Rattle.region_cut.specs.Cuttings.{region_count}
-use Rattle.region_step.specs.Setup.{SetupValue}
-use Rattle.region_step.specs.Standing.{AllStandAt}
+use Rattle.region_step.specs.Regions.{HaveCome}
+use Rattle.region_step.specs.Start.{StartLists}
 use Rattle.region_step.proofs.Steps.{zero_start-at}
 use Rattle.border_rows.specs.declared.view.Terms.{Terms}
 use Rattle.border_rows.specs.declared.view.View.{View}
@@ -11,39 +11,38 @@ use Rattle.network_run.specs.Telling.{HasTold, HasToldShots, Telling}
 use Rattle.network_run.proofs.Told.{told-logged}
 use Rattle.network_run.proofs.watched_run.watched_regions.Goals as goal
 
-pub returns-clause-stand : goal.returns-clause-stand
-returns-clause-stand g c =
+pub new-requires : goal.new-requires
+new-requires g c =
+    let same = c.in_ok-take_shots.ensures.terms refl ∙ c.in_ok-run.ensures.terms in
+    subst (λ (t : Terms). HaveCome t.setup.now c.close.result.steps.items c.close.result.regions.items) same c.close.ensures.come
+
+pub returns-clause-last : goal.returns-clause-last
+returns-clause-last g c =
     let taken = c.in_ok-take_shots.ensures in
-    let last : ℕ = c.args.layout.now.net.steps in
+    let last : ℕ = c.args.setup.net.steps in
     let same = taken.terms refl ∙ c.in_ok-run.ensures.terms in
-    let setup = c.in_ok-setup.ensures.setup in
-    let count : region_count c.take_shots.new.self.terms.setup.now.chart.cut ≡ region_count c.args.layout.now.chart.cut =
-    ap (λ (t : Terms). region_count t.setup.now.chart.cut) same ∙ ap (λ (s : SetupValue). region_count s.chart.cut) setup in
+    let count : region_count c.take_shots.new.self.terms.setup.now.chart.cut ≡ region_count c.args.setup.chart.cut = ap (λ (t : Terms). region_count t.setup.now.chart.cut) same in
     let zero : (r : ℕ) → slice_index c.take_shots.new.self.terms.setup.now.start.steps r ≡ 0 =
-    λ r. ap (λ (t : Terms). slice_index t.setup.now.start.steps r) same ∙ ap (λ (s : SetupValue). slice_index s.start.steps r) setup ∙ zero_start-at c.args.layout.now.net c.args.layout.now.chart.cut r in
-    subst (λ (s : SetupValue). AllStandAt s last c.close.result.items) setup
-    (subst (λ (t : Terms). AllStandAt t.setup.now last c.close.result.items) same
-    (c.close.ensures.stand last (λ r there. taken.last refl r (omega (arith, there, count))) (taken.reach refl) (λ r there. omega (arith, zero r))))
+    λ r. ap (λ (t : Terms). slice_index t.setup.now.start.steps r) same ∙ ap (λ (start : StartLists). slice_index start.steps r) c.requires.zero ∙ zero_start-at c.args.setup.net c.args.setup.chart.cut r in
+    subst (λ n. c.close.result.steps.items ≡ replicate n last) count
+    (c.close.ensures.steps last (λ r there. taken.last refl r (omega (arith, there, count))) (taken.reach refl) (λ r there. omega (arith, zero r)))
 
 pub returns-clause-told : goal.returns-clause-told
 returns-clause-told g c = λ done.
     let held : Telling = g.W.Observer.told_held c.args.observer.now in
     let freed : Telling = g.W.Observer.told_freed c.args.observer.now in
     let taken = c.in_ok-take_shots.ensures in
-    let last : ℕ = c.args.layout.now.net.steps in
+    let last : ℕ = c.args.setup.net.steps in
     let terms : Terms = c.take_shots.new.self.terms in
     let log = c.take_shots.new.self.knows.log in
     let same = taken.terms refl ∙ c.in_ok-run.ensures.terms in
-    let count : region_count terms.setup.now.chart.cut ≡ region_count c.args.layout.now.chart.cut =
-    ap (λ (t : Terms). region_count t.setup.now.chart.cut) same ∙ ap (λ (s : SetupValue). region_count s.chart.cut) c.in_ok-setup.ensures.setup in
+    let count : region_count terms.setup.now.chart.cut ≡ region_count c.args.setup.chart.cut = ap (λ (t : Terms). region_count t.setup.now.chart.cut) same in
     let told : AreTold (held (cut_run terms.setup.now)) (freed (cut_run terms.setup.now)) [] log =
     subst (λ own. AreTold (held (cut_run terms.setup.now)) (freed (cut_run terms.setup.now)) own log) (ap (λ (v : View). v.log) c.in_ok-run.ensures.knows)
     (subst (λ (t : Terms). AreTold (held (cut_run t.setup.now)) (freed (cut_run t.setup.now)) c.in_ok-run.run'.knows.log log) (sym (taken.terms refl)) (taken.told refl)) in
-    subst (λ (setup : SetupValue). HasTold held freed (cut_run setup) last) c.in_ok-setup.ensures.setup
-    (subst (λ (t : Terms). HasTold held freed (cut_run t.setup.now) last) same
-    (told-logged held freed (cut_run terms.setup.now) last log (c.close.ensures.logged last (λ r there. taken.last refl r (omega (arith, there, count)))) told))
+    subst (λ (t : Terms). HasTold held freed (cut_run t.setup.now) last) same
+    (told-logged held freed (cut_run terms.setup.now) last log (c.close.ensures.logged last (λ r there. taken.last refl r (omega (arith, there, count)))) told)
 
 pub returns-clause-told_shots : goal.returns-clause-told_shots
 returns-clause-told_shots g c = λ done.
-    subst (λ (setup : SetupValue). HasToldShots (g.W.Observer.told_watched c.args.observer.now) (cut_run setup) c.args.shots) c.in_ok-setup.ensures.setup
-    (subst (λ (t : Terms). HasToldShots (g.W.Observer.told_watched c.args.observer.now) (cut_run t.setup.now) c.args.shots) c.in_ok-run.ensures.terms (c.in_ok-take_shots.ensures.told_shots refl))
+    subst (λ (t : Terms). HasToldShots (g.W.Observer.told_watched c.args.observer.now) (cut_run t.setup.now) c.args.shots) c.in_ok-run.ensures.terms (c.in_ok-take_shots.ensures.told_shots refl)
