@@ -1,4 +1,4 @@
--- A start that has the rows of regions which all stand at one step.
+-- A start that has the rows of regions which are all at one step.
 use Rattle.std.specs.Prelude.{replicate, slice_index, slice_index_or}
 use Rattle.std.proofs.Common.{◌≡◌, ℕ, ◌+◌, ◌<◌, ◌≤◌, List, [], ◌∷◌, length, map, refl, sym, ap, subst, ◌∙◌, arith}
 use Rattle.std.proofs.lemmas.List.{get_or-replicate, length-replicate}
@@ -13,6 +13,7 @@ use Rattle.region_cut.proofs.Membership.{region_at-there}
 use Rattle.region_step.specs.Grid.{grid_before, grid_held, grid_row}
 use Rattle.region_step.specs.Laws.{grid_state}
 use Rattle.region_step.specs.Region.{RegionValue}
+use Rattle.region_step.specs.Regions.{HaveCome}
 use Rattle.region_step.specs.Setup.{SetupValue}
 use Rattle.region_step.specs.Standing.{Stands}
 use Rattle.region_step.specs.Start.{Fits, IsCellInBounds, IsTrueStart, StartLists, start_of}
@@ -22,7 +23,7 @@ use Rattle.region_step.proofs.Ground.{ground}
 use Rattle.region_step.proofs.Lists.{map_same}
 use Rattle.snapshot.specs.Rooms.{RoomValue, ShowsRegion}
 use Rattle.snapshot.proofs.Showing.{shown-before, shown-row}
-use Rattle.even_start.specs.EvenStart.{HaveComeTo, IsEvenStart, IsTrueBelow}
+use Rattle.even_start.specs.EvenStart.{IsEvenStart, IsTrueBelow}
 
 -- a room shows all regions of a chart
 abbrev pub AllShown : ChartLists → List RegionValue → RoomValue → Type 0
@@ -33,59 +34,68 @@ first-region : (regions : List RegionValue) → 1 ≤ length regions → RegionV
 first-region [] some = absurd (omega (arith, some))
 first-region (region ∷ regions) some = region
 
+-- what a start of another cutting is that has the rows of regions at step u, and what these held a step before
+pub record IsReopened (setup : SetupValue) (regions : List RegionValue) (u : ℕ) (cut : List ℕ) (even : StartLists) : Type 0 where
+  pub start : IsEvenStart setup.chart regions u cut even
+  pub fits : Fits setup.net cut even
+  pub lawful : AreLawful setup.net cut even.steps
+  pub true_start : IsTrueBelow setup.net setup.chart.cut setup.start u → IsTrueStart setup.net cut even
+
 -- what cells held a step before
 grid_state-before : (net : Network) (chart : ChartLists) (start : StartLists) (every r t : ℕ) →
     (grid_state net chart start every r t).before ≡ map (grid_before net chart.cut start t) (list_at chart.cells r)
 unfolding grid_state
 grid_state-before net chart start every r t = refl
 
-module _ (setup : SetupValue) (u : ℕ) (regions : List RegionValue) (sound : IsNetwork setup.net) (charted : setup.chart ≡ chart_of setup.net setup.chart.cut)
-    (at : HaveComeTo setup u regions) where
-  -- each region is at the step
-  pub stands : (r : ℕ) (region : RegionValue) → r < region_count setup.chart.cut → Stands setup r u (slice_index_or regions r region)
+module _ (setup : SetupValue) (steps : List ℕ) (regions : List RegionValue) (u : ℕ) (sound : IsNetwork setup.net) (charted : setup.chart ≡ chart_of setup.net setup.chart.cut)
+    (fits : Fits setup.net setup.chart.cut setup.start) (lawful : AreLawful setup.net setup.chart.cut setup.start.steps) (come : HaveCome setup steps regions) (at : steps ≡ replicate (region_count setup.chart.cut) u) where
+  -- each is at the step
+  step-is : (r : ℕ) → r < region_count setup.chart.cut → slice_index steps r ≡ u
+  step-is r within = ap (λ all. slice_index all r) at ∙ get_or-replicate (region_count setup.chart.cut) r u 0 within
+
+  stands : (r : ℕ) (region : RegionValue) → r < region_count setup.chart.cut → Stands setup r u (slice_index_or regions r region)
   stands r region within =
-      subst (λ t. Stands setup r t (slice_index_or regions r region)) (get_or-replicate (region_count setup.chart.cut) r u 0 within)
-      (at.stand.each r region (omega (arith, within, at.stand.one_each)))
+      subst (λ t. Stands setup r t (slice_index_or regions r region)) (step-is r within) (come.stand.each r region (omega (arith, within, come.stand.one_each)))
 
-  -- which all of them say
-  pub step-is : (r : ℕ) (region : RegionValue) → r < region_count setup.chart.cut → (slice_index_or regions r region).state.step ≡ u
-  step-is r region within = ap (λ state. state.step) (stands r region within).state ∙ grid_state-step setup.net setup.chart setup.start setup.every r u
+  some-region : RegionValue
+  some-region = first-region regions (omega (arith, come.stand.one_each))
 
-  one : RegionValue
-  one = first-region regions (omega (arith, at.stand.one_each))
-
-  -- and which isn't past the last
+  -- which isn't past the last
   step-in_time : u ≤ setup.net.steps
-  step-in_time = omega (arith, (stands 0 one (omega arith)).opened.in_time, step-is 0 one (omega arith))
+  step-in_time =
+      let first = stands 0 some-region (omega arith) in
+      omega (arith, first.opened.in_time, ap (λ state. state.step) first.state, grid_state-step setup.net setup.chart setup.start setup.every 0 u)
 
   started : (i : ℕ) → start_of setup.start setup.chart.cut i ≤ u
-  started i = at.started (region_at setup.chart.cut i) (region_at-there setup.chart.cut i)
+  started i =
+      let within = region_at-there setup.chart.cut i in
+      omega (arith, come.later (region_at setup.chart.cut i) within, step-is (region_at setup.chart.cut i) within)
 
   -- a start of another cutting with what a room shows of them
   module _ (cut : List ℕ) (room : RoomValue) (even : StartLists) (shown : AllShown setup.chart regions room) (is_steps : even.steps ≡ replicate (region_count cut) u)
-      (is_rows : even.rows ≡ room.rows) (is_earlier : even.earlier ≡ room.earlier) where
+      (is_rows : even.rows ≡ room.rows) (is_earlier : even.earlier ≡ room.earlier) (row_each : length room.rows ≡ length setup.net.cells) (earlier_each : length room.earlier ≡ length setup.net.cells) where
     row-is : (i : ℕ) → i < length setup.net.cells → row_at even.rows i ≡ grid_row setup.net setup.chart.cut setup.start u i
     row-is i there =
         let r : ℕ = region_at setup.chart.cut i in
         let within : r < region_count setup.chart.cut = region_at-there setup.chart.cut i in
         ap (λ rows. row_at rows i) is_rows ∙
-        shown-row setup r u i (slice_index_or regions r one) room sound charted within (stands r one within) (shown r one within) there refl
+        shown-row setup r u i (slice_index_or regions r some-region) room sound charted within (stands r some-region within) (shown r some-region within) there refl
 
     earlier-is : (i : ℕ) → i < length setup.net.cells → slice_index even.earlier i ≡ grid_before setup.net setup.chart.cut setup.start u i
     earlier-is i there =
         let r : ℕ = region_at setup.chart.cut i in
         let within : r < region_count setup.chart.cut = region_at-there setup.chart.cut i in
         ap (λ earlier. slice_index earlier i) is_earlier ∙
-        shown-before setup r u i (slice_index_or regions r one) room sound charted within (stands r one within) (shown r one within) there refl
+        shown-before setup r u i (slice_index_or regions r some-region) room sound charted within (stands r some-region within) (shown r some-region within) there refl
 
     held-before : (i t : ℕ) → i < length setup.net.cells → u ≡ t + 1 → slice_index even.earlier i ≡ grid_held setup.net setup.chart.cut setup.start t i
     held-before i t there later = earlier-is i there ∙ ap (λ s. grid_before setup.net setup.chart.cut setup.start s i) later ∙ grid_before-next setup.net setup.chart.cut setup.start t i
 
-    pub is-even : length room.rows ≡ length setup.chart.cut → length room.earlier ≡ length setup.chart.cut → IsEvenStart setup.chart regions u cut even
-    is-even row_each earlier_each = record {
+    is-even : length setup.chart.cut ≡ length setup.net.cells → IsEvenStart setup.chart regions u cut even
+    is-even one_each = record {
       steps = is_steps;
-      row_each = ap length is_rows ∙ row_each;
-      earlier_each = ap length is_earlier ∙ earlier_each;
+      row_each = ap length is_rows ∙ row_each ∙ sym one_each;
+      earlier_each = ap length is_earlier ∙ earlier_each ∙ sym one_each;
       rows = λ r region within.
           ap (λ state. state.rows) (stands r region within).state ∙ grid_state-rows setup.net setup.chart setup.start setup.every r u ∙
           map_same (grid_row setup.net setup.chart.cut setup.start u) (row_at even.rows) (list_at setup.chart.cells r)
@@ -103,15 +113,15 @@ module _ (setup : SetupValue) (u : ℕ) (regions : List RegionValue) (sound : Is
     cell-in_bounds : (i : ℕ) → i < length setup.net.cells → IsCellInBounds setup.net cut even i
     cell-in_bounds i there = record {
       row = subst (λ t. IsRowInBounds setup.net t i (row_at even.rows i)) (sym (starts-at i))
-          (subst (IsRowInBounds setup.net u i) (sym (row-is i there)) (stay_in_bounds setup.net setup.chart.cut setup.start sound at.fits u i there (started i) step-in_time));
+          (subst (IsRowInBounds setup.net u i) (sym (row-is i there)) (stay_in_bounds setup.net setup.chart.cut setup.start sound fits u i there (started i) step-in_time));
       earlier = record {
         later = λ t later.
             let here : u ≡ t + 1 = sym (starts-at i) ∙ later in
             subst (IsHeldInBounds setup.net t i) (sym (held-before i t there here))
-            (held_in_bounds setup.net setup.chart.cut setup.start t i sound at.fits there (omega (arith, started i, here)) (omega (arith, step-in_time, here)));
+            (held_in_bounds setup.net setup.chart.cut setup.start t i sound fits there (omega (arith, started i, here)) (omega (arith, step-in_time, here)));
         none = λ none.
             let here : u ≡ 0 = sym (starts-at i) ∙ none in
-            earlier-is i there ∙ grid_before-start setup.net setup.chart.cut setup.start u i (omega (arith, here)) ∙ (at.fits.bounds i there).earlier.none (omega (arith, started i, here));
+            earlier-is i there ∙ grid_before-start setup.net setup.chart.cut setup.start u i (omega (arith, here)) ∙ (fits.bounds i there).earlier.none (omega (arith, started i, here));
       };
     }
 
@@ -120,8 +130,8 @@ module _ (setup : SetupValue) (u : ℕ) (regions : List RegionValue) (sound : Is
         let inside : r < region_count cut = omega (arith, within, ap length is_steps, length-replicate {A = ℕ} (region_count cut) u) in
         omega (arith, ap (λ steps. slice_index_or steps r d) is_steps, get_or-replicate (region_count cut) r u d inside, step-in_time)
 
-    pub even-fits : length room.rows ≡ length setup.net.cells → length room.earlier ≡ length setup.net.cells → Fits setup.net cut even
-    even-fits row_each earlier_each = record {
+    even-fits : Fits setup.net cut even
+    even-fits = record {
       one_each = ap length is_steps ∙ length-replicate {A = ℕ} (region_count cut) u;
       in_time = steps-in_time;
       rows = ap length is_rows ∙ row_each;
@@ -132,7 +142,7 @@ module _ (setup : SetupValue) (u : ℕ) (regions : List RegionValue) (sound : Is
     region-starts : (r : ℕ) → r < region_count cut → slice_index even.steps r ≡ u
     region-starts r within = ap (λ steps. slice_index steps r) is_steps ∙ get_or-replicate (region_count cut) r u 0 within
 
-    pub even-lawful : AreLawful setup.net cut even.steps
+    even-lawful : AreLawful setup.net cut even.steps
     even-lawful = record {
       one_each = ap length is_steps ∙ length-replicate {A = ℕ} (region_count cut) u;
       in_time = steps-in_time;
@@ -147,9 +157,9 @@ module _ (setup : SetupValue) (u : ℕ) (regions : List RegionValue) (sound : Is
           );
     }
 
-    pub even-true : IsTrueBelow setup.net setup.chart.cut setup.start u → IsTrueStart setup.net cut even
+    even-true : IsTrueBelow setup.net setup.chart.cut setup.start u → IsTrueStart setup.net cut even
     even-true below =
-        let recurrences = are_the_recurrences setup.net setup.chart.cut setup.start sound below.lawful below.true_start in
+        let recurrences = are_the_recurrences setup.net setup.chart.cut setup.start sound lawful below.true_start in
         record {
           rows = λ i there. row-is i there ∙ recurrences u i there (started i) ∙ ap (λ s. row_at (state_at setup.net s) i) (sym (starts-at i));
           earlier = λ i t there border later.
@@ -158,3 +168,11 @@ module _ (setup : SetupValue) (u : ℕ) (regions : List RegionValue) (sound : Is
               let by_then : start_of setup.start setup.chart.cut i ≤ t = omega (arith, before, here) in
               held-before i t there here ∙ grid_held-started setup.net setup.chart.cut setup.start t i by_then ∙ ap (λ row. row.n) (recurrences t i there by_then);
         }
+
+    pub reopened : length setup.chart.cut ≡ length setup.net.cells → IsReopened setup regions u cut even
+    reopened one_each = record {
+      start = is-even one_each;
+      fits = even-fits;
+      lawful = even-lawful;
+      true_start = even-true;
+    }

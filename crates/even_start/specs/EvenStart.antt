@@ -1,20 +1,11 @@
 -- The start at which a run goes on in another cutting.
-use Rattle.std.specs.Prelude.{◌≡◌, ◌≢◌, ℕ, ◌<◌, ◌≤◌, List, length, map, replicate, slice_index, slice_index_or}
+use Rattle.std.specs.Prelude.{◌≡◌, ◌≢◌, ℕ, ◌<◌, List, length, map, replicate, slice_index, slice_index_or}
 use Rattle.network_file.specs.Network.{Network}
 use Rattle.flow_model.specs.State.{row_at}
 use Rattle.region_cut.specs.Chart.{ChartLists, list_at}
 use Rattle.region_cut.specs.Cuttings.{region_count}
-use Rattle.region_cut.specs.LawfulSteps.{AreLawful}
 use Rattle.region_step.specs.Region.{RegionValue}
-use Rattle.region_step.specs.Setup.{SetupValue}
-use Rattle.region_step.specs.Standing.{AllStandAt}
-use Rattle.region_step.specs.Start.{Fits, IsTrueStart, StartLists}
-
--- the regions of a setup, none of which starts past step u, have all come to step u
-pub record HaveComeTo (setup : SetupValue) (u : ℕ) (regions : List RegionValue) : Type 0 where
-  pub fits : Fits setup.net setup.chart.cut setup.start
-  pub started : (r : ℕ) → r < region_count setup.chart.cut → slice_index setup.start.steps r ≤ u
-  pub stand : AllStandAt setup u regions
+use Rattle.region_step.specs.Start.{IsTrueStart, StartLists}
 
 -- all regions of a cutting start at step u, where the cells have the rows of other regions, which are those of a chart,
 -- and held what these held a step before
@@ -27,8 +18,7 @@ pub record IsEvenStart (chart : ChartLists) (regions : List RegionValue) (u : �
   pub earlier : (r : ℕ) (region : RegionValue) → r < region_count chart.cut →
       (slice_index_or regions r region).state.before ≡ map (slice_index start.earlier) (list_at chart.cells r)
 
--- a true start with lawful steps, which are all below u where u isn't 0
+-- a true start, whose steps are all below u where u isn't 0
 pub record IsTrueBelow (net : Network) (cut : List ℕ) (start : StartLists) (u : ℕ) : Type 0 where
   pub true_start : IsTrueStart net cut start
-  pub lawful : AreLawful net cut start.steps
   pub below : u ≢ 0 → (r : ℕ) → r < region_count cut → slice_index start.steps r < u

@@ -1,48 +1,24 @@
 -- A saved text that begins true is gone on with to the report of the plain recurrences, and to no other text.
-use Rattle.std.specs.Prelude.{slice_index}
-use Rattle.std.specs.List.{range_with_len}
-use Rattle.std.proofs.Common.{◌≡◌, ℕ, ◌≤◌, List, Option, Some, None, length, refl, sym, ap, ◌∙◌, arith}
-use Rattle.std.proofs.lemmas.List.FromFn.{fill_by_all}
+use Rattle.std.proofs.Common.{◌≡◌, ℕ, ◌≤◌, List, Option, Some, None, length, sym, ap, ◌∙◌, arith}
 use Rattle.network_file.specs.Network.{IsNetwork, Network}
-use Rattle.flow_model.specs.Rows.{empty_row}
-use Rattle.flow_model.specs.State.{row_at, state_at}
-use Rattle.flow_model.proofs.States.{length-state_at}
-use Rattle.region_cut.specs.Cuttings.{region_at}
 use Rattle.region_cut.specs.LawfulSteps.{AreLawful}
-use Rattle.region_cut.proofs.Membership.{region_at-there}
-use Rattle.region_cut.proofs.Ranges.{Contains-range}
-use Rattle.region_step.specs.Grid.{grid_row}
 use Rattle.region_step.specs.Start.{IsTrueStart, StartLists}
-use Rattle.region_step.proofs.Grids.{are_the_recurrences}
-use Rattle.region_step.proofs.Lists.{map_same}
 use Rattle.saved_run.specs.Content.{Content}
 use Rattle.saved_run.specs.Laws.{BeginsTrue}
 use Rattle.saved_run.specs.Loading.{cutting_in, start_in}
 use Rattle.saved_run.specs.Reading.{content_of}
 use Rattle.saved_run.specs.SavedLength.{most_saved}
 use Rattle.saved_run.proofs.Starting.{decide_start}
-use Rattle.delay_report.specs.FromStart.{last_rows, report_from}
+use Rattle.delay_report.specs.FromStart.{report_from}
 use Rattle.delay_report.specs.Report.{report_of, report_with, state_note}
-use Rattle.delay_report.proofs.FromStart.{report_with-none}
+use Rattle.delay_report.proofs.FromStart.{last_rows-true, report_with-none}
 use Rattle.call_beginning.specs.NetworkInput.{why_of_network}
 use Rattle.saved_modes.specs.ResumedAs.{IsResumedAs}
 use Rattle.saved_modes.specs.ResumeMode.{IsGoneOnFrom, why_by_content, why_by_cutting}
 use Rattle.saved_modes.proofs.Resumed.{resumed-report}
 use Rattle.saved_modes.proofs.Resuming.{can-start}
 
--- from a true start with lawful steps all cells come to the rows of the plain recurrences
-last_rows-true : (net : Network) (cut : List ℕ) (start : StartLists) → IsNetwork net → AreLawful net cut start.steps → IsTrueStart net cut start →
-    last_rows net cut start ≡ state_at net net.steps
-unfolding last_rows
-last_rows-true net cut start sound lawful true_start =
-    let cells = length net.cells in
-    map_same (grid_row net cut start net.steps) (row_at (state_at net net.steps)) (range_with_len 0 cells)
-    (λ i has.
-    let begun : slice_index start.steps (region_at cut i) ≤ net.steps = lawful.in_time (region_at cut i) 0 (omega (arith, region_at-there cut i, lawful.one_each)) in
-    are_the_recurrences net cut start sound lawful true_start net.steps i (Contains-range cells i has) begun) ∙
-    sym (fill_by_all (row_at (state_at net net.steps)) (state_at net net.steps) cells empty_row (length-state_at net net.steps) (λ k within. refl))
-
--- and to its report
+-- from a true start with lawful steps a run comes to the report of the plain recurrences
 report_from-true : (net : Network) (cut : List ℕ) (start : StartLists) → IsNetwork net → AreLawful net cut start.steps → IsTrueStart net cut start →
     report_from net cut start ≡ report_of net 0
 unfolding report_of

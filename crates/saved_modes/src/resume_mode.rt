@@ -1,7 +1,5 @@
-ghost use Rattle.std.specs.Prelude.{◌≡◌, ◌≤◌, IfErr, IfOk, IsOk, None, Some, length};
+ghost use Rattle.std.specs.Prelude.{◌≡◌, ◌≤◌, IfErr, IfOk, IsOk, None, Some};
 ghost use Rattle.command_words.specs.Words.{IsInRange};
-ghost use Rattle.region_step.specs.Setup.{setup_of};
-ghost use Rattle.region_step.specs.Standing.{AllStandAtLast};
 ghost use Rattle.region_step.specs.Start.{IsTrueStart};
 ghost use Rattle.saved_run.specs.Loading.{CanStart};
 ghost use Rattle.saved_run.specs.Reading.{content_of};
@@ -16,13 +14,13 @@ ghost use Rattle.call_beginning.specs.Task.{task_of};
 use call_beginning::refused;
 use call_ending::{Cause, Line, Refusal};
 use command_words::Request;
-use delay_report::report_from;
+use delay_report::report;
 use network_file::NetRefusal;
 use network_run::regions_from;
 use no_memory::NoMemory;
 use region_cut::Layout;
 use region_slots::Observer;
-use region_step::{Region, Setup, Start};
+use region_step::{Setup, Start};
 use saved_run::{LoadFault, LoadRefusal, Saved, load};
 use std::alloc::Global;
 use std::thread::Threads;
@@ -47,7 +45,7 @@ pub fn resume_text<R: Threads + Sync, W: Observer>(
     };
     let Saved { net, chart, start } = saved;
     let layout = Layout::of(&net, chart);
-    let text = report_on(rt, alloc, &layout, start, request.workers, observer)?;
+    let text = report_on(rt, alloc, layout, start, request.workers, observer)?;
     Ok(text)
 }
 
@@ -55,41 +53,23 @@ pub fn resume_text<R: Threads + Sync, W: Observer>(
 fn report_on<R: Threads + Sync, W: Observer>(
     rt: &R,
     alloc: Global,
-    layout: &Layout,
+    layout: Layout<'_>,
     start: Start,
     workers: u32,
     observer: &W,
 ) -> Result<Vec<u8>, NoMemory>
-    requires can_start { CanStart layout.now.net layout.now.chart.cut start }
+    requires can_start { CanStart layout.net layout.chart.cut start }
     requires workers { (1 ≤ workers) × (workers ≤ 16) }
-    ensures text { IfOk result (λ text. text.items ≡ report_from layout.now.net layout.now.chart.cut start) }
+    ensures text { IfOk result (λ text. text.items ≡ report_from layout.entry.net layout.entry.chart.cut start) }
 
     // Of a true start it is the report of the plain recurrences.
-    ensures plain { IfOk result (λ text. IsTrueStart layout.now.net layout.now.chart.cut start → text.items ≡ report_of layout.now.net 0) }
-    ensures told { IsOk result → HasTold (W.told_held observer.now) (W.told_freed observer.now) (record { net = layout.now.net; cut = layout.now.chart.cut; start = start; every = 0 }) layout.now.net.steps }
-{
-    let regions = last_regions_from(rt, alloc, layout, start, workers, observer)?;
-    let text = report_from(alloc, layout, &regions)?;
-    Ok(text)
-}
-
-// The regions that go on from a start, at the last step.
-fn last_regions_from<R: Threads + Sync, W: Observer>(
-    rt: &R,
-    alloc: Global,
-    layout: &Layout,
-    start: Start,
-    workers: u32,
-    observer: &W,
-) -> Result<Vec<Region>, NoMemory>
-    requires can_start { CanStart layout.now.net layout.now.chart.cut start }
-    requires workers { (1 ≤ workers) × (workers ≤ 16) }
-    ensures stand { IfOk result (λ regions. AllStandAtLast (setup_of layout.now start 0) regions.items) }
-    ensures told { IsOk result → HasTold (W.told_held observer.now) (W.told_freed observer.now) (record { net = layout.now.net; cut = layout.now.chart.cut; start = start; every = 0 }) layout.now.net.steps }
+    ensures plain { IfOk result (λ text. IsTrueStart layout.entry.net layout.entry.chart.cut start → text.items ≡ report_of layout.entry.net 0) }
+    ensures told { IsOk result → HasTold (W.told_held observer.now) (W.told_freed observer.now) (record { net = layout.entry.net; cut = layout.entry.chart.cut; start = start; every = 0 }) layout.entry.net.steps }
 {
     let net = layout.net();
     let setup = Setup::new(layout, start, 0);
-    regions_from(rt, alloc, &setup, net.steps, workers, observer)
+    let regions = regions_from(rt, alloc, setup, net.steps, workers, observer)?;
+    report(alloc, &regions)
 }
 
 // The refusal of a text by its first fault.

@@ -15,6 +15,7 @@ use network_file::Net;
 use network_run::room_near;
 use no_memory::NoMemory;
 use region_slots::Observer;
+use region_step::Setup;
 use saved_run::save;
 use std::alloc::Global;
 use std::thread::Threads;
@@ -59,7 +60,8 @@ fn saved_near<R: Threads + Sync, W: Observer>(
     let layout = layout_asked(alloc, net, request)?;
     let _own = layout.net();
     let _regions = layout.regions();
-    let room = room_near(rt, alloc, &layout, until, request.workers, observer)?;
-    let text = save(alloc, &layout, &room, input)?;
+    let setup = Setup::zero(alloc, layout, 0)?;
+    let room = room_near(rt, alloc, &setup, until, request.workers, observer)?;
+    let text = save(alloc, setup.layout(), &room, input)?;
     Ok(text)
 }

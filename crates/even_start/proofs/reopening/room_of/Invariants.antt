@@ -6,5 +6,5 @@ use Rattle.even_start.proofs.reopening.room_of.Given as goal
 
 -- the first regions are shown
 abbrev pub invariant-loop-r : goal.invariant-loop-r
-invariant-loop-r l = IsRoomFor l.layout.chart l.room ×
-    ((q : ℕ) (region : RegionValue) → q < l.r → ShowsRegion l.layout.chart l.room (slice_index_or l.regions q region))
+invariant-loop-r l = IsRoomFor l.regions.setup.chart l.room ×
+    ((q : ℕ) (region : RegionValue) → q < l.r → ShowsRegion l.regions.setup.chart l.room (slice_index_or l.regions.list q region))

@@ -1,54 +1,77 @@
-use Rattle.std.proofs.Common.{ℕ, List, length, min, arith, ap, refl, subst, ◌∙◌}
+use Rattle.std.proofs.Common.{◌≡◌, length, min, arith, ap, refl, subst, ◌∙◌}
 use Rattle.network_file.specs.Network.{IsNetwork, Network}
 use Rattle.network_file.proofs.NetworkFacts.{few_cells}
 use Rattle.network_file.specs.Cutting.{IsCutting}
-use Rattle.region_step.specs.Start.{zero_start}
+use Rattle.region_cut.specs.Chart.{ChartLists}
+use Rattle.region_step.specs.Setup.{SetupValue, zero_setup}
+use Rattle.region_step.specs.Start.{StartLists, zero_start}
 use Rattle.region_step.proofs.StartLaws.{zero_start-fits, zero_start-lawful, zero_start-true}
-use Rattle.saved_run.specs.Laws.{IsTrueShot}
+use Rattle.snapshot.specs.Shots.{AreStepsBetween}
+use Rattle.snapshot.specs.Snapshots.{IsSnapshot}
+use Rattle.saved_run.specs.Laws.{BeginsTrue, IsTrueShot}
+use Rattle.saved_run.specs.Reading.{content_of}
 use Rattle.saved_run.specs.SavedText.{saved_text}
+use Rattle.region_slots.specs.Moments.{cut_run}
+use Rattle.network_run.specs.Near.{near_end}
 use Rattle.network_run.specs.Telling.{HasTold, Telling, zero_run}
 use Rattle.saved_modes.specs.SaveMode.{IsSavedNear}
 use Rattle.saved_modes.proofs.ResumedAs.{begins-resumed_as}
 use Rattle.saved_modes.proofs.Saved.{shown-run}
 use Rattle.saved_modes.proofs.save_mode.saved_near.Goals as goal
 
+-- the setup of a layout of this network
+setup-is : (setup : SetupValue) (net other : Network) (chart : ChartLists) → setup ≡ zero_setup (record { net = other; chart = chart }) 0 → other ≡ net → setup ≡ zero_setup (record { net = net; chart = chart }) 0
+setup-is setup net other chart is same = is ∙ ap (λ (n : Network). zero_setup (record { net = n; chart = chart }) 0) same
+
 pub save-requires-clause-few : goal.save-requires-clause-few
-save-requires-clause-few g c = omega (arith, (c.net-own.ensures.one_each ∙ ap (λ (n : Network). length n.cells) c.in_ok-layout.ensures.network), few_cells c.args.net.now (subst IsNetwork c.net.view_is c.net.invariant))
+save-requires-clause-few g c =
+    let used = ap (λ (chart : ChartLists). length chart.cut) (c.layout.ensures.chart ∙ ap (λ (s : SetupValue). s.chart) c.in_ok-setup.ensures.setup) in
+    omega (arith, used, c.net-own.ensures.one_each ∙ ap (λ (n : Network). length n.cells) c.in_ok-layout.ensures.network, few_cells c.args.net.now (subst IsNetwork c.net.view_is c.net.invariant))
 
 pub returns-clause-saved : goal.returns-clause-saved
 returns-clause-saved g c =
-    let net = c.args.net.now in
+    let net : Network = c.args.net.now in
+    let chart : ChartLists = c.in_ok-layout.layout.chart in
     let sound = subst IsNetwork c.net.view_is c.net.invariant in
-    let used : List ℕ = c.in_ok-layout.layout.chart.cut in
-    let shot : IsTrueShot c.args.input.now net used (zero_start net used) c.in_ok-room.room = record {
+    let one_each = c.net-own.ensures.one_each ∙ ap (λ (n : Network). length n.cells) c.in_ok-layout.ensures.network in
+    let is = setup-is c.in_ok-setup.setup net c.in_ok-layout.layout.net chart c.in_ok-setup.ensures.setup c.in_ok-layout.ensures.network in
+    let used = ap (λ (chart : ChartLists). chart.cut) (c.layout.ensures.chart ∙ ap (λ (s : SetupValue). s.chart) is) in
+    let snapshot : IsSnapshot net chart.cut (zero_start net chart.cut) c.in_ok-room.room =
+    subst (λ (s : SetupValue). IsSnapshot s.net s.chart.cut (zero_start s.net s.chart.cut) c.in_ok-room.room) is c.in_ok-room.ensures.snapshot in
+    let shot : IsTrueShot c.args.input.now net chart.cut (zero_start net chart.cut) c.in_ok-room.room = record {
       network = c.requires.network;
       sound = sound;
-      cutting = subst (λ cells. IsCutting cells used) (c.net-own.ensures.one_each ∙ ap (λ (n : Network). length n.cells) c.in_ok-layout.ensures.network) c.regions-regions.ensures.sound.cutting;
-      fits = zero_start-fits net used sound;
-      from = zero_start-lawful net used;
-      true_start = zero_start-true net used;
-      snapshot = rw c.in_ok-layout.ensures.network at c.in_ok-room.ensures.snapshot;
+      cutting = subst (λ cells. IsCutting cells chart.cut) one_each c.regions-regions.ensures.sound.cutting;
+      fits = zero_start-fits net chart.cut sound;
+      from = zero_start-lawful net chart.cut;
+      true_start = zero_start-true net chart.cut;
+      snapshot = snapshot;
     } in
-    let near : IsSavedNear net c.in_ok-layout.layout.chart.cut c.from-until.result c.args.input.now c.in_ok-text.text.items = record {
+    let begins = subst (λ cut. (n : Network) (start : StartLists) → IsTrueShot c.args.input.now n cut start c.in_ok-room.room → BeginsTrue (content_of c.in_ok-text.text.items) n cut) used
+    c.in_ok-text.ensures.true_start in
+    let near : IsSavedNear net chart.cut c.from-until.result c.args.input.now c.in_ok-text.text.items = record {
       steps = c.in_ok-room.room.steps;
-      stand = rw c.in_ok-layout.ensures.network at c.in_ok-room.ensures.near;
-      saved = c.in_ok-text.ensures.text ∙ ap saved_text (shown-run net c.in_ok-layout.layout.chart.cut c.in_ok-room.room sound (c.net-own.ensures.one_each ∙ ap (λ (n : Network). length n.cells) c.in_ok-layout.ensures.network) (rw c.in_ok-layout.ensures.network at c.in_ok-room.ensures.snapshot) c.args.input.now);
-      begins = c.in_ok-text.ensures.true_start net (zero_start net used) shot;
+      stand = subst (λ (s : SetupValue). AreStepsBetween s.net s.chart.cut (min c.from-until.result s.net.steps) (near_end s.net c.from-until.result) c.in_ok-room.room.steps) is c.in_ok-room.ensures.near;
+      saved = (rw used at c.in_ok-text.ensures.text) ∙ ap saved_text (shown-run net chart.cut c.in_ok-room.room sound one_each snapshot c.args.input.now);
+      begins = begins net (zero_start net chart.cut) shot;
     } in
     record {
-      cut = used;
+      cut = chart.cut;
       cutting = c.in_ok-layout.ensures.cutting;
-      near = subst (λ until. IsSavedNear net c.in_ok-layout.layout.chart.cut until c.args.input.now c.in_ok-text.text.items) c.from-until.ensures near;
-      resumed = begins-resumed_as net used c.in_ok-text.text.items sound near.begins c.in_ok-text.ensures.short;
+      near = subst (λ until. IsSavedNear net chart.cut until c.args.input.now c.in_ok-text.text.items) c.from-until.ensures near;
+      resumed = begins-resumed_as net chart.cut c.in_ok-text.text.items sound near.begins c.in_ok-text.ensures.short;
     }
 
 pub returns-clause-told : goal.returns-clause-told
 returns-clause-told g c = λ done.
     let held : Telling = g.W.Observer.told_held c.args.observer.now in
     let freed : Telling = g.W.Observer.told_freed c.args.observer.now in
-    let used : List ℕ = c.in_ok-layout.layout.chart.cut in
+    let net : Network = c.args.net.now in
+    let chart : ChartLists = c.in_ok-layout.layout.chart in
+    let is = setup-is c.in_ok-setup.setup net c.in_ok-layout.layout.net chart c.in_ok-setup.ensures.setup c.in_ok-layout.ensures.network in
     record {
-      cut = used;
+      cut = chart.cut;
       cutting = c.in_ok-layout.ensures.cutting;
-      told = subst (λ until. HasTold held freed (zero_run c.args.net.now used 0) (min until c.args.net.now.steps)) c.from-until.ensures (rw c.in_ok-layout.ensures.network at (c.in_ok-room.ensures.told refl));
+      told = subst (λ until. HasTold held freed (zero_run net chart.cut 0) (min until net.steps)) c.from-until.ensures
+          (subst (λ (s : SetupValue). HasTold held freed (cut_run s) (min c.from-until.result s.net.steps)) is (c.in_ok-room.ensures.told refl));
     }
