@@ -12,7 +12,6 @@ pub mod Flowing
 pub mod Stepping
 pub mod MovedPlaces
 pub mod Ruled
-pub mod Spots
 pub mod Parting
 pub mod Ties
 pub mod Renewed

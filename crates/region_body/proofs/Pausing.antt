@@ -15,13 +15,16 @@ use Rattle.flow_model.specs.Rows.{empty_row, next_row}
 use Rattle.connector_flow.specs.Flows.{flow_at, no_flow}
 use Rattle.region_body.specs.Places.{carried, link_in, link_out, moved, no_place, place_at}
 use Rattle.connector_flow.specs.Space.{IsSpaceOf}
+use Rattle.region_body.specs.declared.cell_ref.CellRef.{CellRef}
+use Rattle.region_body.specs.declared.cell_ref.CellRef.TheVariants.{Own, Halo}
 use Rattle.region_body.specs.declared.place.Place.{Place}
 use Rattle.region_body.proofs.Neighbours.{link_in-first, link_in-more, place_at-past}
 use Rattle.courses.specs.Cells.{CellValues}
 use Rattle.courses.specs.Courses.{Course, value_at}
 use Rattle.region_body.specs.Followed.{AreFollowed}
 use Rattle.region_body.specs.declared.followed.FollowedLink.{FollowedLink}
-use Rattle.region_body.specs.Carrying.{IsSpotOf, IsThere, IsTie, held_in, spot_at, three_held}
+use Rattle.region_body.specs.Carrying.{three_held}
+use Rattle.region_body.specs.CellRefs.{held_in, ref_at}
 use Rattle.region_body.specs.Chains.{most_out}
 use Rattle.region_body.specs.Gates.{AreGatesKept, demand_into}
 use Rattle.region_body.specs.Moves.{ArePartsOf, IsScene, IsSeen, in_by, out_by}
@@ -36,7 +39,6 @@ use Rattle.region_body.specs.declared.tie.Tie.{Tie}
 use Rattle.region_body.proofs.Parting.{carried-is}
 use Rattle.region_body.proofs.AtSpeeds.{link_out-at_speeds}
 use Rattle.region_body.proofs.Renewed.{renewed-of, speeds-later}
-use Rattle.region_body.proofs.Spots.{held-same}
 use Rattle.region_body.proofs.Stays.{length-waited, n-waited, place_at-waited, waited-same}
 use Rattle.region_body.proofs.Ties.{demands-kept, gates-kept}
 use Rattle.region_body.proofs.Whole.{IsMoved, held-sum, length-rows_after, length-rows_of, ready, row-after, row_at-rows_after, row_at-rows_of, steps-moved}
@@ -243,14 +245,13 @@ rows-waited net cells t placed put sound before wait can =
 
 -- what moves by their connectors is as before
 
-held-waited : (places : List Place) (put : List (Option ℕ)) (spot : ℕ) → held_in (map (waited 1) places) put spot ≡ held_in places put spot
-held-waited places put spot =
-    held-same (length (map (waited 1) places)) (length places) (λ p. (place_at (map (waited 1) places) p).n) (λ p. (place_at places p).n) put spot (length-waited 1 places)
-    (λ p within. n-waited 1 places p)
+held-waited : (places : List Place) (put : List (Option ℕ)) (cell : CellRef) → held_in (map (waited 1) places) put cell ≡ held_in places put cell
+held-waited places put (Own p) = n-waited 1 places p
+held-waited places put (Halo j) = refl
 
 three-waited : (tie : Tie) (places : List Place) (put : List (Option ℕ)) → three_held tie (held_in (map (waited 1) places) put) ≡ three_held tie (held_in places put)
 three-waited tie places put =
-    rw (held-waited places put (spot_at tie 0), held-waited places put (spot_at tie 1), held-waited places put (spot_at tie 2)) refl
+    rw (held-waited places put (ref_at tie.cells 0), held-waited places put (ref_at tie.cells 1), held-waited places put (ref_at tie.cells 2)) refl
 
 next-waited : (places : List Place) (p : ℕ) (place : Place) → carried place (place_at (map (waited 1) places) p) ≡ carried place (place_at places p)
 next-waited places p place = elim (cases_lt p (length places)) [
@@ -425,14 +426,3 @@ placed-paused net cells halo connectors t placed pause seen has none seen_each i
   pause = record { idle = idle; owed = omega (arith, none); kept = λ some. absurd (omega (arith, none, some)) };
   seen_each = seen_each;
 }
-
--- the spots of a tie are there
-pub spots-there : (net : Network) (cells halo : List ℕ) (places : List Place) (put : List (Option ℕ)) (tie : Tie) → length places ≡ length cells →
-    length put ≡ length halo → IsTie net cells halo tie → (m : ℕ) → m < 3 → IsThere places put (spot_at tie m)
-spots-there net cells halo places put tie long put_each tied m few = there (spot_at tie m) _ (tied.spots m few)
-  where
-    there : (spot i : ℕ) → IsSpotOf cells halo i spot → IsThere places put spot
-    there spot i spotted = elim spotted [
-      | inl own ↦ omega (arith, own.0, long, put_each)
-      | inr (j, at, within, is) ↦ omega (arith, at, within, long, put_each)
-    ]

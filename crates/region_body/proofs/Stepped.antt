@@ -1,16 +1,21 @@
 -- A step of places, one part after the other: the links between neighbours, the other connectors, the demands.
 use Rattle.std.specs.Prelude.{Option, slice_index, sum_by}
-use Rattle.std.proofs.Common.{◌≡◌, ℕ, ◌+◌, ◌-◌, ◌^◌, ◌<◌, ◌≤◌, List, get_or, length, refl, ap, ◌∙◌, arith}
+use Rattle.std.proofs.Common.{◌≡◌, ℕ, ◌+◌, ◌-◌, ◌^◌, ◌<◌, ◌≤◌, List, get_or, inl, inr, length, refl, sym, ap, ◌∙◌, arith}
+use Rattle.std.proofs.lemmas.Bool.{cases_lt}
+use Rattle.std.proofs.lemmas.List.{get_or_past}
 use Rattle.network_file.specs.Network.{IsNetwork, Network}
 use Rattle.region_body.specs.Places.{link_in, link_out, moved, place_at, swept, with_entered}
+use Rattle.region_body.specs.declared.cell_ref.CellRef.{CellRef}
+use Rattle.region_body.specs.declared.cell_ref.CellRef.TheVariants.{Own, Halo}
 use Rattle.region_body.specs.declared.place.Place.{Place}
-use Rattle.region_body.specs.Carrying.{AreTiesFollowed, CanCarry, CanPass, brought, held_before, passed, taken}
+use Rattle.region_body.specs.Carrying.{AreTiesFollowed, CanCarry, CanPass, brought, passed, taken}
+use Rattle.region_body.specs.CellRefs.{held_before, held_in}
 use Rattle.region_body.specs.Gates.{demand_into}
 use Rattle.region_body.specs.Moves.{IsScene, IsSeen}
 use Rattle.region_body.specs.Placed.{ArePlaced, ArePlacesInBounds, PlacedCells}
 use Rattle.region_body.specs.declared.tie.Tie.{Tie}
+use Rattle.region_body.proofs.Neighbours.{place_at-past}
 use Rattle.region_body.proofs.Parting.{can_carry, parts-are}
-use Rattle.region_body.proofs.Spots.{held-same}
 use Rattle.region_body.proofs.Renewed.{IsFresh, Renewal, sending}
 use Rattle.region_body.proofs.Whole.{AreBrought, AreSteps, CanStep, can_step, parts-followed, scene-followed, scene-fresh, seen-fresh, steps-moved}
 
@@ -52,7 +57,16 @@ can-carry-each net cells halo connectors t n placed put new ties swept_places be
     let tie : Tie = get_or ties k d in
     let follows = is.followed.each k d (omega (arith, within, is.followed.long)) in
     let can : CanCarry t tie new.places put = can_carry net t cells halo ties new.places put tie scene (scene.tied.tied k d within) follows.step follows.later in
-    record { spots = rw is.long can.spots; step = can.step; until = can.until }
+    record { refs = rw is.long can.refs; step = can.step; until = can.until }
+
+-- what was noted of cells is what they hold
+noted-held : (before : List ℕ) (places : List Place) (put : List (Option ℕ)) (cell : CellRef) → length before ≡ length places →
+    ((p : ℕ) → p < length places → slice_index before p ≡ (place_at places p).n) → held_before before put cell ≡ held_in places put cell
+noted-held before places put (Own p) long noted = elim (cases_lt p (length places)) [
+  | inl early ↦ noted p early
+  | inr late ↦ get_or_past before p 0 (omega (arith, late, long)) ∙ sym (ap (λ place. place.n) (place_at-past places p late))
+]
+noted-held before places put (Halo j) long noted = refl
 
 pub brought-of : (net : Network) (cells halo connectors : List ℕ) (t : ℕ) (n : ℕ → ℕ) (placed : PlacedCells) (put : List (Option ℕ)) (new : Renewal) (ties : List Tie) (swept_places : List Place) (before : List ℕ) →
     IsSwept net cells halo connectors t n placed put new ties swept_places before →
@@ -63,8 +77,7 @@ brought-of net cells halo connectors t n placed put new ties swept_places before
     record {
       parts = parts-followed net t n cells placed.ties ties (outs_of t before put ties) (carried_to t before put ties) is.followed
           (parts-are net t n cells halo ties new.places put (held_before before put) scene seen
-          (λ spot. held-same (length before) (length new.places) (slice_index before) (λ p. (place_at new.places p).n) put spot is.noted_long
-          (λ p within. is.noted p (omega (arith, within, is.noted_long)))));
+          (λ cell. noted-held before new.places put cell is.noted_long is.noted));
       demands = λ p. refl;
     }
 

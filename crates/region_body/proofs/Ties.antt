@@ -75,7 +75,7 @@ followed-yet t until ties come unchanged before = record {
 tie-followed : (net : Network) (cells halo : List ℕ) (t : ℕ) (old new : Tie) → IsTie net cells halo old → IsTieFollowed t old new → IsTie net cells halo new
 tie-followed net cells halo t old new tie carried = record {
   there = rw carried.connector tie.there;
-  spots = rw (carried.connector, carried.cells) tie.spots;
+  refs = rw (carried.connector, carried.cells) tie.refs;
   course = rw carried.connector (record {
     rule = carried.rule ∙ tie.course.rule;
     flow = λ s n before held. carried.flow s n ∙ tie.course.flow s n before held;

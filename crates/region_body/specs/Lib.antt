@@ -7,6 +7,7 @@ pub mod Followed
 pub mod Chains
 pub mod SpeedFactors
 pub mod Rows
+pub mod CellRefs
 pub mod Carrying
 pub mod Moves
 pub mod Gates

@@ -1,5 +1,5 @@
 -- What single connectors take from cells and bring to them, and what a step of a region stands on.
-use Rattle.std.specs.Prelude.{◌≡◌, ◌≢◌, ◌==◌, ℕ, ◌<◌, All, List, Option, None, length, slice_index, slice_index_or, unwrap_or, if◌then◌else◌}
+use Rattle.std.specs.Prelude.{◌≡◌, ◌≢◌, ◌==◌, ℕ, ◌<◌, All, List, Option, length, slice_index, if◌then◌else◌}
 use Rattle.std.specs.List.{sum_by}
 use Rattle.signal_plan.specs.Demand.{demand_at}
 use Rattle.signal_plan.specs.Records.{PlanRecords}
@@ -8,6 +8,7 @@ use Rattle.network_file.specs.Network.{IsNetwork, Network}
 use Rattle.flow_model.specs.Bounds.{IsHeldInBounds}
 use Rattle.flow_model.specs.Flows.{entering, flow_of, leaving}
 use Rattle.region_body.specs.Chains.{AreDistinct}
+use Rattle.region_body.specs.CellRefs.{put_at}
 use Rattle.region_body.specs.Places.{place_at}
 use Rattle.region_body.specs.declared.place.Place.{Place}
 use Rattle.region_body.specs.Carrying.{IsTie}
@@ -28,7 +29,7 @@ demand_for plan t cells p q = if q == p then demand_at plan (slice_index cells q
 -- the cells hold n: those of the region by their places, those of its halo by what was put there
 pub record IsSeen (n : ℕ → ℕ) (cells halo : List ℕ) (places : List Place) (put : List (Option ℕ)) : Type 0 where
   pub own : (p : ℕ) → p < length cells → n (slice_index cells p) ≡ (place_at places p).n
-  pub around : (j : ℕ) → j < length halo → n (slice_index halo j) ≡ unwrap_or (slice_index_or put j None) 0
+  pub around : (j : ℕ) → j < length halo → n (slice_index halo j) ≡ put_at put j
 
 -- ties of a region's connectors: no cell of its halo is its own
 pub record AreTied (net : Network) (cells halo : List ℕ) (ties : List Tie) : Type 0 where
@@ -49,4 +50,4 @@ pub record IsScene (net : Network) (t : ℕ) (cells halo : List ℕ) (ties : Lis
   pub place_each : length places ≡ length cells
   pub put_each : length put ≡ length halo
   pub own : (p : ℕ) → p < length cells → IsHeldInBounds net t (slice_index cells p) (place_at places p).n
-  pub around : (j : ℕ) → j < length halo → IsHeldInBounds net t (slice_index halo j) (unwrap_or (slice_index_or put j None) 0)
+  pub around : (j : ℕ) → j < length halo → IsHeldInBounds net t (slice_index halo j) (put_at put j)

@@ -5,7 +5,8 @@ use Rattle.region_body.specs.Moving.{MoveNothing}
 use Rattle.region_body.specs.Places.{place_at}
 use Rattle.region_body.specs.declared.place.Place.{Place}
 use Rattle.region_body.specs.declared.followed.FollowedLink.{FollowedLink}
-use Rattle.region_body.specs.Carrying.{held_in, three_held}
+use Rattle.region_body.specs.Carrying.{three_held}
+use Rattle.region_body.specs.CellRefs.{held_in}
 use Rattle.region_body.specs.declared.pause.Pause.{Pause}
 use Rattle.region_body.specs.declared.tie.Tie.{Tie}
 

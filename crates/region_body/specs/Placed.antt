@@ -1,5 +1,5 @@
 -- The rows of some cells, kept as places side by side.
-use Rattle.std.specs.Prelude.{◌≡◌, ◌≢◌, ℕ, ◌-◌, ◌^◌, ◌<◌, ◌≤◌, All, List, Option, None, length, map, slice_index, slice_index_or, unwrap_or}
+use Rattle.std.specs.Prelude.{◌≡◌, ◌≢◌, ℕ, ◌-◌, ◌^◌, ◌<◌, ◌≤◌, All, List, Option, length, map, slice_index}
 use Rattle.std.specs.List.{filter, range_with_len}
 use Rattle.std.specs.List.Sorted.{IsStrictlyIncreasing}
 use Rattle.network_file.specs.Connectors.{connector_at}
@@ -8,6 +8,7 @@ use Rattle.network_file.specs.Network.{Network}
 use Rattle.flow_model.specs.Bounds.{IsHeldInBounds, IsRowInBounds}
 use Rattle.flow_model.specs.Limits.{room_at}
 use Rattle.flow_model.specs.State.{row_at}
+use Rattle.region_body.specs.CellRefs.{put_at}
 use Rattle.region_body.specs.Places.{place_at}
 use Rattle.connector_flow.specs.Space.{IsSpaceOf}
 use Rattle.region_body.specs.declared.place.Place.{Place}
@@ -75,7 +76,7 @@ pub record ArePlaced (net : Network) (cells halo connectors : List ℕ) (t : ℕ
 pub record ArePlacesInBounds (net : Network) (cells halo : List ℕ) (t : ℕ) (placed : PlacedCells) (put : List (Option ℕ)) : Type 0 where
   pub own : (p : ℕ) → p < length cells → IsRowInBounds net t (slice_index cells p) (row_at (rows_of placed.origins placed.places) p)
   pub put_each : length put ≡ length halo
-  pub around : (j : ℕ) → j < length halo → IsHeldInBounds net t (slice_index halo j) (unwrap_or (slice_index_or put j None) 0)
+  pub around : (j : ℕ) → j < length halo → IsHeldInBounds net t (slice_index halo j) (put_at put j)
 
 -- all that a step stands on; the cells hold n as it begins
 pub record CanAdvance (net : Network) (cells : List ℕ) (t : ℕ) (placed : PlacedCells) (put : List (Option ℕ)) : Type 0 where

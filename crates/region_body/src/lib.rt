@@ -9,6 +9,7 @@
 #![tactic(auto)]
 
 mod carry;
+mod cell_ref;
 mod cells;
 mod chain;
 mod demands;
@@ -17,7 +18,6 @@ mod follow;
 mod followed;
 mod followed_speed;
 mod gate;
-mod held;
 mod joining;
 mod joints;
 mod movement;
@@ -29,7 +29,6 @@ mod pause;
 mod place;
 mod placed;
 mod run;
-mod sight;
 mod slow_cell;
 mod speed_factor;
 mod speeds;

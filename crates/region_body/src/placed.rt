@@ -4,7 +4,7 @@ ghost use Rattle.chain_order.specs.Order.{IsOrder};
 ghost use Rattle.flow_model.specs.Bounds.{IsRowInBounds};
 ghost use Rattle.flow_model.specs.State.{occupancy, row_at, rows_after};
 ghost use Rattle.region_body.specs.Places.{place_at};
-ghost use Rattle.region_body.specs.Carrying.{IsThere, spot_at};
+ghost use Rattle.region_body.specs.CellRefs.{IsWithin, ref_at};
 ghost use Rattle.region_body.specs.Gates.{AreGatesKept};
 ghost use Rattle.region_body.specs.Pausing.{AreIdle};
 ghost use Rattle.region_body.specs.Placed.{AreCells, ArePlaced, CanAdvance, WaitThrough};
@@ -18,7 +18,6 @@ use crate::follow::follow;
 use crate::followed::{FollowedLink, refresh};
 use crate::followed_speed::{FollowedSpeed, follow_speeds};
 use crate::gate::GatePlace;
-use crate::held::Held;
 use crate::joints::join_places;
 use crate::opening::{earlier_of, gates_of, nothing_put, origins_of, places_of};
 use crate::origin::Origin;
@@ -290,11 +289,7 @@ impl PlacedRows {
         );
         self.ties_until = follow(t, &mut self.ties, self.ties_until);
         sweep(&mut self.places, &self.speeds, &self.runs, &mut self.before);
-        let held = Held {
-            own: &self.before,
-            put,
-        };
-        carry_all(t, &self.ties, &held, &mut self.places);
+        carry_all(t, &self.ties, &self.before, put, &mut self.places);
         bring_demands(t, &mut self.gates, &mut self.places);
     }
 
@@ -303,7 +298,7 @@ impl PlacedRows {
         requires none_owed { self.old.pause.owed ≡ 0 }
         requires seen { length self.old.seen ≡ length put.now }
         requires there { All (λ link. link.place < length self.old.places) self.old.links }
-        requires spots { All (λ tie. (m : ℕ) → m < 3 → IsThere self.old.places put.now (spot_at tie m)) self.old.ties }
+        requires cells { All (λ tie. (m : ℕ) → m < 3 → IsWithin (length self.old.places) put.now (ref_at tie.cells m)) self.old.ties }
         ensures only_pause { self.new ≡ record self.old { pause = self.new.pause; seen = self.new.seen } }
         ensures one_each { length self.new.seen ≡ length put.now }
         ensures none_owed { self.new.pause.owed ≡ 0 }

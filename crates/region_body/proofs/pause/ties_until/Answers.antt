@@ -9,8 +9,8 @@ use Rattle.region_body.proofs.pause.ties_until.Goals as goal
 
 pub loop-tie-preserved : goal.loop-tie-preserved
 loop-tie-preserved c =
-    let places = c.args.sight.now.places.now in
-    let put = c.args.sight.now.put.now in
+    let places = c.args.places.now in
+    let put = c.args.put.now in
     let i : ℕ = c.loop-tie.tie-index in
     let tie : Tie = c.tie-item.result in
     let until : ℕ = c.min-until.result in
@@ -22,5 +22,5 @@ loop-tie-preserved c =
     (subst (IsIdleUntil places put until) c.tie-item.is here)
 
 pub returns : goal.returns
-returns c = subst (All (IsIdleUntil c.args.sight.now.places.now c.args.sight.now.put.now c.loop-tie.until))
+returns c = subst (All (IsIdleUntil c.args.places.now c.args.put.now c.loop-tie.until))
     (take_all c.loop-tie.tie-index c.args.ties.now (omega (arith, c.loop-tie-test.false))) c.loop-tie.invariant

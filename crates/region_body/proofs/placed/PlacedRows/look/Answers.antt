@@ -35,8 +35,8 @@ of-self-inside-requires-clause-sound c =
 pub of-self-inside-requires-clause-there : goal.of-self-inside-requires-clause-there
 of-self-inside-requires-clause-there c = rw (places-are c, links-are c) c.requires.there
 
-pub of-self-inside-requires-clause-spots : goal.of-self-inside-requires-clause-spots
-of-self-inside-requires-clause-spots c = rw (places-are c, ties-are c) c.requires.spots
+pub of-self-inside-requires-clause-cells : goal.of-self-inside-requires-clause-cells
+of-self-inside-requires-clause-cells c = rw (places-are c, ties-are c) c.requires.cells
 
 pub returns-clause-idle : goal.returns-clause-idle
 returns-clause-idle c = λ s before.

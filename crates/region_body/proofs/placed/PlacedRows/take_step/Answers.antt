@@ -161,7 +161,7 @@ carry_all-requires-clause-each c =
     let ties : List Tie = c.follow-self-inside.new.ties in
     let same : c.deref_mut-6.result.now ≡ c.refresh.new.places = c.deref_mut-6.ensures.value ∙ fresh-is e in
     let is = is-swept e can c.deref_mut-6.result.now c.deref.result.now places before same (c.deref.ensures.value ∙ speeds-are e) c.sweep.auto.places c.sweep.ensures.places c.sweep.ensures.before (c.sweep.auto.before ∙ ap length c.deref_mut-7.ensures.value) in
-    rw (c.deref_mut-8.ensures.value ∙ swept-is e c.deref_mut-6.result.now places same c.sweep.auto.places, c.deref-4.ensures.value ∙ ties-are e)
+    rw (c.deref_mut-8.ensures.value ∙ swept-is e c.deref_mut-6.result.now places same c.sweep.auto.places, c.deref-3.ensures.value ∙ ties-are e)
     (λ k d within. can-carry-each c.args.net.now c.args.cells.now can.halo can.connectors c.args.t can.n (opened c.self.inside) c.args.put.now (renewed e) ties places before k d is within)
 
 pub carry_all-requires-clause-can : goal.carry_all-requires-clause-can
@@ -175,8 +175,8 @@ carry_all-requires-clause-can c =
     let is = is-swept e can c.deref_mut-6.result.now c.deref.result.now places before same (c.deref.ensures.value ∙ speeds-are e) c.sweep.auto.places c.sweep.ensures.places c.sweep.ensures.before (c.sweep.auto.before ∙ ap length c.deref_mut-7.ensures.value) in
     rw (
       c.deref_mut-8.ensures.value ∙ swept-is e c.deref_mut-6.result.now places same c.sweep.auto.places,
-      c.deref-4.ensures.value ∙ ties-are e,
-      c.deref-3.ensures.value ∙ with_items_is c.self.inside.before before (c.sweep.auto.before ∙ c.deref_mut-7.ensures.len),
+      c.deref-3.ensures.value ∙ ties-are e,
+      c.deref-4.ensures.value ∙ with_items_is c.self.inside.before before (c.sweep.auto.before ∙ c.deref_mut-7.ensures.len),
     )
     (λ p within. can-pass-each c.args.net.now c.args.cells.now can.halo can.connectors c.args.t can.n (opened c.self.inside) c.args.put.now (renewed e) ties places before p is within)
 
@@ -217,7 +217,7 @@ bring_demands-requires-clause-fits c =
     c.deref_mut-10.ensures.value ∙ carried-is e c.deref_mut-6.result.now places c.deref_mut-8.result.now c.carry_all.new.places same c.sweep.auto.places swept_is c.carry_all.auto.places in
     let passes : (p : ℕ) → p < length places → place_at c.carry_all.new.places p ≡
     passed (place_at places p) (carried_to c.args.t before c.args.put.now ties p) (outs_of c.args.t before c.args.put.now ties p) =
-    rw (swept_is, c.deref-4.ensures.value ∙ ties-are e, c.deref-3.ensures.value ∙ with_items_is c.self.inside.before before (c.sweep.auto.before ∙ c.deref_mut-7.ensures.len)) at c.carry_all.ensures in
+    rw (swept_is, c.deref-3.ensures.value ∙ ties-are e, c.deref-4.ensures.value ∙ with_items_is c.self.inside.before before (c.sweep.auto.before ∙ c.deref_mut-7.ensures.len)) at c.carry_all.ensures in
     rw (carried_is, c.deref_mut-9.ensures.value)
     (λ p within. can-enter-each c.args.net.now c.args.cells.now can.halo can.connectors c.args.t can.n (opened c.self.inside) c.args.put.now (renewed e) ties places before c.carry_all.new.places p is (c.carry_all.auto.places ∙ ap length swept_is) passes within)
 
@@ -258,9 +258,9 @@ returns-clause-rows c =
     (c.bring_demands.auto.places ∙ ap length carried_is ∙ c.carry_all.auto.places ∙ ap length swept_is ∙ c.sweep.auto.places ∙ ap length same
     ∙ c.refresh.auto.places ∙ c.deref_mut-2.ensures.len) in
     let steps = λ (can : Can e).
-    taken-steps e can c.deref.result.now c.deref_mut-6.result.now places c.deref_mut-8.result.now carried c.deref_mut-10.result.now after noted c.deref-3.result.now c.deref-4.result.now
-    c.deref_mut-9.result.now (c.deref.ensures.value ∙ speeds-are e) same c.sweep.auto.places c.sweep.ensures.places c.sweep.ensures.before (c.sweep.auto.before ∙ ap length c.deref_mut-7.ensures.value) swept_is (c.deref-4.ensures.value ∙ ties-are e)
-    (c.deref-3.ensures.value ∙ before_is) c.carry_all.auto.places c.carry_all.ensures carried_is c.deref_mut-9.ensures.value c.bring_demands.auto.places
+    taken-steps e can c.deref.result.now c.deref_mut-6.result.now places c.deref_mut-8.result.now carried c.deref_mut-10.result.now after noted c.deref-4.result.now c.deref-3.result.now
+    c.deref_mut-9.result.now (c.deref.ensures.value ∙ speeds-are e) same c.sweep.auto.places c.sweep.ensures.places c.sweep.ensures.before (c.sweep.auto.before ∙ ap length c.deref_mut-7.ensures.value) swept_is (c.deref-3.ensures.value ∙ ties-are e)
+    (c.deref-4.ensures.value ∙ before_is) c.carry_all.auto.places c.carry_all.ensures carried_is c.deref_mut-9.ensures.value c.bring_demands.auto.places
     c.bring_demands.ensures.places in
     rw (after_is, waited-unowed c.self.inside.pause.owed after (none-owed e)) (
     rows-read c.args.net.now c.args.cells.now c.args.t (opened c.self.inside) c.args.self.now c.args.put.now c.self.inside.origins.items after (opened-is c.self.inside c.args.self.now c.self.view_is c.requires.none_owed)
@@ -287,9 +287,9 @@ returns-clause-placed c =
     (c.bring_demands.auto.places ∙ ap length carried_is ∙ c.carry_all.auto.places ∙ ap length swept_is ∙ c.sweep.auto.places ∙ ap length same
     ∙ c.refresh.auto.places ∙ c.deref_mut-2.ensures.len) in
     let steps = λ (can : Can e).
-    taken-steps e can c.deref.result.now c.deref_mut-6.result.now places c.deref_mut-8.result.now carried c.deref_mut-10.result.now after noted c.deref-3.result.now c.deref-4.result.now
-    c.deref_mut-9.result.now (c.deref.ensures.value ∙ speeds-are e) same c.sweep.auto.places c.sweep.ensures.places c.sweep.ensures.before (c.sweep.auto.before ∙ ap length c.deref_mut-7.ensures.value) swept_is (c.deref-4.ensures.value ∙ ties-are e)
-    (c.deref-3.ensures.value ∙ before_is) c.carry_all.auto.places c.carry_all.ensures carried_is c.deref_mut-9.ensures.value c.bring_demands.auto.places
+    taken-steps e can c.deref.result.now c.deref_mut-6.result.now places c.deref_mut-8.result.now carried c.deref_mut-10.result.now after noted c.deref-4.result.now c.deref-3.result.now
+    c.deref_mut-9.result.now (c.deref.ensures.value ∙ speeds-are e) same c.sweep.auto.places c.sweep.ensures.places c.sweep.ensures.before (c.sweep.auto.before ∙ ap length c.deref_mut-7.ensures.value) swept_is (c.deref-3.ensures.value ∙ ties-are e)
+    (c.deref-4.ensures.value ∙ before_is) c.carry_all.auto.places c.carry_all.ensures carried_is c.deref_mut-9.ensures.value c.bring_demands.auto.places
     c.bring_demands.ensures.places in
     let placed : PlacedCells = opened c.self.inside in
     let gates = c.bring_demands.new.gates in
@@ -347,9 +347,9 @@ invariant_of-self c =
     (c.bring_demands.auto.places ∙ ap length carried_is ∙ c.carry_all.auto.places ∙ ap length swept_is ∙ c.sweep.auto.places ∙ ap length same
     ∙ c.refresh.auto.places ∙ c.deref_mut-2.ensures.len) in
     let steps = λ (can : Can e).
-    taken-steps e can c.deref.result.now c.deref_mut-6.result.now places c.deref_mut-8.result.now carried c.deref_mut-10.result.now after noted c.deref-3.result.now c.deref-4.result.now
-    c.deref_mut-9.result.now (c.deref.ensures.value ∙ speeds-are e) same c.sweep.auto.places c.sweep.ensures.places c.sweep.ensures.before (c.sweep.auto.before ∙ ap length c.deref_mut-7.ensures.value) swept_is (c.deref-4.ensures.value ∙ ties-are e)
-    (c.deref-3.ensures.value ∙ before_is) c.carry_all.auto.places c.carry_all.ensures carried_is c.deref_mut-9.ensures.value c.bring_demands.auto.places
+    taken-steps e can c.deref.result.now c.deref_mut-6.result.now places c.deref_mut-8.result.now carried c.deref_mut-10.result.now after noted c.deref-4.result.now c.deref-3.result.now
+    c.deref_mut-9.result.now (c.deref.ensures.value ∙ speeds-are e) same c.sweep.auto.places c.sweep.ensures.places c.sweep.ensures.before (c.sweep.auto.before ∙ ap length c.deref_mut-7.ensures.value) swept_is (c.deref-3.ensures.value ∙ ties-are e)
+    (c.deref-4.ensures.value ∙ before_is) c.carry_all.auto.places c.carry_all.ensures carried_is c.deref_mut-9.ensures.value c.bring_demands.auto.places
     c.bring_demands.ensures.places in
     let can = can-step e in
     let noted_long : length noted ≡ length (opened c.self.inside).before = c.sweep.auto.before ∙ ap length c.deref_mut-7.ensures.value in
